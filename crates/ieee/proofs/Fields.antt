@@ -1,0 +1,92 @@
+-- A float's bits as its parts, once for both formats, and `narrowed` at a value. Assumes nothing.
+use mathlib.Core.Path.{_≡_, refl, sym, ap, _∙_, subst}
+use Prim.Native.Nat.{ℕ, zero, suc, _+_, _-_, _*_, _/_, _%_, _^_, _≤_, _<_, min}
+use native.Mathlib.Nat.{mul-assoc, mul-comm, mul-left-comm, mul-pos, lt-irrefl, mod-lt, div-lt-iff-lt-mul, zero-lt-suc}
+use native.Mathlib.Omega.{arith}
+use mathlib.Core.Bool.{Bool, true, false, not, _&&_, cond, true≢false}
+use lib.Dec.{T, leb, eqb, eqb→eq, not-T, T-not}
+use lib.Pow.{pow-add, pow-pos}
+use lib.Ieee.{Float, nan, inf, fin, Format, binary32, prec, emax, low, up, down, odd, round, hid, ones, top, ofFields, ofBits, toBits, fits, isNan, ne}
+use lib.Ieee.Fits.{eq→eqb, down-pos}
+use lib.Ieee.Bits.{ofBits-toBits, cond-no}
+use lib.Ieee.Compare.{nan-differs}
+use lib.Ieee.Exact.{HasValue, odd-sign}
+use lib.Ieee.Scale.{round-same}
+use Rattle.ieee.specs.Narrow.{narrowed}
+use Rattle.ieee.specs.Pattern.{pattern}
+use Rattle.ieee.proofs.Steps.{float-law}
+
+-- ---- the test for a NaN
+pub no-nan-of-same : (x : Float) → ne x x ≡ false → T (not (isNan x))
+unfolding isNan
+no-nan-of-same nan h = absurd (true≢false (sym nan-differs ∙ h))
+no-nan-of-same (inf s) h = tt
+no-nan-of-same (fin s m e) h = tt
+
+-- ---- the fields
+pub as-fields : (f : Format) (x : Float) → T (fits f x) → x ≡ ofFields f (leb (top f) (toBits f x)) (toBits f x % top f / hid f) (toBits f x % hid f)
+unfolding ofBits
+as-fields f x h = sym (ofBits-toBits f x h)
+
+ones-pos : (e : ℕ) → 0 ≡ 2 * e + 1 → ⊥
+ones-pos e h = omega arith
+
+pick : (a b : Bool) (s : Bool) (v : Float) → T a → T (not (isNan (cond a (cond b (inf s) nan) v))) → cond a (cond b (inf s) nan) v ≡ inf s
+unfolding isNan
+pick true true s v t n = refl
+pick true false s v t n = absurd n
+pick false b s v t n = absurd t
+
+-- the highest field: an infinity, where it is no NaN
+pub at-ones : (f : Format) (s : Bool) (x t : ℕ) → x ≡ ones f → T (not (isNan (ofFields f s x t))) → ofFields f s x t ≡ inf s
+unfolding ofFields
+at-ones f s zero t e n = absurd (ones-pos (emax f) e)
+at-ones f s (suc x) t e n = pick (eqb (suc x) (ones f)) (eqb t 0) s (odd (prec f) s (hid f + t) x (low f)) (eq→eqb e) n
+
+-- the lowest field: no leading digit
+pub at-low : (f : Format) (s : Bool) (x t : ℕ) → x ≡ 0 → HasValue (ofFields f s x t) s (t * 2 ^ 0) (2 ^ low f)
+unfolding ofFields
+at-low f s zero t e = odd-sign (prec f) s t 0 (low f)
+at-low f s (suc x) t e = absurd (no x e)
+  where
+    no : (x : ℕ) → suc x ≡ 0 → ⊥
+    no x e = omega arith
+
+-- any other field
+pub at-mid : (f : Format) (s : Bool) (x t : ℕ) → (x ≡ 0 → ⊥) → (x ≡ ones f → ⊥) → HasValue (ofFields f s x t) s ((hid f + t) * 2 ^ (x - 1)) (2 ^ low f)
+unfolding ofFields
+at-mid f s zero t z n = absurd (z refl)
+at-mid f s (suc x) t z n =
+    let v = odd (prec f) s (hid f + t) x (low f) in
+    subst (λ (y : Float). HasValue y s ((hid f + t) * 2 ^ (suc x - 1)) (2 ^ low f))
+    (sym (cond-no (eqb (suc x) (ones f)) (cond (eqb t 0) (inf s) nan) v (not-T (eqb (suc x) (ones f)) (λ u. n (eqb→eq (suc x) (ones f) u)))))
+    (subst (λ (k : ℕ). HasValue v s ((hid f + t) * 2 ^ k) (2 ^ low f)) (sym (less x)) (odd-sign (prec f) s (hid f + t) x (low f)))
+  where
+    less : (x : ℕ) → suc x - 1 ≡ x
+    less x = omega arith
+
+-- ---- `narrowed`, at any fraction that the value equals
+pub narrowed-value : (x : Float) (s : Bool) (a c : ℕ) → 0 < c → HasValue x s a c → narrowed x ≡ round binary32 s a c
+unfolding narrowed
+narrowed-value nan s a c C h = absurd h
+narrowed-value (inf t) s a c C h = absurd h
+narrowed-value (fin t m e) s a c C h = ap (λ (b : Bool). round binary32 b (m * up e) (down e)) (h .0) ∙ round-same binary32 s (m * up e) (down e) a c (down-pos e) C (h .1)
+
+pub narrowed-nan : narrowed nan ≡ nan
+unfolding narrowed
+narrowed-nan = refl
+
+pub narrowed-inf : (s : Bool) → narrowed (inf s) ≡ inf s
+unfolding narrowed
+narrowed-inf s = refl
+
+-- the narrowed value of m * 2 ^ e / 2 ^ 1074, by its pattern
+pub narrowed-pattern : (x : Float) (s : Bool) (m e b : ℕ) → HasValue x s (m * 2 ^ e) (2 ^ 1074) → b ≡ pattern 24 (m * 2 ^ (e + 3171)) (2 ^ 4096)
+    → ofBits binary32 (cond s (top binary32) 0 + min b (ones binary32 * hid binary32)) ≡ narrowed x
+narrowed-pattern x s m e b h q =
+    float-law binary32 s (m * 2 ^ (e + 3171)) 4096 b q
+    ∙ round-same binary32 s (m * 2 ^ (e + 3171)) (2 ^ 4245) (m * 2 ^ e) (2 ^ 1074) (pow-pos 4245) (pow-pos 1074) (rescaled m e 3171 1074)
+    ∙ sym (narrowed-value x s (m * 2 ^ e) (2 ^ 1074) (pow-pos 1074) h)
+  where
+    rescaled : (m e k l : ℕ) → m * 2 ^ (e + k) * 2 ^ l ≡ m * 2 ^ e * 2 ^ (l + k)
+    rescaled m e k l = simp (pow-add, mul-assoc, mul-comm)

@@ -1,0 +1,8 @@
+-- Laws that belong to no one function.
+pub mod Pack
+pub mod Sticky
+pub mod Steps
+pub mod Fields
+pub mod Words
+pub mod Sums
+pub mod Terms

@@ -1,0 +1,286 @@
+-- The two sides of `fma` as two-word numbers, and `sum` at equal fractions. Assumes nothing.
+use mathlib.Core.Path.{_≡_, refl, sym, ap, _∙_, subst}
+use mathlib.Core.Logic.{_⊎_, inl, inr}
+use Prim.Native.Nat.{ℕ, zero, suc, _+_, _-_, _*_, _/_, _%_, _^_, _≤_, _<_}
+use native.Mathlib.Nat.{le-refl, le-trans, le-of-eq, le-of-lt, lt-of-lt-of-le, lt-of-le-of-lt, lt-of-not-le, not-le-of-lt, zero-mul, one-mul, add-mul, mul-one, mul-assoc, mul-comm, mul-left-comm, mul-right-comm, mul-pos, mul-le-mul, mul-le-mul-right, mul-lt-mul-of-pos-right, mul-mod-left, mod-eq-of-lt, lt-of-mul-lt-mul-right, eq-of-mul-eq-mul-right, add-zero, zero-add, add-comm}
+use native.Mathlib.Omega.{arith}
+use mathlib.Core.Bool.{Bool, true, false, not, Bool·beq, true≢false, false≢true}
+use lib.Dec.{lit≤}
+use lib.Arith.{digits-lt}
+use lib.Pow.{pow-add, pow-pos, pow-mono, shl-lt}
+use lib.Count.{leadingZeros, leading-top}
+use lib.Ieee.{Float, nan, inf, fin, Format, binary64, up, down, unlike, round, sum, add, mul}
+use lib.Ieee.Fits.{down-pos}
+use lib.Ieee.Scale.{round-same, finite}
+use lib.Ieee.Exact.{HasValue}
+use Rattle.ieee.proofs.Pack.{le-or-lt, pow-lt-back}
+use Rattle.ieee.specs.Fused.{fused}
+use Rattle.ieee.specs.Words.{wide, Placed}
+use Rattle.ieee.proofs.Sums.{sub-mul, sum-like, sum-less, sum-more, sum-level}
+
+-- ---- `sum` sees only its fractions, and its sides may change places
+beq-is : (s t : Bool) → (Bool·beq s t ≡ true) ⊎ (Bool·beq s t ≡ false)
+beq-is s t = go (Bool·beq s t)
+  where
+    go : (b : Bool) → (b ≡ true) ⊎ (b ≡ false)
+    go true = inl refl
+    go false = inr refl
+
+pub beq-eq : (s t : Bool) → Bool·beq s t ≡ true → s ≡ t
+beq-eq true true e = refl
+beq-eq true false e = absurd (false≢true e)
+beq-eq false true e = absurd (false≢true e)
+beq-eq false false e = refl
+
+beq-swap : (s t : Bool) (b : Bool) → Bool·beq s t ≡ b → Bool·beq t s ≡ b
+beq-swap true true b e = e
+beq-swap true false b e = e
+beq-swap false true b e = e
+beq-swap false false b e = e
+
+lt-or : (a b : ℕ) → (a < b) ⊎ ((b < a) ⊎ (a ≡ b))
+lt-or a b = elim (le-or-lt b a) [ inr l ↦ inl l | inl l ↦ elim (le-or-lt a b) [ inr g ↦ inr (inl g) | inl g ↦ inr (inr (same a b l g)) ] ]
+  where
+    same : (a b : ℕ) → b ≤ a → a ≤ b → a ≡ b
+    same a b h k = omega arith
+
+scaled-lt : (a b c a' b' c' : ℕ) → 0 < c' → a * c' ≡ a' * c → b * c' ≡ b' * c → a < b → a' < b'
+scaled-lt a b c a' b' c' C e f l = lt-of-mul-lt-mul-right c (subst (λ (x : ℕ). x < b' * c) e (subst (λ (x : ℕ). a * c' < x) f (mul-lt-mul-of-pos-right l C)))
+
+pub sum-same : (f : Format) (s t : Bool) (a b c a' b' c' : ℕ) → 0 < c → 0 < c' → a * c' ≡ a' * c → b * c' ≡ b' * c → sum f s a t b c ≡ sum f s a' t b' c'
+sum-same f s t a b c a' b' c' C C' e g = elim (beq-is s t) [
+  | inl q ↦
+      sum-like f s t a b c q
+      ∙ round-same f s (a + b) c (a' + b') c' C C' (add-mul a b c' ∙ ap (λ (x : ℕ). x + b * c') e ∙ ap (λ (x : ℕ). a' * c + x) g ∙ sym (add-mul a' b' c))
+      ∙ sym (sum-like f s t a' b' c' q)
+  | inr q ↦ elim (lt-or a b) [
+    | inl l ↦
+        sum-less f s t a b c q l
+        ∙ round-same f t (b - a) c (b' - a') c' C C' (sub-mul b a c' ∙ ap (λ (x : ℕ). x - a * c') g ∙ ap (λ (x : ℕ). b' * c - x) e ∙ sym (sub-mul b' a' c))
+        ∙ sym (sum-less f s t a' b' c' q (scaled-lt a b c a' b' c' C' e g l))
+    | inr r ↦ elim r [
+      | inl l ↦
+          sum-more f s t a b c q l
+          ∙ round-same f s (a - b) c (a' - b') c' C C' (sub-mul a b c' ∙ ap (λ (x : ℕ). x - b * c') e ∙ ap (λ (x : ℕ). a' * c - x) g ∙ sym (sub-mul a' b' c))
+          ∙ sym (sum-more f s t a' b' c' q (scaled-lt b a c b' a' c' C' g e l))
+      | inr h ↦
+          sum-level f s t a b c q h
+          ∙ round-same f false (a - b) c (a' - b') c' C C' (sub-mul a b c' ∙ ap (λ (x : ℕ). x - b * c') e ∙ ap (λ (x : ℕ). a' * c - x) g ∙ sym (sub-mul a' b' c))
+          ∙ sym (sum-level f s t a' b' c' q (eq-of-mul-eq-mul-right c C a' b' (sym e ∙ ap (λ (x : ℕ). x * c') h ∙ g)))
+    ]
+  ]
+]
+
+pub sum-swap : (f : Format) (s t : Bool) (a b c : ℕ) → sum f s a t b c ≡ sum f t b s a c
+sum-swap f s t a b c = elim (beq-is s t) [
+  | inl q ↦ sum-like f s t a b c q ∙ ap (λ (x : Bool). round f x (a + b) c) (beq-eq s t q) ∙ ap (λ (x : ℕ). round f t x c) (add-comm a b) ∙ sym (sum-like f t s b a c (beq-swap s t true q))
+  | inr q ↦ elim (lt-or a b) [
+    | inl l ↦ sum-less f s t a b c q l ∙ sym (sum-more f t s b a c (beq-swap s t false q) l)
+    | inr r ↦ elim r [
+      | inl l ↦ sum-more f s t a b c q l ∙ sym (sum-less f t s b a c (beq-swap s t false q) l)
+      | inr h ↦ sum-level f s t a b c q h ∙ ap (λ (x : ℕ). round f false x c) (nil a b h) ∙ sym (sum-level f t s b a c (beq-swap s t false q) (sym h))
+    ]
+  ]
+]
+  where
+    nil : (a b : ℕ) → a ≡ b → a - b ≡ b - a
+    nil a b e = omega arith
+
+pub joined : (f : Format) (s u : Bool) (W X U Y d t tc j : ℕ) → W * 2 ^ t ≡ X → U * 2 ^ tc ≡ Y → t ≡ tc + d → sum f s (W * 2 ^ d * 2 ^ t) u (U * 2 ^ t) (2 ^ d * 2 ^ j) ≡ sum f s X u Y (2 ^ j)
+joined f s u W X U Y d t tc j e g h =
+    sum-same f s u (W * 2 ^ d * 2 ^ t) (U * 2 ^ t) (2 ^ d * 2 ^ j) X Y (2 ^ j) (mul-pos (pow-pos d) (pow-pos j)) (pow-pos j)
+    (ap (λ (x : ℕ). x * 2 ^ j) (mul-right-comm W (2 ^ d) (2 ^ t) ∙ ap (λ (x : ℕ). x * 2 ^ d) e) ∙ mul-assoc X (2 ^ d) (2 ^ j))
+    (ap (λ (x : ℕ). x * 2 ^ j) (ap (λ (x : ℕ). U * x) (ap (λ (x : ℕ). 2 ^ x) h ∙ pow-add 2 tc d) ∙ sym (mul-assoc U (2 ^ tc) (2 ^ d)) ∙ ap (λ (x : ℕ). x * 2 ^ d) g) ∙ mul-assoc Y (2 ^ d) (2 ^ j))
+
+-- both sides exact
+pub sum-exact : (f : Format) (s u : Bool) (A B X Y t j : ℕ) → A * 2 ^ t ≡ X → B * 2 ^ t ≡ Y → sum f s (A * 1 * 2 ^ t) u (B * 2 ^ t) (1 * 2 ^ j) ≡ sum f s X u Y (2 ^ j)
+sum-exact f s u A B X Y t j a b =
+    ap (λ (x : ℕ). sum f s (x * 2 ^ t) u (B * 2 ^ t) (1 * 2 ^ j)) (mul-one A)
+    ∙ ap (λ (x : ℕ). sum f s x u (B * 2 ^ t) (1 * 2 ^ j)) a
+    ∙ ap (λ (x : ℕ). sum f s X u x (1 * 2 ^ j)) b
+    ∙ ap (λ (x : ℕ). sum f s X u Y x) (one-mul (2 ^ j))
+
+-- ---- a significand shifted up to r places below the top of a word
+pub record Normal (m r y : ℕ) : Type 0 where
+  pub room : y ≤ 63
+  pub low : 2 ^ (63 - r) ≤ m * 2 ^ y
+  pub high : m * 2 ^ y < 2 ^ (64 - r)
+  pub ends : m * 2 ^ y % 32 ≡ 0
+
+pub normal : (m r : ℕ) → 0 < m → m < 2 ^ 53 → r ≤ 2 → (r ≤ leadingZeros 64 m) × Normal m r (leadingZeros 64 m - r)
+normal m r p d R =
+    let t = leading-top 64 m p (wider m d) in
+    let j = t .0 in
+    let z = leadingZeros 64 m in
+    let y = z - r in
+    let J : j < 53 = pow-lt-back j 53 (lt-of-le-of-lt (t .2) d) in (
+      one z r j (t .1) J R,
+      record {
+        room = few z r j (t .1);
+        low = le-trans (le-of-eq (ap (λ (x : ℕ). 2 ^ x) (bot z r j (t .1) J R) ∙ pow-add 2 j y)) (mul-le-mul-right (2 ^ y) (t .2));
+        high = subst (λ (x : ℕ). m * 2 ^ y < 2 ^ x) (all z r j (t .1) J R) (shl-lt (suc j) y (t .3));
+        ends = ap (λ (x : ℕ). x % 32) (ap (λ (x : ℕ). m * x) (ap (λ (x : ℕ). 2 ^ x) (five z r j (t .1) J R) ∙ pow-add 2 (y - 5) 5) ∙ sym (mul-assoc m (2 ^ (y - 5)) 32)) ∙ mul-mod-left (m * 2 ^ (y - 5)) 32;
+      },
+    )
+  where
+    wider : (s : ℕ) → s < 2 ^ 53 → s < 2 ^ 64
+    wider s h = omega arith
+
+    one : (z r j : ℕ) → z + suc j ≡ 64 → j < 53 → r ≤ 2 → r ≤ z
+    one z r j a b c = omega arith
+
+    few : (z r j : ℕ) → z + suc j ≡ 64 → z - r ≤ 63
+    few z r j a = omega arith
+
+    bot : (z r j : ℕ) → z + suc j ≡ 64 → j < 53 → r ≤ 2 → 63 - r ≡ j + (z - r)
+    bot z r j a b c = omega arith
+
+    all : (z r j : ℕ) → z + suc j ≡ 64 → j < 53 → r ≤ 2 → suc j + (z - r) ≡ 64 - r
+    all z r j a b c = omega arith
+
+    five : (z r j : ℕ) → z + suc j ≡ 64 → j < 53 → r ≤ 2 → z - r ≡ z - r - 5 + 5
+    five z r j a b c = omega arith
+
+-- ---- `addend_term`
+pub addend : (m g y : ℕ) → Normal m 2 y → g ≤ 2045 → Placed m (g + 4096) (m * 2 ^ y % 2 ^ 64) 0 (g + 4032 - y)
+addend m g y n G =
+    let e : m * 2 ^ y % 2 ^ 64 ≡ m * 2 ^ y = mod-eq-of-lt (lt-of-lt-of-le (n .high) (lit≤ tt)) in
+    record {
+      value =
+          ap (λ (x : ℕ). (x * 2 ^ 64 + 0) * 2 ^ (g + 4032 - y)) e
+          ∙ ap (λ (x : ℕ). x * 2 ^ (g + 4032 - y)) (add-zero (m * 2 ^ y * 2 ^ 64) ∙ mul-assoc m (2 ^ y) (2 ^ 64) ∙ ap (λ (x : ℕ). m * x) (sym (pow-add 2 y 64)))
+          ∙ mul-assoc m (2 ^ (y + 64)) (2 ^ (g + 4032 - y))
+          ∙ ap (λ (x : ℕ). m * x) (sym (pow-add 2 (y + 64) (g + 4032 - y)) ∙ ap (λ (x : ℕ). 2 ^ x) (whole g y (n .room)));
+      long = subst (λ (x : ℕ). 2 ^ 60 ≤ x) (sym e) (le-trans (lit≤ tt) (n .low));
+      short = subst (λ (x : ℕ). x < 2 ^ 62) (sym e) (n .high);
+      zeros = refl;
+      scale = most g y G;
+    }
+  where
+    whole : (g y : ℕ) → y ≤ 63 → y + 64 + (g + 4032 - y) ≡ g + 4096
+    whole g y h = omega arith
+
+    most : (g y : ℕ) → g ≤ 2045 → g + 4032 - y ≤ 7900
+    most g y h = omega arith
+
+-- ---- `product_term`
+pub product-placed : (m n e y z hi lo : ℕ) → Normal m 1 y → Normal n 1 z → e ≤ 4090 → lo < 2 ^ 64 → wide hi lo ≡ m * 2 ^ y % 2 ^ 64 * (n * 2 ^ z % 2 ^ 64) → Placed (m * n) (e + 3022) hi lo (e + 3022 - y - z)
+product-placed m n e y z hi lo a b E L w =
+    let p : wide hi lo ≡ m * 2 ^ y * (n * 2 ^ z) =
+    w ∙ ap (λ (x : ℕ). x * (n * 2 ^ z % 2 ^ 64)) (mod-eq-of-lt (lt-of-lt-of-le (a .high) (lit≤ tt))) ∙ ap (λ (x : ℕ). m * 2 ^ y * x) (mod-eq-of-lt (lt-of-lt-of-le (b .high) (lit≤ tt))) in
+    record {
+      value =
+          ap (λ (x : ℕ). x * 2 ^ (e + 3022 - y - z)) (p ∙ native.Mathlib.Nat.mul-mul-mul-comm m (2 ^ y) n (2 ^ z) ∙ ap (λ (x : ℕ). m * n * x) (sym (pow-add 2 y z)))
+          ∙ mul-assoc (m * n) (2 ^ (y + z)) (2 ^ (e + 3022 - y - z))
+          ∙ ap (λ (x : ℕ). m * n * x) (sym (pow-add 2 (y + z) (e + 3022 - y - z)) ∙ ap (λ (x : ℕ). 2 ^ x) (whole e y z (a .room) (b .room)));
+      long = lt-back hi (lt-of-not-le (λ (l : suc hi ≤ 2 ^ 60). not-le-of-lt (digits-lt l L) (le-trans (lit≤ tt) (le-trans (mul-le-mul (a .low) (b .low)) (le-of-eq (sym p))))));
+      short = lt-of-mul-lt-mul-right (2 ^ 64) (lt-of-le-of-lt (plus (hi * 2 ^ 64) lo) (lt-of-le-of-lt (le-of-eq p) (lt-of-lt-of-le (both (m * 2 ^ y) (n * 2 ^ z) (2 ^ 63) (2 ^ 63) (a .high) (b .high) (pow-pos 63)) (lit≤ tt))));
+      zeros = ends hi lo (ap (λ (x : ℕ). x % 1024) p ∙ thousand (m * 2 ^ y) (n * 2 ^ z) (a .ends) (b .ends));
+      scale = most e y z E;
+    }
+  where
+    whole : (e y z : ℕ) → y ≤ 63 → z ≤ 63 → y + z + (e + 3022 - y - z) ≡ e + 3022
+    whole e y z h k = omega arith
+
+    most : (e y z : ℕ) → e ≤ 4090 → e + 3022 - y - z ≤ 7900
+    most e y z h = omega arith
+
+    lt-back : (h : ℕ) → 2 ^ 60 < suc h → 2 ^ 60 ≤ h
+    lt-back h l = omega arith
+
+    plus : (a b : ℕ) → a ≤ a + b
+    plus a b = omega arith
+
+    both : (x y X Y : ℕ) → x < X → y < Y → 0 < Y → x * y < X * Y
+    both x y X Y h k p = lt-of-le-of-lt (mul-le-mul (le-refl x) (le-of-lt k)) (mul-lt-mul-of-pos-right h p)
+
+    ends : (x l : ℕ) → (x * 2 ^ 64 + l) % 1024 ≡ 0 → l % 1024 ≡ 0
+    ends x l h = omega arith
+
+    thousand : (x y : ℕ) → x % 32 ≡ 0 → y % 32 ≡ 0 → x * y % 1024 ≡ 0
+    thousand x y h k =
+        ap (λ (u : ℕ). u % 1024) (ap (λ (u : ℕ). u * y) (tw x h) ∙ ap (λ (u : ℕ). x / 32 * 32 * u) (tw y k) ∙ native.Mathlib.Nat.mul-mul-mul-comm (x / 32) 32 (y / 32) 32)
+        ∙ mul-mod-left (x / 32 * (y / 32)) 1024
+      where
+        tw : (x : ℕ) → x % 32 ≡ 0 → x ≡ x / 32 * 32
+        tw x h = omega arith
+
+-- ---- `fused`
+pub fused-first : (x y z : Float) → finite x ≡ false → add binary64 (mul binary64 x y) z ≡ fused x y z
+unfolding fused
+fused-first nan y z h = refl
+fused-first (inf s) y z h = refl
+fused-first (fin s m e) y z h = absurd (true≢false h)
+
+pub fused-second : (x y z : Float) → finite y ≡ false → add binary64 (mul binary64 x y) z ≡ fused x y z
+unfolding fused
+fused-second nan y z h = refl
+fused-second (inf s) y z h = refl
+fused-second (fin s m e) nan z h = refl
+fused-second (fin s m e) (inf t) z h = refl
+fused-second (fin s m e) (fin t n d) z h = absurd (true≢false h)
+
+pub fused-third : (x y z : Float) (s t : Bool) (a b c : ℕ) → HasValue x s a c → HasValue y t b c → finite z ≡ false → z ≡ fused x y z
+unfolding fused
+fused-third (fin u m g) (fin v n d) nan s t a b c h k e = refl
+fused-third (fin u m g) (fin v n d) (inf w) s t a b c h k e = refl
+fused-third (fin u m g) (fin v n d) (fin w l o) s t a b c h k e = absurd (true≢false e)
+
+-- the finite case, at the fractions that the values equal
+pub fused-finite : (x y z : Float) (s t u : Bool) (a b k c e g j : ℕ) → HasValue x s a c → HasValue y t b c → HasValue z u k c → 0 < c → 0 < j → e * (c * c) ≡ a * b * j → g * c ≡ k * j
+    → sum binary64 (unlike s t) e u g j ≡ fused x y z
+unfolding fused
+fused-finite (fin s' m p) (fin t' n q) (fin u' l o) s t u a b k c e g j hx hy hz C J E G =
+    let X = m * up p in
+    let Y = n * up q in
+    let Z = l * up o in
+    let P = down p in
+    let Q = down q in
+    let O = down o in
+    let D : 0 < P * Q * O = mul-pos (mul-pos (down-pos p) (down-pos q)) (down-pos o) in
+    sym (
+    ap (λ (v : Bool). sum binary64 (unlike v t') (X * Y * O) u' (Z * (P * Q)) (P * Q * O)) (hx .0)
+    ∙ ap (λ (v : Bool). sum binary64 (unlike s v) (X * Y * O) u' (Z * (P * Q)) (P * Q * O)) (hy .0)
+    ∙ ap (λ (v : Bool). sum binary64 (unlike s t) (X * Y * O) v (Z * (P * Q)) (P * Q * O)) (hz .0)
+    ∙ sum-same binary64 (unlike s t) u (X * Y * O) (Z * (P * Q)) (P * Q * O) e g j D J
+    (eq-of-mul-eq-mul-right (c * c) (mul-pos C C) (X * Y * O * j) (e * (P * Q * O))
+    (go1 X Y O j c ∙ ap (λ (v : ℕ). v * (Y * c) * (O * j)) (hx .1) ∙ ap (λ (v : ℕ). a * P * v * (O * j)) (hy .1) ∙ go2 a P b Q O j ∙ ap (λ (v : ℕ). v * (P * Q * O)) (sym E) ∙ go3 e c (P * Q * O)))
+    (eq-of-mul-eq-mul-right c C (Z * (P * Q) * j) (g * (P * Q * O))
+    (go4 Z (P * Q) j c ∙ ap (λ (v : ℕ). v * (P * Q * j)) (hz .1) ∙ go5 k O (P * Q) j ∙ ap (λ (v : ℕ). v * (P * Q * O)) (sym G) ∙ mul-right-comm g c (P * Q * O)))
+    )
+  where
+    go1 : (X Y O j c : ℕ) → X * Y * O * j * (c * c) ≡ X * c * (Y * c) * (O * j)
+    go1 X Y O j c = simp (mul-assoc, mul-comm, mul-left-comm)
+
+    go2 : (a P b Q O j : ℕ) → a * P * (b * Q) * (O * j) ≡ a * b * j * (P * Q * O)
+    go2 a P b Q O j = simp (mul-assoc, mul-comm, mul-left-comm)
+
+    go3 : (e c R : ℕ) → e * (c * c) * R ≡ e * R * (c * c)
+    go3 e c R = mul-right-comm e (c * c) R
+
+    go4 : (Z R j c : ℕ) → Z * R * j * c ≡ Z * c * (R * j)
+    go4 Z R j c = simp (mul-assoc, mul-comm, mul-left-comm)
+
+    go5 : (k O R j : ℕ) → k * O * (R * j) ≡ k * j * (R * O)
+    go5 k O R j = simp (mul-assoc, mul-comm, mul-left-comm)
+
+-- ---- the scales of `fma`
+pub scale-product : (m n d e x y z : ℕ) → x + (y + y) ≡ z → m * n * 2 ^ (d + e + x) * (2 ^ y * 2 ^ y) ≡ m * 2 ^ d * (n * 2 ^ e) * 2 ^ z
+scale-product m n d e x y z h =
+    ap (λ (u : ℕ). m * n * 2 ^ (d + e + x) * u) (sym (pow-add 2 y y))
+    ∙ mul-assoc (m * n) (2 ^ (d + e + x)) (2 ^ (y + y))
+    ∙ ap (λ (u : ℕ). m * n * u) (sym (pow-add 2 (d + e + x) (y + y)) ∙ ap (λ (u : ℕ). 2 ^ u) (at d e x y z h) ∙ pow-add 2 (d + e) z ∙ ap (λ (u : ℕ). u * 2 ^ z) (pow-add 2 d e))
+    ∙ sym (mul-assoc (m * n) (2 ^ d * 2 ^ e) (2 ^ z))
+    ∙ ap (λ (u : ℕ). u * 2 ^ z) (native.Mathlib.Nat.mul-mul-mul-comm m n (2 ^ d) (2 ^ e))
+  where
+    at : (d e x y z : ℕ) → x + (y + y) ≡ z → d + e + x + (y + y) ≡ d + e + z
+    at d e x y z h = omega arith
+
+pub scale-addend : (k g x y z : ℕ) → x + y ≡ z → k * 2 ^ (g + x) * 2 ^ y ≡ k * 2 ^ g * 2 ^ z
+scale-addend k g x y z h =
+    mul-assoc k (2 ^ (g + x)) (2 ^ y)
+    ∙ ap (λ (u : ℕ). k * u) (sym (pow-add 2 (g + x) y) ∙ ap (λ (u : ℕ). 2 ^ u) (at g x y z h) ∙ pow-add 2 g z)
+    ∙ sym (mul-assoc k (2 ^ g) (2 ^ z))
+  where
+    at : (g x y z : ℕ) → x + y ≡ z → g + x + y ≡ g + z
+    at g x y z h = omega arith

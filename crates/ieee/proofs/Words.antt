@@ -1,0 +1,488 @@
+-- Two-word numbers and the sticky bit, on plain numbers. Assumes nothing.
+use mathlib.Core.Path.{_≡_, refl, sym, ap, _∙_, subst}
+use mathlib.Core.Logic.{_⊎_, inl, inr}
+use Prim.Native.Nat.{ℕ, zero, suc, _+_, _-_, _*_, _/_, _%_, _^_, _≤_, _<_}
+use native.Mathlib.Nat.{le-refl, add-le-add, lt-of-mul-lt-mul-right, le-trans, le-of-eq, le-of-lt, lt-of-lt-of-le, lt-of-le-of-lt, zero-lt-suc, zero-mul, zero-add, add-zero, add-assoc, add-comm, one-mul, mul-one, add-mul, mul-add, mul-assoc, mul-comm, mul-left-comm, mul-right-comm, mul-pos, mul-le-mul, mul-le-mul-right, mul-lt-mul-of-pos-right, mul-div-cancel, mul-mod-left, add-mul-div-right, add-mul-mod-self-right, mul-add-mod-self-right, div-one, mod-one, mod-lt, mod-eq-of-lt, div-eq-of-lt, div-div-eq-div-mul, div-add-mod', eq-zero-or-pos, le-div-iff-mul-le}
+use native.Mathlib.Omega.{arith}
+use mathlib.Core.Bool.{Bool, true, false, not, cond}
+use lib.Dec.{T, ltb, eqb, eqb→eq, not-T, lit<, lit≤, lt→ltb, ltb→lt, nltb→le}
+use mir.Val.{boolByte}
+use lib.Ieee.Nearest.{div-same}
+use lib.Arith.{le→nltb, digits-lt, digits-div, mod-mul}
+use lib.Pow.{pow-add, pow-pos, pow-mono, shr-lt, shl-exact}
+use lib.Count.{leadingZeros, leading-top}
+use lib.Ieee.{Format, prec, round}
+use lib.Ieee.Scale.{round-same}
+use lib.Ieee.Fits.{eq→eqb}
+use lib.Ieee.Bits.{is-true, is-false}
+use Rattle.ieee.proofs.Pack.{le-or-lt}
+use Rattle.ieee.specs.Words.{wide, Sticky, stuck, jammed}
+use Rattle.ieee.proofs.Sticky.{round-sticky}
+
+-- ---- the sticky bit
+pub none-left : (q r : ℕ) → r ≡ 0 → stuck q r ≡ q
+none-left q r e = ap (λ (b : Bool). q + cond b 0 (1 - q % 2)) (is-true (eqb r 0) (eq→eqb e)) ∙ add-zero q
+
+pub some-left : (q r : ℕ) → (r ≡ 0 → ⊥) → stuck q r ≡ q + (1 - q % 2)
+some-left q r n = ap (λ (b : Bool). q + cond b 0 (1 - q % 2)) (is-false (eqb r 0) (not-T (eqb r 0) (λ t. n (eqb→eq r 0 t))))
+
+pub zero-or : (r : ℕ) → (r ≡ 0) ⊎ (r ≡ 0 → ⊥)
+zero-or r = elim (eq-zero-or-pos r) [ inl z ↦ inl z | inr p ↦ inr (λ e. no r p e) ]
+  where
+    no : (r : ℕ) → 0 < r → r ≡ 0 → ⊥
+    no r p e = omega arith
+
+-- only whether anything is left counts
+pub stuck-same : (q r s : ℕ) → (r ≡ 0 → s ≡ 0) → (s ≡ 0 → r ≡ 0) → stuck q r ≡ stuck q s
+stuck-same q r s f g = elim (zero-or r) [ inl z ↦ none-left q r z ∙ sym (none-left q s (f z)) | inr n ↦ some-left q r n ∙ sym (some-left q s (λ e. n (g e))) ]
+
+pub stuck-twice : (q r s : ℕ) → stuck (stuck q r) s ≡ stuck q (r + s)
+stuck-twice q r s = elim (zero-or r) [
+  | inl z ↦ ap (λ (x : ℕ). stuck x s) (none-left q r z) ∙ stuck-same q s (r + s) (λ e. both r s z e) (λ e. right r s e)
+  | inr n ↦
+      let odd = q + (1 - q % 2) in
+      ap (λ (x : ℕ). stuck x s) (some-left q r n)
+      ∙ (elim (zero-or s) [ inl e ↦ none-left odd s e | inr m ↦ some-left odd s m ∙ still q ])
+      ∙ sym (some-left q (r + s) (λ e. n (left r s e)))
+]
+  where
+    both : (r s : ℕ) → r ≡ 0 → s ≡ 0 → r + s ≡ 0
+    both r s a b = omega arith
+
+    left : (r s : ℕ) → r + s ≡ 0 → r ≡ 0
+    left r s e = omega arith
+
+    right : (r s : ℕ) → r + s ≡ 0 → s ≡ 0
+    right r s e = omega arith
+
+    still : (q : ℕ) → q + (1 - q % 2) + (1 - (q + (1 - q % 2)) % 2) ≡ q + (1 - q % 2)
+    still q = omega arith
+
+-- with no branch
+pub stick-flat : (q : ℕ) (b : Bool) → q + (1 - q % 2) * boolByte (not b) ≡ q + cond b 0 (1 - q % 2)
+stick-flat q true = omega arith
+stick-flat q false = ap (λ (x : ℕ). q + x) (mul-one (1 - q % 2))
+
+pub stick-fits : (q : ℕ) (b : Bool) → q < 2 ^ 64 → ((1 - q % 2) * boolByte b < 2 ^ 64) × (q + (1 - q % 2) * boolByte b < 2 ^ 64)
+stick-fits q true h = (omega arith, omega arith)
+stick-fits q false h = (omega arith, omega arith)
+
+-- a cut number with its sticky bit sticks
+pub jammed-sticks : (v m : ℕ) → 0 < m → Sticky (jammed v m) v m
+jammed-sticks v m M = elim (zero-or (v % m)) [
+  | inl z ↦ inl (ap (λ (x : ℕ). x * m) (none-left (v / m) (v % m) z) ∙ sym (add-zero (v / m * m)) ∙ ap (λ (x : ℕ). v / m * m + x) (sym z) ∙ div-add-mod' v m)
+  | inr n ↦
+      let o = over (v / m) (v % m) (div-add-mod' v m) n (mod-lt v M) in
+      subst (λ (w : ℕ). Sticky w v m) (sym (some-left (v / m) (v % m) n)) (inr (odd (v / m), o .0, o .1))
+]
+  where
+    odd : (q : ℕ) → (q + (1 - q % 2)) % 2 ≡ 1
+    odd q = omega arith
+
+    -- the made-odd q is q, or q + 1
+    which : (q : ℕ) → (q + (1 - q % 2) ≡ q) ⊎ (q + (1 - q % 2) ≡ q + 1)
+    which q = elim (zero-or (q % 2)) [ inl z ↦ inr (up q z) | inr n ↦ inl (on q n) ]
+      where
+        up : (q : ℕ) → q % 2 ≡ 0 → q + (1 - q % 2) ≡ q + 1
+        up q e = omega arith
+
+        on : (q : ℕ) → (q % 2 ≡ 0 → ⊥) → q + (1 - q % 2) ≡ q
+        on q e = omega arith
+
+    pos : (r : ℕ) → (r ≡ 0 → ⊥) → 0 < r
+    pos r h = omega arith
+
+    lo : (a r v m : ℕ) → a + r ≡ v → 0 < r → r < m → (a < v + m) × (v < a + m)
+    lo a r v m e p h = (one a r v m e p h, two a r v m e p h)
+      where
+        one : (a r v m : ℕ) → a + r ≡ v → 0 < r → r < m → a < v + m
+        one a r v m e p h = omega arith
+
+        two : (a r v m : ℕ) → a + r ≡ v → 0 < r → r < m → v < a + m
+        two a r v m e p h = omega arith
+
+    hi : (a b r v m : ℕ) → a + r ≡ v → b ≡ a + m → 0 < r → r < m → (b < v + m) × (v < b + m)
+    hi a b r v m e f p h = (one a b r v m e f p h, two a b r v m e f p h)
+      where
+        one : (a b r v m : ℕ) → a + r ≡ v → b ≡ a + m → 0 < r → r < m → b < v + m
+        one a b r v m e f p h = omega arith
+
+        two : (a b r v m : ℕ) → a + r ≡ v → b ≡ a + m → 0 < r → r < m → v < b + m
+        two a b r v m e f p h = omega arith
+
+    over : (q r : ℕ) → q * m + r ≡ v → (r ≡ 0 → ⊥) → r < m → ((q + (1 - q % 2)) * m < v + m) × (v < (q + (1 - q % 2)) * m + m)
+    over q r e n h = elim (which q) [
+      | inl w ↦ subst (λ (x : ℕ). (x * m < v + m) × (v < x * m + m)) (sym w) (lo (q * m) r v m e (pos r n) h)
+      | inr w ↦ subst (λ (x : ℕ). (x * m < v + m) × (v < x * m + m)) (sym w) (hi (q * m) ((q + 1) * m) r v m e (add-mul q 1 m ∙ ap (λ (x : ℕ). q * m + x) (one-mul m)) (pos r n) h)
+    ]
+
+-- ---- `jam`
+pub jam-none : (v k : ℕ) → k ≡ 0 → v ≡ jammed v (2 ^ k)
+jam-none v k e = sym (ap (λ (x : ℕ). jammed v (2 ^ x)) e ∙ none-left (v / 1) (v % 1) (mod-one v) ∙ div-one v)
+
+wide-lt : (hi lo : ℕ) → hi < 2 ^ 64 → lo < 2 ^ 64 → wide hi lo < 2 ^ 128
+wide-lt hi lo a b = digits-lt a b
+
+same-zero : (hi lo M : ℕ) → 0 < M → (hi + lo ≡ 0 → hi * M + lo ≡ 0) × (hi * M + lo ≡ 0 → hi + lo ≡ 0)
+same-zero hi lo M P = (
+  λ e. ap (λ (x : ℕ). x * M + lo) (left hi lo e) ∙ ap (λ (x : ℕ). x + lo) (zero-mul M) ∙ zero-add lo ∙ right hi lo e,
+  λ e. elim (eq-zero-or-pos hi) [
+    | inl z ↦ ap (λ (x : ℕ). x + lo) z ∙ zero-add lo ∙ right (hi * M) lo e
+    | inr p ↦ absurd (no (hi * M) lo (mul-pos p P) e)
+  ],
+)
+  where
+    left : (r s : ℕ) → r + s ≡ 0 → r ≡ 0
+    left r s e = omega arith
+
+    right : (r s : ℕ) → r + s ≡ 0 → s ≡ 0
+    right r s e = omega arith
+
+    no : (r s : ℕ) → 0 < r → r + s ≡ 0 → ⊥
+    no r s p e = omega arith
+
+wide-zero : (s : ℕ) → wide 0 s ≡ s
+wide-zero s = zero-add s
+
+pub jam-all : (hi lo k s t : ℕ) → hi < 2 ^ 64 → lo < 2 ^ 64 → 128 ≤ k → s ≡ stuck 0 hi → t ≡ stuck s lo → wide 0 t ≡ jammed (wide hi lo) (2 ^ k)
+jam-all hi lo k s t a b h e f =
+    let v = wide hi lo in
+    let l : v < 2 ^ k = lt-of-lt-of-le (wide-lt hi lo a b) (pow-mono h) in
+    let z = same-zero hi lo (2 ^ 64) (pow-pos 64) in
+    wide-zero t ∙ f ∙ ap (λ (x : ℕ). stuck x lo) e ∙ stuck-twice 0 hi lo
+    ∙ stuck-same 0 (hi + lo) v (z .0) (z .1)
+    ∙ sym (ap (λ (x : ℕ). stuck x (v % 2 ^ k)) (div-eq-of-lt l) ∙ ap (λ (x : ℕ). stuck 0 x) (mod-eq-of-lt l))
+
+pub one-shifted : (n : ℕ) → n < 64 → 1 * 2 ^ n % 2 ^ 64 ≡ 2 ^ n
+one-shifted n h = ap (λ (x : ℕ). x % 2 ^ 64) (one-mul (2 ^ n)) ∙ mod-eq-of-lt (lib.Pow.pow-lt h)
+
+pub jam-high : (hi lo n k s t : ℕ) → hi < 2 ^ 64 → lo < 2 ^ 64 → k ≡ n + 64 → s ≡ stuck (hi / 2 ^ n) (hi % 2 ^ n) → t ≡ stuck s lo → wide 0 t ≡ jammed (wide hi lo) (2 ^ k)
+jam-high hi lo n k s t a b h e f =
+    let v = wide hi lo in
+    let p : 2 ^ k ≡ 2 ^ n * 2 ^ 64 = ap (λ (x : ℕ). 2 ^ x) h ∙ pow-add 2 n 64 in
+    let top : v / 2 ^ 64 ≡ hi = digits-div hi b in
+    let bot : v % 2 ^ 64 ≡ lo = lib.Arith.digits-mod hi b in
+    let quo : v / 2 ^ k ≡ hi / 2 ^ n = ap (λ (x : ℕ). v / x) (p ∙ mul-comm (2 ^ n) (2 ^ 64)) ∙ sym (div-div-eq-div-mul v (2 ^ 64) (2 ^ n)) ∙ ap (λ (x : ℕ). x / 2 ^ n) top in
+    let rem : v % 2 ^ k ≡ hi % 2 ^ n * 2 ^ 64 + lo =
+    ap (λ (x : ℕ). v % x) p ∙ mod-mul v (pow-pos n) (pow-pos 64) ∙ ap (λ (x : ℕ). x % 2 ^ n * 2 ^ 64 + v % 2 ^ 64) top ∙ ap (λ (x : ℕ). hi % 2 ^ n * 2 ^ 64 + x) bot in
+    let z = same-zero (hi % 2 ^ n) lo (2 ^ 64) (pow-pos 64) in
+    wide-zero t ∙ f ∙ ap (λ (x : ℕ). stuck x lo) e ∙ stuck-twice (hi / 2 ^ n) (hi % 2 ^ n) lo
+    ∙ stuck-same (hi / 2 ^ n) (hi % 2 ^ n + lo) (hi % 2 ^ n * 2 ^ 64 + lo) (z .0) (z .1)
+    ∙ sym (ap (λ (x : ℕ). stuck x (v % 2 ^ k)) quo ∙ ap (λ (x : ℕ). stuck (hi / 2 ^ n) x) rem)
+
+module _ (hi lo k : ℕ) (a : hi < 2 ^ 64) (b : lo < 2 ^ 64) (h : k < 64) where
+  up : 2 ^ k * 2 ^ (64 - k) ≡ 2 ^ 64
+  up = sym (pow-add 2 k (64 - k)) ∙ ap (λ (x : ℕ). 2 ^ x) (back k h)
+    where
+      back : (k : ℕ) → k < 64 → k + (64 - k) ≡ 64
+      back k h = omega arith
+
+  shifted : hi * 2 ^ (64 - k) % 2 ^ 64 ≡ hi % 2 ^ k * 2 ^ (64 - k)
+  shifted =
+      ap (λ (x : ℕ). hi * 2 ^ (64 - k) % x) (sym up)
+      ∙ mod-mul (hi * 2 ^ (64 - k)) (pow-pos k) (pow-pos (64 - k))
+      ∙ ap (λ (x : ℕ). x % 2 ^ k * 2 ^ (64 - k) + hi * 2 ^ (64 - k) % 2 ^ (64 - k)) (mul-div-cancel hi (pow-pos (64 - k)))
+      ∙ ap (λ (x : ℕ). hi % 2 ^ k * 2 ^ (64 - k) + x) (mul-mod-left hi (2 ^ (64 - k)))
+      ∙ add-zero (hi % 2 ^ k * 2 ^ (64 - k))
+
+  pub joined-lt : hi * 2 ^ (64 - k) % 2 ^ 64 + lo / 2 ^ k < 2 ^ 64
+  joined-lt =
+      subst (λ (x : ℕ). x + lo / 2 ^ k < 2 ^ 64) (sym shifted)
+      (subst (λ (x : ℕ). hi % 2 ^ k * 2 ^ (64 - k) + lo / 2 ^ k < x) up
+      (digits-lt (mod-lt hi (pow-pos k)) (shr-lt (64 - k) k (subst (λ (x : ℕ). lo < 2 ^ x) (back k h) b))))
+    where
+      back : (k : ℕ) → k < 64 → 64 ≡ 64 - k + k
+      back k h = omega arith
+
+  quotient : wide hi lo / 2 ^ k ≡ hi / 2 ^ k * 2 ^ 64 + (hi * 2 ^ (64 - k) % 2 ^ 64 + lo / 2 ^ k)
+  quotient =
+      let c = 2 ^ (64 - k) in
+      let m = 2 ^ k in
+      ap (λ (x : ℕ). x / m) (add-comm (hi * 2 ^ 64) lo ∙ ap (λ (x : ℕ). lo + x) (ap (λ (x : ℕ). hi * x) (sym up ∙ mul-comm m c) ∙ sym (mul-assoc hi c m)))
+      ∙ add-mul-div-right lo (hi * c) (pow-pos k)
+      ∙ add-comm (lo / m) (hi * c)
+      ∙ ap (λ (x : ℕ). x + lo / m)
+      (ap (λ (x : ℕ). x * c) (sym (div-add-mod' hi m)) ∙ add-mul (hi / m * m) (hi % m) c ∙ ap (λ (x : ℕ). x + hi % m * c) (mul-assoc (hi / m) m c ∙ ap (λ (x : ℕ). hi / m * x) up) ∙ ap (λ (x : ℕ). hi / m * 2 ^ 64 + x) (sym shifted))
+      ∙ add-assoc (hi / m * 2 ^ 64) (hi * c % 2 ^ 64) (lo / m)
+
+  remainder : wide hi lo % 2 ^ k ≡ lo % 2 ^ k
+  remainder =
+      ap (λ (x : ℕ). x % 2 ^ k) (ap (λ (x : ℕ). x + lo) (ap (λ (x : ℕ). hi * x) (sym up ∙ mul-comm (2 ^ k) (2 ^ (64 - k))) ∙ sym (mul-assoc hi (2 ^ (64 - k)) (2 ^ k))))
+      ∙ mul-add-mod-self-right (hi * 2 ^ (64 - k)) (2 ^ k) lo
+
+  pub jam-low : (s : ℕ) → s ≡ stuck (hi * 2 ^ (64 - k) % 2 ^ 64 + lo / 2 ^ k) (lo % 2 ^ k) → wide (hi / 2 ^ k) s ≡ jammed (wide hi lo) (2 ^ k)
+  jam-low s e =
+      let l = hi * 2 ^ (64 - k) % 2 ^ 64 + lo / 2 ^ k in
+      ap (λ (x : ℕ). hi / 2 ^ k * 2 ^ 64 + x) e
+      ∙ above (hi / 2 ^ k * 2 ^ 64) l (cond (eqb (lo % 2 ^ k) 0) 0 (1 - l % 2)) (cond (eqb (lo % 2 ^ k) 0) 0 (1 - (hi / 2 ^ k * 2 ^ 64 + l) % 2)) (ap (λ (x : ℕ). cond (eqb (lo % 2 ^ k) 0) 0 (1 - x)) (even (hi / 2 ^ k) l))
+      ∙ sym (ap (λ (x : ℕ). stuck x (wide hi lo % 2 ^ k)) quotient ∙ ap (λ (x : ℕ). stuck (hi / 2 ^ k * 2 ^ 64 + l) x) remainder)
+    where
+      even : (x l : ℕ) → l % 2 ≡ (x * 2 ^ 64 + l) % 2
+      even x l = omega arith
+
+      above : (x l c d : ℕ) → c ≡ d → x + (l + c) ≡ x + l + d
+      above x l c d e = omega arith
+
+-- ---- `added`
+pub carried : (ah al bh bl : ℕ) → al < 2 ^ 64 → bl < 2 ^ 64 → wide (ah + bh + boolByte (ltb ((al + bl) % 2 ^ 64) al)) ((al + bl) % 2 ^ 64) ≡ wide ah al + wide bh bl
+carried ah al bh bl a b = go (ltb ((al + bl) % 2 ^ 64) al) (ltb→lt ((al + bl) % 2 ^ 64) al) (nltb→le ((al + bl) % 2 ^ 64) al)
+  where
+    over : (ah al bh bl : ℕ) → al < 2 ^ 64 → bl < 2 ^ 64 → (al + bl) % 2 ^ 64 < al → (ah + bh + 1) * 2 ^ 64 + (al + bl) % 2 ^ 64 ≡ ah * 2 ^ 64 + al + (bh * 2 ^ 64 + bl)
+    over ah al bh bl a b h = omega arith
+
+    within : (ah al bh bl : ℕ) → al < 2 ^ 64 → bl < 2 ^ 64 → al ≤ (al + bl) % 2 ^ 64 → (ah + bh + 0) * 2 ^ 64 + (al + bl) % 2 ^ 64 ≡ ah * 2 ^ 64 + al + (bh * 2 ^ 64 + bl)
+    within ah al bh bl a b h = omega arith
+
+    go : (t : Bool) → (T t → (al + bl) % 2 ^ 64 < al) → (T (not t) → al ≤ (al + bl) % 2 ^ 64) → (ah + bh + boolByte t) * 2 ^ 64 + (al + bl) % 2 ^ 64 ≡ wide ah al + wide bh bl
+    go true f g = over ah al bh bl a b (f tt)
+    go false f g = within ah al bh bl a b (g tt)
+
+-- ---- `joined`
+pub picked-le : (u : Bool) (a b : ℕ) → u ≡ ltb a b → cond u a b ≤ cond u b a
+picked-le true a b e = le-of-lt (ltb→lt a b (subst T e tt))
+picked-le false a b e = nltb→le a b (subst (λ (x : Bool). T (not x)) e tt)
+
+pub picked-diff : (u : Bool) (a b : ℕ) → cond u b a - cond u a b ≡ cond u (b - a) (a - b)
+picked-diff true a b = refl
+picked-diff false a b = refl
+
+-- ---- `shifted`
+pub shifted-is : (v t : ℕ) → v < 2 ^ 64 → t < 63 → (wide (v / 2 / 2 ^ (63 - t)) (v * 2 ^ t % 2 ^ 64) ≡ v * 2 ^ t) × (v / 2 / 2 ^ (63 - t) < 2 ^ 62)
+shifted-is v t h l = (
+  ap (λ (x : ℕ). x * 2 ^ 64 + v * 2 ^ t % 2 ^ 64)
+      (div-div-eq-div-mul v 2 (2 ^ (63 - t))
+      ∙ div-same v (2 * 2 ^ (63 - t)) (v * 2 ^ t) (2 ^ 64) (mul-pos (zero-lt-suc 1) (pow-pos (63 - t))) (pow-pos 64)
+      (ap (λ (x : ℕ). v * x) (ap (λ (x : ℕ). 2 ^ x) (all t l) ∙ pow-add 2 t (1 + (63 - t)) ∙ ap (λ (x : ℕ). 2 ^ t * x) (pow-add 2 1 (63 - t))) ∙ sym (mul-assoc v (2 ^ t) (2 * 2 ^ (63 - t)))))
+      ∙ div-add-mod' (v * 2 ^ t) (2 ^ 64),
+  shr-lt 62 (63 - t) (lt-of-lt-of-le (half v h) (pow-mono (far t l))),
+)
+  where
+    all : (t : ℕ) → t < 63 → 64 ≡ t + (1 + (63 - t))
+    all t l = omega arith
+
+    half : (v : ℕ) → v < 2 ^ 64 → v / 2 < 2 ^ 63
+    half v h = omega arith
+
+    far : (t : ℕ) → t < 63 → 63 ≤ 62 + (63 - t)
+    far t l = omega arith
+
+-- ---- `taken`
+pub less-high : (ah al bh bl M : ℕ) → bh * M + bl ≤ ah * M + al → al < bl → bh < ah
+less-high ah al bh bl M h l = elim (le-or-lt ah bh) [ inl g ↦ absurd (no (ah * M) al (bh * M) bl h l (mul-le-mul-right M g)) | inr g ↦ g ]
+  where
+    no : (x al y bl : ℕ) → y + bl ≤ x + al → al < bl → x ≤ y → ⊥
+    no x al y bl h l g = omega arith
+
+pub at-most-high : (ah al bh bl M : ℕ) → bh * M + bl ≤ ah * M + al → al < M → bh ≤ ah
+at-most-high ah al bh bl M h l = elim (le-or-lt bh ah) [ inl g ↦ g | inr g ↦ absurd (no (ah * M) al (bh * M) bl M h l (le-trans (le-of-eq (sym (native.Mathlib.Nat.suc-mul ah M))) (mul-le-mul-right M g))) ]
+  where
+    no : (x al y bl M : ℕ) → y + bl ≤ x + al → al < M → x + M ≤ y → ⊥
+    no x al y bl M h l g = omega arith
+
+pub with-borrow : (ah al bh bl M : ℕ) → bh < ah → al < bl → bl < M → (ah - bh - 1) * M + (M - 1 - bl + al + 1) ≡ ah * M + al - (bh * M + bl)
+with-borrow ah al bh bl M h l g =
+    let x = ah - bh - 1 in
+    all (ah * M) (bh * M) (x * M) al bl M (ap (λ (y : ℕ). y * M) (whole ah bh h) ∙ add-mul (bh + 1) x M ∙ ap (λ (y : ℕ). y + x * M) (add-mul bh 1 M ∙ ap (λ (y : ℕ). bh * M + y) (one-mul M))) l g
+  where
+    whole : (a b : ℕ) → b < a → a ≡ b + 1 + (a - b - 1)
+    whole a b h = omega arith
+
+    all : (A B X al bl M : ℕ) → A ≡ B + M + X → al < bl → bl < M → X + (M - 1 - bl + al + 1) ≡ A + al - (B + bl)
+    all A B X al bl M e l g = omega arith
+
+pub no-borrow : (ah al bh bl M : ℕ) → bh ≤ ah → bl ≤ al → (ah - bh) * M + (al - bl) ≡ ah * M + al - (bh * M + bl)
+no-borrow ah al bh bl M h l =
+    let x = ah - bh in
+    all (ah * M) (bh * M) (x * M) al bl (ap (λ (y : ℕ). y * M) (whole ah bh h) ∙ add-mul bh x M) l
+  where
+    whole : (a b : ℕ) → b ≤ a → a ≡ b + (a - b)
+    whole a b h = omega arith
+
+    all : (A B X al bl : ℕ) → A ≡ B + X → bl ≤ al → X + (al - bl) ≡ A + al - (B + bl)
+    all A B X al bl e l = omega arith
+
+-- ---- `product`, by halves of a word: R is 2 ^ 32
+-- each number on the way fits a word
+pub record HalvesFit (a b : ℕ) : Type 0 where
+  pub low : a % 2 ^ 32 * (b % 2 ^ 32) < 2 ^ 64
+  pub left : a % 2 ^ 32 * (b / 2 ^ 32) < 2 ^ 64
+  pub right : a / 2 ^ 32 * (b % 2 ^ 32) < 2 ^ 64
+  pub sides : a % 2 ^ 32 * (b / 2 ^ 32) + a / 2 ^ 32 * (b % 2 ^ 32) < 2 ^ 64
+  pub mid : a % 2 ^ 32 * (b / 2 ^ 32) + a / 2 ^ 32 * (b % 2 ^ 32) + a % 2 ^ 32 * (b % 2 ^ 32) / 2 ^ 32 < 2 ^ 64
+  pub top : a / 2 ^ 32 * (b / 2 ^ 32) < 2 ^ 64
+  pub high : a / 2 ^ 32 * (b / 2 ^ 32) + (a % 2 ^ 32 * (b / 2 ^ 32) + a / 2 ^ 32 * (b % 2 ^ 32) + a % 2 ^ 32 * (b % 2 ^ 32) / 2 ^ 32) / 2 ^ 32 < 2 ^ 64
+
+pub halves-fit : (a b : ℕ) → a < 2 ^ 63 → b < 2 ^ 63 → HalvesFit a b
+halves-fit a b h k =
+    let x = halves a h in
+    let y = halves b k in
+    sums (mul-le-mul (x .0) (y .0)) (mul-le-mul (x .0) (y .1)) (mul-le-mul (x .1) (y .0)) (mul-le-mul (x .1) (y .1))
+  where
+    halves : (a : ℕ) → a < 2 ^ 63 → (a % 2 ^ 32 ≤ 4294967295) × (a / 2 ^ 32 ≤ 2147483647)
+    halves a h = (omega arith, omega arith)
+
+    middle : (l s t : ℕ) → l ≤ 4294967295 * 4294967295 → s ≤ 4294967295 * 2147483647 → t ≤ 2147483647 * 4294967295 → s + t + l / 2 ^ 32 < 2 ^ 64
+    middle l s t a b c = omega arith
+
+    last : (h m : ℕ) → h ≤ 2147483647 * 2147483647 → m < 2 ^ 64 → h + m / 2 ^ 32 < 2 ^ 64
+    last h m a b = omega arith
+
+    sums : a % 2 ^ 32 * (b % 2 ^ 32) ≤ 4294967295 * 4294967295 → a % 2 ^ 32 * (b / 2 ^ 32) ≤ 4294967295 * 2147483647
+        → a / 2 ^ 32 * (b % 2 ^ 32) ≤ 2147483647 * 4294967295 → a / 2 ^ 32 * (b / 2 ^ 32) ≤ 2147483647 * 2147483647 → HalvesFit a b
+    sums l s t h =
+        let m = middle (a % 2 ^ 32 * (b % 2 ^ 32)) (a % 2 ^ 32 * (b / 2 ^ 32)) (a / 2 ^ 32 * (b % 2 ^ 32)) l s t in
+        record {
+          low = lt-of-le-of-lt l (lit< tt);
+          left = lt-of-le-of-lt s (lit< tt);
+          right = lt-of-le-of-lt t (lit< tt);
+          sides = lt-of-le-of-lt (add-le-add s t) (lit< tt);
+          mid = m;
+          top = lt-of-le-of-lt h (lit< tt);
+          high = last (a / 2 ^ 32 * (b / 2 ^ 32)) (a % 2 ^ 32 * (b / 2 ^ 32) + a / 2 ^ 32 * (b % 2 ^ 32) + a % 2 ^ 32 * (b % 2 ^ 32) / 2 ^ 32) h m;
+        }
+
+-- the upper word of a product
+pub product-high : (a b hi lo : ℕ) → a < 2 ^ 63 → b < 2 ^ 63 → wide hi lo ≡ a * b → hi < 2 ^ 62
+product-high a b hi lo h k e =
+    lt-of-mul-lt-mul-right (2 ^ 64)
+    (lt-of-le-of-lt (more (hi * 2 ^ 64) lo) (lt-of-le-of-lt (le-of-eq e) (lt-of-lt-of-le (lt-of-le-of-lt (mul-le-mul (le-refl a) (le-of-lt k)) (mul-lt-mul-of-pos-right h (pow-pos 63))) (lit≤ tt))))
+  where
+    more : (a b : ℕ) → a ≤ a + b
+    more a b = omega arith
+
+pub product-is : (a b : ℕ) → (let R : ℕ = 4294967296 in let low = a % R * (b % R) in let mid = a % R * (b / R) + a / R * (b % R) + low / R in wide (a / R * (b / R) + mid / R) (mid * R % (R * R) + low % R) ≡ a * b)
+product-is a b =
+    let R : ℕ = 4294967296 in
+    let a1 = a / R in
+    let a0 = a % R in
+    let b1 = b / R in
+    let b0 = b % R in
+    let e : a * b ≡ a1 * b1 * (R * R) + (a0 * b1 + a1 * b0) * R + a0 * b0 =
+    ap (λ (x : ℕ). x * b) (sym (div-add-mod' a R)) ∙ ap (λ (x : ℕ). (a1 * R + a0) * x) (sym (div-add-mod' b R)) ∙ expand a1 a0 b1 b0 R in
+    collect (a1 * b1) (a0 * b1 + a1 * b0) (a0 * b0) ∙ sym e
+  where
+    sums : (p x y q u v w : ℕ) → x ≡ v → y ≡ u → w ≡ u + v → p + x + (y + q) ≡ p + w + q
+    sums p x y q u v w a b c = omega arith
+
+    expand : (a1 a0 b1 b0 R : ℕ) → (a1 * R + a0) * (b1 * R + b0) ≡ a1 * b1 * (R * R) + (a0 * b1 + a1 * b0) * R + a0 * b0
+    expand a1 a0 b1 b0 R =
+        add-mul (a1 * R) a0 (b1 * R + b0)
+        ∙ ap (λ (x : ℕ). x + a0 * (b1 * R + b0)) (mul-add (a1 * R) (b1 * R) b0)
+        ∙ ap (λ (x : ℕ). a1 * R * (b1 * R) + a1 * R * b0 + x) (mul-add a0 (b1 * R) b0)
+        ∙ ap (λ (x : ℕ). x + a1 * R * b0 + (a0 * (b1 * R) + a0 * b0)) (native.Mathlib.Nat.mul-mul-mul-comm a1 R b1 R)
+        ∙ sums (a1 * b1 * (R * R)) (a1 * R * b0) (a0 * (b1 * R)) (a0 * b0) (a0 * b1 * R) (a1 * b0 * R) ((a0 * b1 + a1 * b0) * R) (mul-right-comm a1 R b0) (sym (mul-assoc a0 b1 R)) (add-mul (a0 * b1) (a1 * b0) R)
+
+    shift : (m R : ℕ) → 0 < R → m * R % (R * R) ≡ m % R * R
+    shift m R P = mod-mul (m * R) P P ∙ ap (λ (x : ℕ). x % R * R + m * R % R) (mul-div-cancel m P) ∙ ap (λ (x : ℕ). m % R * R + x) (mul-mod-left m R) ∙ add-zero (m % R * R)
+
+    R-split : (m : ℕ) → (let R : ℕ = 4294967296 in m / R * (R * R) + m % R * R ≡ m * R)
+    R-split m = omega arith
+
+    last : (p u v mr q s x y sr : ℕ) → u + v ≡ mr → mr ≡ sr + x → x + y ≡ q → p + u + (v + y) ≡ p + sr + q
+    last p u v mr q s x y sr a b c = omega arith
+
+    collect : (p s q : ℕ) → (let R : ℕ = 4294967296 in (p + (s + q / R) / R) * 2 ^ 64 + ((s + q / R) * R % (R * R) + q % R) ≡ p * (R * R) + s * R + q)
+    collect p s q =
+        let R : ℕ = 4294967296 in
+        let m = s + q / R in
+        ap (λ (x : ℕ). x + (m * R % (R * R) + q % R)) (add-mul p (m / R) (R * R))
+        ∙ ap (λ (x : ℕ). p * (R * R) + m / R * (R * R) + (x + q % R)) (shift m R (zero-lt-suc 4294967295))
+        ∙ last (p * (R * R)) (m / R * (R * R)) (m % R * R) (m * R) q s (q / R * R) (q % R) (s * R) (R-split m) (add-mul s (q / R) R) (div-add-mod' q R)
+
+-- ---- `round_wide`
+jammed-lt : (v k : ℕ) → v < 2 ^ (64 + k) → jammed v (2 ^ k) < 2 ^ 64
+jammed-lt v k h =
+    let q = v / 2 ^ k in
+    let l : q < 2 ^ 64 = shr-lt 64 k h in
+    elim (zero-or (v % 2 ^ k)) [
+      | inl z ↦ subst (λ (x : ℕ). x < 2 ^ 64) (sym (none-left q (v % 2 ^ k) z)) l
+      | inr n ↦ subst (λ (x : ℕ). x < 2 ^ 64) (sym (some-left q (v % 2 ^ k) n)) (still q l)
+    ]
+  where
+    still : (q : ℕ) → q < 2 ^ 64 → q + (1 - q % 2) < 2 ^ 64
+    still q h = omega arith
+
+jammed-ge : (v m : ℕ) → v / m ≤ jammed v m
+jammed-ge v m = more (v / m) (cond (eqb (v % m) 0) 0 (1 - v / m % 2))
+  where
+    more : (a b : ℕ) → a ≤ a + b
+    more a b = omega arith
+
+one-word : (h l : ℕ) → wide h l < 2 ^ 64 → l ≡ wide h l
+one-word h l e =
+    let z : h ≡ 0 = elim (eq-zero-or-pos h) [ inl z ↦ z | inr p ↦ absurd (no (h * 2 ^ 64) l (2 ^ 64) e (le-trans (le-of-eq (sym (one-mul (2 ^ 64)))) (mul-le-mul-right (2 ^ 64) p))) ] in
+    sym (ap (λ (x : ℕ). x * 2 ^ 64 + l) z ∙ zero-add l)
+  where
+    no : (x l m : ℕ) → x + l < m → m ≤ x → ⊥
+    no x l m a b = omega arith
+
+-- the two words cut to one, v, with its leading digit at the top
+module _ (hi lo vh vl : ℕ) (H : 0 < hi) (a : hi < 2 ^ 64) (b : lo < 2 ^ 64) (e : wide vh vl ≡ jammed (wide hi lo) (2 ^ (64 - leadingZeros 64 hi))) where
+  place : (j : ℕ) × (leadingZeros 64 hi + suc j ≡ 64) × (2 ^ j ≤ hi) × (hi < 2 ^ suc j)
+  place = leading-top 64 hi H a
+
+  abbrev k : ℕ
+  k = 64 - leadingZeros 64 hi
+
+  K : k ≡ suc (place .0)
+  K = is (leadingZeros 64 hi) (place .0) (place .1)
+    where
+      is : (z j : ℕ) → z + suc j ≡ 64 → 64 - z ≡ suc j
+      is z j e = omega arith
+
+  word : vl ≡ jammed (wide hi lo) (2 ^ k)
+  word = one-word vh vl (subst (λ (x : ℕ). x < 2 ^ 64) (sym e) (jammed-lt (wide hi lo) k fits)) ∙ e
+    where
+      fits : wide hi lo < 2 ^ (64 + k)
+      fits = subst (λ (x : ℕ). wide hi lo < x) (sym (pow-add 2 k 64) ∙ ap (λ (x : ℕ). 2 ^ x) (add-comm k 64)) (digits-lt (subst (λ (x : ℕ). hi < 2 ^ x) (sym K) (place .3)) b)
+
+  pub lead-top : 2 ^ 63 ≤ vl
+  lead-top = le-trans (le-div-iff-mul-le (pow-pos k) .1 long) (le-trans (jammed-ge (wide hi lo) (2 ^ k)) (le-of-eq (sym word)))
+    where
+      move : (j : ℕ) → 63 + suc j ≡ j + 64
+      move j = omega arith
+
+      more : (a b : ℕ) → a ≤ a + b
+      more a b = omega arith
+
+      long : 2 ^ 63 * 2 ^ k ≤ wide hi lo
+      long =
+          le-trans (le-of-eq (ap (λ (x : ℕ). 2 ^ 63 * 2 ^ x) K ∙ sym (pow-add 2 63 (suc (place .0))) ∙ ap (λ (x : ℕ). 2 ^ x) (move (place .0)) ∙ pow-add 2 (place .0) 64))
+          (le-trans (mul-le-mul-right (2 ^ 64) (place .2)) (more (hi * 2 ^ 64) lo))
+
+  pub wide-round : (f : Format) (s : Bool) (t j : ℕ) → suc (prec f) ≤ 63 → round f s (vl * 2 ^ (t + 64 + k)) (2 ^ (64 + j)) ≡ round f s (wide hi lo * 2 ^ t) (2 ^ j)
+  wide-round f s t j p =
+      let W = wide hi lo in
+      let J = jammed W (2 ^ k) in
+      ap (λ (x : ℕ). round f s (x * 2 ^ (t + 64 + k)) (2 ^ (64 + j))) word
+      ∙ round-sticky f s J W (2 ^ k) (t + 64 + k) (64 + j) (pow-pos k) (jammed-sticks W (2 ^ k) (pow-pos k)) (le-trans (pow-mono p) (le-trans lead-top (le-of-eq word)))
+      ∙ round-same f s (W * 2 ^ (t + 64 + k)) (2 ^ k * 2 ^ (64 + j)) (W * 2 ^ t) (2 ^ j) (mul-pos (pow-pos k) (pow-pos (64 + j))) (pow-pos j) (scale W t 64 k j)
+    where
+      scale : (W t c k j : ℕ) → W * 2 ^ (t + c + k) * 2 ^ j ≡ W * 2 ^ t * (2 ^ k * 2 ^ (c + j))
+      scale W t c k j = simp (pow-add, mul-assoc, mul-comm, mul-left-comm)
+
+-- ---- `less`
+pub less-yes : (ah al bh bl M : ℕ) → al < M → ah < bh → true ≡ ltb (ah * M + al) (bh * M + bl)
+less-yes ah al bh bl M h l = sym (is-true (ltb (ah * M + al) (bh * M + bl)) (lt→ltb (ah * M + al) (bh * M + bl) (lt-of-lt-of-le (digits-lt l h) (more (bh * M) bl))))
+  where
+    more : (a b : ℕ) → a ≤ a + b
+    more a b = omega arith
+
+pub less-no : (ah al bh bl M : ℕ) → bl < M → bh < ah → false ≡ ltb (ah * M + al) (bh * M + bl)
+less-no ah al bh bl M h l = sym (is-false (ltb (ah * M + al) (bh * M + bl)) (le→nltb (ah * M + al) (bh * M + bl) (le-of-lt (lt-of-lt-of-le (digits-lt l h) (more (ah * M) al)))))
+  where
+    more : (a b : ℕ) → a ≤ a + b
+    more a b = omega arith
+
+pub less-low : (ah al bh bl M : ℕ) → bh ≤ ah → ah ≤ bh → ltb al bl ≡ ltb (ah * M + al) (bh * M + bl)
+less-low ah al bh bl M h l = subst (λ (x : ℕ). ltb al bl ≡ ltb (ah * M + al) (x * M + bl)) (native.Mathlib.Nat.le-antisymm l h) (go (le-or-lt bl al))
+  where
+    go : (bl ≤ al) ⊎ (al < bl) → ltb al bl ≡ ltb (ah * M + al) (ah * M + bl)
+    go (inl g) = is-false (ltb al bl) (le→nltb al bl g) ∙ sym (is-false (ltb (ah * M + al) (ah * M + bl)) (le→nltb (ah * M + al) (ah * M + bl) (up (ah * M) bl al g)))
+      where
+        up : (x a b : ℕ) → a ≤ b → x + a ≤ x + b
+        up x a b h = omega arith
+    go (inr g) = is-true (ltb al bl) (lt→ltb al bl g) ∙ sym (is-true (ltb (ah * M + al) (ah * M + bl)) (lt→ltb (ah * M + al) (ah * M + bl) (up (ah * M) al bl g)))
+      where
+        up : (x a b : ℕ) → a < b → x + a < x + b
+        up x a b h = omega arith

@@ -1,0 +1,70 @@
+-- `pattern_top` meets its contract. Assumes nothing.
+use Prim.Native.Nat.{_-_}
+use native.Mathlib.Omega.{arith}
+use Rattle.ieee.proofs.Steps.{top-none, top-low, top-high, packed-fits}
+use borrow.Author.Needs.{needs}
+use Rattle.ieee.proofs.rounding.pattern_top.Statement.{statement}
+use Rattle.ieee.proofs.rounding.pattern_top.Tie as tie
+
+returns : tie.Need-returns
+returns c = top-none (c .before .args .p) (c .before .args .n) (c .before .args .t) (c .before .pre .0) (c .before .fits .n .fits) (c .before .pre .2) (c .before .pre .3) (c .if1 .taken)
+
+add-if2 : tie.Need-add-if2
+add-if2 c = search needs
+
+sub-cut : tie.Need-sub-cut
+sub-cut c = search needs
+
+cut-requires : tie.Need-cut-requires
+cut-requires c κs = search needs
+
+returns-2 : tie.Need-returns-2
+returns-2 c =
+    let s = c .before .before .before in
+    top-low (s .args .p) (s .args .n) (s .args .t) (s .pre .0) (s .fits .n .fits) (s .pre .2) (s .pre .3) (c .cut .result) (c .before .before .if1 .left) (c .before .if2 .taken) (c .cut .ensures)
+
+sub-result : tie.Need-sub-result
+sub-result c = search needs
+
+sub-result-2 : tie.Need-sub-result-2
+sub-result-2 c = search needs
+
+sub-result-3 : tie.Need-sub-result-3
+sub-result-3 c = search needs
+
+shl-result : tie.Need-shl-result
+shl-result c = search needs
+
+sub-cut-2 : tie.Need-sub-cut-2
+sub-cut-2 c = search needs
+
+cut-requires-2 : tie.Need-cut-requires-2
+cut-requires-2 c κs = search needs
+
+add-result : tie.Need-add-result
+add-result c =
+    let s = c .before .before .before in
+    record { fits = packed-fits (s .args .p) (s .args .t - s .args .p - 4096) (s .args .n) (c .cut2 .result) (s .pre .2) (s .pre .3) (omega arith) (s .fits .n .fits) (c .cut2 .ensures) }
+
+returns-3 : tie.Need-returns-3
+returns-3 c =
+    let s = c .before .before .before in
+    top-high (s .args .p) (s .args .n) (s .args .t) (s .pre .0) (s .fits .n .fits) (s .pre .2) (s .pre .3) (c .cut2 .result) (c .before .if2 .left) (s .pre .1) (c .cut2 .ensures)
+
+pub pattern-top-spec : {M : Type 1} → statement M
+pattern-top-spec =
+    tie.close
+    (tie.spec
+    returns
+    add-if2
+    sub-cut
+    cut-requires
+    returns-2
+    sub-result
+    sub-result-2
+    sub-result-3
+    shl-result
+    sub-cut-2
+    cut-requires-2
+    add-result
+    returns-3)

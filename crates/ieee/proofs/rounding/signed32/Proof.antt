@@ -1,0 +1,46 @@
+-- `signed32` meets its contract. Assumes nothing.
+use mathlib.Core.Path.{_≡_, sym, ap, _∙_}
+use Prim.Native.Nat.{ℕ, _+_, _*_, min}
+use mathlib.Core.Bool.{Bool, true, false, cond}
+use lib.Ieee.{binary32, ofBits, top, ones, hid}
+use Rattle.ieee.proofs.Steps.{made, no-nan}
+use borrow.Author.Needs.{needs}
+use Rattle.ieee.proofs.rounding.signed32.Statement.{statement}
+use Rattle.ieee.proofs.rounding.signed32.Tie as tie
+
+capped-requires : tie.Need-capped-requires
+capped-requires c κs = search needs
+
+cast-b : tie.Need-cast-b
+cast-b c = search needs
+
+add-result : tie.Need-add-result
+add-result c = search needs
+
+float-from-bits-result : tie.Need-float-from-bits-result
+float-from-bits-result c = no-nan binary32 true (c .before .before .args .m) (c .before .capped .result) (c .before .capped .ensures)
+
+add-result-2 : tie.Need-add-result-2
+add-result-2 c = search needs
+
+float-from-bits-result-2 : tie.Need-float-from-bits-result-2
+float-from-bits-result-2 c = no-nan binary32 false (c .before .before .args .m) (c .before .capped .result) (c .before .capped .ensures)
+
+returns : tie.Need-returns
+returns c = made binary32 (c .before .before .args .neg) true (c .before .before .args .m) (c .before .capped .result) (c .before .capped .ensures) (c .if1 .taken)
+
+returns-2 : tie.Need-returns-2
+returns-2 c = made binary32 (c .before .before .args .neg) false (c .before .before .args .m) (c .before .capped .result) (c .before .capped .ensures) (c .if1 .left)
+
+pub signed32-spec : {M : Type 1} → statement M
+signed32-spec =
+    tie.close
+    (tie.spec
+    capped-requires
+    cast-b
+    add-result
+    float-from-bits-result
+    add-result-2
+    float-from-bits-result-2
+    returns
+    returns-2)

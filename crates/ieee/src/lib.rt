@@ -1,0 +1,9 @@
+// IEEE 754's squareRoot, fusedMultiplyAdd and convertFormat to f32, over whole numbers.
+// Each unpacks its operands, makes a whole number that rounds as the exact result does, and hands it to the one rounding core.
+mod fused;
+mod narrowing;
+mod rounding;
+mod wide;
+
+pub use fused::mul_add;
+pub use narrowing::narrow;

@@ -1,0 +1,109 @@
+// The rounding core: a whole number and a power of two to the bit pattern of the nearest float, and a float to its parts.
+// Exponents are moved up by a constant, so that all numbers are unsigned: 4096 for a pattern, 5170 = 4096 + 1074 for an f64.
+ghost use mathlib.Core.Path.{_≡_};
+ghost use mathlib.Core.Bool.{cond};
+ghost use Prim.Native.Nat.{_+_, _-_, _*_, _^_, _≤_, _<_, min};
+ghost use lib.Ieee.{binary32, binary64, round, ofBits, top, ones, hid};
+ghost use lib.Ieee.Nearest.{closest};
+ghost use Rattle.ieee.specs.Pattern.{pattern};
+ghost use Rattle.ieee.specs.Unpacked.{Unpacked};
+
+// w / 2^(n + 1), to the nearest whole number, a tie to the even one; with no branch.
+pub(crate) fn cut(w: u64, n: u64) -> u64
+    requires { ⌜ n < 64 ⌝ }
+    ensures { λ r. ⌜ r ≡ closest w (2 * 2 ^ n) ⌝ }
+{
+    let h = w >> n;
+    let q = h / 2;
+    let s = (h << n != w) as u64;
+    q + (h % 2 + (q % 2 + s + 1) / 2) / 2
+}
+
+// The pattern of p digits for n * 2^t / 2^4160 units of a format's smallest value; n has its leading digit at the top.
+pub(crate) fn pattern_top(n: u64, t: u64, p: u64) -> u64
+    requires { ⌜ (2 ^ 63 ≤ n) × (t ≤ 8100) × (2 ≤ p) × (p ≤ 53) ⌝ }
+    ensures { λ r. ⌜ r ≡ pattern p (n * 2 ^ t) (2 ^ 4160) ⌝ }
+{
+    if t < 4096 {
+        return 0;
+    }
+    if t < 4096 + p {
+        return cut(n, 4159 - t);
+    }
+    ((t - p - 4096) << (p - 1)) + cut(n, 63 - p)
+}
+
+// The same for any w * 2^e / 2^4096 units.
+pub(crate) fn pattern_of(w: u64, e: u64, p: u64) -> u64
+    requires { ⌜ (e ≤ 8000) × (2 ≤ p) × (p ≤ 53) ⌝ }
+    ensures { λ r. ⌜ r ≡ pattern p (w * 2 ^ e) (2 ^ 4096) ⌝ }
+{
+    if w == 0 {
+        return 0;
+    }
+    let z = u64::leading_zeros(w) as u64;
+    pattern_top(w << z, e + 64 - z, p)
+}
+
+fn capped(m: u64, most: u64) -> u64
+    ensures { λ r. ⌜ r ≡ min m most ⌝ }
+{
+    if m < most { m } else { most }
+}
+
+// The float of a sign and a pattern, which is held to an infinity's.
+pub(crate) fn signed32(neg: bool, m: u64) -> f32
+    ensures { λ r. ⌜ r ≡ ofBits binary32 (cond neg (top binary32) 0 + min m (ones binary32 * hid binary32)) ⌝ }
+{
+    let b = capped(m, 0x7f80_0000) as u32;
+    if neg {
+        f32::from_bits(0x8000_0000 + b)
+    } else {
+        f32::from_bits(0 + b)
+    }
+}
+
+pub(crate) fn signed64(neg: bool, m: u64) -> f64
+    ensures { λ r. ⌜ r ≡ ofBits binary64 (cond neg (top binary64) 0 + min m (ones binary64 * hid binary64)) ⌝ }
+{
+    let b = capped(m, 0x7ff0_0000_0000_0000);
+    if neg {
+        f64::from_bits(0x8000_0000_0000_0000 + b)
+    } else {
+        f64::from_bits(0 + b)
+    }
+}
+
+// w * 2^e / 2^5170, rounded.
+pub(crate) fn round64(neg: bool, w: u64, e: u64) -> f64
+    requires { ⌜ e ≤ 8000 ⌝ }
+    ensures { λ r. ⌜ r ≡ round binary64 neg (w * 2 ^ e) (2 ^ 5170) ⌝ }
+{
+    signed64(neg, pattern_of(w, e, 53))
+}
+
+pub(crate) enum Class {
+    Nan,
+    Infinite(bool),
+    Finite(bool, u64, u64),
+}
+
+// Finite(neg, sig, exp) is sig * 2^exp / 2^1074 with its sign.
+pub(crate) fn unpack(x: f64) -> Class
+    ensures { λ r. ⌜ Unpacked x r ⌝ }
+{
+    if x != x {
+        return Class::Nan;
+    }
+    let b = f64::to_bits(x);
+    let neg = b >= 0x8000_0000_0000_0000;
+    let field = b % 0x8000_0000_0000_0000 / 0x10_0000_0000_0000;
+    let digits = b % 0x10_0000_0000_0000;
+    if field == 2047 {
+        return Class::Infinite(neg);
+    }
+    if field == 0 {
+        return Class::Finite(neg, digits, 0);
+    }
+    Class::Finite(neg, 0x10_0000_0000_0000 + digits, field - 1)
+}
