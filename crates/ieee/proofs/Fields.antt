@@ -3,10 +3,10 @@ use mathlib.Core.Path.{_≡_, refl, sym, ap, _∙_, subst}
 use Prim.Native.Nat.{ℕ, zero, suc, _+_, _-_, _*_, _/_, _%_, _^_, _≤_, _<_, min}
 use native.Mathlib.Nat.{mul-assoc, mul-comm, mul-left-comm, mul-pos, lt-irrefl, mod-lt, div-lt-iff-lt-mul, zero-lt-suc}
 use native.Mathlib.Omega.{arith}
-use mathlib.Core.Bool.{Bool, true, false, not, _&&_, cond, true≢false}
+use mathlib.Core.Bool.{Bool, true, false, not, _&&_, cond, true≢false, false≢true}
 use lib.Dec.{T, leb, eqb, eqb→eq, not-T, T-not}
 use lib.Pow.{pow-add, pow-pos}
-use lib.Ieee.{Float, nan, inf, fin, Format, binary32, prec, emax, low, up, down, odd, round, hid, ones, top, ofFields, ofBits, toBits, fits, isNan, ne}
+use lib.Ieee.{Float, nan, inf, fin, Format, binary32, prec, emax, low, up, down, odd, round, hid, ones, top, ofFields, ofBits, toBits, fits, isNan, ne, lt}
 use lib.Ieee.Fits.{eq→eqb, down-pos}
 use lib.Ieee.Bits.{ofBits-toBits, cond-no}
 use lib.Ieee.Compare.{nan-differs}
@@ -22,6 +22,12 @@ unfolding isNan
 no-nan-of-same nan h = absurd (true≢false (sym nan-differs ∙ h))
 no-nan-of-same (inf s) h = tt
 no-nan-of-same (fin s m e) h = tt
+
+pub less-no-nan : (x y : Float) → lt x y ≡ true → T (not (isNan x))
+unfolding lt isNan
+less-no-nan nan y h = absurd (false≢true h)
+less-no-nan (inf s) y h = tt
+less-no-nan (fin s m e) y h = tt
 
 -- ---- the fields
 pub as-fields : (f : Format) (x : Float) → T (fits f x) → x ≡ ofFields f (leb (top f) (toBits f x)) (toBits f x % top f / hid f) (toBits f x % hid f)

@@ -6,3 +6,6 @@ pub mod Fields
 pub mod Words
 pub mod Sums
 pub mod Terms
+pub mod Squares
+pub mod OddRoot
+pub mod RootSteps

@@ -203,3 +203,7 @@ round-pattern f s a c =
 
 pub pattern-round : (f : Format) (s : Bool) (a c : ℕ) → ofBits f (cond s (top f) 0 + min (pattern (prec f) (a * 2 ^ low f) c) (ones f * hid f)) ≡ round f s a c
 pattern-round f s a c = ap (ofBits f) (sym (round-pattern f s a c)) ∙ ofBits-toBits f (round f s a c) (round-fits f s a c)
+
+-- the same at q * 2 ^ k units
+pub pattern-units : (f : Format) (s : Bool) (q k : ℕ) → q ≤ 2 ^ prec f → (0 < k → hid f ≤ q) → T (fits f (units f s q k)) → ofBits f (cond s (top f) 0 + min (k * hid f + q) (ones f * hid f)) ≡ units f s q k
+pattern-units f s q k h g v = ap (ofBits f) (sym (units-bits f s q k h g)) ∙ ofBits-toBits f (units f s q k) v

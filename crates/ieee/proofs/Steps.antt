@@ -241,3 +241,9 @@ no-nan f s m b e =
     rest : (s : Bool) → (cond s (top f) 0 + b) % top f ≡ b
     rest true = add-mod-left (top f) b ∙ mod-eq-of-lt under
     rest false = ap (λ (x : ℕ). x % top f) (zero-add b) ∙ mod-eq-of-lt under
+
+pub plain-pattern : (f : Format) (b : ℕ) → b ≤ ones f * hid f → T (not (nanBits f b))
+plain-pattern f b h = subst (λ (x : ℕ). T (not (nanBits f x))) (zero-add b) (no-nan f false b b (held b (ones f * hid f) h))
+  where
+    held : (a b : ℕ) → a ≤ b → a ≡ min a b
+    held a b h = omega arith

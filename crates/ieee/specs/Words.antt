@@ -1,4 +1,4 @@
--- Numbers of two words, and numbers that stand for a fraction by a sticky last digit. Definitions only.
+-- Numbers of two words, numbers that stand for a fraction by a sticky last digit, and numbers near a root. Definitions only.
 use Prim.Native.Nat.{ℕ, _+_, _-_, _*_, _/_, _%_, _^_, _<_, _≤_}
 use mathlib.Core.Path.{_≡_}
 use mathlib.Core.Logic.{_⊎_}
@@ -38,3 +38,9 @@ pub record Placed (n k hi lo t : ℕ) : Type 0 where
   pub short : hi < 2 ^ 62
   pub zeros : lo % 1024 ≡ 0
   pub scale : t ≤ 7900
+
+-- r is the whole number nearest to the root of m: the root is above r - 1/2, and below r + 1/2
+pub record NearestRoot (m r : ℕ) : Type 0 where
+  pub one : 1 ≤ r
+  pub below : m ≤ r * r + r
+  pub above : r * r < m + r

@@ -2,8 +2,10 @@
 // Each unpacks its operands, makes a whole number that rounds as the exact result does, and hands it to the one rounding core.
 mod fused;
 mod narrowing;
+mod roots;
 mod rounding;
 mod wide;
 
 pub use fused::mul_add;
 pub use narrowing::narrow;
+pub use roots::root;

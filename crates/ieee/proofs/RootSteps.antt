@@ -1,0 +1,301 @@
+-- What the steps of `root` give, on plain numbers. Assumes nothing.
+use mathlib.Core.Path.{_≡_, refl, sym, ap, _∙_, subst}
+use Prim.Native.Nat.{ℕ, zero, suc, _+_, _-_, _*_, _/_, _%_, _^_, _≤_, _<_}
+use native.Mathlib.Nat.{le-refl, le-trans, le-of-eq, lt-of-not-le, lt-of-lt-of-le, lt-of-le-of-lt, not-le-of-lt, zero-mul, mul-pos, mul-le-mul, mul-assoc, mul-comm, mul-left-comm, mul-right-comm, mul-add, add-mul, mul-one, one-mul, add-assoc, add-comm, add-left-comm, mul-div-cancel, div-add-mod', mod-eq-of-lt}
+use native.Mathlib.Omega.{arith}
+use mathlib.Core.Bool.{Bool, true, false, not, cond, true≢false, false≢true}
+use borrow.Author.Tests.{ne-eqb}
+use lib.Dec.{T, eqb, ltb, leb, ltb→lt, nltb→le, leb→le, nleb→lt, lit≤}
+use mir.Val.{boolByte}
+use lib.Pow.{pow-add, pow-pos, pow-mono, shl-lt}
+use lib.Count.{leadingZeros, leading-top}
+use lib.Ieee.{Float, nan, inf, fin, binary64, up, down, units, fits, ofBits}
+use lib.Ieee.Fits.{round-fits, up-pos, down-pos}
+use lib.Ieee.Exact.{HasValue}
+use Rattle.ieee.specs.Root.{isqrt, rootOf, root}
+use Rattle.ieee.specs.Words.{NearestRoot}
+use Rattle.ieee.proofs.Pack.{pow-lt-back, pattern-units}
+use Rattle.ieee.proofs.Squares.{nearest-root}
+
+-- ---- `part`: q * q + q by digits of 26 bits
+twice : (a b : ℕ) → 2 * a * b ≡ a * b + a * b
+twice a b = mul-assoc 2 a b ∙ double (a * b)
+  where
+    double : (n : ℕ) → 2 * n ≡ n + n
+    double n = omega arith
+
+square : (P a b : ℕ) → (a * P + b) * (a * P + b) ≡ a * a * (P * P) + (a * b + a * b) * P + b * b
+square P a b = simp (mul-add, add-mul, mul-assoc, mul-comm, mul-left-comm, add-assoc, add-comm, add-left-comm) refl
+
+pub part-is : (q : ℕ) → (let a = q / 2 ^ 26 in let b = q % 2 ^ 26 in let low = b * b + q in let mid = 2 * a * b + low / 2 ^ 26 in
+    ((a * a + mid / 2 ^ 26) * 2 ^ 52 + (mid % 2 ^ 26 * 2 ^ 26 + low % 2 ^ 26) ≡ q * q + q) × (mid % 2 ^ 26 * 2 ^ 26 + low % 2 ^ 26 < 2 ^ 52))
+part-is q =
+    let a = q / 2 ^ 26 in
+    let b = q % 2 ^ 26 in
+    let e : q * q + q ≡ a * a * 2 ^ 52 + (2 * a * b) * 2 ^ 26 + (b * b + q) =
+    ap (λ (x : ℕ). x * x + q) (sym (div-add-mod' q (2 ^ 26)))
+    ∙ ap (λ (x : ℕ). x + q) (square (2 ^ 26) a b)
+    ∙ ap (λ (x : ℕ). a * a * 2 ^ 52 + x * 2 ^ 26 + b * b + q) (sym (twice a b))
+    ∙ add-assoc (a * a * 2 ^ 52 + (2 * a * b) * 2 ^ 26) (b * b) q in
+    (sym (e ∙ sym (digits (a * a) (2 * a * b) (b * b + q))), small (2 * a * b + (b * b + q) / 2 ^ 26) (b * b + q))
+  where
+    digits : (X Y Z : ℕ) → (X + (Y + Z / 2 ^ 26) / 2 ^ 26) * 2 ^ 52 + ((Y + Z / 2 ^ 26) % 2 ^ 26 * 2 ^ 26 + Z % 2 ^ 26) ≡ X * 2 ^ 52 + Y * 2 ^ 26 + Z
+    digits X Y Z = omega arith
+
+    small : (x y : ℕ) → x % 2 ^ 26 * 2 ^ 26 + y % 2 ^ 26 < 2 ^ 52
+    small x y = omega arith
+
+pub part-fits : (q : ℕ) → q ≤ 2 ^ 53 → (let a = q / 2 ^ 26 in let b = q % 2 ^ 26 in (b * b ≤ 2 ^ 52) × (2 * a * b ≤ 2 ^ 54) × (a * a ≤ 2 ^ 54))
+part-fits q h =
+    let a : q / 2 ^ 26 ≤ 2 ^ 27 = omega arith in
+    let b : q % 2 ^ 26 ≤ 2 ^ 26 = omega arith in
+    let d : 2 * (q / 2 ^ 26) ≤ 2 ^ 28 = omega arith in
+    (mul-le-mul b b, mul-le-mul d b, mul-le-mul a a)
+
+next : (q : ℕ) → (q + 1) * (q + 1) ≡ q * q + 2 * q + 1
+next q = mul-add (q + 1) q 1 ∙ ap (λ (x : ℕ). x + (q + 1) * 1) (add-mul q 1 q) ∙ omega arith
+
+-- ---- `bisect`: the root is between lo and hi
+pub record Between (w lo hi : ℕ) : Type 0 where
+  pub order : lo < hi
+  pub most : hi ≤ 2 ^ 53
+  pub under : lo * lo + lo < w * 2 ^ 52
+  pub over : w * 2 ^ 52 ≤ hi * hi + hi
+
+pub at-first : (w : ℕ) → 0 < w → w < 2 ^ 54 → Between w 0 (2 ^ 53)
+at-first w p h = record { order = omega arith; most = omega arith; under = omega arith; over = omega arith }
+
+pub lower : (w lo hi mid high low : ℕ) → Between w lo hi → mid < hi → high * 2 ^ 52 + low ≡ mid * mid + mid → low < 2 ^ 52 → high < w → Between w mid hi
+lower w lo hi mid high low b l e s h = record { order = l; most = b .most; under = omega arith; over = b .over }
+
+pub upper : (w lo hi mid high low : ℕ) → Between w lo hi → lo < mid → mid ≤ 2 ^ 53 → high * 2 ^ 52 + low ≡ mid * mid + mid → w ≤ high → Between w lo mid
+upper w lo hi mid high low b l m e h = record { order = l; most = m; under = b .under; over = omega arith }
+
+pub at-last : {w lo hi : ℕ} → Between w lo hi → hi ≤ lo + 1 → NearestRoot (w * 2 ^ 52) hi
+at-last {w} {lo} {hi} b h =
+    let e : hi ≡ lo + 1 = omega arith in
+    let s : hi * hi ≡ lo * lo + 2 * lo + 1 = ap (λ (x : ℕ). x * x) e ∙ next lo in
+    record { one = omega arith; below = b .over; above = omega arith }
+
+-- ---- `near`: q, or one beside it, by d, which is q * q + q less M, moved up by 2 ^ 55
+pub beside : (M q d : ℕ) → 1 ≤ q → d + M ≡ q * q + q + 2 ^ 55 → 2 ^ 55 ≤ d + 2 * q + 2 → d + 2 < 2 ^ 55 + 4 * q
+    → (boolByte (leb (2 ^ 55 + 2 * q) d) ≤ q + boolByte (ltb d (2 ^ 55))) × NearestRoot M (q + boolByte (ltb d (2 ^ 55)) - boolByte (leb (2 ^ 55 + 2 * q) d))
+beside M q d one e lo hi = go (ltb d (2 ^ 55)) (leb (2 ^ 55 + 2 * q) d) (ltb→lt d (2 ^ 55)) (nltb→le d (2 ^ 55)) (leb→le (2 ^ 55 + 2 * q) d) (nleb→lt (2 ^ 55 + 2 * q) d)
+  where
+    go : (x y : Bool) → (T x → d < 2 ^ 55) → (T (not x) → 2 ^ 55 ≤ d) → (T y → 2 ^ 55 + 2 * q ≤ d) → (T (not y) → d < 2 ^ 55 + 2 * q) → (boolByte y ≤ q + boolByte x) × NearestRoot M (q + boolByte x - boolByte y)
+    go true true a b f g = let p = a tt in let r = f tt in absurd (no q d p r)
+      where
+        no : (q d : ℕ) → d < 2 ^ 55 → 2 ^ 55 + 2 * q ≤ d → ⊥
+        no q d a b = omega arith
+    go true false a b f g =
+        let p = a tt in
+        let s = next q in
+        let u : q + 1 - 0 ≡ q + 1 = omega arith in
+        (omega arith, subst (λ (x : ℕ). NearestRoot M x) (sym u) (record { one = omega arith; below = omega arith; above = omega arith }))
+    go false true a b f g =
+        let r = f tt in
+        let t = q - 1 in
+        let z : q ≡ t + 1 = omega arith in
+        let s : q * q ≡ t * t + 2 * t + 1 = ap (λ (x : ℕ). x * x) z ∙ next t in
+        let u : q + 0 - 1 ≡ t = omega arith in
+        (omega arith, subst (λ (x : ℕ). NearestRoot M x) (sym u) (record { one = omega arith; below = omega arith; above = omega arith }))
+    go false false a b f g =
+        let p = b tt in
+        let r = g tt in
+        let u : q + 0 - 0 ≡ q = omega arith in
+        (omega arith, subst (λ (x : ℕ). NearestRoot M x) (sym u) (record { one = one; below = omega arith; above = omega arith }))
+
+pub scaled-fits : (m odd : ℕ) → 2 ^ 52 ≤ m → m < 2 ^ 53 → odd < 2 → (0 < m * (1 + odd)) × (m * (1 + odd) < 2 ^ 54)
+scaled-fits m odd lo hi h = (pos m (m * (1 + odd)) lo (le-trans (le-of-eq (sym (mul-one m))) (mul-le-mul (le-refl m) (one odd))), less m (m * (1 + odd)) hi (mul-le-mul (le-refl m) (two odd h)))
+  where
+    one : (odd : ℕ) → 1 ≤ 1 + odd
+    one odd = omega arith
+
+    two : (odd : ℕ) → odd < 2 → 1 + odd ≤ 2
+    two odd h = omega arith
+
+    pos : (m w : ℕ) → 2 ^ 52 ≤ m → m ≤ w → 0 < w
+    pos m w a b = omega arith
+
+    less : (m w : ℕ) → m < 2 ^ 53 → w ≤ m * 2 → w < 2 ^ 54
+    less m w a b = omega arith
+
+pub high-le : (q high low : ℕ) → q ≤ 2 ^ 53 → high * 2 ^ 52 + low ≡ q * q + q → high ≤ 2 ^ 55
+high-le q high low h e = less q high low (q * q) h (mul-le-mul h h) e
+  where
+    less : (q high low X : ℕ) → q ≤ 2 ^ 53 → X ≤ 2 ^ 106 → high * 2 ^ 52 + low ≡ X + q → high ≤ 2 ^ 55
+    less q high low X h k e = omega arith
+
+-- d, as the code makes it
+pub shortfall : (w q high low : ℕ) → high * 2 ^ 52 + low ≡ q * q + q → w ≤ high + 8 → (high + 8 - w) * 2 ^ 52 + low + w * 2 ^ 52 ≡ q * q + q + 2 ^ 55
+shortfall w q high low e h = omega arith
+
+-- ---- `finish`
+least : (M q : ℕ) → 2 ^ 104 ≤ M → M ≤ q * q + q → 2 ^ 52 ≤ q
+least M q lo below = le-of-not (λ (g : q + 1 ≤ 2 ^ 52). no (q * q + q) q M lo below (subst (λ (x : ℕ). x ≤ (2 ^ 52 - 1) * 2 ^ 52) (mul-add q q 1 ∙ ap (λ (x : ℕ). q * q + x) (mul-one q)) (mul-le-mul (pred q g) g)))
+  where
+    pred : (q : ℕ) → q + 1 ≤ 2 ^ 52 → q ≤ 2 ^ 52 - 1
+    pred q g = omega arith
+
+    no : (X q M : ℕ) → 2 ^ 104 ≤ M → M ≤ X → X ≤ (2 ^ 52 - 1) * 2 ^ 52 → ⊥
+    no X q M a b c = omega arith
+
+    le-of-not : (q + 1 ≤ 2 ^ 52 → ⊥) → 2 ^ 52 ≤ q
+    le-of-not n = back q (lt-of-not-le n)
+      where
+        back : (q : ℕ) → 2 ^ 52 < q + 1 → 2 ^ 52 ≤ q
+        back q h = omega arith
+
+most-of : (M q : ℕ) → M < 2 ^ 106 → q * q < M + q → q ≤ 2 ^ 53
+most-of M q hi above =
+    back q (lt-of-not-le (λ (g : 2 ^ 53 + 1 ≤ q).
+    let x : 2 ^ 53 * q + q ≤ q * q = le-trans (le-of-eq (sym (add-mul (2 ^ 53) 1 q ∙ ap (λ (x : ℕ). 2 ^ 53 * q + x) (one-mul q)))) (mul-le-mul g (le-refl q)) in
+    no (2 ^ 53 * q) M hi (less (q * q) (2 ^ 53 * q) q M above x) (le-trans (lit≤ tt) (mul-le-mul (le-refl (2 ^ 53)) g))))
+  where
+    less : (X Y q M : ℕ) → X < M + q → Y + q ≤ X → Y < M
+    less X Y q M a b = omega arith
+
+    no : (Y M : ℕ) → M < 2 ^ 106 → Y < M → 2 ^ 106 ≤ Y → ⊥
+    no Y M a b c = omega arith
+
+    back : (q : ℕ) → q < 2 ^ 53 + 1 → q ≤ 2 ^ 53
+    back q h = omega arith
+
+fits-root : (n : ℕ) → T (fits binary64 (rootOf n))
+unfolding rootOf
+fits-root n = round-fits binary64 false (2 * isqrt n + cond (eqb (isqrt n * isqrt n) n) 0 1) (2 ^ 1076)
+
+power : (odd : ℕ) → odd < 2 → 1 + odd ≡ 2 ^ odd
+power zero h = refl
+power (suc zero) h = refl
+power (suc (suc n)) h = absurd (no n h)
+  where
+    no : (n : ℕ) → suc (suc n) < 2 → ⊥
+    no n h = omega arith
+
+pub finished : (m e q : ℕ) → 2 ^ 52 ≤ m → m < 2 ^ 53 → NearestRoot (m * (1 + e % 2) * 2 ^ 52) q
+    → (q ≤ 2 ^ 53) × (ofBits binary64 (0 + Prim.Native.Nat.min (e / 2 * 2 ^ 52 + q) (2047 * 2 ^ 52)) ≡ rootOf (m * 2 ^ (e + 54)))
+finished m e q lo hi n =
+    let k = e / 2 in
+    let M = m * (1 + e % 2) * 2 ^ 52 in
+    let odd : e % 2 < 2 = omega arith in
+    let M-lo : 2 ^ 104 ≤ M = mul-le-mul (le-trans lo (le-trans (le-of-eq (sym (mul-one m))) (mul-le-mul (le-refl m) (ones e)))) (le-refl (2 ^ 52)) in
+    let M-hi : M < 2 ^ 106 = shl-lt 54 52 (lt-of-le-of-lt (mul-le-mul (le-refl m) (twos e)) (dbl m hi)) in
+    let big : q ≤ 2 ^ 53 = most-of M q M-hi (n .above) in
+    let scale : m * 2 ^ (e + 54) ≡ M * (4 * (2 ^ k * 2 ^ k)) =
+    ap (λ (x : ℕ). m * 2 ^ (x + 54)) (sym (split e))
+    ∙ powers m (e % 2) k
+    ∙ ap (λ (x : ℕ). m * x * 2 ^ 52 * (4 * (2 ^ k * 2 ^ k))) (sym (power (e % 2) odd)) in
+    let u : rootOf (m * 2 ^ (e + 54)) ≡ units binary64 false q k = ap rootOf scale ∙ nearest-root M q k (n .one) M-lo M-hi (n .below) (n .above) in (
+      big,
+      pattern-units binary64 false q k big (λ _. least M q M-lo (n .below)) (subst (λ (x : Float). T (fits binary64 x)) u (fits-root (m * 2 ^ (e + 54)))) ∙ sym u,
+    )
+  where
+    ones : (e : ℕ) → 1 ≤ 1 + e % 2
+    ones e = omega arith
+
+    twos : (e : ℕ) → 1 + e % 2 ≤ 2
+    twos e = omega arith
+
+    dbl : (m : ℕ) → m < 2 ^ 53 → m * 2 < 2 ^ 54
+    dbl m h = omega arith
+
+    split : (e : ℕ) → e % 2 + (e / 2 + e / 2) ≡ e
+    split e = omega arith
+
+    powers : (m o k : ℕ) → m * 2 ^ (o + (k + k) + 54) ≡ m * 2 ^ o * 2 ^ 52 * (4 * (2 ^ k * 2 ^ k))
+    powers m o k =
+        ap (λ (x : ℕ). m * x) (pow-add 2 (o + (k + k)) 54 ∙ ap (λ (x : ℕ). x * 2 ^ 54) (pow-add 2 o (k + k) ∙ ap (λ (x : ℕ). 2 ^ o * x) (pow-add 2 k k)))
+        ∙ shuffle m (2 ^ o) (2 ^ k * 2 ^ k) (2 ^ 52)
+      where
+        shuffle : (m o k c : ℕ) → m * (o * k * (c * 4)) ≡ m * o * c * (4 * k)
+        shuffle m o k c = simp (mul-assoc, mul-comm, mul-left-comm)
+
+-- ---- `root`, by what its argument is
+no-zero : (a b : ℕ) → a ≡ b → 0 < b → a ≡ 0 → ⊥
+no-zero a b e h z = omega arith
+
+none : (u c : ℕ) → 0 * u * c ≡ 0
+none u c = ap (λ (x : ℕ). x * c) (zero-mul u) ∙ zero-mul c
+
+not-zero : (m : ℕ) → eqb (suc m) 0 ≡ false
+not-zero m = ne-eqb (suc m) 0 (no m)
+  where
+    no : (m : ℕ) → suc m ≡ 0 → ⊥
+    no m e = omega arith
+
+pub root-nan : root nan ≡ nan
+unfolding root
+root-nan = refl
+
+pub root-inf : (s : Bool) → (s ≡ true → root (inf s) ≡ nan) × (s ≡ false → root (inf s) ≡ inf s)
+unfolding root
+root-inf true = (λ e. refl, λ e. absurd (true≢false e))
+root-inf false = (λ e. absurd (false≢true e), λ e. refl)
+
+pub root-zero : (x : Float) (s : Bool) (a c : ℕ) → 0 < c → HasValue x s a c → a ≡ 0 → x ≡ root x
+unfolding root
+root-zero (fin t zero e) s a c C h z = refl
+root-zero (fin t (suc m) e) s a c C h z =
+    absurd (no-zero (a * down e) (suc m * up e * c) (sym (h .1)) (mul-pos (mul-pos (native.Mathlib.Nat.zero-lt-suc m) (up-pos e)) C) (ap (λ (y : ℕ). y * down e) z ∙ zero-mul (down e)))
+
+pub root-negative : (x : Float) (a c : ℕ) → HasValue x true a c → 0 < a → nan ≡ root x
+unfolding root
+root-negative (fin t zero e) a c h A = absurd (no-zero (0 * up e * c) (a * down e) (h .1) (mul-pos A (down-pos e)) (none (up e) c))
+root-negative (fin true (suc m) e) a c h A = sym (ap (λ (b : Bool). cond b (fin true (suc m) e) nan) (not-zero m))
+root-negative (fin false (suc m) e) a c h A = absurd (false≢true (h .0))
+
+pub root-positive : (x : Float) (a : ℕ) → HasValue x false a (2 ^ 1074) → 0 < a → rootOf (a * 2 ^ 1076) ≡ root x
+unfolding root
+root-positive (fin t zero e) a h A = absurd (no-zero (0 * up e * 2 ^ 1074) (a * down e) (h .1) (mul-pos A (down-pos e)) (none (up e) (2 ^ 1074)))
+root-positive (fin true (suc m) e) a h A = absurd (true≢false (h .0))
+root-positive (fin false (suc m) e) a h A =
+    ap rootOf (sym (ap (λ (x : ℕ). x / down e) (split (suc m * up e) 1074 1076 ∙ ap (λ (x : ℕ). x * 2 ^ 1076) (h .1) ∙ mul-right-comm a (down e) (2 ^ 1076)) ∙ mul-div-cancel (a * 2 ^ 1076) (down-pos e)))
+    ∙ sym (ap (λ (b : Bool). cond b (fin false (suc m) e) (rootOf (suc m * up e * 2 ^ 2150 / down e))) (not-zero m))
+  where
+    split : (x i j : ℕ) → x * 2 ^ (i + j) ≡ x * 2 ^ i * 2 ^ j
+    split x i j = ap (λ (y : ℕ). x * y) (pow-add 2 i j) ∙ sym (mul-assoc x (2 ^ i) (2 ^ j))
+
+-- ---- a significand moved up to 53 digits
+pub record Raised (m z : ℕ) : Type 0 where
+  pub room : z ≤ 52
+  pub low : 2 ^ 52 ≤ m * 2 ^ z
+  pub high : m * 2 ^ z < 2 ^ 53
+
+pub raised : (m : ℕ) → 0 < m → m < 2 ^ 53 → (11 ≤ leadingZeros 64 m) × Raised m (leadingZeros 64 m - 11)
+raised m p d =
+    let t = leading-top 64 m p (lt-of-lt-of-le d (lit≤ tt)) in
+    let j = t .0 in
+    let z = leadingZeros 64 m in
+    let J : j < 53 = pow-lt-back j 53 (lt-of-le-of-lt (t .2) d) in (
+      eleven z j (t .1) J,
+      record {
+        room = few z j (t .1);
+        low = le-trans (le-of-eq (ap (λ (x : ℕ). 2 ^ x) (bot z j (t .1) J) ∙ pow-add 2 j (z - 11))) (mul-le-mul (t .2) (le-refl (2 ^ (z - 11))));
+        high = subst (λ (x : ℕ). m * 2 ^ (z - 11) < 2 ^ x) (all z j (t .1) J) (shl-lt (suc j) (z - 11) (t .3));
+      },
+    )
+  where
+    eleven : (z j : ℕ) → z + suc j ≡ 64 → j < 53 → 11 ≤ z
+    eleven z j a b = omega arith
+
+    few : (z j : ℕ) → z + suc j ≡ 64 → z - 11 ≤ 52
+    few z j a = omega arith
+
+    bot : (z j : ℕ) → z + suc j ≡ 64 → j < 53 → 52 ≡ j + (z - 11)
+    bot z j a b = omega arith
+
+    all : (z j : ℕ) → z + suc j ≡ 64 → j < 53 → suc j + (z - 11) ≡ 53
+    all z j a b = omega arith
+
+pub plain-scale : (m e : ℕ) → m * 2 ^ (e + 1022 + 54) ≡ m * 2 ^ e * 2 ^ 1076
+plain-scale m e = ap (λ (x : ℕ). m * x) (ap (λ (x : ℕ). 2 ^ x) (add-assoc e 1022 54) ∙ pow-add 2 e 1076) ∙ sym (mul-assoc m (2 ^ e) (2 ^ 1076))
+
+pub raised-scale : (m e z : ℕ) → z ≤ 52 → m * 2 ^ z * 2 ^ (e + 1022 - z + 54) ≡ m * 2 ^ e * 2 ^ 1076
+raised-scale m e z h =
+    mul-assoc m (2 ^ z) (2 ^ (e + 1022 - z + 54))
+    ∙ ap (λ (x : ℕ). m * x) (sym (pow-add 2 z (e + 1022 - z + 54)) ∙ ap (λ (x : ℕ). 2 ^ x) (whole e z h) ∙ pow-add 2 e 1076)
+    ∙ sym (mul-assoc m (2 ^ e) (2 ^ 1076))
+  where
+    whole : (e z : ℕ) → z ≤ 52 → z + (e + 1022 - z + 54) ≡ e + 1076
+    whole e z h = omega arith

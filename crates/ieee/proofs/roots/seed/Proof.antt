@@ -1,0 +1,61 @@
+-- `seed` meets its contract. Assumes nothing.
+use native.Mathlib.Omega.{arith}
+use lib.Ieee.{binary64}
+use Rattle.ieee.proofs.Fields.{less-no-nan}
+use Rattle.ieee.proofs.Steps.{plain-pattern}
+use borrow.Author.Needs.{needs}
+use Rattle.ieee.proofs.roots.seed.Statement.{statement}
+use Rattle.ieee.proofs.roots.seed.Tie as tie
+
+mul-b : tie.Need-mul-b
+mul-b c = search needs
+
+add-b : tie.Need-add-b
+add-b c = search needs
+
+add-b-2 : tie.Need-add-b-2
+add-b-2 c = search needs
+
+float-from-bits-u : tie.Need-float-from-bits-u
+float-from-bits-u c = plain-pattern binary64 _ (omega arith)
+
+sub-y0 : tie.Need-sub-y0
+sub-y0 c = search needs
+
+float-from-bits-y0 : tie.Need-float-from-bits-y0
+float-from-bits-y0 c = plain-pattern binary64 _ (omega arith)
+
+float-to-bits-n : tie.Need-float-to-bits-n
+float-to-bits-n c = less-no-nan _ _ (c .if1 .taken)
+
+sub-result : tie.Need-sub-result
+sub-result c = search needs
+
+returns : tie.Need-returns
+returns c = search needs
+
+returns-2 : tie.Need-returns-2
+returns-2 c = search needs
+
+returns-3 : tie.Need-returns-3
+returns-3 c = search needs
+
+returns-4 : tie.Need-returns-4
+returns-4 c = search needs
+
+pub seed-spec : {M : Type 1} → statement M
+seed-spec =
+    tie.close
+    (tie.spec
+    mul-b
+    add-b
+    add-b-2
+    float-from-bits-u
+    sub-y0
+    float-from-bits-y0
+    float-to-bits-n
+    sub-result
+    returns
+    returns-2
+    returns-3
+    returns-4)
