@@ -1,19 +1,22 @@
 -- What the steps of `root` give, on plain numbers. Assumes nothing.
 use mathlib.Core.Path.{_≡_, refl, sym, ap, _∙_, subst}
 use Prim.Native.Nat.{ℕ, zero, suc, _+_, _-_, _*_, _/_, _%_, _^_, _≤_, _<_}
-use native.Mathlib.Nat.{le-refl, le-trans, le-of-eq, lt-of-not-le, lt-of-lt-of-le, lt-of-le-of-lt, not-le-of-lt, zero-mul, mul-pos, mul-le-mul, mul-assoc, mul-comm, mul-left-comm, mul-right-comm, mul-add, add-mul, mul-one, one-mul, add-assoc, add-comm, add-left-comm, mul-div-cancel, div-add-mod', mod-eq-of-lt}
+use native.Mathlib.Nat.{zero-lt-suc, le-refl, le-trans, le-of-eq, lt-of-not-le, lt-of-lt-of-le, lt-of-le-of-lt, not-le-of-lt, zero-mul, mul-pos, mul-le-mul, mul-assoc, mul-comm, mul-left-comm, mul-right-comm, mul-add, add-mul, mul-one, one-mul, add-assoc, add-comm, add-left-comm, mul-div-cancel, div-add-mod', mod-eq-of-lt}
 use native.Mathlib.Omega.{arith}
-use mathlib.Core.Bool.{Bool, true, false, not, cond, true≢false, false≢true}
-use borrow.Author.Tests.{ne-eqb}
+use mathlib.Core.Bool.{Bool, true, false, not, _&&_, _||_, Bool·beq, cond, true≢false, false≢true}
+use borrow.Author.Tests.{ne-eqb, eq-eqb, eqb-true, ltb-true, lt-ltb}
 use lib.Dec.{T, eqb, ltb, leb, ltb→lt, nltb→le, leb→le, nleb→lt, lit≤}
 use mir.Val.{boolByte}
 use lib.Pow.{pow-add, pow-pos, pow-mono, shl-lt}
 use lib.Count.{leadingZeros, leading-top}
-use lib.Ieee.{Float, nan, inf, fin, binary64, up, down, units, fits, ofBits}
+use lib.IntN.{ℤ, pos}
+use lib.Ieee.{Float, nan, inf, fin, binary64, up, down, units, fits, ofBits, lt, eq}
+use lib.Ieee.Scale.{finite}
 use lib.Ieee.Fits.{round-fits, up-pos, down-pos}
 use lib.Ieee.Exact.{HasValue}
 use Rattle.ieee.specs.Root.{isqrt, rootOf, root}
 use Rattle.ieee.specs.Words.{NearestRoot}
+use Rattle.ieee.proofs.Fields.{both-true}
 use Rattle.ieee.proofs.Pack.{pow-lt-back, pattern-units}
 use Rattle.ieee.proofs.Squares.{nearest-root}
 
@@ -224,26 +227,62 @@ not-zero m = ne-eqb (suc m) 0 (no m)
     no : (m : ℕ) → suc m ≡ 0 → ⊥
     no m e = omega arith
 
-pub root-nan : root nan ≡ nan
-unfolding root
-root-nan = refl
+-- the code's zero, and the two sides of a comparison with it
+abbrev nought : Float
+nought = fin false 0 (pos 0)
 
-pub root-inf : (s : Bool) → (s ≡ true → root (inf s) ≡ nan) × (s ≡ false → root (inf s) ≡ inf s)
-unfolding root
-root-inf true = (λ e. refl, λ e. absurd (true≢false e))
-root-inf false = (λ e. absurd (false≢true e), λ e. refl)
+left-zero : (e : ℤ) → 0 * 1 * down e ≡ 0
+left-zero e = zero-mul (down e)
 
-pub root-zero : (x : Float) (s : Bool) (a c : ℕ) → 0 < c → HasValue x s a c → a ≡ 0 → x ≡ root x
-unfolding root
-root-zero (fin t zero e) s a c C h z = refl
-root-zero (fin t (suc m) e) s a c C h z =
-    absurd (no-zero (a * down e) (suc m * up e * c) (sym (h .1)) (mul-pos (mul-pos (native.Mathlib.Nat.zero-lt-suc m) (up-pos e)) C) (ap (λ (y : ℕ). y * down e) z ∙ zero-mul (down e)))
+size-pos : (m : ℕ) (e : ℤ) → 0 < suc m * up e * 1
+size-pos m e = mul-pos (mul-pos (zero-lt-suc m) (up-pos e)) (zero-lt-suc 0)
 
-pub root-negative : (x : Float) (a c : ℕ) → HasValue x true a c → 0 < a → nan ≡ root x
-unfolding root
-root-negative (fin t zero e) a c h A = absurd (no-zero (0 * up e * c) (a * down e) (h .1) (mul-pos A (down-pos e)) (none (up e) c))
-root-negative (fin true (suc m) e) a c h A = sym (ap (λ (b : Bool). cond b (fin true (suc m) e) nan) (not-zero m))
-root-negative (fin false (suc m) e) a c h A = absurd (false≢true (h .0))
+-- above zero, and finite
+pub above-zero : (x : Float) (s : Bool) (a c : ℕ) → 0 < c → lt nought x ≡ true → HasValue x s a c → (s ≡ false) × (0 < a)
+unfolding lt
+above-zero (fin true m e) s a c C l h = absurd (false≢true l)
+above-zero (fin false m e) s a c C l h = (sym (h .0), pos a (m * up e * c) (down e) (h .1) (mul-pos (first (0 * 1 * down e) (m * up e) (ltb-true (0 * 1 * down e) (m * up e * 1) l)) C))
+  where
+    first : (x y : ℕ) → x < y * 1 → 0 < y
+    first x y h = omega arith
+
+    pos : (a y d : ℕ) → y ≡ a * d → 0 < y → 0 < a
+    pos zero y d e h = absurd (no-zero y y refl h (e ∙ zero-mul d))
+    pos (suc a) y d e h = zero-lt-suc a
+
+-- above zero, and not finite
+pub root-unbounded : (x : Float) → lt nought x ≡ true → finite x ≡ false → x ≡ root x
+unfolding lt root
+root-unbounded nan l h = absurd (false≢true l)
+root-unbounded (inf true) l h = absurd (false≢true l)
+root-unbounded (inf false) l h = refl
+root-unbounded (fin s m e) l h = absurd (true≢false h)
+
+pub root-zero : (x : Float) → eq x nought ≡ true → x ≡ root x
+unfolding eq root
+root-zero nan h = absurd (false≢true h)
+root-zero (inf s) h = absurd (false≢true h)
+root-zero (fin s zero e) h = refl
+root-zero (fin s (suc m) e) h = absurd (no-zero (suc m * up e * 1) (suc m * up e * 1) refl (size-pos m e) (eqb-true (suc m * up e * 1) (0 * 1 * down e) (both-true (eqb (suc m * up e * 1) (0 * 1 * down e)) (Bool·beq s false || eqb (suc m * up e * 1) 0) h .0) ∙ left-zero e))
+
+pub root-none : (x : Float) → lt nought x ≡ false → eq x nought ≡ false → nan ≡ root x
+unfolding lt eq root
+root-none nan l h = refl
+root-none (inf true) l h = refl
+root-none (inf false) l h = absurd (true≢false l)
+root-none (fin s zero e) l h = absurd (true≢false (sym (whole s) ∙ h))
+  where
+    nil : 0 * up e * 1 ≡ 0
+    nil = ap (λ (x : ℕ). x * 1) (zero-mul (up e))
+
+    whole : (s : Bool) → (eqb (0 * up e * 1) (0 * 1 * down e) && (Bool·beq s false || eqb (0 * up e * 1) 0)) ≡ true
+    whole s = ap (λ (b : Bool). b && (Bool·beq s false || eqb (0 * up e * 1) 0)) (eq-eqb (0 * up e * 1) (0 * 1 * down e) (nil ∙ sym (left-zero e))) ∙ last s
+      where
+        last : (s : Bool) → (Bool·beq s false || eqb (0 * up e * 1) 0) ≡ true
+        last true = eq-eqb (0 * up e * 1) 0 nil
+        last false = refl
+root-none (fin true (suc m) e) l h = sym (ap (λ (b : Bool). cond b (fin true (suc m) e) nan) (not-zero m))
+root-none (fin false (suc m) e) l h = absurd (true≢false (sym (lt-ltb (0 * 1 * down e) (suc m * up e * 1) (subst (λ (x : ℕ). x < suc m * up e * 1) (sym (left-zero e)) (size-pos m e))) ∙ l))
 
 pub root-positive : (x : Float) (a : ℕ) → HasValue x false a (2 ^ 1074) → 0 < a → rootOf (a * 2 ^ 1076) ≡ root x
 unfolding root
@@ -287,6 +326,10 @@ raised m p d =
 
     all : (z j : ℕ) → z + suc j ≡ 64 → j < 53 → suc j + (z - 11) ≡ 53
     all z j a b = omega arith
+
+pub factor-pos : (x y : ℕ) → 0 < x * y → 0 < x
+factor-pos zero y h = absurd (no-zero (0 * y) (0 * y) refl h (zero-mul y))
+factor-pos (suc x) y h = zero-lt-suc x
 
 pub plain-scale : (m e : ℕ) → m * 2 ^ (e + 1022 + 54) ≡ m * 2 ^ e * 2 ^ 1076
 plain-scale m e = ap (λ (x : ℕ). m * x) (ap (λ (x : ℕ). 2 ^ x) (add-assoc e 1022 54) ∙ pow-add 2 e 1076) ∙ sym (mul-assoc m (2 ^ e) (2 ^ 1076))

@@ -4,8 +4,9 @@ use mathlib.Core.Logic.{_⊎_, inl, inr}
 use Prim.Native.Nat.{ℕ, zero, suc, _+_, _-_, _*_, _/_, _%_, _^_, _≤_, _<_}
 use native.Mathlib.Nat.{le-refl, le-trans, le-of-eq, le-of-lt, lt-of-lt-of-le, lt-of-le-of-lt, lt-of-not-le, not-le-of-lt, zero-mul, one-mul, add-mul, mul-one, mul-assoc, mul-comm, mul-left-comm, mul-right-comm, mul-pos, mul-le-mul, mul-le-mul-right, mul-lt-mul-of-pos-right, mul-mod-left, mod-eq-of-lt, lt-of-mul-lt-mul-right, eq-of-mul-eq-mul-right, add-zero, zero-add, add-comm}
 use native.Mathlib.Omega.{arith}
-use mathlib.Core.Bool.{Bool, true, false, not, Bool·beq, true≢false, false≢true}
-use lib.Dec.{lit≤}
+use mathlib.Core.Bool.{Bool, true, false, not, _&&_, _||_, Bool·beq, true≢false, false≢true}
+use lib.Dec.{eqb, lit≤}
+use borrow.Author.Tests.{eqb-true, eqb-false, ne-eqb}
 use lib.Arith.{digits-lt}
 use lib.Pow.{pow-add, pow-pos, pow-mono, shl-lt}
 use lib.Count.{leadingZeros, leading-top}
@@ -99,6 +100,25 @@ sum-exact f s u A B X Y t j a b =
     ∙ ap (λ (x : ℕ). sum f s x u (B * 2 ^ t) (1 * 2 ^ j)) a
     ∙ ap (λ (x : ℕ). sum f s X u x (1 * 2 ^ j)) b
     ∙ ap (λ (x : ℕ). sum f s X u Y x) (one-mul (2 ^ j))
+
+-- ---- a factor 0, or none
+pub factors-zero : (m n : ℕ) → (eqb m 0 || eqb n 0) ≡ true → m * n ≡ 0
+factors-zero zero n h = zero-mul n
+factors-zero (suc m) n h = ap (λ (x : ℕ). suc m * x) (eqb-true n 0 (sym (ap (λ (b : Bool). b || eqb n 0) (ne-eqb (suc m) 0 (no m))) ∙ h)) ∙ mul-comm (suc m) 0 ∙ zero-mul (suc m)
+  where
+    no : (m : ℕ) → suc m ≡ 0 → ⊥
+    no m e = omega arith
+
+pub factors-some : (m n : ℕ) → (eqb m 0 || eqb n 0) ≡ false → (0 < m) × (0 < n)
+factors-some m n h = go (eqb m 0) (eqb n 0) refl refl h
+  where
+    pos : (m : ℕ) → (m ≡ 0 → ⊥) → 0 < m
+    pos m n = omega arith
+
+    go : (a b : Bool) → eqb m 0 ≡ a → eqb n 0 ≡ b → (a || b) ≡ false → (0 < m) × (0 < n)
+    go true b e f h = absurd (true≢false h)
+    go false true e f h = absurd (true≢false h)
+    go false false e f h = (pos m (eqb-false m 0 e), pos n (eqb-false n 0 f))
 
 -- ---- a significand shifted up to r places below the top of a word
 pub record Normal (m r y : ℕ) : Type 0 where
@@ -206,25 +226,25 @@ product-placed m n e y z hi lo a b E L w =
         tw x h = omega arith
 
 -- ---- `fused`
-pub fused-first : (x y z : Float) → finite x ≡ false → add binary64 (mul binary64 x y) z ≡ fused x y z
+-- a factor that is no finite number
+pub fused-outside : (x y z : Float) → (finite x && finite y) ≡ false → add binary64 (mul binary64 x y) z ≡ fused x y z
 unfolding fused
-fused-first nan y z h = refl
-fused-first (inf s) y z h = refl
-fused-first (fin s m e) y z h = absurd (true≢false h)
+fused-outside nan y z h = refl
+fused-outside (inf s) y z h = refl
+fused-outside (fin s m e) nan z h = refl
+fused-outside (fin s m e) (inf t) z h = refl
+fused-outside (fin s m e) (fin t n d) z h = absurd (true≢false h)
 
-pub fused-second : (x y z : Float) → finite y ≡ false → add binary64 (mul binary64 x y) z ≡ fused x y z
+-- only z is none
+pub fused-addend : (x y z : Float) → (finite x && finite y) ≡ true → (finite x && (finite y && finite z)) ≡ false → z ≡ fused x y z
 unfolding fused
-fused-second nan y z h = refl
-fused-second (inf s) y z h = refl
-fused-second (fin s m e) nan z h = refl
-fused-second (fin s m e) (inf t) z h = refl
-fused-second (fin s m e) (fin t n d) z h = absurd (true≢false h)
-
-pub fused-third : (x y z : Float) (s t : Bool) (a b c : ℕ) → HasValue x s a c → HasValue y t b c → finite z ≡ false → z ≡ fused x y z
-unfolding fused
-fused-third (fin u m g) (fin v n d) nan s t a b c h k e = refl
-fused-third (fin u m g) (fin v n d) (inf w) s t a b c h k e = refl
-fused-third (fin u m g) (fin v n d) (fin w l o) s t a b c h k e = absurd (true≢false e)
+fused-addend nan y z h k = absurd (false≢true h)
+fused-addend (inf s) y z h k = absurd (false≢true h)
+fused-addend (fin s m e) nan z h k = absurd (false≢true h)
+fused-addend (fin s m e) (inf t) z h k = absurd (false≢true h)
+fused-addend (fin s m e) (fin t n d) nan h k = refl
+fused-addend (fin s m e) (fin t n d) (inf u) h k = refl
+fused-addend (fin s m e) (fin t n d) (fin u l g) h k = absurd (true≢false k)
 
 -- the finite case, at the fractions that the values equal
 pub fused-finite : (x y z : Float) (s t u : Bool) (a b k c e g j : ℕ) → HasValue x s a c → HasValue y t b c → HasValue z u k c → 0 < c → 0 < j → e * (c * c) ≡ a * b * j → g * c ≡ k * j

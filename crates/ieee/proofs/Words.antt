@@ -2,10 +2,11 @@
 use mathlib.Core.Path.{_≡_, refl, sym, ap, _∙_, subst}
 use mathlib.Core.Logic.{_⊎_, inl, inr}
 use Prim.Native.Nat.{ℕ, zero, suc, _+_, _-_, _*_, _/_, _%_, _^_, _≤_, _<_}
-use native.Mathlib.Nat.{le-refl, add-le-add, lt-of-mul-lt-mul-right, le-trans, le-of-eq, le-of-lt, lt-of-lt-of-le, lt-of-le-of-lt, zero-lt-suc, zero-mul, zero-add, add-zero, add-assoc, add-comm, one-mul, mul-one, add-mul, mul-add, mul-assoc, mul-comm, mul-left-comm, mul-right-comm, mul-pos, mul-le-mul, mul-le-mul-right, mul-lt-mul-of-pos-right, mul-div-cancel, mul-mod-left, add-mul-div-right, add-mul-mod-self-right, mul-add-mod-self-right, div-one, mod-one, mod-lt, mod-eq-of-lt, div-eq-of-lt, div-div-eq-div-mul, div-add-mod', eq-zero-or-pos, le-div-iff-mul-le}
+use native.Mathlib.Nat.{le-antisymm, le-refl, add-le-add, lt-of-mul-lt-mul-right, le-trans, le-of-eq, le-of-lt, lt-of-lt-of-le, lt-of-le-of-lt, zero-lt-suc, zero-mul, zero-add, add-zero, add-assoc, add-comm, one-mul, mul-one, add-mul, mul-add, mul-assoc, mul-comm, mul-left-comm, mul-right-comm, mul-pos, mul-le-mul, mul-le-mul-right, mul-lt-mul-of-pos-right, mul-div-cancel, mul-mod-left, add-mul-div-right, add-mul-mod-self-right, mul-add-mod-self-right, div-one, mod-one, mod-lt, mod-eq-of-lt, div-eq-of-lt, div-div-eq-div-mul, div-add-mod', eq-zero-or-pos, le-div-iff-mul-le}
 use native.Mathlib.Omega.{arith}
-use mathlib.Core.Bool.{Bool, true, false, not, cond}
-use lib.Dec.{T, ltb, eqb, eqb→eq, not-T, lit<, lit≤, lt→ltb, ltb→lt, nltb→le}
+use mathlib.Core.Bool.{Bool, true, false, not, _&&_, _||_, cond}
+use borrow.Author.Tests.{lt-ltb, le-ltb, ne-eqb, eq-eqb}
+use lib.Dec.{T, T-not, ltb, eqb, eqb→eq, not-T, lit<, lit≤, lt→ltb, ltb→lt, nltb→le}
 use mir.Val.{boolByte}
 use lib.Ieee.Nearest.{div-same}
 use lib.Arith.{le→nltb, digits-lt, digits-div, mod-mul}
@@ -247,19 +248,20 @@ picked-diff true a b = refl
 picked-diff false a b = refl
 
 -- ---- `shifted`
-pub shifted-is : (v t : ℕ) → v < 2 ^ 64 → t < 63 → (wide (v / 2 / 2 ^ (63 - t)) (v * 2 ^ t % 2 ^ 64) ≡ v * 2 ^ t) × (v / 2 / 2 ^ (63 - t) < 2 ^ 62)
-shifted-is v t h l = (
-  ap (λ (x : ℕ). x * 2 ^ 64 + v * 2 ^ t % 2 ^ 64)
-      (div-div-eq-div-mul v 2 (2 ^ (63 - t))
-      ∙ div-same v (2 * 2 ^ (63 - t)) (v * 2 ^ t) (2 ^ 64) (mul-pos (zero-lt-suc 1) (pow-pos (63 - t))) (pow-pos 64)
-      (ap (λ (x : ℕ). v * x) (ap (λ (x : ℕ). 2 ^ x) (all t l) ∙ pow-add 2 t (1 + (63 - t)) ∙ ap (λ (x : ℕ). 2 ^ t * x) (pow-add 2 1 (63 - t))) ∙ sym (mul-assoc v (2 ^ t) (2 * 2 ^ (63 - t)))))
-      ∙ div-add-mod' (v * 2 ^ t) (2 ^ 64),
-  shr-lt 62 (63 - t) (lt-of-lt-of-le (half v h) (pow-mono (far t l))),
-)
+pub shifted-is : (v t : ℕ) → t < 64 → wide (v / 2 / 2 ^ (63 - t)) (v * 2 ^ t % 2 ^ 64) ≡ v * 2 ^ t
+shifted-is v t l =
+    ap (λ (x : ℕ). x * 2 ^ 64 + v * 2 ^ t % 2 ^ 64)
+    (div-div-eq-div-mul v 2 (2 ^ (63 - t))
+    ∙ div-same v (2 * 2 ^ (63 - t)) (v * 2 ^ t) (2 ^ 64) (mul-pos (zero-lt-suc 1) (pow-pos (63 - t))) (pow-pos 64)
+    (ap (λ (x : ℕ). v * x) (ap (λ (x : ℕ). 2 ^ x) (all t l) ∙ pow-add 2 t (1 + (63 - t)) ∙ ap (λ (x : ℕ). 2 ^ t * x) (pow-add 2 1 (63 - t))) ∙ sym (mul-assoc v (2 ^ t) (2 * 2 ^ (63 - t)))))
+    ∙ div-add-mod' (v * 2 ^ t) (2 ^ 64)
   where
-    all : (t : ℕ) → t < 63 → 64 ≡ t + (1 + (63 - t))
+    all : (t : ℕ) → t < 64 → 64 ≡ t + (1 + (63 - t))
     all t l = omega arith
 
+pub shifted-high : (v t : ℕ) → v < 2 ^ 64 → t < 63 → v / 2 / 2 ^ (63 - t) < 2 ^ 62
+shifted-high v t h l = shr-lt 62 (63 - t) (lt-of-lt-of-le (half v h) (pow-mono (far t l)))
+  where
     half : (v : ℕ) → v < 2 ^ 64 → v / 2 < 2 ^ 63
     half v h = omega arith
 
@@ -389,100 +391,143 @@ product-is a b =
         ∙ ap (λ (x : ℕ). p * (R * R) + m / R * (R * R) + (x + q % R)) (shift m R (zero-lt-suc 4294967295))
         ∙ last (p * (R * R)) (m / R * (R * R)) (m % R * R) (m * R) q s (q / R * R) (q % R) (s * R) (R-split m) (add-mul s (q / R) R) (div-add-mod' q R)
 
--- ---- `round_wide`
-jammed-lt : (v k : ℕ) → v < 2 ^ (64 + k) → jammed v (2 ^ k) < 2 ^ 64
-jammed-lt v k h =
-    let q = v / 2 ^ k in
-    let l : q < 2 ^ 64 = shr-lt 64 k h in
-    elim (zero-or (v % 2 ^ k)) [
-      | inl z ↦ subst (λ (x : ℕ). x < 2 ^ 64) (sym (none-left q (v % 2 ^ k) z)) l
-      | inr n ↦ subst (λ (x : ℕ). x < 2 ^ 64) (sym (some-left q (v % 2 ^ k) n)) (still q l)
-    ]
+-- a number W of which v is the whole part in units of M, as 2v, with one more where it goes on
+goes-on : (v r W M : ℕ) → v * M + r ≡ W → r < M → Sticky (2 * v + boolByte (not (eqb r 0))) (W * 2) M
+goes-on v r W M e l = elim (zero-or r) [
+  | inl z ↦ subst (λ (b : Bool). Sticky (2 * v + boolByte (not b)) (W * 2) M) (sym (eq-eqb r 0 z)) (inl (ap (λ (x : ℕ). x * M) (add-zero (2 * v)) ∙ mul-assoc 2 v M ∙ exact (v * M) r W e z))
+  | inr n ↦
+      let m : (2 * v + 1) * M ≡ 2 * (v * M) + M = add-mul (2 * v) 1 M ∙ ap (λ (x : ℕ). x + 1 * M) (mul-assoc 2 v M) ∙ ap (λ (x : ℕ). 2 * (v * M) + x) (one-mul M) in
+      subst (λ (b : Bool). Sticky (2 * v + boolByte (not b)) (W * 2) M) (sym (ne-eqb r 0 n))
+      (inr (odd v, subst (λ (x : ℕ). x < W * 2 + M) (sym m) (low (v * M) r W M e n), subst (λ (x : ℕ). W * 2 < x + M) (sym m) (high (v * M) r W M e l)))
+]
   where
-    still : (q : ℕ) → q < 2 ^ 64 → q + (1 - q % 2) < 2 ^ 64
-    still q h = omega arith
+    exact : (x r W : ℕ) → x + r ≡ W → r ≡ 0 → 2 * x ≡ W * 2
+    exact x r W e z = omega arith
 
-jammed-ge : (v m : ℕ) → v / m ≤ jammed v m
-jammed-ge v m = more (v / m) (cond (eqb (v % m) 0) 0 (1 - v / m % 2))
-  where
-    more : (a b : ℕ) → a ≤ a + b
-    more a b = omega arith
+    odd : (v : ℕ) → (2 * v + 1) % 2 ≡ 1
+    odd v = omega arith
 
-one-word : (h l : ℕ) → wide h l < 2 ^ 64 → l ≡ wide h l
-one-word h l e =
-    let z : h ≡ 0 = elim (eq-zero-or-pos h) [ inl z ↦ z | inr p ↦ absurd (no (h * 2 ^ 64) l (2 ^ 64) e (le-trans (le-of-eq (sym (one-mul (2 ^ 64)))) (mul-le-mul-right (2 ^ 64) p))) ] in
-    sym (ap (λ (x : ℕ). x * 2 ^ 64 + l) z ∙ zero-add l)
-  where
-    no : (x l m : ℕ) → x + l < m → m ≤ x → ⊥
-    no x l m a b = omega arith
+    low : (x r W M : ℕ) → x + r ≡ W → (r ≡ 0 → ⊥) → 2 * x + M < W * 2 + M
+    low x r W M e n = omega arith
 
--- the two words cut to one, v, with its leading digit at the top
-module _ (hi lo vh vl : ℕ) (H : 0 < hi) (a : hi < 2 ^ 64) (b : lo < 2 ^ 64) (e : wide vh vl ≡ jammed (wide hi lo) (2 ^ (64 - leadingZeros 64 hi))) where
-  place : (j : ℕ) × (leadingZeros 64 hi + suc j ≡ 64) × (2 ^ j ≤ hi) × (hi < 2 ^ suc j)
+    high : (x r W M : ℕ) → x + r ≡ W → r < M → W * 2 < 2 * x + M + M
+    high x r W M e l = omega arith
+
+-- ---- `round_wide`: the leading digit of hi is moved to the top; v is the upper word, and what is left of the lower one only says that the number goes on
+module _ (hi lo : ℕ) (H : 0 < hi) (a : hi < 2 ^ 64) (b : lo < 2 ^ 64) where
+  abbrev z : ℕ
+  z = leadingZeros 64 hi
+
+  place : (j : ℕ) × (z + suc j ≡ 64) × (2 ^ j ≤ hi) × (hi < 2 ^ suc j)
   place = leading-top 64 hi H a
 
-  abbrev k : ℕ
-  k = 64 - leadingZeros 64 hi
-
-  K : k ≡ suc (place .0)
-  K = is (leadingZeros 64 hi) (place .0) (place .1)
+  pub lead-room : z < 64
+  lead-room = room z (place .0) (place .1)
     where
-      is : (z j : ℕ) → z + suc j ≡ 64 → 64 - z ≡ suc j
-      is z j e = omega arith
+      room : (z j : ℕ) → z + suc j ≡ 64 → z < 64
+      room z j e = omega arith
 
-  word : vl ≡ jammed (wide hi lo) (2 ^ k)
-  word = one-word vh vl (subst (λ (x : ℕ). x < 2 ^ 64) (sym e) (jammed-lt (wide hi lo) k fits)) ∙ e
-    where
-      fits : wide hi lo < 2 ^ (64 + k)
-      fits = subst (λ (x : ℕ). wide hi lo < x) (sym (pow-add 2 k 64) ∙ ap (λ (x : ℕ). 2 ^ x) (add-comm k 64)) (digits-lt (subst (λ (x : ℕ). hi < 2 ^ x) (sym K) (place .3)) b)
+  abbrev low : ℕ
+  low = lo / 2 / 2 ^ (63 - z)
 
-  pub lead-top : 2 ^ 63 ≤ vl
-  lead-top = le-trans (le-div-iff-mul-le (pow-pos k) .1 long) (le-trans (jammed-ge (wide hi lo) (2 ^ k)) (le-of-eq (sym word)))
+  low-lt : low < 2 ^ z
+  low-lt = shr-lt z (63 - z) (lt-of-lt-of-le (half lo b) (pow-mono (far z lead-room)))
     where
-      move : (j : ℕ) → 63 + suc j ≡ j + 64
-      move j = omega arith
+      half : (v : ℕ) → v < 2 ^ 64 → v / 2 < 2 ^ 63
+      half v h = omega arith
+
+      far : (z : ℕ) → z < 64 → 63 ≤ z + (63 - z)
+      far z l = omega arith
+
+  under : hi * 2 ^ z + low < 2 ^ 64
+  under = subst (λ (x : ℕ). hi * 2 ^ z + low < x) (sym (pow-add 2 (suc (place .0)) z) ∙ ap (λ (x : ℕ). 2 ^ x) (add-comm (suc (place .0)) z ∙ place .1)) (digits-lt (place .3) low-lt)
+
+  plain : hi * 2 ^ z % 2 ^ 64 ≡ hi * 2 ^ z
+  plain = mod-eq-of-lt (le-lt (hi * 2 ^ z) low (2 ^ 64) under)
+    where
+      le-lt : (x y m : ℕ) → x + y < m → x < m
+      le-lt x y m h = omega arith
+
+  pub lead-fits : hi * 2 ^ z % 2 ^ 64 + low < 2 ^ 64
+  lead-fits = subst (λ (x : ℕ). x + low < 2 ^ 64) (sym plain) under
+
+  pub lead-top : 2 ^ 63 ≤ hi * 2 ^ z % 2 ^ 64 + low
+  lead-top =
+      subst (λ (x : ℕ). 2 ^ 63 ≤ x + low) (sym plain)
+      (le-trans (le-of-eq (ap (λ (x : ℕ). 2 ^ x) (before z (place .0) (place .1)) ∙ pow-add 2 (place .0) z)) (le-trans (mul-le-mul-right (2 ^ z) (place .2)) (more (hi * 2 ^ z) low)))
+    where
+      before : (z j : ℕ) → z + suc j ≡ 64 → 63 ≡ j + z
+      before z j e = omega arith
 
       more : (a b : ℕ) → a ≤ a + b
       more a b = omega arith
 
-      long : 2 ^ 63 * 2 ^ k ≤ wide hi lo
-      long =
-          le-trans (le-of-eq (ap (λ (x : ℕ). 2 ^ 63 * 2 ^ x) K ∙ sym (pow-add 2 63 (suc (place .0))) ∙ ap (λ (x : ℕ). 2 ^ x) (move (place .0)) ∙ pow-add 2 (place .0) 64))
-          (le-trans (mul-le-mul-right (2 ^ 64) (place .2)) (more (hi * 2 ^ 64) lo))
+  moved : (hi * 2 ^ z % 2 ^ 64 + low) * 2 ^ 64 + lo * 2 ^ z % 2 ^ 64 ≡ wide hi lo * 2 ^ z
+  moved =
+      ap (λ (x : ℕ). (x + low) * 2 ^ 64 + lo * 2 ^ z % 2 ^ 64) plain
+      ∙ ap (λ (x : ℕ). x + lo * 2 ^ z % 2 ^ 64) (add-mul (hi * 2 ^ z) low (2 ^ 64))
+      ∙ add-assoc (hi * 2 ^ z * 2 ^ 64) (low * 2 ^ 64) (lo * 2 ^ z % 2 ^ 64)
+      ∙ ap (λ (x : ℕ). hi * 2 ^ z * 2 ^ 64 + x) (shifted-is lo z lead-room)
+      ∙ ap (λ (x : ℕ). x + lo * 2 ^ z) (mul-right-comm hi (2 ^ z) (2 ^ 64))
+      ∙ sym (add-mul (hi * 2 ^ 64) lo (2 ^ z))
 
-  pub wide-round : (f : Format) (s : Bool) (t j : ℕ) → suc (prec f) ≤ 63 → round f s (vl * 2 ^ (t + 64 + k)) (2 ^ (64 + j)) ≡ round f s (wide hi lo * 2 ^ t) (2 ^ j)
+  sticks : Sticky (2 * (hi * 2 ^ z % 2 ^ 64 + low) + boolByte (not (eqb (lo * 2 ^ z % 2 ^ 64) 0))) (wide hi lo * 2 ^ z * 2) (2 ^ 64)
+  sticks = goes-on (hi * 2 ^ z % 2 ^ 64 + low) (lo * 2 ^ z % 2 ^ 64) (wide hi lo * 2 ^ z) (2 ^ 64) moved (mod-lt (lo * 2 ^ z) (pow-pos 64))
+
+  pub wide-round : (f : Format) (s : Bool) (t j : ℕ) → suc (prec f) ≤ 64
+      → round f s ((2 * (hi * 2 ^ z % 2 ^ 64 + low) + boolByte (not (eqb (lo * 2 ^ z % 2 ^ 64) 0))) * 2 ^ (t + 128 - z)) (2 ^ (65 + j)) ≡ round f s (wide hi lo * 2 ^ t) (2 ^ j)
   wide-round f s t j p =
+      let v = hi * 2 ^ z % 2 ^ 64 + low in
+      let w = 2 * v + boolByte (not (eqb (lo * 2 ^ z % 2 ^ 64) 0)) in
       let W = wide hi lo in
-      let J = jammed W (2 ^ k) in
-      ap (λ (x : ℕ). round f s (x * 2 ^ (t + 64 + k)) (2 ^ (64 + j))) word
-      ∙ round-sticky f s J W (2 ^ k) (t + 64 + k) (64 + j) (pow-pos k) (jammed-sticks W (2 ^ k) (pow-pos k)) (le-trans (pow-mono p) (le-trans lead-top (le-of-eq word)))
-      ∙ round-same f s (W * 2 ^ (t + 64 + k)) (2 ^ k * 2 ^ (64 + j)) (W * 2 ^ t) (2 ^ j) (mul-pos (pow-pos k) (pow-pos (64 + j))) (pow-pos j) (scale W t 64 k j)
+      round-sticky f s w (W * 2 ^ z * 2) (2 ^ 64) (t + 128 - z) (65 + j) (pow-pos 64) sticks (le-trans (pow-mono p) (double v (boolByte (not (eqb (lo * 2 ^ z % 2 ^ 64) 0))) lead-top))
+      ∙ round-same f s (W * 2 ^ z * 2 * 2 ^ (t + 128 - z)) (2 ^ 64 * 2 ^ (65 + j)) (W * 2 ^ t) (2 ^ j) (mul-pos (pow-pos 64) (pow-pos (65 + j))) (pow-pos j) (scale W z (t + 128 - z) t j 64 65 (whole z t lead-room))
     where
-      scale : (W t c k j : ℕ) → W * 2 ^ (t + c + k) * 2 ^ j ≡ W * 2 ^ t * (2 ^ k * 2 ^ (c + j))
-      scale W t c k j = simp (pow-add, mul-assoc, mul-comm, mul-left-comm)
+      double : (v b : ℕ) → 2 ^ 63 ≤ v → 2 ^ 64 ≤ 2 * v + b
+      double v b h = omega arith
+
+      whole : (z t : ℕ) → z < 64 → z + 1 + (t + 128 - z) ≡ t + (64 + 65)
+      whole z t l = omega arith
+
+      scale : (W z c t j x y : ℕ) → z + 1 + c ≡ t + (x + y) → W * 2 ^ z * 2 * 2 ^ c * 2 ^ j ≡ W * 2 ^ t * (2 ^ x * 2 ^ (y + j))
+      scale W z c t j x y e =
+          ap (λ (u : ℕ). u * 2 ^ j) (left W z c) ∙ ap (λ (u : ℕ). W * 2 ^ u * 2 ^ j) e ∙ right W t x y j
+        where
+          left : (W z c : ℕ) → W * 2 ^ z * 2 * 2 ^ c ≡ W * 2 ^ (z + 1 + c)
+          left W z c = sym (ap (λ (u : ℕ). W * u) (pow-add 2 (z + 1) c ∙ ap (λ (u : ℕ). u * 2 ^ c) (pow-add 2 z 1)) ∙ (simp (mul-assoc)))
+
+          right : (W t x y j : ℕ) → W * 2 ^ (t + (x + y)) * 2 ^ j ≡ W * 2 ^ t * (2 ^ x * 2 ^ (y + j))
+          right W t x y j = simp (pow-add, mul-assoc)
 
 -- ---- `less`
-pub less-yes : (ah al bh bl M : ℕ) → al < M → ah < bh → true ≡ ltb (ah * M + al) (bh * M + bl)
-less-yes ah al bh bl M h l = sym (is-true (ltb (ah * M + al) (bh * M + bl)) (lt→ltb (ah * M + al) (bh * M + bl) (lt-of-lt-of-le (digits-lt l h) (more (bh * M) bl))))
+pub less-is : (ah al bh bl M : ℕ) → al < M → bl < M → (ltb ah bh || (eqb ah bh && ltb al bl)) ≡ ltb (ah * M + al) (bh * M + bl)
+less-is ah al bh bl M a b = elim (le-or-lt bh ah) [
+  | inr l ↦ ap (λ (x : Bool). x || (eqb ah bh && ltb al bl)) (lt-ltb ah bh l) ∙ sym (lt-ltb (ah * M + al) (bh * M + bl) (lt-of-lt-of-le (digits-lt l a) (more (bh * M) bl)))
+  | inl g ↦ elim (le-or-lt ah bh) [
+    | inr l ↦
+        ap (λ (x : Bool). x || (eqb ah bh && ltb al bl)) (le-ltb ah bh g)
+        ∙ ap (λ (x : Bool). x && ltb al bl) (ne-eqb ah bh (apart ah bh l))
+        ∙ sym (le-ltb (ah * M + al) (bh * M + bl) (le-of-lt (lt-of-lt-of-le (digits-lt l b) (more (ah * M) al))))
+    | inl l ↦
+        let e : ah ≡ bh = le-antisymm l g in
+        ap (λ (x : Bool). x || (eqb ah bh && ltb al bl)) (le-ltb ah bh g)
+        ∙ ap (λ (x : Bool). x && ltb al bl) (eq-eqb ah bh e)
+        ∙ same (ah * M) al bl
+        ∙ ap (λ (x : ℕ). ltb (ah * M + al) (x * M + bl)) e
+  ]
+]
   where
     more : (a b : ℕ) → a ≤ a + b
     more a b = omega arith
 
-pub less-no : (ah al bh bl M : ℕ) → bl < M → bh < ah → false ≡ ltb (ah * M + al) (bh * M + bl)
-less-no ah al bh bl M h l = sym (is-false (ltb (ah * M + al) (bh * M + bl)) (le→nltb (ah * M + al) (bh * M + bl) (le-of-lt (lt-of-lt-of-le (digits-lt l h) (more (ah * M) al)))))
-  where
-    more : (a b : ℕ) → a ≤ a + b
-    more a b = omega arith
+    apart : (x y : ℕ) → y < x → x ≡ y → ⊥
+    apart x y l e = omega arith
 
-pub less-low : (ah al bh bl M : ℕ) → bh ≤ ah → ah ≤ bh → ltb al bl ≡ ltb (ah * M + al) (bh * M + bl)
-less-low ah al bh bl M h l = subst (λ (x : ℕ). ltb al bl ≡ ltb (ah * M + al) (x * M + bl)) (native.Mathlib.Nat.le-antisymm l h) (go (le-or-lt bl al))
-  where
-    go : (bl ≤ al) ⊎ (al < bl) → ltb al bl ≡ ltb (ah * M + al) (ah * M + bl)
-    go (inl g) = is-false (ltb al bl) (le→nltb al bl g) ∙ sym (is-false (ltb (ah * M + al) (ah * M + bl)) (le→nltb (ah * M + al) (ah * M + bl) (up (ah * M) bl al g)))
+    same : (X a b : ℕ) → ltb a b ≡ ltb (X + a) (X + b)
+    same X a b = elim (le-or-lt b a) [ inl g ↦ le-ltb a b g ∙ sym (le-ltb (X + a) (X + b) (up X b a g)) | inr g ↦ lt-ltb a b g ∙ sym (lt-ltb (X + a) (X + b) (over X a b g)) ]
       where
         up : (x a b : ℕ) → a ≤ b → x + a ≤ x + b
         up x a b h = omega arith
-    go (inr g) = is-true (ltb al bl) (lt→ltb al bl g) ∙ sym (is-true (ltb (ah * M + al) (ah * M + bl)) (lt→ltb (ah * M + al) (ah * M + bl) (up (ah * M) al bl g)))
-      where
-        up : (x a b : ℕ) → a < b → x + a < x + b
-        up x a b h = omega arith
+
+        over : (x a b : ℕ) → a < b → x + a < x + b
+        over x a b h = omega arith

@@ -5,3 +5,4 @@ pub mod Narrow
 pub mod Pattern
 pub mod Unpacked
 pub mod Words
+pub mod Aligned

@@ -2,10 +2,13 @@
 ghost use mathlib.Core.Path.{_≡_};
 ghost use mathlib.Core.Bool.{cond, _&&_, Bool·beq};
 ghost use Prim.Native.Nat.{ℕ, _+_, _-_, _*_, _%_, _^_, _≤_, _<_};
-ghost use lib.Ieee.{binary64, sum};
+ghost use lib.Ieee.{binary64, sum, unlike};
 ghost use Rattle.ieee.specs.Fused.{fused};
+ghost use lib.Ieee.Scale.{finite};
+ghost use Rattle.ieee.specs.Aligned.{Aligned};
 ghost use Rattle.ieee.specs.Words.{wide, Addable, Placed};
-use crate::rounding::Class;
+use crate::rounding::Parts;
+use crate::rounding::is_finite;
 use crate::rounding::unpack;
 use crate::wide::Wide;
 use crate::wide::jam;
@@ -28,16 +31,29 @@ fn sign(sa: bool, sb: bool, under: bool, over: bool) -> bool
     sa & over
 }
 
-// a * 2^t with the sign sa, and b * 2^t with the sign sb, over 2^5170: their sum, rounded. b may stand for a fraction B / m.
-fn sum_wide(sa: bool, a: Wide, sb: bool, b: Wide, t: u64) -> f64
-    requires { ⌜ (a .hi < 2 ^ 63) × (b .hi < 2 ^ 63) × (t ≤ 7900) ⌝ }
-    ensures { λ r. ⌜ ((B m : ℕ) → 0 < m → Addable (wide (a .hi) (a .lo)) (wide (b .hi) (b .lo)) B m
-        → r ≡ sum binary64 sa (wide (a .hi) (a .lo) * m * 2 ^ t) sb (B * 2 ^ t) (m * 2 ^ 5170)) ⌝ }
+// Two sides of a sum, a * 2^t and b * 2^t over 2^5170, with their signs.
+struct Sides {
+    sa: bool,
+    a: Wide,
+    sb: bool,
+    b: Wide,
+    t: u64,
+}
+
+// The sum, rounded. b may stand for a fraction B / m.
+fn sum_sides(s: Sides) -> f64
+    requires { ⌜ (s .a .hi < 2 ^ 63) × (s .b .hi < 2 ^ 63) × (s .t ≤ 7900) ⌝ }
+    ensures { λ r. ⌜ ((B m : ℕ) → 0 < m → Addable (wide (s .a .hi) (s .a .lo)) (wide (s .b .hi) (s .b .lo)) B m
+        → r ≡ sum binary64 (s .sa) (wide (s .a .hi) (s .a .lo) * m * 2 ^ s .t) (s .sb) (B * 2 ^ s .t) (m * 2 ^ 5170)) ⌝ }
 {
+    let a = s.a;
+    let b = s.b;
+    let sa = s.sa;
+    let sb = s.sb;
     let under = less(a, b);
     let over = less(b, a);
     let w = joined(sa == sb, under, a, b);
-    round_wide(sign(sa, sb, under, over), w, t)
+    round_wide(sign(sa, sb, under, over), w, s.t)
 }
 
 // A number that is not 0, with its leading digit near the top of two words: hi, lo * 2^t.
@@ -73,80 +89,110 @@ fn addend_term(k: u64, g: u64) -> Term
     }
 }
 
-// The sum of two terms of which a has the higher scale.
-fn sum_terms(sa: bool, a: Term, sb: bool, b: Term) -> f64
+// Two terms of which a has the higher scale: b is cut to it.
+fn at_scale(sa: bool, a: Term, sb: bool, b: Term) -> Sides
     requires { ⌜ (2 ^ 60 ≤ a .hi) × (a .hi < 2 ^ 62) × (a .lo % 1024 ≡ 0) × (b .hi < 2 ^ 62) × (b .lo % 1024 ≡ 0) × (b .t ≤ a .t) × (a .t ≤ 7900) ⌝ }
-    ensures { λ r. ⌜ r ≡ sum binary64 sa (wide (a .hi) (a .lo) * 2 ^ a .t) sb (wide (b .hi) (b .lo) * 2 ^ b .t) (2 ^ 5170) ⌝ }
+    ensures { λ r. ⌜ Aligned sa (wide (a .hi) (a .lo) * 2 ^ a .t) sb (wide (b .hi) (b .lo) * 2 ^ b .t) r ⌝ }
 {
     let t = a.t;
     let bt = b.t;
     let p = Wide { hi: a.hi, lo: a.lo };
     let q = Wide { hi: b.hi, lo: b.lo };
-    sum_wide(sa, p, sb, jam(q, t - bt), t)
+    let j = jam(q, t - bt);
+    Sides {
+        sa,
+        a: p,
+        sb,
+        b: j,
+        t,
+    }
 }
 
 // m * n * 2^e / 2^2148 and k * 2^g / 2^1074 with their signs, whatever their scales.
-fn fused_far(sp: bool, m: u64, n: u64, e: u64, sc: bool, k: u64, g: u64) -> f64
+fn aligned_far(sp: bool, m: u64, n: u64, e: u64, sc: bool, k: u64, g: u64) -> Sides
     requires { ⌜ (m < 2 ^ 53) × (n < 2 ^ 53) × (e ≤ 4090) × (k < 2 ^ 53) × (g ≤ 2045) ⌝ }
-    ensures { λ r. ⌜ r ≡ sum binary64 sp (m * n * 2 ^ (e + 3022)) sc (k * 2 ^ (g + 4096)) (2 ^ 5170) ⌝ }
+    ensures { λ r. ⌜ Aligned sp (m * n * 2 ^ (e + 3022)) sc (k * 2 ^ (g + 4096)) r ⌝ }
 {
-    if m == 0 {
-        return sum_wide(
-            sp,
-            Wide { hi: 0, lo: 0 },
-            sc,
-            Wide { hi: 0, lo: k },
-            g + 4096,
-        );
-    }
-    if n == 0 {
-        return sum_wide(
-            sp,
-            Wide { hi: 0, lo: 0 },
-            sc,
-            Wide { hi: 0, lo: k },
-            g + 4096,
-        );
+    let none = Wide { hi: 0, lo: 0 };
+    if (m == 0) | (n == 0) {
+        return Sides {
+            sa: sp,
+            a: none,
+            sb: sc,
+            b: Wide { hi: 0, lo: k },
+            t: g + 4096,
+        };
     }
     if k == 0 {
-        return sum_wide(sp, product(m, n), sc, Wide { hi: 0, lo: 0 }, e + 3022);
+        return Sides {
+            sa: sp,
+            a: product(m, n),
+            sb: sc,
+            b: none,
+            t: e + 3022,
+        };
     }
     let p = product_term(m, n, e);
     let q = addend_term(k, g);
     let tp = p.t;
     let tq = q.t;
     if tq <= tp {
-        return sum_terms(sp, p, sc, q);
+        return at_scale(sp, p, sc, q);
     }
-    sum_terms(sc, q, sp, p)
+    at_scale(sc, q, sp, p)
 }
 
-// The same; where the scales are near enough for two words the sum is exact there, which is the common case.
-fn fused_finite(sp: bool, m: u64, n: u64, e: u64, sc: bool, k: u64, g: u64) -> f64
+// The same; where the scales are near enough for two words, both sides are exact there, which is the common case.
+fn aligned(sp: bool, m: u64, n: u64, e: u64, sc: bool, k: u64, g: u64) -> Sides
     requires { ⌜ (m < 2 ^ 53) × (n < 2 ^ 53) × (e ≤ 4090) × (k < 2 ^ 53) × (g ≤ 2045) ⌝ }
-    ensures { λ r. ⌜ r ≡ sum binary64 sp (m * n * 2 ^ (e + 3022)) sc (k * 2 ^ (g + 4096)) (2 ^ 5170) ⌝ }
+    ensures { λ r. ⌜ Aligned sp (m * n * 2 ^ (e + 3022)) sc (k * 2 ^ (g + 4096)) r ⌝ }
 {
     let h = g + 1063;
-    if e <= h {
-        let t = h - e;
-        if t < 63 {
-            return sum_wide(sp, product(m, n), sc, shifted(k, t), e + 3022);
-        }
+    if (e <= h) & (h < e + 63) {
+        return Sides {
+            sa: sp,
+            a: product(m, n),
+            sb: sc,
+            b: shifted(k, h - e),
+            t: e + 3022,
+        };
     }
-    fused_far(sp, m, n, e, sc, k, g)
+    aligned_far(sp, m, n, e, sc, k, g)
+}
+
+fn fused_finite(p: Parts, q: Parts, c: Parts) -> f64
+    requires { ⌜ (p .sig < 2 ^ 53) × (q .sig < 2 ^ 53) × (p .exp ≤ 2045) × (q .exp ≤ 2045) × (c .sig < 2 ^ 53) × (c .exp ≤ 2045) ⌝ }
+    ensures { λ r. ⌜ r ≡ sum binary64 (unlike (p .neg) (q .neg)) (p .sig * q .sig * 2 ^ (p .exp + q .exp + 3022)) (c .neg) (c .sig * 2 ^ (c .exp + 4096)) (2 ^ 5170) ⌝ }
+{
+    sum_sides(aligned(
+        p.neg != q.neg,
+        p.sig,
+        q.sig,
+        p.exp + q.exp,
+        c.neg,
+        c.sig,
+        c.exp,
+    ))
+}
+
+// Whether all three are finite: one test where x * y + z is, as it mostly is.
+fn all_finite(x: f64, y: f64, z: f64) -> bool
+    ensures { λ r. ⌜ r ≡ (finite x && (finite y && finite z)) ⌝ }
+{
+    if is_finite(x * y + z) {
+        return true;
+    }
+    is_finite(x) & (is_finite(y) & is_finite(z))
 }
 
 pub fn mul_add(x: f64, y: f64, z: f64) -> f64
     ensures { λ r. ⌜ r ≡ fused x y z ⌝ }
 {
-    match unpack(x) {
-        Class::Finite(s, m, d) => match unpack(y) {
-            Class::Finite(t, n, e) => match unpack(z) {
-                Class::Finite(u, k, g) => fused_finite(s != t, m, n, d + e, u, k, g),
-                _ => z,
-            },
-            _ => x * y + z,
-        },
-        _ => x * y + z,
+    if all_finite(x, y, z) {
+        return fused_finite(unpack(x), unpack(y), unpack(z));
     }
+    if is_finite(x) & is_finite(y) {
+        return z;
+    }
+    x * y + z
 }

@@ -9,3 +9,4 @@ mod wide;
 pub use fused::mul_add;
 pub use narrowing::narrow;
 pub use roots::root;
+pub use rounding::is_finite;

@@ -3,7 +3,7 @@ ghost use mathlib.Core.Path.{_≡_};
 ghost use Prim.Native.Nat.{_+_, _-_, _*_, _^_, _≤_, _<_};
 ghost use Rattle.ieee.specs.Root as Root;
 ghost use Rattle.ieee.specs.Words.{NearestRoot};
-use crate::rounding::Class;
+use crate::rounding::is_finite;
 use crate::rounding::signed64;
 use crate::rounding::unpack;
 
@@ -109,22 +109,22 @@ fn finish(m: u64, e: u64) -> f64
 pub fn root(x: f64) -> f64
     ensures { λ r. ⌜ r ≡ Root.root x ⌝ }
 {
-    match unpack(x) {
-        Class::Finite(neg, sig, exp) => {
-            if sig == 0 {
-                return x;
-            }
-            if neg {
-                return 0.0 / 0.0;
-            }
+    if x > 0.0 {
+        if is_finite(x) {
+            let p = unpack(x);
+            let sig = p.sig;
+            let exp = p.exp;
             // a normal number has its leading digit in place
             if 0 < exp {
                 return finish(sig, exp + 1022);
             }
             let z = u64::leading_zeros(sig) as u64 - 11;
-            finish(sig << z, exp + 1022 - z)
+            return finish(sig << z, exp + 1022 - z);
         }
-        Class::Infinite(neg) => { if neg { 0.0 / 0.0 } else { x } }
-        Class::Nan => x,
+        return x;
     }
+    if x == 0.0 {
+        return x;
+    }
+    0.0 / 0.0
 }

@@ -53,9 +53,11 @@ pub(crate) fn round_wide(neg: bool, w: Wide, t: u64) -> f64
     if hi == 0 {
         return round64(neg, w.lo, t);
     }
-    let k = 64 - u64::leading_zeros(hi) as u64;
-    let v = jam(w, k);
-    signed64(neg, pattern_top(v.lo, t + 64 + k, 53))
+    // the leading digit to the top; what is left of the lower word only says that the number goes on
+    let lo = w.lo;
+    let z = u64::leading_zeros(hi) as u64;
+    let n = (hi << z) + ((lo / 2) >> (63 - z));
+    signed64(neg, pattern_top(n, lo << z != 0, t + 128 - z, 53))
 }
 
 // The product by halves of a word.
@@ -130,13 +132,7 @@ pub(crate) fn less(a: Wide, b: Wide) -> bool
     let al = a.lo;
     let bh = b.hi;
     let bl = b.lo;
-    if ah < bh {
-        return true;
-    }
-    if bh < ah {
-        return false;
-    }
-    al < bl
+    (ah < bh) | ((ah == bh) & (al < bl))
 }
 
 // With no jump: which of two is the larger cannot be foreseen.

@@ -1,59 +1,46 @@
 -- `narrow` meets its contract. Assumes nothing.
-use mathlib.Core.Path.{_≡_, refl, sym, ap, _∙_, subst}
-use Prim.Native.Nat.{ℕ, _+_, _-_, _*_, _^_}
-use native.Mathlib.Omega.{arith}
-use mathlib.Core.Bool.{true, false}
-use lib.Ieee.{nan, inf, binary32, ofBits, div, neg}
-use Rattle.ieee.specs.declared.rounding.Class.{Class}
+use mathlib.Core.Path.{_≡_, sym, ap, _∙_, subst}
+use Prim.Native.Nat.{ℕ, _+_, _*_, min}
+use mathlib.Core.Bool.{cond}
+use lib.Dec.{T, leb}
+use lib.Ieee.{binary32, binary64, ofBits, toBits, top, ones, hid, fits, div}
+use lib.Ieee.Compare.{differs-from-itself}
 use Rattle.ieee.specs.Narrow.{narrowed}
-use Rattle.ieee.specs.Pattern.{pattern}
-use Rattle.ieee.specs.Unpacked.{Unpacked, Parts}
-use Rattle.ieee.proofs.Fields.{narrowed-nan, narrowed-inf, narrowed-pattern}
-use Rattle.ieee.proofs.Steps.{pattern-lead}
+use Rattle.ieee.proofs.Fields.{no-nan-of-same, low-finite, narrowed-nan, narrowed-pattern, narrow-normal}
 use borrow.Author.Needs.{needs}
 use Rattle.ieee.proofs.narrowing.narrow.Statement.{statement}
 use Rattle.ieee.proofs.narrowing.narrow.Tie as tie
 
--- in the last arm: the parts
-parts : (c : tie.After-neg2) → Parts (c .before .before .before .args .x) (c .neg2 .given .0 .0) (c .neg2 .given .0 .1 .0) (c .neg2 .given .0 .1 .1 .0)
-parts c = subst (λ (r : Class). Unpacked (c .before .before .before .args .x) r) (c .neg2 .given .1) (c .before .before .unpack .ensures)
+-- an `f64` is a value that the format holds
+held : (c : tie.Start) → T (fits binary64 (c .args .x))
+held c = subst T (sym (c .good .0 .1)) tt
 
-infinite : (c : tie.After-neg) → c .before .before .before .args .x ≡ inf (c .neg .given .0 .0)
-infinite c = subst (λ (r : Class). Unpacked (c .before .before .before .args .x) r) (c .neg .given .1) (c .before .before .unpack .ensures)
+returns : tie.Need-returns
+unfolding ofBits div
+returns c = sym (ap narrowed (differs-from-itself (c .before .args .x) (subst T (sym (c .if1 .taken)) tt)) ∙ narrowed-nan)
 
-unpack-requires : tie.Need-unpack-requires
-unpack-requires c κs = search needs
+float-to-bits-b : tie.Need-float-to-bits-b
+float-to-bits-b c = no-nan-of-same (c .before .args .x) (c .if1 .left)
 
-enum-told : tie.Need-enum-told
-enum-told c = search needs
+sub-cut : tie.Need-sub-cut
+sub-cut c = search needs
 
-enum-known-neg : tie.Need-enum-known-neg
-enum-known-neg c = search needs
-
-enum-known-neg-2 : tie.Need-enum-known-neg-2
-enum-known-neg-2 c = search needs
-
-mul-pattern-top : tie.Need-mul-pattern-top
-mul-pattern-top c = omega (arith, parts (c .before .before) .digits)
-
-add-pattern-top : tie.Need-add-pattern-top
-add-pattern-top c = omega (arith, parts (c .before .before) .scale)
-
-pattern-top-requires : tie.Need-pattern-top-requires
-pattern-top-requires c κs = (omega (arith, parts (c .before .before) .normal (c .if2 .taken)), omega (arith, parts (c .before .before) .scale), omega arith, omega arith)
+cut-requires : tie.Need-cut-requires
+cut-requires c κs = search needs
 
 signed32-requires : tie.Need-signed32-requires
 signed32-requires c κs = search needs
 
-returns : tie.Need-returns
-returns c =
-    let k = c .before .before .before .before in
-    let x = k .before .before .before .args .x in
-    let g = k .neg2 .given .0 in
-    let e : g .1 .1 .0 + 3224 ≡ g .1 .1 .0 + 3171 + 64 - 11 = omega arith in
+returns-2 : tie.Need-returns-2
+returns-2 c =
+    let e = c .before .before .before in
+    let x = e .before .args .x in
     c .signed32 .ensures
-    ∙ narrowed-pattern x (g .0) (g .1 .0) (g .1 .1 .0) (c .before .pattern-top .result) (parts k .value)
-    (c .before .pattern-top .ensures ∙ ap (λ (t : ℕ). pattern 24 (g .1 .0 * 2048 * 2 ^ t) (2 ^ 4160)) e ∙ pattern-lead 24 (g .1 .0) (g .1 .1 .0 + 3171) 11 (g .1 .0 * 2048) (omega arith) refl)
+    ∙ ap (λ (m : ℕ). ofBits binary32 (cond (leb 0x8000_0000_0000_0000 (toBits binary64 x)) (top binary32) 0 + min m (ones binary32 * hid binary32))) (c .before .cut .ensures)
+    ∙ narrow-normal x (held (e .before)) (no-nan-of-same x (e .if1 .left)) (c .before .before .if2 .taken)
+
+unpack-requires : tie.Need-unpack-requires
+unpack-requires c κs = low-finite (c .before .before .args .x) (no-nan-of-same (c .before .before .args .x) (c .before .if1 .left)) (c .if2 .left)
 
 add-pattern-of : tie.Need-add-pattern-of
 add-pattern-of c = search needs
@@ -64,44 +51,24 @@ pattern-of-requires c κs = search needs
 signed32-requires-2 : tie.Need-signed32-requires-2
 signed32-requires-2 c κs = search needs
 
-returns-2 : tie.Need-returns-2
-unfolding ofBits div
-returns-2 c =
-    let x = c .before .before .before .args .x in
-    let e : x ≡ nan = subst (λ (r : Class). Unpacked x r) (c .enum-told .given .1) (c .before .before .unpack .ensures) in
-    sym (ap narrowed e ∙ narrowed-nan)
-
 returns-3 : tie.Need-returns-3
-unfolding ofBits div neg
-returns-3 c = sym (ap narrowed (infinite (c .before .before) ∙ ap inf (c .if1 .taken)) ∙ narrowed-inf true)
-
-returns-4 : tie.Need-returns-4
-unfolding ofBits div neg
-returns-4 c = sym (ap narrowed (infinite (c .before .before) ∙ ap inf (c .if1 .left)) ∙ narrowed-inf false)
-
-returns-5 : tie.Need-returns-5
-returns-5 c =
-    let k = c .before .before .before .before in
-    let g = k .neg2 .given .0 in
-    c .signed322 .ensures ∙ narrowed-pattern (k .before .before .before .args .x) (g .0) (g .1 .0) (g .1 .1 .0) (c .before .pattern-of .result) (parts k .value) (c .before .pattern-of .ensures)
+returns-3 c =
+    let p = c .before .before in
+    let u = p .unpack .result in
+    c .signed322 .ensures ∙ narrowed-pattern (p .before .before .before .args .x) (u .neg) (u .sig) (u .exp) (c .before .pattern-of .result) (p .unpack .ensures .value) (c .before .pattern-of .ensures)
 
 pub narrow-spec : {M : Type 1} → statement M
 narrow-spec =
     tie.close
     (tie.spec
-    unpack-requires
-    enum-told
-    enum-known-neg
-    enum-known-neg-2
-    mul-pattern-top
-    add-pattern-top
-    pattern-top-requires
-    signed32-requires
     returns
+    float-to-bits-b
+    sub-cut
+    cut-requires
+    signed32-requires
+    returns-2
+    unpack-requires
     add-pattern-of
     pattern-of-requires
     signed32-requires-2
-    returns-2
-    returns-3
-    returns-4
-    returns-5)
+    returns-3)

@@ -1,43 +1,82 @@
 -- `cut` meets its contract. Assumes nothing.
-use Prim.Native.Nat.{_*_, _/_, _%_, _^_, _≤_}
+use mathlib.Core.Path.{_≡_, refl, sym, ap, _∙_, subst}
+use Prim.Native.Nat.{ℕ, _+_, _-_, _*_, _/_, _%_, _^_, _≤_, _<_}
+use native.Mathlib.Nat.{le-trans, mod-eq-of-lt}
 use native.Mathlib.Omega.{arith}
-use mathlib.Core.Bool.{not}
-use lib.Dec.{eqb}
+use mathlib.Core.Bool.{_||_}
+use lib.Dec.{eqb, ltb}
 use lib.Pow.{pow-pos, shr-le}
 use mir.Val.{boolByte}
-use Rattle.ieee.proofs.Steps.{cut-flat, flag-le, shifted-back}
+use Rattle.ieee.proofs.Steps.{cut-is, cut-rest, flag-le}
+use Rattle.ieee.proofs.Words.{one-shifted}
 use borrow.Author.Needs.{needs}
 use Rattle.ieee.proofs.rounding.cut.Statement.{statement}
 use Rattle.ieee.proofs.rounding.cut.Tie as tie
 
-flag : (c : tie.Start) → boolByte (not (eqb (c .args .w / 2 ^ c .args .n * 2 ^ c .args .n % 2 ^ 64) (c .args .w))) ≤ 1
-flag c = flag-le (not (eqb (c .args .w / 2 ^ c .args .n * 2 ^ c .args .n % 2 ^ 64) (c .args .w)))
+rest : (c : tie.Start) → (c .args .w / 2 / 2 ^ c .args .n * 2 ^ c .args .n * 2 ≤ c .args .w) × (c .args .w - c .args .w / 2 / 2 ^ c .args .n * 2 ^ c .args .n * 2 < 2 * 2 ^ c .args .n)
+rest c = cut-rest (c .args .w) (2 ^ c .args .n) (c .args .w / 2 / 2 ^ c .args .n) (c .args .some) (pow-pos (c .args .n)) refl
 
-shr-h : tie.Need-shr-h
-shr-h c = search needs
+-- the shifts lose nothing
+plain : (c : tie.Start) → c .args .w / 2 / 2 ^ c .args .n * 2 ^ c .args .n % 2 ^ 64 ≡ c .args .w / 2 / 2 ^ c .args .n * 2 ^ c .args .n
+plain c = mod-eq-of-lt (under (c .args .w / 2 / 2 ^ c .args .n * 2 ^ c .args .n) (c .args .w) (rest c .0) (c .fits .w .fits))
+  where
+    under : (x w : ℕ) → x * 2 ≤ w → w < 2 ^ 64 → x < 2 ^ 64
+    under x w l h = omega arith
 
-shl-s : tie.Need-shl-s
-shl-s c = search needs
+odd-le : (c : tie.Start) → boolByte (c .args .some || eqb (c .args .w / 2 / 2 ^ c .args .n % 2) 1) ≤ 2 ^ c .args .n
+odd-le c = le-trans (flag-le (c .args .some || eqb (c .args .w / 2 / 2 ^ c .args .n % 2) 1)) (pow-pos (c .args .n))
 
-cast-s : tie.Need-cast-s
-cast-s c = search needs
+half : (c : tie.Start) → 1 * 2 ^ c .args .n % 2 ^ 64 ≡ 2 ^ c .args .n
+half c = one-shifted (c .args .n) (c .pre)
+
+shr-q : tie.Need-shr-q
+shr-q c = search needs
+
+shl-rest : tie.Need-shl-rest
+shl-rest c = search needs
+
+mul-rest : tie.Need-mul-rest
+mul-rest c = omega (arith, plain c, rest c .0)
+
+sub-rest : tie.Need-sub-rest
+sub-rest c = rw (plain c) (rest c .0)
+
+cast-odd : tie.Need-cast-odd
+cast-odd c = search needs
+
+shl-half : tie.Need-shl-half
+shl-half c = search needs
+
+sub-result : tie.Need-sub-result
+sub-result c = rw (half c) (odd-le c)
+
+cast-result : tie.Need-cast-result
+cast-result c = search needs
 
 add-result : tie.Need-add-result
-add-result c = omega (arith, flag c)
-
-add-result-2 : tie.Need-add-result-2
-add-result-2 c = omega (arith, flag c)
-
-add-result-3 : tie.Need-add-result-3
-add-result-3 c = omega (arith, flag c)
-
-add-result-4 : tie.Need-add-result-4
-add-result-4 c = omega (arith, flag c, shr-le (c .args .w) (c .args .n))
+add-result c = omega (arith, shr-le (c .args .w / 2) (c .args .n), flag-le (ltb (1 * 2 ^ c .args .n % 2 ^ 64 - boolByte (c .args .some || eqb (c .args .w / 2 / 2 ^ c .args .n % 2) 1)) (c .args .w - c .args .w / 2 / 2 ^ c .args .n * 2 ^ c .args .n % 2 ^ 64 * 2)))
 
 returns : tie.Need-returns
-returns c = cut-flat (c .args .w) (2 ^ c .args .n) (c .args .w / 2 ^ c .args .n * 2 ^ c .args .n % 2 ^ 64) (pow-pos (c .args .n)) (shifted-back (c .args .w) (c .args .n) (c .fits .w .fits))
+returns c =
+    let w = c .args .w in
+    let h = 2 ^ c .args .n in
+    let q = w / 2 / h in
+    let s = c .args .some in
+    ap (λ (x : ℕ). q + boolByte (ltb (x - boolByte (s || eqb (q % 2) 1)) (w - q * h % 2 ^ 64 * 2))) (half c)
+    ∙ ap (λ (x : ℕ). q + boolByte (ltb (h - boolByte (s || eqb (q % 2) 1)) (w - x * 2))) (plain c)
+    ∙ cut-is w h q s (pow-pos (c .args .n)) refl
 
 pub cut-spec : {M : Type 1} → statement M
 cut-spec =
     tie.close
-    (tie.spec shr-h shl-s cast-s add-result add-result-2 add-result-3 add-result-4 returns)
+    (tie.spec
+    shr-q
+    shl-rest
+    mul-rest
+    sub-rest
+    cast-odd
+    shl-half
+    sub-result
+    cast-result
+    add-result
+    returns)

@@ -1,13 +1,19 @@
 -- `pattern_top` meets its contract. Assumes nothing.
-use Prim.Native.Nat.{_-_}
+use Prim.Native.Nat.{_+_, _-_, _*_, _^_, _<_, _≤_}
 use native.Mathlib.Omega.{arith}
-use Rattle.ieee.proofs.Steps.{top-none, top-low, top-high, packed-fits}
+use mir.Val.{boolByte}
+use Rattle.ieee.proofs.Steps.{doubled, top-none, top-low, top-high, packed-fits}
 use borrow.Author.Needs.{needs}
 use Rattle.ieee.proofs.rounding.pattern_top.Statement.{statement}
 use Rattle.ieee.proofs.rounding.pattern_top.Tie as tie
 
+size : (c : tie.Start) → (2 ^ 64 ≤ 2 * c .args .n + boolByte (c .args .some)) × (2 * c .args .n + boolByte (c .args .some) < 2 ^ 65)
+size c = doubled (c .args .n) (c .args .some) (c .pre .0) (c .fits .n .fits)
+
 returns : tie.Need-returns
-returns c = top-none (c .before .args .p) (c .before .args .n) (c .before .args .t) (c .before .pre .0) (c .before .fits .n .fits) (c .before .pre .2) (c .before .pre .3) (c .if1 .taken)
+returns c =
+    let s = c .before in
+    top-none (s .args .p) (2 * s .args .n + boolByte (s .args .some)) (s .args .t) (size s .0) (size s .1) (s .pre .2) (s .pre .3) (c .if1 .taken)
 
 add-if2 : tie.Need-add-if2
 add-if2 c = search needs
@@ -21,7 +27,7 @@ cut-requires c κs = search needs
 returns-2 : tie.Need-returns-2
 returns-2 c =
     let s = c .before .before .before in
-    top-low (s .args .p) (s .args .n) (s .args .t) (s .pre .0) (s .fits .n .fits) (s .pre .2) (s .pre .3) (c .cut .result) (c .before .before .if1 .left) (c .before .if2 .taken) (c .cut .ensures)
+    top-low (s .args .p) (2 * s .args .n + boolByte (s .args .some)) (s .args .t) (size s .0) (size s .1) (s .pre .2) (s .pre .3) (c .cut .result) (c .before .before .if1 .left) (c .before .if2 .taken) (c .cut .ensures)
 
 sub-result : tie.Need-sub-result
 sub-result c = search needs
@@ -44,12 +50,12 @@ cut-requires-2 c κs = search needs
 add-result : tie.Need-add-result
 add-result c =
     let s = c .before .before .before in
-    record { fits = packed-fits (s .args .p) (s .args .t - s .args .p - 4096) (s .args .n) (c .cut2 .result) (s .pre .2) (s .pre .3) (omega arith) (s .fits .n .fits) (c .cut2 .ensures) }
+    record { fits = packed-fits (s .args .p) (s .args .t - s .args .p - 4096) (2 * s .args .n + boolByte (s .args .some)) (c .cut2 .result) (s .pre .2) (s .pre .3) (omega arith) (size s .1) (c .cut2 .ensures) }
 
 returns-3 : tie.Need-returns-3
 returns-3 c =
     let s = c .before .before .before in
-    top-high (s .args .p) (s .args .n) (s .args .t) (s .pre .0) (s .fits .n .fits) (s .pre .2) (s .pre .3) (c .cut2 .result) (c .before .if2 .left) (s .pre .1) (c .cut2 .ensures)
+    top-high (s .args .p) (2 * s .args .n + boolByte (s .args .some)) (s .args .t) (size s .0) (size s .1) (s .pre .2) (s .pre .3) (c .cut2 .result) (c .before .if2 .left) (s .pre .1) (c .cut2 .ensures)
 
 pub pattern-top-spec : {M : Type 1} → statement M
 pattern-top-spec =

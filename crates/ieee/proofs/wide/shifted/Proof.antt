@@ -4,7 +4,7 @@ use Prim.Native.Nat.{ℕ, _+_, _*_, _^_, _<_}
 use native.Mathlib.Nat.{mul-assoc, mul-comm}
 use native.Mathlib.Omega.{arith}
 use lib.Pow.{pow-add}
-use Rattle.ieee.proofs.Words.{shifted-is}
+use Rattle.ieee.proofs.Words.{shifted-is, shifted-high}
 use borrow.Author.Needs.{needs}
 use Rattle.ieee.proofs.wide.shifted.Statement.{statement}
 use Rattle.ieee.proofs.wide.shifted.Tie as tie
@@ -25,9 +25,7 @@ returns : tie.Need-returns
 returns c =
     let k = c .args .k in
     let t = c .args .t in
-    let v : k * 2048 < 2 ^ 64 = omega arith in
-    let s = shifted-is (k * 2048) t v (c .pre .1) in
-    (s .0 ∙ mul-assoc k 2048 (2 ^ t) ∙ ap (λ (x : ℕ). k * x) (mul-comm 2048 (2 ^ t) ∙ sym (pow-add 2 t 11)), s .1)
+    (shifted-is (k * 2048) t (omega arith) ∙ mul-assoc k 2048 (2 ^ t) ∙ ap (λ (x : ℕ). k * x) (mul-comm 2048 (2 ^ t) ∙ sym (pow-add 2 t 11)), shifted-high (k * 2048) t (omega arith) (c .pre .1))
 
 pub shifted-spec : {M : Type 1} → statement M
 shifted-spec = tie.close (tie.spec mul-v sub-t5 shr-t6 shl-t7 returns)

@@ -1,0 +1,54 @@
+-- `sum_sides` meets its contract. Assumes nothing.
+use mathlib.Core.Path.{_≡_, sym, ap, _∙_}
+use Prim.Native.Nat.{ℕ, _+_, _-_, _*_, _^_}
+use mathlib.Core.Bool.{Bool, cond, _&&_, Bool·beq}
+use lib.Dec.{ltb}
+use lib.Ieee.{binary64, round}
+use Rattle.ieee.specs.Words.{wide}
+use Rattle.ieee.proofs.Sums.{summed}
+use borrow.Author.Needs.{needs}
+use Rattle.ieee.proofs.fused.sum_sides.Statement.{statement}
+use Rattle.ieee.proofs.fused.sum_sides.Tie as tie
+
+less-requires : tie.Need-less-requires
+less-requires c κs = search needs
+
+less-requires-2 : tie.Need-less-requires-2
+less-requires-2 c κs = search needs
+
+joined-requires : tie.Need-joined-requires
+joined-requires c κs = search needs
+
+sign-requires : tie.Need-sign-requires
+sign-requires c κs = search needs
+
+round-wide-requires : tie.Need-round-wide-requires
+round-wide-requires c κs = search needs
+
+returns : tie.Need-returns
+returns c =
+    λ B m M ad.
+    let j = c .before .before in
+    let o = j .before in
+    let u = o .before in
+    let g = u .before .before .before .args .s in
+    let a = wide (g .a .hi) (g .a .lo) in
+    let b = wide (g .b .hi) (g .b .lo) in
+    let like = Bool·beq (g .sa) (g .sb) in
+    c .round-wide .ensures
+    ∙ ap (λ (x : Bool). round binary64 x (wide (j .joined .result .hi) (j .joined .result .lo) * 2 ^ g .t) (2 ^ 5170))
+    (c .before .sign .ensures ∙ ap (λ (x : Bool). cond like (g .sa) (cond x (g .sb) (g .sa && o .less2 .result))) (u .less .ensures) ∙ ap (λ (x : Bool). cond like (g .sa) (cond (ltb a b) (g .sb) (g .sa && x))) (o .less2 .ensures))
+    ∙ ap (λ (x : ℕ). round binary64 (cond like (g .sa) (cond (ltb a b) (g .sb) (g .sa && ltb b a))) (x * 2 ^ g .t) (2 ^ 5170))
+    (j .joined .ensures ∙ ap (λ (x : Bool). cond like (a + b) (cond x (b - a) (a - b))) (u .less .ensures))
+    ∙ summed binary64 a B b m (g .t) 5170 M ad (g .sa) (g .sb)
+
+pub sum-sides-spec : {M : Type 1} → statement M
+sum-sides-spec =
+    tie.close
+    (tie.spec
+    less-requires
+    less-requires-2
+    joined-requires
+    sign-requires
+    round-wide-requires
+    returns)
