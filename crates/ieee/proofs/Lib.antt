@@ -9,3 +9,4 @@ pub mod Terms
 pub mod Squares
 pub mod OddRoot
 pub mod RootSteps
+pub mod Meaning

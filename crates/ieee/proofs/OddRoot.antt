@@ -1,10 +1,11 @@
--- A root rounded to odd, and then to the nearest, is the root rounded once: by the fractions on either side. Once for both formats. Assumes nothing.
-use mathlib.Core.Path.{_≡_, refl, sym, ap, _∙_, subst}
+-- A root rounded to odd, and then to nearest, is the root rounded once: no fraction on either side of the root rounds beyond it (`root-below`, `root-above`).
+-- Stated once for both formats. Nothing here is about code. Assumes nothing.
+use mathlib.Core.Path.{_≡_, sym, ap, _∙_, subst}
 use mathlib.Core.Logic.{_⊎_, inl, inr}
-use Prim.Native.Nat.{ℕ, zero, suc, _+_, _-_, _*_, _/_, _%_, _^_, _≤_, _<_}
-use native.Mathlib.Nat.{le-refl, le-trans, le-of-eq, lt-of-lt-of-le, lt-of-le-of-lt, lt-of-not-le, not-le-of-lt, lt-irrefl, mul-assoc, mul-comm, mul-left-comm, mul-pos, mul-le-mul, mul-le-mul-right, mul-lt-mul-of-pos-right, le-of-mul-le-mul-right, le-of-suc-le-suc, add-mul, mul-add, one-mul}
+use Prim.Native.Nat.{ℕ, suc, _+_, _-_, _*_, _%_, _^_, _≤_, _<_}
+use native.Mathlib.Nat.{le-refl, le-trans, le-of-eq, le-of-lt, lt-of-lt-of-le, lt-of-le-of-lt, lt-of-not-le, not-le-of-lt, mul-assoc, mul-comm, mul-left-comm, mul-right-comm, mul-pos, mul-le-mul, mul-le-mul-right, mul-lt-mul-of-pos-right, le-of-mul-le-mul-right, add-mul, mul-add, one-mul}
 use native.Mathlib.Omega.{arith}
-use mathlib.Core.Bool.{Bool, false}
+use mathlib.Core.Bool.{false}
 use lib.Dec.{T}
 use lib.Pow.{pow-pos}
 use lib.Ieee.{Float, Format, prec, round, le}
@@ -19,7 +20,7 @@ pub sq-le : (x y : ℕ) → x * x ≤ y * y → x ≤ y
 sq-le x y h = elim (le-or-lt x y) [ inl l ↦ l | inr l ↦ absurd (not-le-of-lt (sq-lt y x l) h) ]
   where
     sq-lt : (y x : ℕ) → y < x → y * y < x * x
-    sq-lt y x l = lt-of-le-of-lt (mul-le-mul (le-refl y) (native.Mathlib.Nat.le-of-lt l)) (mul-lt-mul-of-pos-right l (pos y x l))
+    sq-lt y x l = lt-of-le-of-lt (mul-le-mul (le-refl y) (le-of-lt l)) (mul-lt-mul-of-pos-right l (pos y x l))
       where
         pos : (y x : ℕ) → y < x → 0 < x
         pos y x l = omega arith
@@ -35,32 +36,22 @@ abbrev pub Sticks : ℕ → ℕ → Type 0
 Sticks n w = (w * w ≡ n) ⊎ ((w % 2 ≡ 1) × (w * w + 1 < n + 2 * w) × (n < w * w + 2 * w + 1))
 
 module _ (f : Format) (n w N D i j : ℕ) (P : 0 < D) (same : N * (2 ^ j * 2 ^ j) ≡ n * (2 ^ i * 2 ^ i) * D) (st : Sticks n w) (W : 2 ^ suc (prec f) ≤ w) where
-  -- the rounded root
-  v : Float
-  v = round f false (w * 2 ^ i) (2 ^ j)
-
   -- a / c against the root of N / D, as a * 2 ^ j / (c * 2 ^ i) against that of n
   lower : (a c : ℕ) → a * a * D ≤ N * (c * c) → a * 2 ^ j * (a * 2 ^ j) ≤ n * (c * 2 ^ i * (c * 2 ^ i))
   lower a c h =
       le-of-mul-le-mul-right
       (le-trans (le-of-eq (simp (mul-assoc, mul-comm, mul-left-comm)))
       (le-trans (mul-le-mul-right (2 ^ j * 2 ^ j) h)
-      (le-of-eq (swap N (c * c) (2 ^ j * 2 ^ j) ∙ ap (λ (x : ℕ). x * (c * c)) same ∙ simp (mul-assoc, mul-comm, mul-left-comm)))))
+      (le-of-eq (mul-right-comm N (c * c) (2 ^ j * 2 ^ j) ∙ ap (λ (x : ℕ). x * (c * c)) same ∙ simp (mul-assoc, mul-comm, mul-left-comm)))))
       P
-    where
-      swap : (x y z : ℕ) → x * y * z ≡ x * z * y
-      swap x y z = native.Mathlib.Nat.mul-right-comm x y z
 
   upper : (a c : ℕ) → N * (c * c) ≤ a * a * D → n * (c * 2 ^ i * (c * 2 ^ i)) ≤ a * 2 ^ j * (a * 2 ^ j)
   upper a c h =
       le-of-mul-le-mul-right
-      (le-trans (le-of-eq (sym (swap N (c * c) (2 ^ j * 2 ^ j) ∙ ap (λ (x : ℕ). x * (c * c)) same ∙ simp (mul-assoc, mul-comm, mul-left-comm))))
+      (le-trans (le-of-eq (sym (mul-right-comm N (c * c) (2 ^ j * 2 ^ j) ∙ ap (λ (x : ℕ). x * (c * c)) same ∙ simp (mul-assoc, mul-comm, mul-left-comm))))
       (le-trans (mul-le-mul-right (2 ^ j * 2 ^ j) h)
       (le-of-eq (simp (mul-assoc, mul-comm, mul-left-comm)))))
       P
-    where
-      swap : (x y z : ℕ) → x * y * z ≡ x * z * y
-      swap x y z = native.Mathlib.Nat.mul-right-comm x y z
 
   -- a fraction between w - 1 and w + 1 is rounded as w is
   level : (a c : ℕ) → 0 < c → Sticky w (a * 2 ^ j) (c * 2 ^ i) → round f false (w * 2 ^ i) (2 ^ j) ≡ round f false a c
@@ -75,7 +66,7 @@ module _ (f : Format) (n w N D i j : ℕ) (P : 0 < D) (same : N * (2 ^ j * 2 ^ j
   root-below a c C h = go (le-or-lt (a * 2 ^ j) (w * (c * 2 ^ i))) st
     where
       mono : a * 2 ^ j ≤ w * (c * 2 ^ i) → T (le (round f false a c) (round f false (w * 2 ^ i) (2 ^ j)))
-      mono l = round-mono f a c (w * 2 ^ i) (2 ^ j) C (pow-pos j) (le-trans l (le-of-eq (simp (mul-assoc, mul-comm, mul-left-comm))))
+      mono l = round-mono f a c (w * 2 ^ i) (2 ^ j) C (pow-pos j) (le-trans l (le-of-eq (simp (mul-assoc, mul-comm))))
 
       next : (w b : ℕ) → (w * w + 2 * w + 1) * (b * b) ≡ (w * b + b) * (w * b + b)
       next w b = ap (λ (x : ℕ). x * (b * b)) (sym (next-sq w)) ∙ (simp (mul-assoc, mul-comm, mul-left-comm)) ∙ ap (λ (x : ℕ). x * x) (add-mul w 1 b ∙ ap (λ (x : ℕ). w * b + x) (one-mul b))
@@ -83,7 +74,7 @@ module _ (f : Format) (n w N D i j : ℕ) (P : 0 < D) (same : N * (2 ^ j * 2 ^ j
       go : (a * 2 ^ j ≤ w * (c * 2 ^ i)) ⊎ (w * (c * 2 ^ i) < a * 2 ^ j) → Sticks n w → T (le (round f false a c) (round f false (w * 2 ^ i) (2 ^ j)))
       go (inl l) s = mono l
       go (inr l) (inl e) =
-          absurd (not-le-of-lt l (sq-le (a * 2 ^ j) (w * (c * 2 ^ i)) (le-trans (lower a c h) (le-of-eq (ap (λ (x : ℕ). x * (c * 2 ^ i * (c * 2 ^ i))) (sym e) ∙ simp (mul-assoc, mul-comm, mul-left-comm))))))
+          absurd (not-le-of-lt l (sq-le (a * 2 ^ j) (w * (c * 2 ^ i)) (le-trans (lower a c h) (le-of-eq (ap (λ (x : ℕ). x * (c * 2 ^ i * (c * 2 ^ i))) (sym e) ∙ simp (mul-assoc, mul-left-comm))))))
       go (inr l) (inr (o, lo, hi)) =
           let near : a * 2 ^ j < w * (c * 2 ^ i) + c * 2 ^ i =
           sq-lt-back (a * 2 ^ j) (w * (c * 2 ^ i) + c * 2 ^ i)
@@ -97,7 +88,7 @@ module _ (f : Format) (n w N D i j : ℕ) (P : 0 < D) (same : N * (2 ^ j * 2 ^ j
   root-above a c C h = go (le-or-lt (w * (c * 2 ^ i)) (a * 2 ^ j)) st
     where
       mono : w * (c * 2 ^ i) ≤ a * 2 ^ j → T (le (round f false (w * 2 ^ i) (2 ^ j)) (round f false a c))
-      mono l = round-mono f (w * 2 ^ i) (2 ^ j) a c (pow-pos j) C (le-trans (le-of-eq (simp (mul-assoc, mul-comm, mul-left-comm))) l)
+      mono l = round-mono f (w * 2 ^ i) (2 ^ j) a c (pow-pos j) C (le-trans (le-of-eq (simp (mul-assoc, mul-comm))) l)
 
       -- w - 1 is below the root of n, so x is above (w - 1) * b
       before : (n w b x : ℕ) → 0 < b → w % 2 ≡ 1 → w * w + 1 < n + 2 * w → n * (b * b) ≤ x * x → w * b < x + b
@@ -111,7 +102,7 @@ module _ (f : Format) (n w N D i j : ℕ) (P : 0 < D) (same : N * (2 ^ j * 2 ^ j
           pred w o = omega arith
 
           shuffle : (u b : ℕ) → u * u * (b * b) ≡ u * b * (u * b)
-          shuffle u b = simp (mul-assoc, mul-comm, mul-left-comm)
+          shuffle u b = simp (mul-assoc, mul-left-comm)
 
           less-sq : (U u w ww n : ℕ) → w ≡ u + 1 → ww ≡ U + 2 * u + 1 → ww + 1 < n + 2 * w → U < n
           less-sq U u w ww n a b c = omega arith
@@ -122,7 +113,7 @@ module _ (f : Format) (n w N D i j : ℕ) (P : 0 < D) (same : N * (2 ^ j * 2 ^ j
       go : (w * (c * 2 ^ i) ≤ a * 2 ^ j) ⊎ (a * 2 ^ j < w * (c * 2 ^ i)) → Sticks n w → T (le (round f false (w * 2 ^ i) (2 ^ j)) (round f false a c))
       go (inl l) s = mono l
       go (inr l) (inl e) =
-          absurd (not-le-of-lt l (sq-le (w * (c * 2 ^ i)) (a * 2 ^ j) (le-trans (le-of-eq ((simp (mul-assoc, mul-comm, mul-left-comm)) ∙ ap (λ (x : ℕ). x * (c * 2 ^ i * (c * 2 ^ i))) e)) (upper a c h))))
+          absurd (not-le-of-lt l (sq-le (w * (c * 2 ^ i)) (a * 2 ^ j) (le-trans (le-of-eq ((simp (mul-assoc, mul-left-comm)) ∙ ap (λ (x : ℕ). x * (c * 2 ^ i * (c * 2 ^ i))) e)) (upper a c h))))
       go (inr l) (inr (o, lo, hi)) =
           subst (λ (x : Float). T (le x (round f false a c))) (sym (level a c C (inr (o, before n w (c * 2 ^ i) (a * 2 ^ j) (mul-pos C (pow-pos i)) o lo (upper a c h), less (a * 2 ^ j) (w * (c * 2 ^ i)) (c * 2 ^ i) l)))) (self a c C)
         where

@@ -3,20 +3,19 @@
 -- Stated once for both formats (`round-pattern`). Nothing here is about code. Assumes nothing.
 use mathlib.Core.Path.{_≡_, refl, sym, ap, _∙_, subst}
 use mathlib.Core.Logic.{_⊎_, inl, inr}
-use Prim.Native.Nat.{ℕ, zero, suc, _+_, _-_, _*_, _/_, _%_, _^_, _≤_, _<_, compare, min}
-use native.Mathlib.Nat.{le-trans, le-of-eq, le-of-lt, le-of-suc-le-suc, lt-of-lt-of-le, lt-of-le-of-lt, lt-of-not-le, not-le-of-lt, lt-irrefl, eq-zero-or-pos, eq-or-lt-of-le, add-assoc, add-mul, suc-mul, one-mul, mul-one, mul-assoc, mul-comm, mul-le-mul-right, le-of-mul-le-mul-right, mul-div-cancel, pow-succ', div-div-eq-div-mul, le-div-iff-mul-le}
+use Prim.Native.Nat.{ℕ, suc, _+_, _-_, _*_, _/_, _%_, _^_, _≤_, _<_, compare, min}
+use native.Mathlib.Nat.{le-trans, le-of-eq, le-of-suc-le-suc, lt-of-lt-of-le, lt-of-le-of-lt, lt-of-not-le, not-le-of-lt, lt-irrefl, eq-zero-or-pos, eq-or-lt-of-le, add-assoc, add-mul, suc-mul, one-mul, mul-assoc, mul-comm, mul-le-mul-right, le-of-mul-le-mul-right, mul-div-cancel, pow-succ', div-div-eq-div-mul, le-div-iff-mul-le}
 use native.Mathlib.Omega.{arith}
 use mathlib.Core.Bool.{Bool, true, false, not, cond}
-use lib.IntN.{ℤ}
 use lib.Dec.{T, leb, ltb, leb→le, nleb→lt}
 use lib.Pow.{pow-add, pow-pos, pow-mono, pow-lt, shl-lt, shl-shr}
 use lib.Arith.{le→nltb}
-use lib.Ieee.{Float, nan, inf, fin, Format, prec, emax, low, up, down, size, odd, units, round, hid, ones, top, toBits, ofBits, fits}
+use lib.Ieee.{Float, nan, inf, fin, Format, prec, emax, low, down, size, odd, units, round, hid, ones, top, toBits, ofBits, fits}
 use lib.Ieee.Digits.{size-lt, size-le, size-reaches}
 use lib.Ieee.Fits.{two, reach, two-le-pos, kept-lt, nearest-le, round-is, round-fits, down-pos}
 use lib.Ieee.Bits.{ofBits-toBits, cond-no}
 use lib.Ieee.Exact.{HasValue, units-val}
-use lib.Ieee.Nearest.{closest, nearest-ge}
+use lib.Ieee.Nearest.{nearest-ge}
 use lib.Ieee.Order.{drop, kept}
 use Rattle.ieee.specs.Pattern.{pattern}
 
@@ -32,7 +31,7 @@ le-or-lt a b = go (leb a b) (leb→le a b) (nleb→lt a b)
 pub size-gt : (n j : ℕ) → 2 ^ j ≤ n → j < size n
 size-gt n j h = lt-of-not-le (λ (g : size n ≤ j). not-le-of-lt (lt-of-lt-of-le (size-lt n) (pow-mono g)) h)
 
-pow-le-back : (a b : ℕ) → 2 ^ a ≤ 2 ^ b → a ≤ b
+pub pow-le-back : (a b : ℕ) → 2 ^ a ≤ 2 ^ b → a ≤ b
 pow-le-back a b h = le-of-suc-le-suc (lt-of-not-le (λ (g : suc b ≤ a). lt-irrefl (2 ^ b) (lt-of-lt-of-le (pow-lt g) h)))
 
 pub pow-lt-back : (a b : ℕ) → 2 ^ a < 2 ^ b → a < b

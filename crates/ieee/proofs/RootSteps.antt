@@ -1,6 +1,6 @@
 -- What the steps of `root` give, on plain numbers. Assumes nothing.
 use mathlib.Core.Path.{_≡_, refl, sym, ap, _∙_, subst}
-use Prim.Native.Nat.{ℕ, zero, suc, _+_, _-_, _*_, _/_, _%_, _^_, _≤_, _<_}
+use Prim.Native.Nat.{ℕ, zero, suc, _+_, _-_, _*_, _/_, _%_, _^_, _≤_, _<_, min}
 use native.Mathlib.Nat.{zero-lt-suc, le-refl, le-trans, le-of-eq, lt-of-not-le, lt-of-lt-of-le, lt-of-le-of-lt, not-le-of-lt, zero-mul, mul-pos, mul-le-mul, mul-assoc, mul-comm, mul-left-comm, mul-right-comm, mul-add, add-mul, mul-one, one-mul, add-assoc, add-comm, add-left-comm, mul-div-cancel, div-add-mod', mod-eq-of-lt}
 use native.Mathlib.Omega.{arith}
 use mathlib.Core.Bool.{Bool, true, false, not, _&&_, _||_, Bool·beq, cond, true≢false, false≢true}
@@ -177,7 +177,7 @@ power (suc (suc n)) h = absurd (no n h)
     no n h = omega arith
 
 pub finished : (m e q : ℕ) → 2 ^ 52 ≤ m → m < 2 ^ 53 → NearestRoot (m * (1 + e % 2) * 2 ^ 52) q
-    → (q ≤ 2 ^ 53) × (ofBits binary64 (0 + Prim.Native.Nat.min (e / 2 * 2 ^ 52 + q) (2047 * 2 ^ 52)) ≡ rootOf (m * 2 ^ (e + 54)))
+    → (q ≤ 2 ^ 53) × (e / 2 * 2 ^ 52 + q ≤ 2047 * 2 ^ 52 → ofBits binary64 (e / 2 * 2 ^ 52 + q) ≡ rootOf (m * 2 ^ (e + 54)))
 finished m e q lo hi n =
     let k = e / 2 in
     let M = m * (1 + e % 2) * 2 ^ 52 in
@@ -191,9 +191,12 @@ finished m e q lo hi n =
     ∙ ap (λ (x : ℕ). m * x * 2 ^ 52 * (4 * (2 ^ k * 2 ^ k))) (sym (power (e % 2) odd)) in
     let u : rootOf (m * 2 ^ (e + 54)) ≡ units binary64 false q k = ap rootOf scale ∙ nearest-root M q k (n .one) M-lo M-hi (n .below) (n .above) in (
       big,
-      pattern-units binary64 false q k big (λ _. least M q M-lo (n .below)) (subst (λ (x : Float). T (fits binary64 x)) u (fits-root (m * 2 ^ (e + 54)))) ∙ sym u,
+      λ h. ap (ofBits binary64) (held (k * 2 ^ 52 + q) (2047 * 2 ^ 52) h) ∙ pattern-units binary64 false q k big (λ _. least M q M-lo (n .below)) (subst (λ (x : Float). T (fits binary64 x)) u (fits-root (m * 2 ^ (e + 54)))) ∙ sym u,
     )
   where
+    held : (a b : ℕ) → a ≤ b → a ≡ 0 + min a b
+    held a b h = omega arith
+
     ones : (e : ℕ) → 1 ≤ 1 + e % 2
     ones e = omega arith
 
@@ -301,8 +304,8 @@ pub record Raised (m z : ℕ) : Type 0 where
   pub low : 2 ^ 52 ≤ m * 2 ^ z
   pub high : m * 2 ^ z < 2 ^ 53
 
-pub raised : (m : ℕ) → 0 < m → m < 2 ^ 53 → (11 ≤ leadingZeros 64 m) × Raised m (leadingZeros 64 m - 11)
-raised m p d =
+pub raise : (m : ℕ) → 0 < m → m < 2 ^ 53 → (11 ≤ leadingZeros 64 m) × Raised m (leadingZeros 64 m - 11)
+raise m p d =
     let t = leading-top 64 m p (lt-of-lt-of-le d (lit≤ tt)) in
     let j = t .0 in
     let z = leadingZeros 64 m in

@@ -2,12 +2,12 @@
 use mathlib.Core.Path.{_≡_, refl, sym, ap, _∙_, subst}
 use mathlib.Core.Logic.{inl, inr}
 use Prim.Native.Nat.{ℕ, zero, suc, _+_, _-_, _*_, _/_, _%_, _^_, _≤_, _<_}
-use native.Mathlib.Nat.{le-antisymm, zero-mul, suc-mul, le-refl, le-trans, le-of-eq, le-of-lt, lt-of-le-of-lt, lt-of-lt-of-le, lt-of-not-le, not-le-of-lt, mul-le-mul, mul-mul-mul-comm, mul-assoc, mul-comm, mul-left-comm, mul-add, add-mul, mul-one, one-mul, add-assoc, add-comm, add-left-comm, pow-suc, mul-le-mul-right, mul-lt-mul-of-pos-right, mul-pos}
+use native.Mathlib.Nat.{le-antisymm, zero-mul, suc-mul, le-refl, le-trans, le-of-eq, le-of-lt, lt-of-le-of-lt, lt-of-lt-of-le, lt-of-not-le, not-le-of-lt, mul-le-mul, mul-mul-mul-comm, mul-assoc, mul-comm, mul-left-comm, mul-add, add-mul, mul-one, one-mul, pow-suc, mul-le-mul-right, mul-lt-mul-of-pos-right, mul-pos}
 use native.Mathlib.Omega.{arith}
 use mathlib.Core.Bool.{Bool, true, false, not, cond}
-use lib.Dec.{T, leb, eqb, leb→le, nleb→lt, eqb→eq, eqb-refl}
+use lib.Dec.{T, leb, eqb, leb→le, nleb→lt, eqb→eq}
 use lib.Pow.{pow-add, pow-pos}
-use lib.Ieee.{Float, binary64, size, units, round, nearest}
+use lib.Ieee.{binary64, size, units}
 use lib.Ieee.Digits.{size-lt, size-le}
 use lib.Ieee.Fits.{round-is}
 use lib.Ieee.Nearest.{closest, closest-same, div-same}
@@ -21,7 +21,7 @@ abbrev pub Cut : ℕ → ℕ → Type 0
 Cut n r = (r * r ≤ n) × (n < (r + 1) * (r + 1))
 
 -- twice as large, four times the square
-four : (x : ℕ) → (2 * x) * (2 * x) ≡ 4 * (x * x)
+pub four : (x : ℕ) → (2 * x) * (2 * x) ≡ 4 * (x * x)
 four x = mul-mul-mul-comm 2 x 2 x
 
 next : (x : ℕ) → 2 * x + 1 + 1 ≡ 2 * (x + 1)
@@ -100,10 +100,10 @@ pub square-lt : (a b : ℕ) → a * a < b * b → a < b
 square-lt a b h = lt-of-not-le (λ (g : b ≤ a). not-le-of-lt h (mul-le-mul g g))
 
 -- ---- the number that is handed to `round`: 2 * r, and one more where r * r is not n
-abbrev twice : ℕ → ℕ → ℕ
+abbrev pub twice : ℕ → ℕ → ℕ
 twice n r = 2 * r + cond (eqb (r * r) n) 0 1
 
-twice-ge : (n r : ℕ) → 2 * r ≤ twice n r
+pub twice-ge : (n r : ℕ) → 2 * r ≤ twice n r
 twice-ge n r = go (eqb (r * r) n)
   where
     go : (t : Bool) → 2 * r ≤ 2 * r + cond t 0 1
@@ -177,7 +177,7 @@ module _ (M q k : ℕ) (one : 1 ≤ q) (lo : 2 ^ 104 ≤ M) (hi : M < 2 ^ 106) (
       let n-gt : 2 * (t * P) < N = twice-gt n r (t * P) c (scaled-lt t M P p (low-square M q t te above)) in
       let r-lt : r < u * P = square-lt r (u * P) (lt-of-le-of-lt (c .0) (scaled-gt u M P p (high-square M q u refl below))) in
       let n-lt : N < 2 * (r + 1) = twice-lt n r in
-      let qp : q * (2 * (2 * P)) ≡ 4 * (q * P) = simp (mul-assoc, mul-comm, mul-left-comm) (omega arith) in
+      let qp : q * (2 * (2 * P)) ≡ 4 * (q * P) = simp mul-left-comm (omega arith) in
       let at : closest N (2 * (2 * P)) ≡ q = closest-at N (2 * P) q (omega arith) (omega arith) in
       let r-ge : 2 ^ 53 * P < r + 1 = square-lt (2 ^ 53 * P) (r + 1) (lt-of-le-of-lt (least M P lo) (c .1)) in
       let r-le : r < 2 ^ 54 * P = square-lt r (2 ^ 54 * P) (lt-of-le-of-lt (c .0) (scaled-gt (2 ^ 54) M P p (omega arith))) in

@@ -1,7 +1,7 @@
 -- Two-word numbers and the sticky bit, on plain numbers. Assumes nothing.
 use mathlib.Core.Path.{_≡_, refl, sym, ap, _∙_, subst}
 use mathlib.Core.Logic.{_⊎_, inl, inr}
-use Prim.Native.Nat.{ℕ, zero, suc, _+_, _-_, _*_, _/_, _%_, _^_, _≤_, _<_}
+use Prim.Native.Nat.{ℕ, zero, suc, zero-le, _+_, _-_, _*_, _/_, _%_, _^_, _≤_, _<_}
 use native.Mathlib.Nat.{le-antisymm, le-refl, add-le-add, lt-of-mul-lt-mul-right, le-trans, le-of-eq, le-of-lt, lt-of-lt-of-le, lt-of-le-of-lt, zero-lt-suc, zero-mul, zero-add, add-zero, add-assoc, add-comm, one-mul, mul-one, add-mul, mul-add, mul-assoc, mul-comm, mul-left-comm, mul-right-comm, mul-pos, mul-le-mul, mul-le-mul-right, mul-lt-mul-of-pos-right, mul-div-cancel, mul-mod-left, add-mul-div-right, add-mul-mod-self-right, mul-add-mod-self-right, div-one, mod-one, mod-lt, mod-eq-of-lt, div-eq-of-lt, div-div-eq-div-mul, div-add-mod', eq-zero-or-pos, le-div-iff-mul-le}
 use native.Mathlib.Omega.{arith}
 use mathlib.Core.Bool.{Bool, true, false, not, _&&_, _||_, cond}
@@ -224,28 +224,26 @@ module _ (hi lo k : ℕ) (a : hi < 2 ^ 64) (b : lo < 2 ^ 64) (h : k < 64) where
       above : (x l c d : ℕ) → c ≡ d → x + (l + c) ≡ x + l + d
       above x l c d e = omega arith
 
--- ---- `added`
-pub carried : (ah al bh bl : ℕ) → al < 2 ^ 64 → bl < 2 ^ 64 → wide (ah + bh + boolByte (ltb ((al + bl) % 2 ^ 64) al)) ((al + bl) % 2 ^ 64) ≡ wide ah al + wide bh bl
-carried ah al bh bl a b = go (ltb ((al + bl) % 2 ^ 64) al) (ltb→lt ((al + bl) % 2 ^ 64) al) (nltb→le ((al + bl) % 2 ^ 64) al)
-  where
-    over : (ah al bh bl : ℕ) → al < 2 ^ 64 → bl < 2 ^ 64 → (al + bl) % 2 ^ 64 < al → (ah + bh + 1) * 2 ^ 64 + (al + bl) % 2 ^ 64 ≡ ah * 2 ^ 64 + al + (bh * 2 ^ 64 + bl)
-    over ah al bh bl a b h = omega arith
-
-    within : (ah al bh bl : ℕ) → al < 2 ^ 64 → bl < 2 ^ 64 → al ≤ (al + bl) % 2 ^ 64 → (ah + bh + 0) * 2 ^ 64 + (al + bl) % 2 ^ 64 ≡ ah * 2 ^ 64 + al + (bh * 2 ^ 64 + bl)
-    within ah al bh bl a b h = omega arith
-
-    go : (t : Bool) → (T t → (al + bl) % 2 ^ 64 < al) → (T (not t) → al ≤ (al + bl) % 2 ^ 64) → (ah + bh + boolByte t) * 2 ^ 64 + (al + bl) % 2 ^ 64 ≡ wide ah al + wide bh bl
-    go true f g = over ah al bh bl a b (f tt)
-    go false f g = within ah al bh bl a b (g tt)
-
 -- ---- `joined`
+-- the larger and the smaller of two
+pub picked-wide : (u : Bool) (ah al bh bl hi lo : ℕ) → hi ≡ cond u ah bh → lo ≡ cond u al bl → wide hi lo ≡ cond u (wide ah al) (wide bh bl)
+picked-wide true ah al bh bl hi lo e f = ap (λ (x : ℕ). wide x lo) e ∙ ap (wide ah) f
+picked-wide false ah al bh bl hi lo e f = ap (λ (x : ℕ). wide x lo) e ∙ ap (wide bh) f
+
+pub picked-lt : (u : Bool) (x y n m : ℕ) → n ≡ cond u x y → x < m → y < m → n < m
+picked-lt true x y n m e a b = lt-of-le-of-lt (le-of-eq e) a
+picked-lt false x y n m e a b = lt-of-le-of-lt (le-of-eq e) b
+
 pub picked-le : (u : Bool) (a b : ℕ) → u ≡ ltb a b → cond u a b ≤ cond u b a
 picked-le true a b e = le-of-lt (ltb→lt a b (subst T e tt))
 picked-le false a b e = nltb→le a b (subst (λ (x : Bool). T (not x)) e tt)
 
-pub picked-diff : (u : Bool) (a b : ℕ) → cond u b a - cond u a b ≡ cond u (b - a) (a - b)
-picked-diff true a b = refl
-picked-diff false a b = refl
+-- both ways give the sum, or the difference
+pub picked-size : (like u : Bool) (a b : ℕ) → cond like (cond u b a + cond u a b) (cond u b a - cond u a b) ≡ cond like (a + b) (cond u (b - a) (a - b))
+picked-size true true a b = add-comm b a
+picked-size true false a b = refl
+picked-size false true a b = refl
+picked-size false false a b = refl
 
 -- ---- `shifted`
 pub shifted-is : (v t : ℕ) → t < 64 → wide (v / 2 / 2 ^ (63 - t)) (v * 2 ^ t % 2 ^ 64) ≡ v * 2 ^ t
@@ -302,6 +300,121 @@ no-borrow ah al bh bl M h l =
 
     all : (A B X al bl : ℕ) → A ≡ B + X → bl ≤ al → X + (al - bl) ≡ A + al - (B + bl)
     all A B X al bl e l = omega arith
+
+-- ---- `combined`: the sum, and the difference by the complement; s, lo, k and hi as the code makes them
+abbrev flipped : Bool → ℕ → ℕ
+flipped p x = cond p x (2 ^ 64 - 1 - x)
+
+abbrev lowWord : Bool → ℕ → ℕ → ℕ
+lowWord p al bl = ((al + flipped p bl) % 2 ^ 64 + boolByte (not p)) % 2 ^ 64
+
+abbrev carries : Bool → ℕ → ℕ → ℕ
+carries p al bl = boolByte (ltb ((al + flipped p bl) % 2 ^ 64) (flipped p bl)) + boolByte (ltb (lowWord p al bl) (boolByte (not p)))
+
+flag-yes : (a b : ℕ) → a < b → boolByte (ltb a b) ≡ 1
+flag-yes a b h = ap boolByte (lt-ltb a b h)
+
+flag-no : (a b : ℕ) → b ≤ a → boolByte (ltb a b) ≡ 0
+flag-no a b h = ap boolByte (le-ltb a b h)
+
+words : (h h' l l' : ℕ) → h ≡ h' → l ≡ l' → wide h l ≡ wide h' l'
+words h h' l l' e f = ap (λ (x : ℕ). wide x l) e ∙ ap (wide h') f
+
+pub combined-is : (p : Bool) (ah al bh bl : ℕ) → ah < 2 ^ 63 → al < 2 ^ 64 → bh < 2 ^ 63 → bl < 2 ^ 64 → wide bh bl ≤ wide ah al
+    → wide (((ah + flipped p bh) % 2 ^ 64 + carries p al bl) % 2 ^ 64) (lowWord p al bl) ≡ cond p (wide ah al + wide bh bl) (wide ah al - wide bh bl)
+combined-is true ah al bh bl a b d e h = elim (le-or-lt (2 ^ 64) (al + bl)) [
+  | inl g ↦ words _ (ah + bh + 1) _ (al + bl - 2 ^ 64) (ap (λ (x : ℕ). ((ah + bh) % 2 ^ 64 + x) % 2 ^ 64) (full g) ∙ more ah bh 1 a d (lit≤ tt)) (over al bl b e g) ∙ carry-in ah al bh bl g
+  | inr g ↦ words _ (ah + bh + 0) _ (al + bl) (ap (λ (x : ℕ). ((ah + bh) % 2 ^ 64 + x) % 2 ^ 64) (empty g) ∙ more ah bh 0 a d (lit≤ tt)) (within al bl g) ∙ carry-none ah al bh bl
+]
+  where
+    more : (x y k : ℕ) → x < 2 ^ 63 → y < 2 ^ 63 → k ≤ 1 → ((x + y) % 2 ^ 64 + k) % 2 ^ 64 ≡ x + y + k
+    more x y k a b l = omega arith
+
+    over : (x y : ℕ) → x < 2 ^ 64 → y < 2 ^ 64 → 2 ^ 64 ≤ x + y → ((x + y) % 2 ^ 64 + 0) % 2 ^ 64 ≡ x + y - 2 ^ 64
+    over x y a b g = omega arith
+
+    within : (x y : ℕ) → x + y < 2 ^ 64 → ((x + y) % 2 ^ 64 + 0) % 2 ^ 64 ≡ x + y
+    within x y g = omega arith
+
+    full : 2 ^ 64 ≤ al + bl → carries true al bl ≡ 1
+    full g =
+        let x : boolByte (ltb ((al + bl) % 2 ^ 64) bl) ≡ 1 = flag-yes ((al + bl) % 2 ^ 64) bl (less al bl b e g) in
+        let y : boolByte (ltb (lowWord true al bl) 0) ≡ 0 = flag-no (lowWord true al bl) 0 zero-le in
+        ap (λ (u : ℕ). u + boolByte (ltb (lowWord true al bl) 0)) x ∙ ap (λ (u : ℕ). 1 + u) y
+      where
+        less : (x y : ℕ) → x < 2 ^ 64 → y < 2 ^ 64 → 2 ^ 64 ≤ x + y → (x + y) % 2 ^ 64 < y
+        less x y a b g = omega arith
+
+    empty : al + bl < 2 ^ 64 → carries true al bl ≡ 0
+    empty g =
+        let x : boolByte (ltb ((al + bl) % 2 ^ 64) bl) ≡ 0 = flag-no ((al + bl) % 2 ^ 64) bl (at-least al bl g) in
+        let y : boolByte (ltb (lowWord true al bl) 0) ≡ 0 = flag-no (lowWord true al bl) 0 zero-le in
+        ap (λ (u : ℕ). u + boolByte (ltb (lowWord true al bl) 0)) x ∙ ap (λ (u : ℕ). 0 + u) y
+      where
+        at-least : (x y : ℕ) → x + y < 2 ^ 64 → y ≤ (x + y) % 2 ^ 64
+        at-least x y g = omega arith
+
+    carry-in : (ah al bh bl : ℕ) → 2 ^ 64 ≤ al + bl → (ah + bh + 1) * 2 ^ 64 + (al + bl - 2 ^ 64) ≡ ah * 2 ^ 64 + al + (bh * 2 ^ 64 + bl)
+    carry-in ah al bh bl g = omega arith
+
+    carry-none : (ah al bh bl : ℕ) → (ah + bh + 0) * 2 ^ 64 + (al + bl) ≡ ah * 2 ^ 64 + al + (bh * 2 ^ 64 + bl)
+    carry-none ah al bh bl = omega arith
+combined-is false ah al bh bl a b d e h = elim (le-or-lt bl al) [
+  | inl g ↦
+      let k = at-most-high ah al bh bl (2 ^ 64) h b in
+      words _ (ah - bh) _ (al - bl) (ap (λ (x : ℕ). ((ah + (2 ^ 64 - 1 - bh)) % 2 ^ 64 + x) % 2 ^ 64) (one-carry g) ∙ less-one ah bh (under ah a) (under bh d) k) (less-one al bl b e g)
+      ∙ no-borrow ah al bh bl (2 ^ 64) k g
+  | inr g ↦
+      let k = less-high ah al bh bl (2 ^ 64) h g in
+      words _ (ah - bh - 1) _ (2 ^ 64 - 1 - bl + al + 1) (ap (λ (x : ℕ). ((ah + (2 ^ 64 - 1 - bh)) % 2 ^ 64 + x) % 2 ^ 64) (no-carry g) ∙ less-two ah bh (under ah a) (under bh d) k) (wrapped al bl e g)
+      ∙ with-borrow ah al bh bl (2 ^ 64) k g e
+]
+  where
+    under : (x : ℕ) → x < 2 ^ 63 → x < 2 ^ 64
+    under x h = omega arith
+
+    less-one : (x y : ℕ) → x < 2 ^ 64 → y < 2 ^ 64 → y ≤ x → ((x + (2 ^ 64 - 1 - y)) % 2 ^ 64 + 1) % 2 ^ 64 ≡ x - y
+    less-one x y a b g = omega arith
+
+    less-two : (x y : ℕ) → x < 2 ^ 64 → y < 2 ^ 64 → y < x → ((x + (2 ^ 64 - 1 - y)) % 2 ^ 64 + 0) % 2 ^ 64 ≡ x - y - 1
+    less-two x y a b g = omega arith
+
+    wrapped : (x y : ℕ) → y < 2 ^ 64 → x < y → ((x + (2 ^ 64 - 1 - y)) % 2 ^ 64 + 1) % 2 ^ 64 ≡ 2 ^ 64 - 1 - y + x + 1
+    wrapped x y b g = omega arith
+
+    -- where there is no borrow there is one carry, from the one addition or the other
+    one-carry : bl ≤ al → carries false al bl ≡ 1
+    one-carry g = elim (le-or-lt al bl) [
+      | inl l ↦
+          let x : boolByte (ltb ((al + (2 ^ 64 - 1 - bl)) % 2 ^ 64) (2 ^ 64 - 1 - bl)) ≡ 0 = flag-no ((al + (2 ^ 64 - 1 - bl)) % 2 ^ 64) (2 ^ 64 - 1 - bl) (same al bl e l g) in
+          ap (λ (u : ℕ). u + boolByte (ltb (lowWord false al bl) 1)) x ∙ ap (λ (u : ℕ). 0 + u) (flag-yes (lowWord false al bl) 1 (nil al bl e l g))
+      | inr l ↦
+          let x : boolByte (ltb ((al + (2 ^ 64 - 1 - bl)) % 2 ^ 64) (2 ^ 64 - 1 - bl)) ≡ 1 = flag-yes ((al + (2 ^ 64 - 1 - bl)) % 2 ^ 64) (2 ^ 64 - 1 - bl) (past al bl b l) in
+          ap (λ (u : ℕ). u + boolByte (ltb (lowWord false al bl) 1)) x ∙ ap (λ (u : ℕ). 1 + u) (flag-no (lowWord false al bl) 1 (some al bl b l))
+    ]
+      where
+        same : (x y : ℕ) → y < 2 ^ 64 → x ≤ y → y ≤ x → 2 ^ 64 - 1 - y ≤ (x + (2 ^ 64 - 1 - y)) % 2 ^ 64
+        same x y b l g = omega arith
+
+        nil : (x y : ℕ) → y < 2 ^ 64 → x ≤ y → y ≤ x → ((x + (2 ^ 64 - 1 - y)) % 2 ^ 64 + 1) % 2 ^ 64 < 1
+        nil x y b l g = omega arith
+
+        past : (x y : ℕ) → x < 2 ^ 64 → y < x → (x + (2 ^ 64 - 1 - y)) % 2 ^ 64 < 2 ^ 64 - 1 - y
+        past x y a l = omega arith
+
+        some : (x y : ℕ) → x < 2 ^ 64 → y < x → 1 ≤ ((x + (2 ^ 64 - 1 - y)) % 2 ^ 64 + 1) % 2 ^ 64
+        some x y a l = omega arith
+
+    no-carry : al < bl → carries false al bl ≡ 0
+    no-carry l =
+        let x : boolByte (ltb ((al + (2 ^ 64 - 1 - bl)) % 2 ^ 64) (2 ^ 64 - 1 - bl)) ≡ 0 = flag-no ((al + (2 ^ 64 - 1 - bl)) % 2 ^ 64) (2 ^ 64 - 1 - bl) (at-least al bl e l) in
+        ap (λ (u : ℕ). u + boolByte (ltb (lowWord false al bl) 1)) x ∙ ap (λ (u : ℕ). 0 + u) (flag-no (lowWord false al bl) 1 (some al bl e l))
+      where
+        at-least : (x y : ℕ) → y < 2 ^ 64 → x < y → 2 ^ 64 - 1 - y ≤ (x + (2 ^ 64 - 1 - y)) % 2 ^ 64
+        at-least x y b l = omega arith
+
+        some : (x y : ℕ) → y < 2 ^ 64 → x < y → 1 ≤ ((x + (2 ^ 64 - 1 - y)) % 2 ^ 64 + 1) % 2 ^ 64
+        some x y b l = omega arith
 
 -- ---- `product`, by halves of a word: R is 2 ^ 32
 -- each number on the way fits a word

@@ -1,10 +1,12 @@
 // The square root of an f64, to the nearest one. It is never half way between two, and neither too large nor too small for one.
 ghost use mathlib.Core.Path.{_≡_};
 ghost use Prim.Native.Nat.{_+_, _-_, _*_, _^_, _≤_, _<_};
+ghost use mathlib.Core.Bool.{false};
+ghost use lib.Ieee.{isNan};
 ghost use Rattle.ieee.specs.Root as Root;
 ghost use Rattle.ieee.specs.Words.{NearestRoot};
+use crate::rounding::Parts;
 use crate::rounding::is_finite;
-use crate::rounding::signed64;
 use crate::rounding::unpack;
 
 // q * (q + 1) as high * 2^52 + low, by digits of 26 bits.
@@ -27,6 +29,13 @@ fn part(q: u64) -> Digits
     }
 }
 
+fn from_one(s: f64) -> f64
+    requires { ⌜ isNan s ≡ false ⌝ }
+    ensures { λ r. ⌜ isNan r ≡ false ⌝ }
+{
+    if s < 1.0 { 1.0 } else { s }
+}
+
 // A number near the root of m * 2^(52 + odd), from floats. Only the speed of `near` rests on how near it is.
 fn seed(m: u64, odd: u64) -> u64
     requires { ⌜ (m < 2 ^ 53) × (odd < 2) ⌝ }
@@ -42,12 +51,7 @@ fn seed(m: u64, odd: u64) -> u64
     let s0 = u * y3;
     let s = s0 + 0.5 * y3 * (u - s0 * s0);
     if s < 2.0 {
-        let n = f64::to_bits(s);
-        if n > 0x3ff0_0000_0000_0000 {
-            if n < 0x4000_0000_0000_0000 {
-                return n - 0x3fe0_0000_0000_0000;
-            }
-        }
+        return 0x10_0000_0000_0000 + f64::to_bits(from_one(s)) % 0x10_0000_0000_0000;
     }
     0x10_0000_0000_0000
 }
@@ -103,7 +107,33 @@ fn finish(m: u64, e: u64) -> f64
     ensures { λ r. ⌜ r ≡ Root.rootOf (m * 2 ^ (e + 54)) ⌝ }
 {
     let q = near(m, e % 2);
-    signed64(false, e / 2 * 0x10_0000_0000_0000 + q)
+    f64::from_bits(e / 2 * 0x10_0000_0000_0000 + q)
+}
+
+// m * 2^(e + 54) * 2^-2150, with m of 53 digits.
+struct Number {
+    m: u64,
+    e: u64,
+}
+
+fn raised(p: Parts) -> Number
+    requires { ⌜ (0 < p .sig) × (p .sig < 2 ^ 53) × (p .exp ≤ 2045) × (0 < p .exp → 2 ^ 52 ≤ p .sig) ⌝ }
+    ensures { λ r. ⌜ (2 ^ 52 ≤ r .m) × (r .m < 2 ^ 53) × (r .e < 3068) × (r .m * 2 ^ (r .e + 54) ≡ p .sig * 2 ^ p .exp * 2 ^ 1076) ⌝ }
+{
+    let sig = p.sig;
+    let exp = p.exp;
+    // a normal number has its leading digit in place
+    if 0 < exp {
+        return Number {
+            m: sig,
+            e: exp + 1022,
+        };
+    }
+    let z = u64::leading_zeros(sig) as u64 - 11;
+    Number {
+        m: sig << z,
+        e: exp + 1022 - z,
+    }
 }
 
 pub fn root(x: f64) -> f64
@@ -111,15 +141,10 @@ pub fn root(x: f64) -> f64
 {
     if x > 0.0 {
         if is_finite(x) {
-            let p = unpack(x);
-            let sig = p.sig;
-            let exp = p.exp;
-            // a normal number has its leading digit in place
-            if 0 < exp {
-                return finish(sig, exp + 1022);
-            }
-            let z = u64::leading_zeros(sig) as u64 - 11;
-            return finish(sig << z, exp + 1022 - z);
+            let n = raised(unpack(x));
+            let m = n.m;
+            let e = n.e;
+            return finish(m, e);
         }
         return x;
     }

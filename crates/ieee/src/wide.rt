@@ -89,42 +89,6 @@ pub(crate) fn shifted(k: u64, t: u64) -> Wide
     }
 }
 
-fn added(a: Wide, b: Wide) -> Wide
-    requires { ⌜ (a .hi < 2 ^ 63) × (b .hi < 2 ^ 63) ⌝ }
-    ensures { λ r. ⌜ wide (r .hi) (r .lo) ≡ wide (a .hi) (a .lo) + wide (b .hi) (b .lo) ⌝ }
-{
-    let ah = a.hi;
-    let al = a.lo;
-    let bh = b.hi;
-    let bl = b.lo;
-    let lo = std::num::wrapping_add_u64(al, bl);
-    let carry = (lo < al) as u64;
-    Wide {
-        hi: ah + bh + carry,
-        lo,
-    }
-}
-
-fn taken(a: Wide, b: Wide) -> Wide
-    requires { ⌜ wide (b .hi) (b .lo) ≤ wide (a .hi) (a .lo) ⌝ }
-    ensures { λ r. ⌜ wide (r .hi) (r .lo) ≡ wide (a .hi) (a .lo) - wide (b .hi) (b .lo) ⌝ }
-{
-    let ah = a.hi;
-    let al = a.lo;
-    let bh = b.hi;
-    let bl = b.lo;
-    if al < bl {
-        return Wide {
-            hi: ah - bh - 1,
-            lo: 0xffff_ffff_ffff_ffff - bl + al + 1,
-        };
-    }
-    Wide {
-        hi: ah - bh,
-        lo: al - bl,
-    }
-}
-
 pub(crate) fn less(a: Wide, b: Wide) -> bool
     ensures { λ r. ⌜ r ≡ ltb (wide (a .hi) (a .lo)) (wide (b .hi) (b .lo)) ⌝ }
 {
@@ -137,9 +101,35 @@ pub(crate) fn less(a: Wide, b: Wide) -> bool
 
 // With no jump: which of two is the larger cannot be foreseen.
 fn pick(first: bool, a: Wide, b: Wide) -> Wide
-    ensures { λ r. ⌜ wide (r .hi) (r .lo) ≡ cond first (wide (a .hi) (a .lo)) (wide (b .hi) (b .lo)) ⌝ }
+    ensures { λ r. ⌜ (r .hi ≡ cond first (a .hi) (b .hi)) × (r .lo ≡ cond first (a .lo) (b .lo)) ⌝ }
 {
     if first { a } else { b }
+}
+
+// x, or its complement.
+fn flip(plain: bool, x: u64) -> u64
+    ensures { λ r. ⌜ r ≡ cond plain x (2 ^ 64 - 1 - x) ⌝ }
+{
+    if plain { x } else { 0xffff_ffff_ffff_ffff - x }
+}
+
+// a + b, or a - b as a plus the complement of b and 1; with no jump, since signs cannot be foreseen either.
+fn combined(like: bool, a: Wide, b: Wide) -> Wide
+    requires { ⌜ (a .hi < 2 ^ 63) × (b .hi < 2 ^ 63) × (wide (b .hi) (b .lo) ≤ wide (a .hi) (a .lo)) ⌝ }
+    ensures { λ r. ⌜ wide (r .hi) (r .lo) ≡ cond like (wide (a .hi) (a .lo) + wide (b .hi) (b .lo)) (wide (a .hi) (a .lo) - wide (b .hi) (b .lo)) ⌝ }
+{
+    let ah = a.hi;
+    let al = a.lo;
+    let bh = b.hi;
+    let bl = b.lo;
+    let x = flip(like, bl);
+    let y = flip(like, bh);
+    let one = !like as u64;
+    let sum = std::num::wrapping_add_u64(al, x);
+    let lo = std::num::wrapping_add_u64(sum, one);
+    let carry = (sum < x) as u64 + (lo < one) as u64;
+    let hi = std::num::wrapping_add_u64(std::num::wrapping_add_u64(ah, y), carry);
+    Wide { hi, lo }
 }
 
 // The size of a + b where the signs are alike, and of a - b where they are not; `under` says whether a is below b.
@@ -148,8 +138,5 @@ pub(crate) fn joined(like: bool, under: bool, a: Wide, b: Wide) -> Wide
     ensures { λ r. ⌜ wide (r .hi) (r .lo) ≡ cond like (wide (a .hi) (a .lo) + wide (b .hi) (b .lo))
         (cond under (wide (b .hi) (b .lo) - wide (a .hi) (a .lo)) (wide (a .hi) (a .lo) - wide (b .hi) (b .lo))) ⌝ }
 {
-    if like {
-        return added(a, b);
-    }
-    taken(pick(under, b, a), pick(under, a, b))
+    combined(like, pick(under, b, a), pick(under, a, b))
 }

@@ -1,6 +1,10 @@
 -- `seed` meets its contract. Assumes nothing.
+use mathlib.Core.Path.{sym, subst}
+use mathlib.Core.Bool.{Bool, not}
 use native.Mathlib.Omega.{arith}
+use lib.Dec.{T}
 use lib.Ieee.{binary64}
+use lib.Ieee.Bits.{is-false}
 use Rattle.ieee.proofs.Fields.{less-no-nan}
 use Rattle.ieee.proofs.Steps.{plain-pattern}
 use borrow.Author.Needs.{needs}
@@ -25,23 +29,20 @@ sub-y0 c = search needs
 float-from-bits-y0 : tie.Need-float-from-bits-y0
 float-from-bits-y0 c = plain-pattern binary64 _ (omega arith)
 
-float-to-bits-n : tie.Need-float-to-bits-n
-float-to-bits-n c = less-no-nan _ _ (c .if1 .taken)
+from-one-requires : tie.Need-from-one-requires
+from-one-requires c κs = is-false _ (less-no-nan _ _ (c .if1 .taken))
 
-sub-result : tie.Need-sub-result
-sub-result c = search needs
+float-to-bits-result : tie.Need-float-to-bits-result
+float-to-bits-result c = subst (λ (b : Bool). T (not b)) (sym (c .from-one .ensures)) tt
+
+add-result : tie.Need-add-result
+add-result c = search needs
 
 returns : tie.Need-returns
 returns c = search needs
 
 returns-2 : tie.Need-returns-2
 returns-2 c = search needs
-
-returns-3 : tie.Need-returns-3
-returns-3 c = search needs
-
-returns-4 : tie.Need-returns-4
-returns-4 c = search needs
 
 pub seed-spec : {M : Type 1} → statement M
 seed-spec =
@@ -53,9 +54,8 @@ seed-spec =
     float-from-bits-u
     sub-y0
     float-from-bits-y0
-    float-to-bits-n
-    sub-result
+    from-one-requires
+    float-to-bits-result
+    add-result
     returns
-    returns-2
-    returns-3
-    returns-4)
+    returns-2)

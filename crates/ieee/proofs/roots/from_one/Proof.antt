@@ -1,0 +1,16 @@
+-- `from_one` meets its contract. Assumes nothing.
+use mathlib.Core.Path.{refl}
+use lib.Ieee.{isNan, ofBits}
+use borrow.Author.Needs.{needs}
+use Rattle.ieee.proofs.roots.from_one.Statement.{statement}
+use Rattle.ieee.proofs.roots.from_one.Tie as tie
+
+returns : tie.Need-returns
+unfolding isNan ofBits
+returns c = refl
+
+returns-2 : tie.Need-returns-2
+returns-2 c = search needs
+
+pub from-one-spec : {M : Type 1} → statement M
+from-one-spec = tie.close (tie.spec returns returns-2)

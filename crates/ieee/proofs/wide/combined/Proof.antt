@@ -1,0 +1,82 @@
+-- `combined` meets its contract. Assumes nothing.
+use mathlib.Core.Path.{_≡_, sym, ap, _∙_, subst}
+use Prim.Native.Nat.{ℕ, _+_, _%_, _^_, _<_}
+use native.Mathlib.Omega.{arith}
+use mathlib.Core.Bool.{not}
+use lib.Dec.{ltb}
+use mir.Val.{boolByte}
+use Rattle.ieee.specs.Words.{wide}
+use Rattle.ieee.proofs.Steps.{flag-le}
+use Rattle.ieee.proofs.Words.{combined-is}
+use borrow.Author.Needs.{needs}
+use Rattle.ieee.proofs.wide.combined.Statement.{statement}
+use Rattle.ieee.proofs.wide.combined.Tie as tie
+
+low-a : (c : tie.Start) → c .args .a .lo < 2 ^ 64
+low-a c = search needs
+
+low-b : (c : tie.Start) → c .args .b .lo < 2 ^ 64
+low-b c = search needs
+
+flip-requires : tie.Need-flip-requires
+flip-requires c κs = search needs
+
+flip-requires-2 : tie.Need-flip-requires-2
+flip-requires-2 c κs = search needs
+
+cast-one : tie.Need-cast-one
+cast-one c = search needs
+
+wrapping-add-u64-requires : tie.Need-wrapping-add-u64-requires
+wrapping-add-u64-requires c κs = search needs
+
+wrapping-add-u64-requires-2 : tie.Need-wrapping-add-u64-requires-2
+wrapping-add-u64-requires-2 c κs = search needs
+
+cast-carry : tie.Need-cast-carry
+cast-carry c = search needs
+
+cast-carry-2 : tie.Need-cast-carry-2
+cast-carry-2 c = search needs
+
+add-carry : tie.Need-add-carry
+add-carry c =
+    let l = c .wrapping-add-u642 .result in
+    let s = c .before .wrapping-add-u64 .result in
+    let f = c .before .before .before in
+    omega (arith, flag-le (ltb s (f .flip .result)), flag-le (ltb l (boolByte (not (f .before .args .like)))))
+
+wrapping-add-u64-requires-3 : tie.Need-wrapping-add-u64-requires-3
+wrapping-add-u64-requires-3 c κs = search needs
+
+wrapping-add-u64-requires-4 : tie.Need-wrapping-add-u64-requires-4
+wrapping-add-u64-requires-4 c κs = search needs
+
+returns : tie.Need-returns
+returns c =
+    let g = c .before in
+    let l = g .before in
+    let s = l .before in
+    let y = s .before in
+    let x = y .before in
+    let a = x .before .args in
+    let one = boolByte (not (a .like)) in
+    let carry : ℕ → ℕ → ℕ → ℕ = λ u v w. boolByte (ltb u w) + boolByte (ltb v one) in
+    rw (c .wrapping-add-u644 .ensures, g .wrapping-add-u643 .ensures, l .wrapping-add-u642 .ensures, s .wrapping-add-u64 .ensures, y .flip2 .ensures, x .flip .ensures)
+    (combined-is (a .like) (a .a .hi) (a .a .lo) (a .b .hi) (a .b .lo) (x .before .pre .0) (low-a (x .before)) (x .before .pre .1) (low-b (x .before)) (x .before .pre .2))
+
+pub combined-spec : {M : Type 1} → statement M
+combined-spec =
+    tie.close
+    (tie.spec
+    flip-requires
+    flip-requires-2
+    cast-one
+    wrapping-add-u64-requires
+    wrapping-add-u64-requires-2
+    cast-carry
+    cast-carry-2
+    add-carry
+    wrapping-add-u64-requires-3
+    wrapping-add-u64-requires-4
+    returns)
