@@ -2,10 +2,11 @@
 use mathlib.Core.Path.{_≡_, refl, sym, ap, _∙_, subst}
 use mathlib.Core.Logic.{_⊎_, inl, inr}
 use Prim.Native.Nat.{ℕ, zero, suc, _+_, _-_, _*_, _/_, _%_, _^_, _≤_, _<_}
-use native.Mathlib.Nat.{le-antisymm, le-refl, le-trans, le-of-eq, le-of-lt, lt-of-lt-of-le, lt-of-le-of-lt, lt-irrefl, zero-mul, one-mul, add-mul, mul-sub, mul-assoc, mul-comm, mul-left-comm, mul-right-comm, mul-pos, mul-le-mul-right, mul-lt-mul-of-pos-right, mul-mod-left, mul-div-cancel, div-add-mod', add-zero, lt-of-mul-lt-mul-right, eq-of-mul-eq-mul-right}
+use native.Mathlib.Nat.{zero-add, zero-lt-suc, le-antisymm, le-refl, le-trans, le-of-eq, le-of-lt, lt-of-lt-of-le, lt-of-le-of-lt, lt-irrefl, zero-mul, one-mul, add-mul, mul-sub, mul-assoc, mul-comm, mul-left-comm, mul-right-comm, mul-pos, mul-le-mul-right, mul-lt-mul-of-pos-right, mul-mod-left, mul-div-cancel, div-add-mod', add-zero, lt-of-mul-lt-mul-right, eq-of-mul-eq-mul-right}
 use native.Mathlib.Omega.{arith}
-use mathlib.Core.Bool.{Bool, true, false, not, _&&_, Bool·beq, cond}
-use lib.Dec.{T, ltb, ltb→lt, nltb→le, lt→ltb, lit≤}
+use mathlib.Core.Bool.{Bool, true, false, not, _&&_, _||_, Bool·beq, cond}
+use borrow.Author.Tests.{lt-ltb, le-ltb, eq-eqb, ne-eqb}
+use lib.Dec.{T, eqb, ltb, ltb→lt, nltb→le, lt→ltb, lit≤}
 use lib.Arith.{le→nltb, digits-lt}
 use lib.Pow.{pow-add, pow-pos, pow-mono, shr-lt}
 use lib.Ieee.{Format, prec, round, sum}
@@ -27,6 +28,49 @@ and-true false = refl
 and-false : (s : Bool) → (s && false) ≡ false
 and-false true = refl
 and-false false = refl
+
+-- `sign`, with no branch
+pub sign-flat : (s t u z : Bool) → ((u && t) || ((not u && s) && (not z || Bool·beq s t))) ≡ cond (Bool·beq s t) s (cond u t (s && not z))
+sign-flat true true true z = refl
+sign-flat true true false true = refl
+sign-flat true true false false = refl
+sign-flat true false true z = refl
+sign-flat true false false true = refl
+sign-flat true false false false = refl
+sign-flat false true true z = refl
+sign-flat false true false z = refl
+sign-flat false false true z = refl
+sign-flat false false false z = refl
+
+-- which side is the larger is asked only where neither is below the other
+pub sign-is : (s t : Bool) (a b hi lo : ℕ) → wide hi lo ≡ sumSize s a t b → cond (Bool·beq s t) s (cond (ltb a b) t (s && not (eqb hi 0 && eqb lo 0))) ≡ sumSign s a t b
+sign-is s t a b hi lo e = go (Bool·beq s t) (ltb a b) refl e
+  where
+    zero-wide : (hi lo : ℕ) → (eqb hi 0 && eqb lo 0) ≡ eqb (wide hi lo) 0
+    zero-wide zero zero = refl
+    zero-wide zero (suc l) = ap (λ (x : ℕ). eqb x 0) (sym (zero-add (suc l)))
+    zero-wide (suc h) lo = ap (λ (x : Bool). x && eqb lo 0) (ne-eqb (suc h) 0 (no (suc h) (zero-lt-suc h))) ∙ sym (ne-eqb (wide (suc h) lo) 0 (no (wide (suc h) lo) (more (suc h * 2 ^ 64) lo (mul-pos (zero-lt-suc h) (pow-pos 64)))))
+      where
+        no : (x : ℕ) → 0 < x → x ≡ 0 → ⊥
+        no x p e = omega arith
+
+        more : (x y : ℕ) → 0 < x → 0 < x + y
+        more x y p = omega arith
+
+    go : (x y : Bool) → ltb a b ≡ y → wide hi lo ≡ cond x (a + b) (cond y (b - a) (a - b)) → cond x s (cond y t (s && not (eqb hi 0 && eqb lo 0))) ≡ cond x s (cond y t (s && ltb b a))
+    go true y l e = refl
+    go false true l e = refl
+    go false false l e = ap (λ (x : Bool). s && x) (ap not (zero-wide hi lo ∙ ap (λ (x : ℕ). eqb x 0) e) ∙ over (le-or-lt a b))
+      where
+        nil : (a b : ℕ) → a ≤ b → a - b ≡ 0
+        nil a b h = omega arith
+
+        some : (a b : ℕ) → b < a → a - b ≡ 0 → ⊥
+        some a b h e = omega arith
+
+        over : (a ≤ b) ⊎ (b < a) → not (eqb (a - b) 0) ≡ ltb b a
+        over (inl g) = ap not (eq-eqb (a - b) 0 (nil a b g)) ∙ sym (le-ltb b a g)
+        over (inr g) = ap not (ne-eqb (a - b) 0 (some a b g)) ∙ sym (lt-ltb b a g)
 
 pub sum-like : (f : Format) (s t : Bool) (a b c : ℕ) → Bool·beq s t ≡ true → sum f s a t b c ≡ round f s (a + b) c
 unfolding sum

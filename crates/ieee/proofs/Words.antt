@@ -613,34 +613,35 @@ module _ (hi lo : ℕ) (H : 0 < hi) (a : hi < 2 ^ 64) (b : lo < 2 ^ 64) where
           right W t x y j = simp (pow-add, mul-assoc)
 
 -- ---- `less`
-pub less-is : (ah al bh bl M : ℕ) → al < M → bl < M → (ltb ah bh || (eqb ah bh && ltb al bl)) ≡ ltb (ah * M + al) (bh * M + bl)
-less-is ah al bh bl M a b = elim (le-or-lt bh ah) [
-  | inr l ↦ ap (λ (x : Bool). x || (eqb ah bh && ltb al bl)) (lt-ltb ah bh l) ∙ sym (lt-ltb (ah * M + al) (bh * M + bl) (lt-of-lt-of-le (digits-lt l a) (more (bh * M) bl)))
-  | inl g ↦ elim (le-or-lt ah bh) [
-    | inr l ↦
-        ap (λ (x : Bool). x || (eqb ah bh && ltb al bl)) (le-ltb ah bh g)
-        ∙ ap (λ (x : Bool). x && ltb al bl) (ne-eqb ah bh (apart ah bh l))
-        ∙ sym (le-ltb (ah * M + al) (bh * M + bl) (le-of-lt (lt-of-lt-of-le (digits-lt l b) (more (ah * M) al))))
-    | inl l ↦
-        let e : ah ≡ bh = le-antisymm l g in
-        ap (λ (x : Bool). x || (eqb ah bh && ltb al bl)) (le-ltb ah bh g)
-        ∙ ap (λ (x : Bool). x && ltb al bl) (eq-eqb ah bh e)
-        ∙ same (ah * M) al bl
-        ∙ ap (λ (x : ℕ). ltb (ah * M + al) (x * M + bl)) e
-  ]
+pub less-is : (ah al bh bl M : ℕ) → al < M → bl < M → ltb ah (bh + boolByte (ltb al bl)) ≡ ltb (ah * M + al) (bh * M + bl)
+less-is ah al bh bl M a b = elim (le-or-lt bl al) [
+  | inl g ↦ ap (λ (x : ℕ). ltb ah (bh + x)) (flag-no al bl g) ∙ (elim (le-or-lt (bh + 0) ah) [
+    | inl l ↦ le-ltb ah (bh + 0) l ∙ sym (le-ltb (ah * M + al) (bh * M + bl) (at-least (ah * M) (bh * M) al bl g (mul-le-mul-right M (plain bh ah l))))
+    | inr l ↦ lt-ltb ah (bh + 0) l ∙ sym (lt-ltb (ah * M + al) (bh * M + bl) (lt-of-lt-of-le (digits-lt (plain-lt ah bh l) a) (more (bh * M) bl)))
+  ])
+  | inr g ↦ ap (λ (x : ℕ). ltb ah (bh + x)) (flag-yes al bl g) ∙ (elim (le-or-lt (bh + 1) ah) [
+    | inl l ↦ le-ltb ah (bh + 1) l ∙ sym (le-ltb (ah * M + al) (bh * M + bl) (le-of-lt (lt-of-lt-of-le (digits-lt (next bh ah l) b) (more (ah * M) al))))
+    | inr l ↦ lt-ltb ah (bh + 1) l ∙ sym (lt-ltb (ah * M + al) (bh * M + bl) (below (ah * M) (bh * M) al bl g (mul-le-mul-right M (back ah bh l))))
+  ])
 ]
   where
     more : (a b : ℕ) → a ≤ a + b
     more a b = omega arith
 
-    apart : (x y : ℕ) → y < x → x ≡ y → ⊥
-    apart x y l e = omega arith
+    plain : (x y : ℕ) → x + 0 ≤ y → x ≤ y
+    plain x y h = omega arith
 
-    same : (X a b : ℕ) → ltb a b ≡ ltb (X + a) (X + b)
-    same X a b = elim (le-or-lt b a) [ inl g ↦ le-ltb a b g ∙ sym (le-ltb (X + a) (X + b) (up X b a g)) | inr g ↦ lt-ltb a b g ∙ sym (lt-ltb (X + a) (X + b) (over X a b g)) ]
-      where
-        up : (x a b : ℕ) → a ≤ b → x + a ≤ x + b
-        up x a b h = omega arith
+    plain-lt : (x y : ℕ) → x < y + 0 → x < y
+    plain-lt x y h = omega arith
 
-        over : (x a b : ℕ) → a < b → x + a < x + b
-        over x a b h = omega arith
+    next : (x y : ℕ) → x + 1 ≤ y → x < y
+    next x y h = omega arith
+
+    back : (x y : ℕ) → x < y + 1 → x ≤ y
+    back x y h = omega arith
+
+    at-least : (x y a b : ℕ) → b ≤ a → y ≤ x → y + b ≤ x + a
+    at-least x y a b h g = omega arith
+
+    below : (x y a b : ℕ) → a < b → x ≤ y → x + a < y + b
+    below x y a b h g = omega arith

@@ -1,6 +1,6 @@
 // x * y + z, rounded once.
 ghost use mathlib.Core.Path.{_≡_};
-ghost use mathlib.Core.Bool.{cond, _&&_, Bool·beq};
+ghost use mathlib.Core.Bool.{cond, not, _&&_, Bool·beq};
 ghost use Prim.Native.Nat.{ℕ, _+_, _-_, _*_, _%_, _^_, _≤_, _<_};
 ghost use lib.Ieee.{binary64, sum, unlike};
 ghost use Rattle.ieee.specs.Fused.{fused};
@@ -18,17 +18,11 @@ use crate::wide::product;
 use crate::wide::round_wide;
 use crate::wide::shifted;
 
-// The sign of a sum, by the order of its sides: an exact zero of unlike signs is +0.
-fn sign(sa: bool, sb: bool, under: bool, over: bool) -> bool
-    ensures { λ r. ⌜ r ≡ cond (Bool·beq sa sb) sa (cond under sb (sa && over)) ⌝ }
+// The sign of a sum, by the order of its sides: an exact zero of unlike signs is +0. With no jump.
+fn sign(sa: bool, sb: bool, under: bool, zero: bool) -> bool
+    ensures { λ r. ⌜ r ≡ cond (Bool·beq sa sb) sa (cond under sb (sa && not zero)) ⌝ }
 {
-    if sa == sb {
-        return sa;
-    }
-    if under {
-        return sb;
-    }
-    sa & over
+    (under & sb) | ((!under & sa) & (!zero | (sa == sb)))
 }
 
 // Two sides of a sum, a * 2^t and b * 2^t over 2^5170, with their signs.
@@ -50,10 +44,12 @@ fn sum_sides(s: Sides) -> f64
     let b = s.b;
     let sa = s.sa;
     let sb = s.sb;
+    let t = s.t;
     let under = less(a, b);
-    let over = less(b, a);
     let w = joined(sa == sb, under, a, b);
-    round_wide(sign(sa, sb, under, over), w, s.t)
+    let hi = w.hi;
+    let lo = w.lo;
+    round_wide(sign(sa, sb, under, (hi == 0) & (lo == 0)), w, t)
 }
 
 // A number that is not 0, with its leading digit near the top of two words: hi, lo * 2^t.
@@ -147,13 +143,13 @@ fn aligned(sp: bool, m: u64, n: u64, e: u64, sc: bool, k: u64, g: u64) -> Sides
     requires { ⌜ (m < 2 ^ 53) × (n < 2 ^ 53) × (e ≤ 4090) × (k < 2 ^ 53) × (g ≤ 2045) ⌝ }
     ensures { λ r. ⌜ Aligned sp (m * n * 2 ^ (e + 3022)) sc (k * 2 ^ (g + 4096)) r ⌝ }
 {
-    let h = g + 1063;
-    if (e <= h) & (h < e + 63) {
+    let d = std::num::wrapping_sub_u64(g + 1063, e);
+    if d < 63 {
         return Sides {
             sa: sp,
             a: product(m, n),
             sb: sc,
-            b: shifted(k, h - e),
+            b: shifted(k, d),
             t: e + 3022,
         };
     }

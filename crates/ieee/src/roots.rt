@@ -36,20 +36,20 @@ fn from_one(s: f64) -> f64
     if s < 1.0 { 1.0 } else { s }
 }
 
-// A number near the root of m * 2^(52 + odd), from floats. Only the speed of `near` rests on how near it is.
+// A number near the root of m * 2^(52 + odd), from floats: a guess at 1 / root by the halved exponent, two steps towards it, and one towards
+// the root. Only the speed of `near` rests on how near it is.
 fn seed(m: u64, odd: u64) -> u64
     requires { ⌜ (m < 2 ^ 53) × (odd < 2) ⌝ }
     ensures { λ r. ⌜ (1 ≤ r) × (r ≤ 2 ^ 53) ⌝ }
 {
     let b = m + odd * 0x10_0000_0000_0000 + 0x3fe0_0000_0000_0000;
     let u = f64::from_bits(b);
-    let h = u * 0.5;
-    let y0 = f64::from_bits(0x5fe6_eb50_c7b5_37a9 - b / 2);
-    let y1 = y0 * (1.5 - h * y0 * y0);
-    let y2 = y1 * (1.5 - h * y1 * y1);
-    let y3 = y2 * (1.5 - h * y2 * y2);
-    let s0 = u * y3;
-    let s = s0 + 0.5 * y3 * (u - s0 * s0);
+    let y0 = f64::from_bits(0x5fe3_ffff_2000_0000 - b / 2);
+    let y1 = y0 * (1.68191391 - u * 0.703952253 * y0 * y0);
+    let e = u * y1 * y1;
+    let y2 = y1 * (1.875 - 1.25 * e + 0.375 * (e * e));
+    let s0 = u * y2;
+    let s = s0 + 0.5 * y2 * (u - s0 * s0);
     if s < 2.0 {
         return 0x10_0000_0000_0000 + f64::to_bits(from_one(s)) % 0x10_0000_0000_0000;
     }

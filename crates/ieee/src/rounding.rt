@@ -27,13 +27,13 @@ pub(crate) fn pattern_top(n: u64, some: bool, t: u64, p: u64) -> u64
     requires { ⌜ (2 ^ 63 ≤ n) × (t ≤ 8100) × (2 ≤ p) × (p ≤ 53) ⌝ }
     ensures { λ r. ⌜ r ≡ pattern p ((2 * n + boolByte some) * 2 ^ t) (2 ^ 4161) ⌝ }
 {
+    if 4096 + p <= t {
+        return ((t - p - 4096) << (p - 1)) + cut(n, some, 63 - p);
+    }
     if t < 4096 {
         return 0;
     }
-    if t < 4096 + p {
-        return cut(n, some, 4159 - t);
-    }
-    ((t - p - 4096) << (p - 1)) + cut(n, some, 63 - p)
+    cut(n, some, 4159 - t)
 }
 
 // The same for any w * 2^e / 2^4096 units.
@@ -106,7 +106,7 @@ pub(crate) fn unpack(x: f64) -> Parts
 {
     let b = f64::to_bits(x);
     let neg = b >= 0x8000_0000_0000_0000;
-    let field = b % 0x8000_0000_0000_0000 / 0x10_0000_0000_0000;
+    let field = b / 0x10_0000_0000_0000 % 2048;
     let digits = b % 0x10_0000_0000_0000;
     if field == 0 {
         return Parts {

@@ -89,14 +89,16 @@ pub(crate) fn shifted(k: u64, t: u64) -> Wide
     }
 }
 
+// The lower words count as one more where they are in order.
 pub(crate) fn less(a: Wide, b: Wide) -> bool
+    requires { ⌜ b .hi < 2 ^ 63 ⌝ }
     ensures { λ r. ⌜ r ≡ ltb (wide (a .hi) (a .lo)) (wide (b .hi) (b .lo)) ⌝ }
 {
     let ah = a.hi;
     let al = a.lo;
     let bh = b.hi;
     let bl = b.lo;
-    (ah < bh) | ((ah == bh) & (al < bl))
+    ah < bh + (al < bl) as u64
 }
 
 // With no jump: which of two is the larger cannot be foreseen.

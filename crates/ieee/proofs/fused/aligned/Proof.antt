@@ -1,55 +1,45 @@
 -- `aligned` meets its contract. Assumes nothing.
-use mathlib.Core.Path.{_≡_, refl, sym, ap, _∙_}
+use mathlib.Core.Path.{_≡_, sym, ap, _∙_}
 use mathlib.Core.Logic.{inl}
-use Prim.Native.Nat.{ℕ, _+_, _-_, _*_, _^_, _≤_, _<_}
+use Prim.Native.Nat.{ℕ, _+_, _*_, _%_, _^_, _≤_, _<_}
 use native.Mathlib.Nat.{mul-one, mul-assoc}
 use native.Mathlib.Omega.{arith}
-use borrow.Author.Tests.{ltb-true, leb-true}
-use lib.Dec.{ltb, leb, lit<}
+use lib.Dec.{lit<}
 use lib.Pow.{pow-add}
 use lib.Ieee.{binary64}
 use Rattle.ieee.specs.Words.{wide}
-use Rattle.ieee.proofs.Fields.{both-true}
 use Rattle.ieee.proofs.Terms.{sum-exact}
 use borrow.Author.Needs.{needs}
 use Rattle.ieee.proofs.fused.aligned.Statement.{statement}
 use Rattle.ieee.proofs.fused.aligned.Tie as tie
 
-near : (c : tie.Then1) → (c .before .args .e ≤ c .before .args .g + 1063) × (c .before .args .g + 1063 < c .before .args .e + 63)
-near c =
-    let e = c .before .args .e in
-    let h = c .before .args .g + 1063 in
-    let b = both-true (leb e h) (ltb h (e + 63)) (c .if1 .taken) in
-    (leb-true e h (b .0), ltb-true h (e + 63) (b .1))
+-- d + 11 places above e are as many as g + 1074
+places : (e g d : ℕ) → e ≤ 4090 → g ≤ 2045 → d < 63 → (d + e) % 2 ^ 64 ≡ g + 1063 → d + 11 + (e + 3022) ≡ g + 4096
+places e g d E G l h = omega arith
 
--- t + 11 places above e are as many as g + 1074
-places : (e g : ℕ) → e ≤ g + 1063 → g + 1063 - e + 11 + (e + 3022) ≡ g + 4096
-places e g h = omega arith
+add-wrapping-sub-u64 : tie.Need-add-wrapping-sub-u64
+add-wrapping-sub-u64 c = search needs
 
-add-h : tie.Need-add-h
-add-h c = search needs
-
-add-if1 : tie.Need-add-if1
-add-if1 c = search needs
+wrapping-sub-u64-requires : tie.Need-wrapping-sub-u64-requires
+wrapping-sub-u64-requires c κs = search needs
 
 product-requires : tie.Need-product-requires
 product-requires c κs = search needs
 
-sub-shifted : tie.Need-sub-shifted
-sub-shifted c = near (c .before) .0
-
 shifted-requires : tie.Need-shifted-requires
-shifted-requires c κs = omega (arith, near (c .before))
+shifted-requires c κs = search needs
 
-add-t16 : tie.Need-add-t16
-add-t16 c = search needs
+add-t13 : tie.Need-add-t13
+add-t13 c = search needs
 
 returns : tie.Need-returns
 returns c =
     let p = c .before in
-    let s = p .before .before in
+    let w = p .before .before in
+    let s = w .before in
     let e = s .args .e in
     let g = s .args .g in
+    let d = w .wrapping-sub-u64 .result in
     let b = wide (c .shifted .result .hi) (c .shifted .result .lo) in
     record {
       exact = b;
@@ -59,8 +49,8 @@ returns c =
       same = sum-exact binary64 (s .args .sp) (s .args .sc) (wide (p .product .result .hi) (p .product .result .lo)) b (s .args .m * s .args .n * 2 ^ (e + 3022)) (s .args .k * 2 ^ (g + 4096)) (e + 3022) 5170
           (ap (λ (x : ℕ). x * 2 ^ (e + 3022)) (p .product .ensures .0))
           (ap (λ (x : ℕ). x * 2 ^ (e + 3022)) (c .shifted .ensures .0)
-          ∙ mul-assoc (s .args .k) (2 ^ (g + 1063 - e + 11)) (2 ^ (e + 3022))
-          ∙ ap (λ (x : ℕ). s .args .k * x) (sym (pow-add 2 (g + 1063 - e + 11) (e + 3022)) ∙ ap (λ (x : ℕ). 2 ^ x) (places e g (near (p .before) .0))));
+          ∙ mul-assoc (s .args .k) (2 ^ (d + 11)) (2 ^ (e + 3022))
+          ∙ ap (λ (x : ℕ). s .args .k * x) (sym (pow-add 2 (d + 11) (e + 3022)) ∙ ap (λ (x : ℕ). 2 ^ x) (places e g d (s .pre .2) (s .pre .4) (p .before .if1 .taken) (w .wrapping-sub-u64 .ensures))));
       first = omega (arith, p .product .ensures .1);
       second = omega (arith, c .shifted .ensures .1);
       places = omega arith;
@@ -76,12 +66,11 @@ pub aligned-spec : {M : Type 1} → statement M
 aligned-spec =
     tie.close
     (tie.spec
-    add-h
-    add-if1
+    add-wrapping-sub-u64
+    wrapping-sub-u64-requires
     product-requires
-    sub-shifted
     shifted-requires
-    add-t16
+    add-t13
     returns
     aligned-far-requires
     returns-2)

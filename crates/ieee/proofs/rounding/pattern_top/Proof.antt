@@ -10,24 +10,8 @@ use Rattle.ieee.proofs.rounding.pattern_top.Tie as tie
 size : (c : tie.Start) → (2 ^ 64 ≤ 2 * c .args .n + boolByte (c .args .some)) × (2 * c .args .n + boolByte (c .args .some) < 2 ^ 65)
 size c = doubled (c .args .n) (c .args .some) (c .pre .0) (c .fits .n .fits)
 
-returns : tie.Need-returns
-returns c =
-    let s = c .before in
-    top-none (s .args .p) (2 * s .args .n + boolByte (s .args .some)) (s .args .t) (size s .0) (size s .1) (s .pre .2) (s .pre .3) (c .if1 .taken)
-
-add-if2 : tie.Need-add-if2
-add-if2 c = search needs
-
-sub-cut : tie.Need-sub-cut
-sub-cut c = search needs
-
-cut-requires : tie.Need-cut-requires
-cut-requires c κs = search needs
-
-returns-2 : tie.Need-returns-2
-returns-2 c =
-    let s = c .before .before .before in
-    top-low (s .args .p) (2 * s .args .n + boolByte (s .args .some)) (s .args .t) (size s .0) (size s .1) (s .pre .2) (s .pre .3) (c .cut .result) (c .before .before .if1 .left) (c .before .if2 .taken) (c .cut .ensures)
+add-if1 : tie.Need-add-if1
+add-if1 c = search needs
 
 sub-result : tie.Need-sub-result
 sub-result c = search needs
@@ -41,36 +25,52 @@ sub-result-3 c = search needs
 shl-result : tie.Need-shl-result
 shl-result c = search needs
 
+sub-cut : tie.Need-sub-cut
+sub-cut c = search needs
+
+cut-requires : tie.Need-cut-requires
+cut-requires c κs = search needs
+
+add-result : tie.Need-add-result
+add-result c =
+    let s = c .before .before in
+    record { fits = packed-fits (s .args .p) (s .args .t - s .args .p - 4096) (2 * s .args .n + boolByte (s .args .some)) (c .cut .result) (s .pre .2) (s .pre .3) (omega arith) (size s .1) (c .cut .ensures) }
+
+returns : tie.Need-returns
+returns c =
+    let s = c .before .before in
+    top-high (s .args .p) (2 * s .args .n + boolByte (s .args .some)) (s .args .t) (size s .0) (size s .1) (s .pre .2) (s .pre .3) (c .cut .result) (c .before .if1 .taken) (s .pre .1) (c .cut .ensures)
+
+returns-2 : tie.Need-returns-2
+returns-2 c =
+    let s = c .before .before in
+    top-none (s .args .p) (2 * s .args .n + boolByte (s .args .some)) (s .args .t) (size s .0) (size s .1) (s .pre .2) (s .pre .3) (c .if2 .taken)
+
 sub-cut-2 : tie.Need-sub-cut-2
 sub-cut-2 c = search needs
 
 cut-requires-2 : tie.Need-cut-requires-2
 cut-requires-2 c κs = search needs
 
-add-result : tie.Need-add-result
-add-result c =
-    let s = c .before .before .before in
-    record { fits = packed-fits (s .args .p) (s .args .t - s .args .p - 4096) (2 * s .args .n + boolByte (s .args .some)) (c .cut2 .result) (s .pre .2) (s .pre .3) (omega arith) (size s .1) (c .cut2 .ensures) }
-
 returns-3 : tie.Need-returns-3
 returns-3 c =
     let s = c .before .before .before in
-    top-high (s .args .p) (2 * s .args .n + boolByte (s .args .some)) (s .args .t) (size s .0) (size s .1) (s .pre .2) (s .pre .3) (c .cut2 .result) (c .before .if2 .left) (s .pre .1) (c .cut2 .ensures)
+    top-low (s .args .p) (2 * s .args .n + boolByte (s .args .some)) (s .args .t) (size s .0) (size s .1) (s .pre .2) (s .pre .3) (c .cut2 .result) (c .before .if2 .left) (c .before .before .if1 .left) (c .cut2 .ensures)
 
 pub pattern-top-spec : {M : Type 1} → statement M
 pattern-top-spec =
     tie.close
     (tie.spec
-    returns
-    add-if2
-    sub-cut
-    cut-requires
-    returns-2
+    add-if1
     sub-result
     sub-result-2
     sub-result-3
     shl-result
+    sub-cut
+    cut-requires
+    add-result
+    returns
+    returns-2
     sub-cut-2
     cut-requires-2
-    add-result
     returns-3)
