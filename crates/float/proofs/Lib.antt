@@ -1,0 +1,7 @@
+pub mod Tests
+pub mod Ends
+pub mod Values
+pub mod Fields
+pub mod Steps
+pub mod Truncation
+pub mod Powers

@@ -1,0 +1,80 @@
+-- A value that a format holds is told by its sign and its size, and so is its bit pattern. Assumes nothing.
+use mathlib.Core.Path.{_≡_, refl, sym, ap, _∙_, subst}
+use Prim.Native.Nat.{ℕ, zero, suc, _+_, _-_, _*_, _/_, _%_, _^_, _<_}
+use native.Mathlib.Nat.{mul-right-comm, add-mod-left, mod-eq-of-lt}
+use native.Mathlib.Omega.{arith}
+use mathlib.Core.Bool.{Bool, true, false, not, cond}
+use lib.Dec.{T}
+use lib.Ieee.{Float, nan, inf, fin, Format, prec, low, up, down, size, neg, hid, top, toBits, ofBits, nanBits, fits, isNan}
+use lib.Ieee.Fits.{down-pos, neg-fits}
+use lib.Ieee.Bits.{ofBits-toBits, toBits-lt, nanBits-is}
+use lib.Ieee.Exact.{HasValue}
+use lib.Ieee.Nearest.{div-same}
+use Rattle.float.specs.Order.{magnitude}
+
+-- ---- the pattern of a value, from its size n in units of the smallest value
+pub toBits-value : (f : Format) (x : Float) (s : Bool) (a c n : ℕ) → 0 < c → HasValue x s a c → a * 2 ^ low f / c ≡ n
+    → toBits f x ≡ cond s (top f) 0 + (size n - prec f) * hid f + n / 2 ^ (size n - prec f)
+unfolding toBits
+toBits-value f nan s a c n C h g = absurd h
+toBits-value f (inf t) s a c n C h g = absurd h
+toBits-value f (fin t m e) s a c n C h g =
+    let l = 2 ^ low f in
+    let w : m * up e * l / down e ≡ n =
+    div-same (m * up e * l) (down e) (a * l) c (down-pos e) C (mul-right-comm (m * up e) l c ∙ ap (λ (z : ℕ). z * l) (h .1) ∙ mul-right-comm a (down e) l) ∙ g in
+    ap (λ (z : ℕ). cond t (top f) 0 + (size z - prec f) * hid f + z / 2 ^ (size z - prec f)) w
+    ∙ ap (λ (b : Bool). cond b (top f) 0 + (size n - prec f) * hid f + n / 2 ^ (size n - prec f)) (h .0)
+
+pub same-value : (f : Format) (x y : Float) (s : Bool) (a c : ℕ) → 0 < c → T (fits f x) → T (fits f y) → HasValue x s a c → HasValue y s a c → x ≡ y
+same-value f x y s a c C p q h k =
+    sym (ofBits-toBits f x p) ∙ ap (ofBits f) (toBits-value f x s a c _ C h refl ∙ sym (toBits-value f y s a c _ C k refl)) ∙ ofBits-toBits f y q
+
+-- ---- the sign cleared: the pattern without its highest place
+magnitude-fits : (f : Format) (x : Float) → T (fits f x) → T (fits f (magnitude x))
+unfolding magnitude fits
+magnitude-fits f nan h = tt
+magnitude-fits f (inf s) h = tt
+magnitude-fits f (fin s zero e) h = h
+magnitude-fits f (fin s (suc m) e) h = h
+
+sign-set : (f : Format) (x : Float) → T (not (isNan x)) → toBits f (neg (magnitude x)) ≡ top f + toBits f (magnitude x)
+unfolding magnitude neg toBits isNan
+sign-set f nan h = absurd h
+sign-set f (inf s) h = omega arith
+sign-set f (fin s m e) h = omega arith
+
+either : (x : Float) → (P : Float → Type 0) → T (not (isNan x)) → P (magnitude x) → P (neg (magnitude x)) → P x
+unfolding magnitude neg isNan
+either nan P h p q = absurd h
+either (inf true) P h p q = q
+either (inf false) P h p q = p
+either (fin true m e) P h p q = q
+either (fin false m e) P h p q = p
+
+magnitude-bits : (f : Format) (x : Float) → T (fits f x) → T (not (isNan x)) → toBits f x % top f ≡ toBits f (magnitude x)
+magnitude-bits f x h k =
+    let b = toBits f (magnitude x) in
+    let g : b < top f = under (top f) b (subst (λ (z : ℕ). z < 2 * top f) (sign-set f x k) (toBits-lt f (neg (magnitude x)) (neg-fits f (magnitude x) (magnitude-fits f x h)))) in
+    either x (λ y. toBits f y % top f ≡ b) k (mod-eq-of-lt g) (ap (λ (z : ℕ). z % top f) (sign-set f x k) ∙ add-mod-left (top f) b ∙ mod-eq-of-lt g)
+  where
+    under : (t b : ℕ) → t + b < 2 * t → b < t
+    under t b h = omega arith
+
+pub magnitude-is : (f : Format) (x : Float) → T (fits f x) → T (not (isNan x)) → ofBits f (toBits f x % top f) ≡ magnitude x
+magnitude-is f x h k = ap (ofBits f) (magnitude-bits f x h k) ∙ ofBits-toBits f (magnitude x) (magnitude-fits f x h)
+
+-- a pattern that stands for a value that is no NaN is no NaN's
+pub no-nan-bits : (f : Format) (n : ℕ) (x : Float) → ofBits f n ≡ x → T (not (isNan x)) → T (not (nanBits f n))
+no-nan-bits f n x e h = subst (λ (t : Bool). T (not t)) (sym (nanBits-is f n ∙ ap isNan e)) h
+
+pub value-no-nan : (x : Float) (s : Bool) (a c : ℕ) → HasValue x s a c → T (not (isNan x))
+unfolding isNan
+value-no-nan nan s a c h = h
+value-no-nan (inf t) s a c h = tt
+value-no-nan (fin t m e) s a c h = tt
+
+pub magnitude-no-nan : (x : Float) → T (not (isNan x)) → T (not (isNan (magnitude x)))
+unfolding magnitude isNan
+magnitude-no-nan nan h = h
+magnitude-no-nan (inf s) h = h
+magnitude-no-nan (fin s m e) h = h

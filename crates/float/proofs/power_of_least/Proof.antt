@@ -1,0 +1,35 @@
+use borrow.Author.Needs.{needs}
+use native.Mathlib.Omega.{arith}
+use Prim.Native.Nat.{_<_}
+use lib.Ieee.{binary64}
+use Rattle.float.proofs.Powers.{one-shifted, low-power, high-power, power-no-nan}
+use Rattle.float.proofs.power_of_least.Statement.{statement}
+use Rattle.float.proofs.power_of_least.Tie as tie
+
+shl-result : tie.Need-shl-result
+shl-result c = search needs
+
+returns : tie.Need-returns
+returns c =
+    let j = c .before .args .j in
+    let h : j < 64 = omega arith in
+    rw (one-shifted j h) (low-power binary64 j (c .before .pre) (c .if1 .taken))
+
+float-from-bits-result : tie.Need-float-from-bits-result
+float-from-bits-result c = power-no-nan binary64 _ (c .before .args .j) (c .before .pre) (returns c)
+
+sub-result : tie.Need-sub-result
+sub-result c = search needs
+
+mul-result : tie.Need-mul-result
+mul-result c = search needs
+
+returns-2 : tie.Need-returns-2
+returns-2 c = high-power binary64 (c .before .args .j) (c .before .pre) (c .if1 .left)
+
+float-from-bits-result-2 : tie.Need-float-from-bits-result-2
+float-from-bits-result-2 c = power-no-nan binary64 _ (c .before .args .j) (c .before .pre) (returns-2 c)
+
+pub power-of-least-spec : {M : Type 1} → statement M
+power-of-least-spec =
+    tie.close (tie.spec shl-result float-from-bits-result returns sub-result mul-result float-from-bits-result-2 returns-2)

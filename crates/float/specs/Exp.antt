@@ -1,0 +1,47 @@
+-- The exponential E(y), by the document's own steps, each rounded once. The numbers in hexadecimal are bit patterns.
+use Prim.Native.Nat.{ℕ}
+use mathlib.Core.Bool.{false, cond}
+use mathlib.Core.List.{List, [], _∷_}
+use lib.IntN.{ℤ}
+use lib.Ieee.{Float, nan, inf, binary64, up, down, round, add, sub, mul, lt, isNan, ofBits, toSigned}
+use Rattle.float.specs.Whole.{floored}
+
+-- 2 ^ k, rounded: an infinity above 2 ^ 1023, and 0 below 2 ^ -1074
+unfoldable pub twoTo : ℤ → Float
+twoTo k = round binary64 false (up k) (down k)
+
+abbrev pub bits : ℕ → Float
+bits = ofBits binary64
+
+-- 1/j! for j from 12 down to 0
+abbrev pub inverseFactorials : List ℕ
+inverseFactorials =
+    0x3E21_EED8_EFF8_D898 ∷ 0x3E5A_E645_67F5_44E4 ∷ 0x3E92_7E4F_B778_9F5C ∷ 0x3EC7_1DE3_A556_C734
+    ∷ 0x3EFA_01A0_1A01_A01A ∷ 0x3F2A_01A0_1A01_A01A ∷ 0x3F56_C16C_16C1_6C17 ∷ 0x3F81_1111_1111_1111
+    ∷ 0x3FA5_5555_5555_5555 ∷ 0x3FC5_5555_5555_5555 ∷ 0x3FE0_0000_0000_0000 ∷ 0x3FF0_0000_0000_0000
+    ∷ 0x3FF0_0000_0000_0000 ∷ []
+
+-- p, then p * r + c for each c of the list
+abbrev pub horner : Float → Float → List ℕ → Float
+horner r p [] = p
+horner r p (c ∷ cs) = horner r (add binary64 (mul binary64 p r) (bits c)) cs
+
+-- k = floor(y * L + 0.5)
+unfoldable pub doublings : Float → Float
+doublings y = floored (add binary64 (mul binary64 y (bits 0x3FF7_1547_652B_82FE)) (bits 0x3FE0_0000_0000_0000))
+
+-- (y - k * H) - k * W
+unfoldable pub residue : Float → Float → Float
+residue y k =
+    sub binary64 (sub binary64 y (mul binary64 k (bits 0x3FE6_2E42_FEE0_0000))) (mul binary64 k (bits 0x3DEA_39EF_3579_3C76))
+
+-- p * 2 ^ k, with p = 1/13! and then the steps down to 1/0!
+unfoldable pub scaled : Float → Float → Float
+scaled y k = mul binary64 (horner (residue y k) (bits 0x3DE6_1246_13A8_6D09) inverseFactorials) (twoTo (toSigned 63 k))
+
+-- E(y): NaN for a NaN, 0 for y below -708, infinity above 709
+unfoldable pub exponential : Float → Float
+exponential y =
+    cond (isNan y) nan
+    (cond (lt y (bits 0xC086_2000_0000_0000)) (bits 0)
+    (cond (lt (bits 0x4086_2800_0000_0000) y) (inf false) (scaled y (doublings y))))

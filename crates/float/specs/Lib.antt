@@ -1,0 +1,4 @@
+pub mod Order
+pub mod Whole
+pub mod Exp
+pub mod Examples

@@ -1,0 +1,216 @@
+// The scalar operations on floats that the operators leave open. Each contract equates the result with a definition of
+// specs/, or with one of the logic's account of IEEE 754 (lib.Ieee), where there is one NaN and one type of values for
+// both formats.
+ghost use mathlib.Core.Path.{_≡_};
+ghost use mathlib.Core.Bool.{false};
+ghost use Prim.Native.Nat.{_^_, _<_};
+ghost use lib.IntN.{pos};
+ghost use lib.Signed.{mag};
+ghost use lib.Ieee.{binary64, round, toUnsigned, toSigned, ofInt};
+ghost use Rattle.float.specs.Order.{magnitude, larger, smaller, rank, ordered, angle};
+ghost use Rattle.float.specs.Whole.{floored, ceiled, truncation};
+ghost use Rattle.float.specs.Exp.{bits, inverseFactorials, horner, twoTo, exponential};
+
+const TAU: f64 = 6.283185307179586;
+
+// x with its sign cleared; of a NaN a NaN.
+pub fn abs(x: f64) -> f64
+    ensures { λ r. ⌜ r ≡ magnitude x ⌝ }
+{
+    if x != x {
+        return x;
+    }
+    f64::from_bits(f64::to_bits(x) % 0x8000_0000_0000_0000)
+}
+
+// The larger operand: the other one beside a NaN, and the first of zeros of both signs.
+pub fn max(a: f64, b: f64) -> f64
+    ensures { λ r. ⌜ r ≡ larger a b ⌝ }
+{
+    if (a != a) | (b > a) { b } else { a }
+}
+
+// The smaller operand, likewise.
+pub fn min(a: f64, b: f64) -> f64
+    ensures { λ r. ⌜ r ≡ smaller a b ⌝ }
+{
+    if (a != a) | (b < a) { b } else { a }
+}
+
+// x's rank in the total order.
+fn place(x: f64) -> u64
+    ensures { λ r. ⌜ r ≡ rank x ⌝ }
+{
+    if x != x {
+        return 0xfff8_0000_0000_0000;
+    }
+    let b = f64::to_bits(x);
+    if b < 0x8000_0000_0000_0000 {
+        return 0x8000_0000_0000_0000 + b;
+    }
+    0xffff_ffff_ffff_ffff - b
+}
+
+// IEEE's totalOrder: x is at or before y.
+pub fn total_order(x: f64, y: f64) -> bool
+    ensures { λ r. ⌜ r ≡ ordered x y ⌝ }
+{
+    place(x) <= place(y)
+}
+
+// x at the wider format, which holds every f32.
+pub fn widen(x: f32) -> f64
+    ensures { λ r. ⌜ r ≡ x ⌝ }
+{
+    std::num::f32_to_f64_with_nan(x)
+}
+
+// Toward zero, to the nearest end of the range, NaN to 0.
+pub fn to_u64(x: f64) -> u64
+    ensures { λ r. ⌜ r ≡ toUnsigned 64 x ⌝ }
+{
+    if x > -1.0 {
+        if x < 18446744073709551616.0 {
+            return std::num::truncating_f64_to_u64(x);
+        }
+        return 0xffff_ffff_ffff_ffff;
+    }
+    0
+}
+
+// The same at i64.
+pub fn to_i64(x: f64) -> i64
+    ensures { λ r. ⌜ r ≡ toSigned 63 x ⌝ }
+{
+    if x >= -9223372036854775808.0 {
+        if x < 9223372036854775808.0 {
+            return std::num::truncating_f64_to_i64(x);
+        }
+        return 9223372036854775807;
+    }
+    if x != x { 0 } else { -9223372036854775808 }
+}
+
+// The f64 nearest to n.
+pub fn of_u64(n: u64) -> f64
+    ensures { λ r. ⌜ r ≡ ofInt binary64 (pos n) ⌝ }
+{
+    std::num::nearest_u64_to_f64(n)
+}
+
+// The remainder by TAU: a remainder below 0 has TAU added, and -0.0 is not below 0.
+pub fn rem_tau(x: f64) -> f64
+    ensures { λ r. ⌜ r ≡ angle x ⌝ }
+{
+    let t = x % TAU;
+    if t < 0.0 { t + TAU } else { t }
+}
+
+// x without its fraction. Of a pattern whose exponent's field is from 1023 to 1074, the fraction is the lowest digits,
+// 1075 less the field; below that only the sign is left, and above it there is no fraction.
+fn truncated(x: f64) -> f64
+    ensures { λ r. ⌜ r ≡ truncation x ⌝ }
+{
+    if x != x {
+        return x;
+    }
+    let b = f64::to_bits(x);
+    let field = b % 0x8000_0000_0000_0000 / 0x10_0000_0000_0000;
+    if field > 1074 {
+        return x;
+    }
+    if field < 1023 {
+        return if b < 0x8000_0000_0000_0000 { 0.0 } else { -0.0 };
+    }
+    let s = 1075 - field;
+    f64::from_bits((b >> s) << s)
+}
+
+// The largest whole number that is not above x; a zero keeps its sign.
+pub fn floor(x: f64) -> f64
+    ensures { λ r. ⌜ r ≡ floored x ⌝ }
+{
+    let r = truncated(x);
+    if r > x { r - 1.0 } else { r }
+}
+
+// The smallest whole number that is not below x; -0.5 gives -0.0.
+pub fn ceiling(x: f64) -> f64
+    ensures { λ r. ⌜ r ≡ ceiled x ⌝ }
+{
+    let r = truncated(x);
+    if r < x { r + 1.0 } else { r }
+}
+
+// k where it is not negative, and -1 - k where it is.
+fn distance(k: i64) -> u64
+    ensures { λ r. ⌜ r ≡ mag k ⌝ }
+{
+    if k >= 0 { k as u64 } else { (-1 - k) as u64 }
+}
+
+// 2 ^ j of the smallest positive values, by its bit pattern: a digit alone, or the exponent's field alone.
+fn power_of_least(j: u64) -> f64
+    requires { ⌜ j < 2098 ⌝ }
+    ensures { λ r. ⌜ r ≡ round binary64 false (2 ^ j) (2 ^ 1074) ⌝ }
+{
+    if j < 52 {
+        return f64::from_bits(1 << j);
+    }
+    f64::from_bits((j - 51) * 0x10_0000_0000_0000)
+}
+
+// 2 ^ k, rounded.
+fn power_of_two(k: i64) -> f64
+    ensures { λ r. ⌜ r ≡ twoTo k ⌝ }
+{
+    let n = distance(k);
+    if k >= 0 {
+        if n < 1024 {
+            return power_of_least(n + 1074);
+        }
+        return 1.0 / 0.0;
+    }
+    if n < 1074 {
+        return power_of_least(1073 - n);
+    }
+    0.0
+}
+
+// The sum of r ^ j / j! for j up to 13.
+fn series(r: f64) -> f64
+    ensures { λ s. ⌜ s ≡ horner r (bits 0x3DE6_1246_13A8_6D09) inverseFactorials ⌝ }
+{
+    let p = 1.6059043836821613e-10;
+    let p = p * r + 2.08767569878681e-09;
+    let p = p * r + 2.505210838544172e-08;
+    let p = p * r + 2.755731922398589e-07;
+    let p = p * r + 2.7557319223985893e-06;
+    let p = p * r + 2.48015873015873e-05;
+    let p = p * r + 0.0001984126984126984;
+    let p = p * r + 0.001388888888888889;
+    let p = p * r + 0.008333333333333333;
+    let p = p * r + 0.041666666666666664;
+    let p = p * r + 0.16666666666666666;
+    let p = p * r + 0.5;
+    let p = p * r + 1.0;
+    p * r + 1.0
+}
+
+// The exponential E(y): y is k * ln 2 + r with a small r, so the answer is the series at r, times 2 ^ k.
+pub fn exp(y: f64) -> f64
+    ensures { λ r. ⌜ r ≡ exponential y ⌝ }
+{
+    if y != y {
+        return y;
+    }
+    if y < -708.0 {
+        return 0.0;
+    }
+    if y > 709.0 {
+        return 1.0 / 0.0;
+    }
+    let k = floor(y * 1.4426950408889634 + 0.5);
+    let r = (y - k * 0.6931471803691238) - k * 1.9082149292705877e-10;
+    series(r) * power_of_two(to_i64(k))
+}

@@ -1,0 +1,84 @@
+-- `vectors::line::hex` meets its contract. The letters passed make n, so that n with the letters left is the word. Assumes nothing.
+use Prim.Native.Nat.{_≤_, _-_}
+use mathlib.Core.Path.{_≡_, _∙_}
+use native.Mathlib.Omega.{arith}
+use borrow.Author.Needs.{needs}
+use Rattle.vectors.proofs.Laws.{no-digit, too-large, one-more, at-end}
+use lib.ListN.{length, drop}
+use Rattle.vectors.specs.Hex.{word}
+use Rattle.vectors.proofs.line.hex.Statement.{statement}
+use Rattle.vectors.proofs.line.hex.Tie as tie
+
+abbrev Inv-loop : tie.InvT-loop
+Inv-loop text n₀ i₀ n i = (i ≤ length text) × (word n (drop i text) ≡ word 0 text)
+
+abbrev μ-loop : tie.MeasureT-loop
+μ-loop text n₀ i₀ n i = length text - i
+
+loop-holds : tie.Need-loop-holds Inv-loop μ-loop
+loop-holds c = search needs
+
+shared-slice-read-digit : tie.Need-shared-slice-read-digit Inv-loop μ-loop
+shared-slice-read-digit c = search needs
+
+digit-requires : tie.Need-digit-requires Inv-loop μ-loop
+digit-requires c κs = search needs
+
+wide-requires : tie.Need-wide-requires Inv-loop μ-loop
+wide-requires c κs = search needs
+
+returns : tie.Need-returns Inv-loop μ-loop
+returns c =
+    let w = c .before in
+    let l = w .before .before .before .before in
+    no-digit (l .before .before .args .text .now) (l .loop .n) (l .loop .i) (w .wide .result) (omega arith) (w .wide .ensures ∙ w .before .digit .ensures .0) (c .if1 .taken)
+    ∙ l .loop .inv .1
+
+returns-2 : tie.Need-returns-2 Inv-loop μ-loop
+returns-2 c =
+    let w = c .before .before in
+    let l = w .before .before .before .before in
+    too-large (l .before .before .args .text .now) (l .loop .n) (l .loop .i) (w .wide .result) (omega arith) (w .wide .ensures ∙ w .before .digit .ensures .0) (c .before .if1 .left) (c .if2 .taken)
+    ∙ l .loop .inv .1
+
+mul-n : tie.Need-mul-n Inv-loop μ-loop
+mul-n c = search needs
+
+add-n : tie.Need-add-n Inv-loop μ-loop
+add-n c = search needs
+
+add-i : tie.Need-add-i Inv-loop μ-loop
+add-i c = search needs
+
+loop-less : tie.Need-loop-less Inv-loop μ-loop
+loop-less c = search needs
+
+loop-again : tie.Need-loop-again Inv-loop μ-loop
+loop-again c =
+    let w = c .before .before in
+    let l = w .before .before .before .before in
+    (search needs, one-more (l .before .before .args .text .now) (l .loop .n) (l .loop .i) (w .wide .result) (omega arith) (w .wide .ensures ∙ w .before .digit .ensures .0) (c .before .if1 .left) (c .if2 .left) ∙ l .loop .inv .1)
+
+returns-3 : tie.Need-returns-3 Inv-loop μ-loop
+returns-3 c =
+    let l = c .before in
+    at-end (l .before .before .args .text .now) (l .loop .n) (l .loop .i) (omega arith) ∙ l .loop .inv .1
+
+pub hex-spec : {M : Type 1} → statement M
+hex-spec =
+    tie.close
+    (tie.spec
+    Inv-loop
+    μ-loop
+    loop-holds
+    shared-slice-read-digit
+    digit-requires
+    wide-requires
+    returns
+    returns-2
+    mul-n
+    add-n
+    add-i
+    loop-less
+    loop-again
+    returns-3)

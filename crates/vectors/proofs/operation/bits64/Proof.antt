@@ -1,0 +1,22 @@
+-- `vectors::operation::bits64` meets its contract. Assumes nothing.
+use borrow.Author.Needs.{needs}
+use mathlib.Core.Path.{sym, subst}
+use lib.Dec.{T}
+use lib.Ieee.{binary64, toBits}
+use lib.Ieee.Compare.{differs-from-itself}
+use Rattle.vectors.proofs.Laws.{no-nan}
+use Rattle.vectors.proofs.operation.bits64.Statement.{statement}
+use Rattle.vectors.proofs.operation.bits64.Tie as tie
+
+float-to-bits-result : tie.Need-float-to-bits-result
+float-to-bits-result c = no-nan (c .before .args .x) (c .if1 .left)
+
+returns : tie.Need-returns
+unfolding toBits
+returns c = rw (differs-from-itself (c .before .args .x) (subst T (sym (c .if1 .taken)) tt))
+
+returns-2 : tie.Need-returns-2
+returns-2 c = search needs
+
+pub bits64-spec : {M : Type 1} → statement M
+bits64-spec = tie.close (tie.spec float-to-bits-result returns returns-2)

@@ -1,0 +1,19 @@
+-- `vectors::operation::float64` meets its contract. Assumes nothing.
+use borrow.Author.Needs.{needs}
+use lib.Ieee.{binary64, div, ofBits}
+use Rattle.vectors.proofs.Laws.{above, below}
+use Rattle.vectors.proofs.operation.float64.Statement.{statement}
+use Rattle.vectors.proofs.operation.float64.Tie as tie
+
+float-from-bits-result : tie.Need-float-from-bits-result
+float-from-bits-result c = below binary64 (c .before .args .b) (c .if1 .left)
+
+returns : tie.Need-returns
+unfolding div ofBits
+returns c = above binary64 (c .before .args .b) (c .if1 .taken)
+
+returns-2 : tie.Need-returns-2
+returns-2 c = search needs
+
+pub float64-spec : {M : Type 1} → statement M
+float64-spec = tie.close (tie.spec float-from-bits-result returns returns-2)

@@ -1,0 +1,171 @@
+"""Answers in exact arithmetic, each rounded once by hand to the nearest value, a tie to the even one.
+    exact.py exp          writes the vectors of exp
+    exact.py check FILE   works out root, mul_add, narrow, of_u64 and rem_tau of FILE's lines again, and names each line that differs"""
+import sys
+from fractions import Fraction
+from math import isqrt
+
+TOP, INFINITE, NAN = 1 << 63, 0x7FF << 52, 0x7FF8 << 48
+TAU = 0x401921FB54442D18
+LOG2E, LN2_HIGH, LN2_LOW = 0x3FF71547652B82FE, 0x3FE62E42FEE00000, 0x3DEA39EF35793C76
+# 1/j! for j from 0 to 13
+COEFFICIENTS = [int(word, 16) for word in """3FF0000000000000 3FF0000000000000 3FE0000000000000 3FC5555555555555
+    3FA5555555555555 3F81111111111111 3F56C16C16C16C17 3F2A01A01A01A01A 3EFA01A01A01A01A 3EC71DE3A556C734
+    3E927E4FB7789F5C 3E5AE64567F544E4 3E21EED8EFF8D898 3DE6124613A86D09""".split()]
+
+
+def is_nan(b):
+    return b & ~TOP > INFINITE
+
+
+def is_infinite(b):
+    return b & ~TOP == INFINITE
+
+
+def value(b):
+    """The number that a finite pattern stands for."""
+    field, digits = b >> 52 & 0x7FF, b & (1 << 52) - 1
+    significand = digits if field == 0 else digits + (1 << 52)
+    magnitude = Fraction(significand) * Fraction(2) ** (max(field, 1) - 1075)
+    return -magnitude if b & TOP else magnitude
+
+
+def rounded(x, digits=53, emax=1023, sign=0):
+    """The pattern of the value nearest to x; sign is the sign bit of an x that is zero."""
+    width = 64 if digits == 53 else 32
+    if x < 0:
+        sign = 1
+    lowest = emax + digits - 2
+    units = abs(x) * 2**lowest
+    dropped = max((units.numerator // units.denominator).bit_length() - digits, 0)
+    quotient, rest = divmod(units.numerator, units.denominator << dropped)
+    twice = 2 * rest - (units.denominator << dropped)
+    if twice > 0 or twice == 0 and quotient % 2 == 1:
+        quotient += 1
+    # the leading digit adds one to the exponent's field, and a carry one more
+    pattern = (dropped << digits - 1) + quotient
+    return sign << width - 1 | min(pattern, 2 * emax + 1 << digits - 1)
+
+
+def root(b):
+    if is_nan(b) or b & ~TOP == 0:
+        return NAN if is_nan(b) else b
+    if b & TOP:
+        return NAN
+    if is_infinite(b):
+        return b
+    # a whole number of units of 2^-1075 has the root cut to it; half a unit more stands for what was cut
+    square = value(b) * 4**1075
+    whole = isqrt(square.numerator)
+    cut = 0 if whole * whole == square.numerator else 1
+    return rounded(Fraction(2 * whole + cut, 2**1076))
+
+
+def mul_add(a, b, c):
+    if is_nan(a) or is_nan(b) or is_nan(c):
+        return NAN
+    sign = (a ^ b) & TOP
+    if is_infinite(a) or is_infinite(b):
+        zero = a & ~TOP == 0 or b & ~TOP == 0
+        against = is_infinite(c) and c & TOP != sign
+        return NAN if zero or against else sign | INFINITE
+    if is_infinite(c):
+        return c
+    both = sign & c & TOP
+    return rounded(value(a) * value(b) + value(c), sign=both >> 63)
+
+
+def narrow(b):
+    if is_nan(b):
+        return 0x7FC00000
+    if is_infinite(b):
+        return b >> 63 << 31 | 0x7F800000
+    return rounded(value(b), 24, 127, b >> 63)
+
+
+def rem_tau(b):
+    if is_nan(b) or is_infinite(b):
+        return NAN
+    x, tau = value(b), value(TAU)
+    rest = abs(x) % tau
+    return rounded(tau - rest) if x < 0 and rest != 0 else rounded(rest, sign=b >> 63)
+
+
+def exp(b):
+    """E: the exponent's whole part is taken off in two pieces, and 14 terms of the series are summed from the smallest."""
+    if is_nan(b):
+        return NAN
+    if is_infinite(b):
+        return 0 if b & TOP else INFINITE
+    y = value(b)
+    if y < -708 or y > 709:
+        return 0 if y < 0 else INFINITE
+
+    def step(x):
+        return value(rounded(x))
+
+    k = step(step(y * value(LOG2E)) + Fraction(1, 2)).__floor__()
+    r = step(step(y - step(k * value(LN2_HIGH))) - step(k * value(LN2_LOW)))
+    p = value(COEFFICIENTS[13])
+    for j in range(12, -1, -1):
+        p = step(step(p * r) + value(COEFFICIENTS[j]))
+    return rounded(p * Fraction(2) ** k)
+
+
+class Random:
+    """Marsaglia's xorshift of 64 bits."""
+
+    def __init__(self, seed):
+        self.state = seed
+
+    def bits(self):
+        s = self.state
+        s ^= s << 13 & 2**64 - 1
+        s ^= s >> 7
+        s ^= s << 17 & 2**64 - 1
+        self.state = s
+        return s
+
+    def float(self, low, high):
+        field = 1023 + low + self.bits() % (high - low)
+        return self.bits() & (TOP | (1 << 52) - 1) | field << 52
+
+
+def exp_operands():
+    """Edges of the range, the points where the whole part k changes, and random numbers."""
+    random = Random(0x2545F4914F6CDD1D)
+    near = [0, 1, 2, 1 << 51, (1 << 52) - 1, 1 << 52, INFINITE - 1, INFINITE, INFINITE + 1, NAN, TOP - 1]
+    for whole in (708, 709, 1, 2, 710, 745, 746, 1000):
+        b = rounded(Fraction(whole))
+        near += [b - 1, b, b + 1]
+    for e in range(-60, 12):
+        near.append((e + 1023) << 52)
+    for k in range(0, 1023, 4):
+        b = rounded((k + Fraction(1, 2)) / value(LOG2E))
+        near += [b - 1, b, b + 1]
+    for b in near:
+        yield b
+        yield b | TOP
+    for turn in range(1500):
+        yield [random.bits(), random.float(-3, 4), random.float(0, 10), random.float(-30, 0)][turn % 4]
+    yield rounded(Fraction(-7, 4))
+
+
+def check(path):
+    again = {"root": root, "mul_add": mul_add, "narrow": narrow, "rem_tau": rem_tau, "of_u64": lambda n: rounded(Fraction(n))}
+    bad = 0
+    for line in open(path):
+        name, *words = line.split()
+        if name in again:
+            *operands, answer = [int(word, 16) for word in words]
+            if again[name](*operands) != answer:
+                bad += 1
+                print("differs:", line.strip())
+    return bad
+
+
+if sys.argv[1] == "exp":
+    for b in dict.fromkeys(exp_operands()):
+        print("exp %016X %016X" % (b, exp(b)))
+else:
+    sys.exit(1 if check(sys.argv[2]) else 0)
