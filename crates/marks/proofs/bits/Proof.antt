@@ -1,0 +1,17 @@
+-- `bits` meets its contract. Assumes nothing.
+use Rattle.ieee.proofs.Fields.{no-nan-of-same}
+use borrow.Author.Needs.{needs}
+use Rattle.marks.proofs.bits.Statement.{statement}
+use Rattle.marks.proofs.bits.Tie as tie
+
+returns : tie.Need-returns
+returns c = search needs
+
+float-to-bits-result : tie.Need-float-to-bits-result
+float-to-bits-result c = no-nan-of-same (c .before .args .x) (c .if1 .left)
+
+returns-2 : tie.Need-returns-2
+returns-2 c = search needs
+
+pub bits-spec : {M : Type 1} → statement M
+bits-spec = tie.close (tie.spec returns float-to-bits-result returns-2)

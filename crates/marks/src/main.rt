@@ -1,0 +1,50 @@
+// Works out the marks of document 01 with the compiled operations, and prints each beside what the document says.
+use libc::STDOUT_FILENO;
+
+// The bits of a float that is no NaN; a NaN is printed as the quiet one.
+fn bits(x: f64) -> u64 {
+    if x != x {
+        return 0x7ff8_0000_0000_0000;
+    }
+    f64::to_bits(x)
+}
+
+// The bits of an f32, by its value as an f64.
+fn widened(x: f32) -> u64 {
+    bits(float::widen(x))
+}
+
+fn mark(what: &[u8], got: u64, marked: u64) {
+    io::write_all(STDOUT_FILENO, what);
+    io::write_all(STDOUT_FILENO, b": ");
+    io::print_hex(STDOUT_FILENO, got, 16);
+    if got == marked {
+        io::write_all(STDOUT_FILENO, b", as marked\n");
+    } else {
+        io::write_all(STDOUT_FILENO, b", but the mark is ");
+        io::print_hex(STDOUT_FILENO, marked, 16);
+        io::write_all(STDOUT_FILENO, b"\n");
+    }
+}
+
+fn main() {
+    mark(b"root of 2", bits(ieee::root(2.0)), 0x3ff6_a09e_667f_3bcd);
+    let e = 1.0 / 1073741824.0;
+    mark(
+        b"fused (1+2^-30)(1-2^-30) - 1",
+        bits(ieee::mul_add(1.0 + e, 1.0 - e, -1.0)),
+        0xbc30_0000_0000_0000,
+    );
+    mark(
+        b"16777217 narrowed",
+        widened(ieee::narrow(16777217.0)),
+        bits(16777216.0),
+    );
+    mark(
+        b"16777219 narrowed",
+        widened(ieee::narrow(16777219.0)),
+        bits(16777220.0),
+    );
+    mark(b"E(0)", bits(float::exp(0.0)), bits(1.0));
+    mark(b"E(-709)", bits(float::exp(-709.0)), bits(0.0));
+}
