@@ -1,7 +1,7 @@
 -- A float past an end of an integer type's range is cast to that end. Assumes nothing.
 use mathlib.Core.Path.{_≡_, refl, sym, ap, _∙_}
 use Prim.Native.Nat.{ℕ, _-_, _*_, _/_, _^_, _≤_, _<_, min}
-use native.Mathlib.Nat.{le-div-iff-mul-le, le-trans, le-of-eq, mul-one, one-mul, mul-pos, le-add-left, le-add-right}
+use native.Mathlib.Nat.{le-div-iff-mul-le, le-trans, le-of-eq, mul-one, one-mul, mul-pos, le-add-left, le-add-right, min-eq-right}
 use native.Mathlib.Omega.{arith}
 use mathlib.Core.Bool.{Bool, true, false, _||_, true≢false}
 use lib.Dec.{ltb}
@@ -27,9 +27,6 @@ crossed w n e l h = none (1 * 2 ^ w * down e) n (mul-pos (mul-pos (pow-pos 0) (p
 
 capped : (a n : ℕ) → n ≤ a → min a (n - 1) ≡ n - 1
 capped a n h = omega arith
-
-full : (a n : ℕ) → n ≤ a → min a n ≡ n
-full a n h = omega arith
 
 or-false : (a b : Bool) → (a || b) ≡ false → a ≡ false
 or-false true b h = h
@@ -64,5 +61,5 @@ unfolding lt le toSigned
 signed-low h nan p q = absurd (true≢false (sym nan-differs ∙ q))
 signed-low h (inf true) p q = refl
 signed-low h (inf false) p q = absurd (true≢false p)
-signed-low h (fin true m e) p q = ap (λ (n : ℕ). negℤ (pos n)) (full (m * up e / down e) (2 ^ h) (reached h m e (or-false _ _ p)))
+signed-low h (fin true m e) p q = ap (λ (n : ℕ). negℤ (pos n)) (min-eq-right (reached h m e (or-false _ _ p)))
 signed-low h (fin false m e) p q = absurd (crossed h _ e (le-add-right _ _) (or-false _ _ p))

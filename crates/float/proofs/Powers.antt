@@ -1,18 +1,18 @@
 -- The powers of two: an exponent by its sign, and the bit patterns. Assumes nothing.
 use mathlib.Core.Path.{_≡_, refl, sym, ap, _∙_, subst}
-use Prim.Native.Nat.{ℕ, suc, _+_, _-_, _*_, _/_, _%_, _^_, _≤_, _<_, zero-le, suc-le-suc}
-use native.Mathlib.Nat.{le-refl, le-trans, le-of-eq, lt-trans, lt-of-lt-of-le, one-mul, mul-one, mul-pos, sub-le, div-eq-of-lt, mod-eq-of-lt, zero-add, suc-mul, mul-le-mul-right}
+use Prim.Native.Nat.{ℕ, suc, _+_, _-_, _*_, _/_, _^_, _≤_, _<_, zero-le, suc-le-suc}
+use native.Mathlib.Nat.{le-refl, le-trans, le-of-eq, lt-trans, lt-of-lt-of-le, one-mul, mul-one, mul-pos, sub-le, div-eq-of-lt, zero-add, suc-mul, mul-le-mul-right, le-of-lt, lt-irrefl}
 use native.Mathlib.Omega.{arith}
 use mathlib.Core.Bool.{Bool, true, false, not, cond, true≢false}
-use lib.Dec.{T, lit<, leb, le→leb}
+use lib.Dec.{T, lit<}
 use lib.IntN.{ℤ, pos, negsuc, _-ℤ_}
 use lib.Signed.{mag, leZ}
-use lib.Pow.{pow-add, pow-pos, pow-mono, pow-lt, shl-shr}
-use lib.Ieee.{Float, nan, inf, fin, Format, binary64, prec, emax, low, size, units, round, le, hid, toBits, ofBits, nanBits}
+use lib.Pow.{pow-add, pow-pos, pow-mono, pow-lt}
+use lib.Ieee.{Float, nan, inf, fin, Format, binary64, prec, emax, low, size, units, round, le, hid, ofBits, nanBits}
 use lib.Arith.{le-zero}
 use lib.Ieee.Digits.{size-le}
 use lib.Ieee.Fits.{two, two-le-pos, core, round-is, round-fits}
-use lib.Ieee.Bits.{is-true, ofBits-toBits}
+use lib.Ieee.Bits.{ofBits-toBits}
 use lib.Ieee.Exact.{HasValue, round-exact}
 use lib.Ieee.Nearest.{closest, closest-mono}
 use lib.Ieee.Order.{round-mono}
@@ -20,9 +20,9 @@ use lib.Ieee.Scale.{round-same}
 use mir.Syntax.{w64}
 use mir.Val.{SFits, Fits, toZ, ofZ}
 use mir.ValLaws.{toZ-ofZ}
-use borrow.Author.Tests.{le-ltb}
-use Rattle.float.proofs.Fields.{pattern-of}
-use Rattle.float.proofs.Values.{toBits-value, value-no-nan, no-nan-bits}
+use borrow.Author.Tests.{le-ltb, le-leb}
+use Rattle.ieee.proofs.Pack.{value-bits}
+use Rattle.float.proofs.Values.{value-no-nan, no-nan-bits}
 
 -- ---- an i64 as it is read back from its bits, by its sign
 positive : (k : ℤ) → leZ (pos 0) k ≡ true → k ≡ pos (mag k)
@@ -30,7 +30,7 @@ positive (pos n) t = refl
 positive (negsuc n) t = absurd (true≢false (sym t))
 
 negative : (k : ℤ) → leZ (pos 0) k ≡ false → k ≡ negsuc (mag k)
-negative (pos n) t = absurd (true≢false (sym (is-true (leb 0 n) (le→leb 0 n zero-le)) ∙ t))
+negative (pos n) t = absurd (true≢false (sym (le-leb 0 n zero-le) ∙ t))
 negative (negsuc n) t = refl
 
 turned : (n : ℕ) → negsuc 0 -ℤ negsuc n ≡ pos n
@@ -64,43 +64,32 @@ power-value f j h =
     round-exact f false (2 ^ j) (2 ^ low f) 1 j (pow-pos (low f)) (pow-lt (two-le-pos (prec f) (two f))) (subst (λ (x : ℕ). x < 2 ^ (low f + suc (emax f))) (sym (one-mul (2 ^ j))) (pow-lt h))
     (ap (λ (x : ℕ). x * 2 ^ low f) (sym (one-mul (2 ^ j))))
 
-by-bits : (f : Format) (j n : ℕ) → toBits f (round f false (2 ^ j) (2 ^ low f)) ≡ n → ofBits f n ≡ round f false (2 ^ j) (2 ^ low f)
-by-bits f j n e = ap (ofBits f) (sym e) ∙ ofBits-toBits f (round f false (2 ^ j) (2 ^ low f)) (round-fits f false (2 ^ j) (2 ^ low f))
+-- its pattern, by any q * 2 ^ k that it is
+power-bits : (f : Format) (j q k : ℕ) → j < low f + suc (emax f) → 2 ^ j ≡ q * 2 ^ k → q ≤ 2 ^ prec f → (0 < k → hid f ≤ q) → ofBits f (k * hid f + q) ≡ round f false (2 ^ j) (2 ^ low f)
+power-bits f j q k h e a b =
+    let y = round f false (2 ^ j) (2 ^ low f) in
+    ap (ofBits f) (sym (value-bits f y false q k (subst (λ (x : ℕ). HasValue y false x (2 ^ low f)) e (power-value f j h)) a b ∙ zero-add (k * hid f + q)))
+    ∙ ofBits-toBits f y (round-fits f false (2 ^ j) (2 ^ low f))
 
--- the pattern, where it is a digit alone and where it is the exponent's field alone
+-- a digit alone, and the exponent's field alone
 pub low-power : (f : Format) (j : ℕ) → j < low f + suc (emax f) → j < prec f - 1 → ofBits f (2 ^ j) ≡ round f false (2 ^ j) (2 ^ low f)
-low-power f j h l =
-    by-bits f j (2 ^ j)
-    (toBits-value f (round f false (2 ^ j) (2 ^ low f)) false (2 ^ j) (2 ^ low f) (2 ^ j) (pow-pos (low f)) (power-value f j h) (shl-shr (2 ^ j) (low f))
-    ∙ ap (λ (x : ℕ). 0 + x * hid f + 2 ^ j / 2 ^ x) (none (prec f) j (size (2 ^ j)) l (size-le (2 ^ j) (suc j) (pow-lt (le-refl (suc j))))) ∙ alone (hid f) (2 ^ j))
+low-power f j h l = ap (ofBits f) (alone (hid f) (2 ^ j)) ∙ power-bits f j (2 ^ j) 0 h (sym (mul-one (2 ^ j))) (pow-mono (le-trans (le-of-lt l) (sub-le (prec f) 1))) (λ z. absurd (lt-irrefl 0 z))
   where
-    none : (p j z : ℕ) → j < p - 1 → z ≤ suc j → z - p ≡ 0
-    none p j z h g = omega arith
-
-    alone : (h n : ℕ) → 0 + 0 * h + n / 1 ≡ n
+    alone : (h n : ℕ) → n ≡ 0 * h + n
     alone h n = omega arith
 
 pub high-power : (f : Format) (j : ℕ) → j < low f + suc (emax f) → prec f - 1 ≤ j → ofBits f ((j - (prec f - 2)) * hid f) ≡ round f false (2 ^ j) (2 ^ low f)
 high-power f j h l =
     let p = prec f in
     let d = j - (p - 1) in
-    by-bits f j ((j - (p - 2)) * hid f)
-    (pattern-of f (round f false (2 ^ j) (2 ^ low f)) false (hid f) d
-    (subst (λ (x : ℕ). HasValue (round f false (2 ^ j) (2 ^ low f)) false x (2 ^ low f)) (ap (λ (x : ℕ). 2 ^ x) (parts p j l) ∙ pow-add 2 (p - 1) d) (power-value f j h))
-    (le-refl (hid f)) (pow-lt (less p (two f)))
-    ∙ ap (λ (x : ℕ). x + hid f) (zero-add (d * hid f)) ∙ sym (suc-mul d (hid f)) ∙ ap (λ (x : ℕ). x * hid f) (field p j (two f) l))
+    ap (ofBits f) (ap (λ (x : ℕ). x * hid f) (field p j (two f) l) ∙ suc-mul d (hid f))
+    ∙ power-bits f j (hid f) d h (ap (λ (x : ℕ). 2 ^ x) (parts p j l) ∙ pow-add 2 (p - 1) d) (pow-mono (sub-le p 1)) (λ _. le-refl (hid f))
   where
-    less : (p : ℕ) → 2 ≤ p → p - 1 < p
-    less p h = omega arith
-
     parts : (p j : ℕ) → p - 1 ≤ j → j ≡ p - 1 + (j - (p - 1))
     parts p j l = omega arith
 
-    field : (p j : ℕ) → 2 ≤ p → p - 1 ≤ j → suc (j - (p - 1)) ≡ j - (p - 2)
+    field : (p j : ℕ) → 2 ≤ p → p - 1 ≤ j → j - (p - 2) ≡ suc (j - (p - 1))
     field p j h l = omega arith
-
-pub one-shifted : (j : ℕ) → j < 64 → 1 * 2 ^ j % 2 ^ 64 ≡ 2 ^ j
-one-shifted j h = ap (λ (x : ℕ). x % 2 ^ 64) (one-mul (2 ^ j)) ∙ mod-eq-of-lt (pow-lt h)
 
 pub power-no-nan : (f : Format) (n j : ℕ) → j < low f + suc (emax f) → ofBits f n ≡ round f false (2 ^ j) (2 ^ low f) → T (not (nanBits f n))
 power-no-nan f n j h e = no-nan-bits f n _ e (value-no-nan _ false (2 ^ j) (2 ^ low f) (power-value f j h))

@@ -1,7 +1,7 @@
 -- The whole numbers about a float: the whole part has the value that it should, the comparison of the two says whether something was cut off, and one more is one more.
 -- Assumes nothing.
 use mathlib.Core.Path.{_≡_, refl, sym, ap, _∙_, subst}
-use Prim.Native.Nat.{ℕ, zero, suc, _+_, _-_, _*_, _/_, _%_, _^_, _<_}
+use Prim.Native.Nat.{ℕ, zero, suc, _+_, _*_, _/_, _%_, _^_, _<_}
 use native.Mathlib.Nat.{le-trans, le-of-eq, le-of-lt, lt-irrefl, add-zero, add-comm, mul-pos, zero-mul, mul-one, mul-assoc, mul-lt-mul-of-pos-right, add-mul, mul-right-comm, mul-le-mul-right, div-one, div-add-mod', div-le-self, div-mul-le-self, eq-zero-or-pos}
 use mathlib.Core.Logic.{inl, inr}
 use native.Mathlib.Omega.{arith}
@@ -15,6 +15,7 @@ use lib.Ieee.Exact.{HasValue, round-exact}
 use lib.Ieee.Scale.{round-same}
 use lib.Ieee.Back.{round-whole}
 use borrow.Author.Tests.{lt-ltb, le-ltb, ne-eqb}
+use Rattle.ieee.proofs.Words.{whole-back}
 use Rattle.float.specs.Whole.{steps, truncation, integral}
 
 -- ---- what it says of m and e that a format holds m * 2 ^ e
@@ -57,9 +58,6 @@ one-more f s n k d v = same s ∙ round-same f s (n * up d * 1 + 1 * down d) (do
     same false = unfold sum in refl
 
 -- ---- the comparison with the whole part
-pub whole-back : (a d : ℕ) → a % d ≡ 0 → a / d * d ≡ a
-whole-back a d z = sym (add-zero (a / d * d)) ∙ ap (λ (y : ℕ). a / d * d + y) (sym z) ∙ div-add-mod' a d
-
 cut-test : (a d c : ℕ) → 0 < c → ltb (a / d * d * c) (a * c) ≡ not (eqb (a % d) 0)
 cut-test a d c C = elim (eq-zero-or-pos (a % d)) [
   | inl z ↦ le-ltb (a / d * d * c) (a * c) (le-of-eq (ap (λ (y : ℕ). y * c) (sym (whole-back a d z)))) ∙ sym (ap (λ (y : ℕ). not (eqb y 0)) z)

@@ -1,7 +1,7 @@
 -- The whole part of a float by its bit pattern, by the exponent's field. Assumes nothing.
 use mathlib.Core.Path.{_≡_, refl, sym, ap, _∙_}
 use Prim.Native.Nat.{ℕ, zero, suc, _+_, _-_, _*_, _/_, _%_, _^_, _≤_, _<_}
-use native.Mathlib.Nat.{le-trans, le-of-eq, lt-of-le-of-lt, le-add-right, add-mul, mul-assoc, mul-one, mul-right-comm, mul-le-mul-right, mod-lt, mod-eq-of-lt, mul-add-div-right, le-div-iff-mul-le, div-mul-le-self}
+use native.Mathlib.Nat.{le-trans, le-of-eq, lt-of-le-of-lt, le-add-right, add-mul, mul-assoc, mul-one, mul-right-comm, mul-le-mul-right, mod-lt, mod-eq-of-lt, mul-add-div-right, le-div-iff-mul-le, div-mul-le-self, add-assoc, le-of-lt}
 use native.Mathlib.Omega.{arith}
 use mathlib.Core.Bool.{Bool, true, false, not, cond}
 use lib.Dec.{T, leb}
@@ -11,10 +11,12 @@ use lib.Ieee.{Float, nan, inf, fin, binary64, up, down, round, toBits, ofBits, f
 use lib.Ieee.Fits.{down-pos, round-fits}
 use lib.Ieee.Bits.{ofBits-toBits}
 use lib.Ieee.Exact.{HasValue}
+use Rattle.ieee.proofs.Pack.{value-bits}
+use Rattle.ieee.proofs.Words.{whole-back}
 use Rattle.float.specs.Whole.{truncation}
 use Rattle.float.proofs.Values.{same-value, value-no-nan}
-use Rattle.float.proofs.Fields.{digits, field, parts, no-whole, no-fraction, shifted, pattern-of}
-use Rattle.float.proofs.Steps.{whole-value, whole-back}
+use Rattle.float.proofs.Fields.{digits, field, parts, no-whole, no-fraction, shifted}
+use Rattle.float.proofs.Steps.{whole-value}
 
 digits-lt : (x t : ℕ) → t < 2 ^ 52 → digits binary64 x t < 2 ^ 53
 digits-lt zero t h = omega arith
@@ -29,6 +31,12 @@ zero-whole : (s : Bool) → round binary64 s 0 1 ≡ fin s 0 (pos 0)
 unfolding round
 zero-whole true = refl
 zero-whole false = refl
+
+-- a whole number at another scale
+rescaled : (y : Float) (s : Bool) (n a c : ℕ) → n * c ≡ a → HasValue y s n 1 → HasValue y s a c
+rescaled nan s n a c g v = v
+rescaled (inf t) s n a c g v = v
+rescaled (fin t m e) s n a c g v = (v .0, ap (λ (x : ℕ). x * c) (sym (mul-one (m * up e)) ∙ v .1) ∙ mul-right-comm n (down e) c ∙ ap (λ (x : ℕ). x * down e) g)
 
 -- ---- below one
 pub tiny : (x : Float) → T (fits binary64 x) → T (not (isNan x)) → field binary64 (toBits binary64 x) < 1023 → truncation x ≡ fin (leb (2 ^ 63) (toBits binary64 x)) 0 (pos 0)
@@ -54,14 +62,11 @@ large (fin s m e) h l =
     let g : x - 1 ≡ x - 1075 + 1074 = omega arith in
     let z = no-fraction (m * up e) (down e) (digits binary64 x (b % 2 ^ 52)) (x - 1) 1074 (down-pos e) (parts binary64 s m e h .1) (x - 1075) g in
     let n = m * up e / down e in
-    same-value binary64 (fin s m e) (round binary64 s n 1) s n 1 (pow-pos 0) h (round-fits binary64 s n 1) (refl, mul-one (m * up e) ∙ sym (whole-back (m * up e) (down e) z)) (whole-value binary64 s m e h)
+    same-value binary64 (fin s m e) (round binary64 s n 1) s (n * 2 ^ 1074) h (round-fits binary64 s n 1)
+    (rescaled (fin s m e) s n (n * 2 ^ 1074) (2 ^ 1074) refl (refl, mul-one (m * up e) ∙ sym (whole-back (m * up e) (down e) z)))
+    (rescaled (round binary64 s n 1) s n (n * 2 ^ 1074) (2 ^ 1074) refl (whole-value binary64 s m e h))
 
 -- ---- between: the digits below the point are cut off
-rescaled : (y : Float) (s : Bool) (n a c : ℕ) → n * c ≡ a → HasValue y s n 1 → HasValue y s a c
-rescaled nan s n a c g v = v
-rescaled (inf t) s n a c g v = v
-rescaled (fin t m e) s n a c g v = (v .0, ap (λ (x : ℕ). x * c) (sym (mul-one (m * up e)) ∙ v .1) ∙ mul-right-comm n (down e) c ∙ ap (λ (x : ℕ). x * down e) g)
-
 leading : (x t : ℕ) → 0 < x → digits binary64 x t ≡ 2 ^ 52 + t
 leading zero t h = let z : ⊥ = omega arith in absurd z
 leading (suc x) t h = refl
@@ -70,8 +75,10 @@ leading (suc x) t h = refl
 cut-sum : (b c q u : ℕ) → 0 < u → b ≡ c * u + q → b / u * u ≡ c * u + q / u * u
 cut-sum b c q u U g = ap (λ (x : ℕ). x / u * u) g ∙ ap (λ (x : ℕ). x * u) (mul-add-div-right U c q) ∙ add-mul c (q / u) u
 
-above : (s : Bool) (k j u : ℕ) → j + u ≡ 52 → cond s (2 ^ 63) 0 + k * 2 ^ 52 ≡ (cond s 2048 0 + k) * 2 ^ j * 2 ^ u
-above s k j u g = sign s ∙ sym (add-mul (cond s 2048 0) k (2 ^ 52)) ∙ ap (λ (x : ℕ). (cond s 2048 0 + k) * x) (ap (λ (x : ℕ). 2 ^ x) (sym g) ∙ pow-add 2 j u) ∙ sym (mul-assoc (cond s 2048 0 + k) (2 ^ j) (2 ^ u))
+above : (s : Bool) (k j u q : ℕ) → j + u ≡ 52 → cond s (2 ^ 63) 0 + (k * 2 ^ 52 + q) ≡ (cond s 2048 0 + k) * 2 ^ j * 2 ^ u + q
+above s k j u q g =
+    sym (add-assoc (cond s (2 ^ 63) 0) (k * 2 ^ 52) q)
+    ∙ ap (λ (x : ℕ). x + q) (sign s ∙ sym (add-mul (cond s 2048 0) k (2 ^ 52)) ∙ ap (λ (x : ℕ). (cond s 2048 0 + k) * x) (ap (λ (x : ℕ). 2 ^ x) (sym g) ∙ pow-add 2 j u) ∙ sym (mul-assoc (cond s 2048 0 + k) (2 ^ j) (2 ^ u)))
   where
     sign : (s : Bool) → cond s (2 ^ 63) 0 + k * 2 ^ 52 ≡ cond s 2048 0 * 2 ^ 52 + k * 2 ^ 52
     sign true = refl
@@ -88,9 +95,9 @@ cut-off s m e q k u h v lo hi g w =
     let lo′ : 2 ^ 52 ≤ r =
     le-trans (le-of-eq even) (mul-le-mul-right (2 ^ u) (le-div-iff-mul-le (pow-pos u) .1 (le-trans (le-of-eq (sym even)) lo))) in
     let c = (cond s 2048 0 + k) * 2 ^ (52 - u) in
-    let b : toBits binary64 (fin s m e) ≡ c * 2 ^ u + q = pattern-of binary64 (fin s m e) s q k (refl, v) lo hi ∙ ap (λ (x : ℕ). x + q) (above s k (52 - u) u (split u w)) in
+    let b : toBits binary64 (fin s m e) ≡ c * 2 ^ u + q = value-bits binary64 (fin s m e) s q k (refl, v) (le-of-lt hi) (λ _. lo) ∙ above s k (52 - u) u q (split u w) in
     let t : toBits binary64 y ≡ c * 2 ^ u + r =
-    pattern-of binary64 y s r k (rescaled y s n (r * 2 ^ k) (2 ^ 1074) scaled (whole-value binary64 s m e h)) lo′ (lt-of-le-of-lt (div-mul-le-self q (2 ^ u)) hi) ∙ ap (λ (x : ℕ). x + r) (above s k (52 - u) u (split u w)) in
+    value-bits binary64 y s r k (rescaled y s n (r * 2 ^ k) (2 ^ 1074) scaled (whole-value binary64 s m e h)) (le-trans (div-mul-le-self q (2 ^ u)) (le-of-lt hi)) (λ _. lo′) ∙ above s k (52 - u) u r (split u w) in
     ap (ofBits binary64) (cut-sum _ c q (2 ^ u) (pow-pos u) b ∙ sym t) ∙ ofBits-toBits binary64 y (round-fits binary64 s n 1)
   where
     split : (u : ℕ) → u ≤ 52 → 52 - u + u ≡ 52

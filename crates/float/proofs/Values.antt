@@ -1,33 +1,20 @@
--- A value that a format holds is told by its sign and its size, and so is its bit pattern. Assumes nothing.
-use mathlib.Core.Path.{_≡_, refl, sym, ap, _∙_, subst}
-use Prim.Native.Nat.{ℕ, zero, suc, _+_, _-_, _*_, _/_, _%_, _^_, _<_}
-use native.Mathlib.Nat.{mul-right-comm, add-mod-left, mod-eq-of-lt}
+-- A value that a format holds is told by its sign and its size, the number without its sign, and patterns that are no NaN. Assumes nothing.
+use mathlib.Core.Path.{_≡_, sym, ap, _∙_, subst}
+use Prim.Native.Nat.{ℕ, zero, suc, _+_, _*_, _%_, _^_, _<_}
+use native.Mathlib.Nat.{add-mod-left, mod-eq-of-lt}
 use native.Mathlib.Omega.{arith}
-use mathlib.Core.Bool.{Bool, true, false, not, cond}
+use mathlib.Core.Bool.{Bool, true, false, not}
 use lib.Dec.{T}
-use lib.Ieee.{Float, nan, inf, fin, Format, prec, low, up, down, size, neg, hid, top, toBits, ofBits, nanBits, fits, isNan}
-use lib.Ieee.Fits.{down-pos, neg-fits}
+use lib.Ieee.{Float, nan, inf, fin, Format, low, neg, top, toBits, ofBits, nanBits, fits, isNan}
+use lib.Ieee.Fits.{neg-fits}
 use lib.Ieee.Bits.{ofBits-toBits, toBits-lt, nanBits-is}
 use lib.Ieee.Exact.{HasValue}
-use lib.Ieee.Nearest.{div-same}
 use Rattle.float.specs.Order.{magnitude}
+use Rattle.ieee.proofs.Pack.{toBits-val}
 
--- ---- the pattern of a value, from its size n in units of the smallest value
-pub toBits-value : (f : Format) (x : Float) (s : Bool) (a c n : ℕ) → 0 < c → HasValue x s a c → a * 2 ^ low f / c ≡ n
-    → toBits f x ≡ cond s (top f) 0 + (size n - prec f) * hid f + n / 2 ^ (size n - prec f)
-unfolding toBits
-toBits-value f nan s a c n C h g = absurd h
-toBits-value f (inf t) s a c n C h g = absurd h
-toBits-value f (fin t m e) s a c n C h g =
-    let l = 2 ^ low f in
-    let w : m * up e * l / down e ≡ n =
-    div-same (m * up e * l) (down e) (a * l) c (down-pos e) C (mul-right-comm (m * up e) l c ∙ ap (λ (z : ℕ). z * l) (h .1) ∙ mul-right-comm a (down e) l) ∙ g in
-    ap (λ (z : ℕ). cond t (top f) 0 + (size z - prec f) * hid f + z / 2 ^ (size z - prec f)) w
-    ∙ ap (λ (b : Bool). cond b (top f) 0 + (size n - prec f) * hid f + n / 2 ^ (size n - prec f)) (h .0)
-
-pub same-value : (f : Format) (x y : Float) (s : Bool) (a c : ℕ) → 0 < c → T (fits f x) → T (fits f y) → HasValue x s a c → HasValue y s a c → x ≡ y
-same-value f x y s a c C p q h k =
-    sym (ofBits-toBits f x p) ∙ ap (ofBits f) (toBits-value f x s a c _ C h refl ∙ sym (toBits-value f y s a c _ C k refl)) ∙ ofBits-toBits f y q
+-- ---- a value in units of the smallest value
+pub same-value : (f : Format) (x y : Float) (s : Bool) (a : ℕ) → T (fits f x) → T (fits f y) → HasValue x s a (2 ^ low f) → HasValue y s a (2 ^ low f) → x ≡ y
+same-value f x y s a p q h k = sym (ofBits-toBits f x p) ∙ ap (ofBits f) (toBits-val f x s a h ∙ sym (toBits-val f y s a k)) ∙ ofBits-toBits f y q
 
 -- ---- the sign cleared: the pattern without its highest place
 magnitude-fits : (f : Format) (x : Float) → T (fits f x) → T (fits f (magnitude x))
@@ -69,8 +56,6 @@ no-nan-bits f n x e h = subst (λ (t : Bool). T (not t)) (sym (nanBits-is f n �
 
 pub value-no-nan : (x : Float) (s : Bool) (a c : ℕ) → HasValue x s a c → T (not (isNan x))
 unfolding isNan
-value-no-nan nan s a c h = h
-value-no-nan (inf t) s a c h = tt
 value-no-nan (fin t m e) s a c h = tt
 
 pub magnitude-no-nan : (x : Float) → T (not (isNan x)) → T (not (isNan (magnitude x)))

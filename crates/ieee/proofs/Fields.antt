@@ -1,20 +1,24 @@
 -- A float's bits as its parts, once for both formats, and `narrowed` at a value. Assumes nothing.
 use mathlib.Core.Path.{_≡_, refl, sym, ap, _∙_, subst}
+use mathlib.Core.Logic.{inl, inr}
 use Prim.Native.Nat.{ℕ, zero, suc, _+_, _-_, _*_, _/_, _%_, _^_, _≤_, _<_, min, compare, Ordering, Ordering·lt, Ordering·eq, Ordering·gt}
-use native.Mathlib.Nat.{add-comm, add-mul-div-right, mul-add-mod-self-right, mul-assoc, mul-comm, mul-left-comm, mul-pos, lt-irrefl, mod-lt, div-lt-iff-lt-mul, zero-lt-suc}
+use native.Mathlib.Nat.{eq-or-lt-of-le, add-comm, add-mul-div-right, mul-add-mod-self-right, mul-assoc, mul-comm, suc-ne-zero, not-le-of-lt}
 use native.Mathlib.Omega.{arith}
 use mathlib.Core.Bool.{Bool, true, false, not, _&&_, Bool·beq, cond, true≢false, false≢true}
-use lib.Dec.{T, leb, eqb, eqb→eq, not-T, lit<}
+use lib.Dec.{T, leb, eqb, lit<, lit≤}
 use lib.Ieee.Nearest.{closest, closest-same}
 use lib.Pow.{pow-add, pow-pos}
 use lib.Ieee.{Float, nan, inf, fin, Format, binary32, binary64, unlike, add, mul, prec, emax, low, up, down, odd, round, hid, ones, top, nearest, ofFields, ofBits, toBits, fits, isNan, ne, lt}
 use lib.Ieee.Fits.{eq→eqb, down-pos}
-use lib.Ieee.Bits.{ofBits-toBits, cond-no}
+use lib.Ieee.Bits.{ofBits-toBits}
 use lib.Ieee.Compare.{nan-differs}
 use lib.Ieee.Exact.{HasValue, odd-sign}
 use lib.Ieee.Scale.{round-same, finite}
+use borrow.Author.Tests.{ne-eqb}
 use Rattle.ieee.specs.Narrow.{narrowed}
 use Rattle.ieee.specs.Pattern.{pattern}
+use Rattle.ieee.proofs.Pack.{le-or-lt}
+use Rattle.ieee.proofs.Sticky.{closest-lt, closest-eq, closest-gt}
 use Rattle.ieee.proofs.Steps.{float-law, doubled, top-high, pattern-lead}
 
 -- ---- the test for a NaN
@@ -79,9 +83,6 @@ pub both-true : (a b : Bool) → (a && b) ≡ true → (a ≡ true) × (b ≡ tr
 both-true true b h = (refl, h)
 both-true false b h = absurd (false≢true h)
 
-pub finite-value : (x : Float) (s : Bool) (a c : ℕ) → HasValue x s a c → finite x ≡ true
-finite-value (fin t m e) s a c h = refl
-
 -- ---- the fields
 pub as-fields : (f : Format) (x : Float) → T (fits f x) → x ≡ ofFields f (leb (top f) (toBits f x)) (toBits f x % top f / hid f) (toBits f x % hid f)
 unfolding ofBits
@@ -112,10 +113,7 @@ finite-field f x h t e =
 pub at-low : (f : Format) (s : Bool) (x t : ℕ) → x ≡ 0 → HasValue (ofFields f s x t) s (t * 2 ^ 0) (2 ^ low f)
 unfolding ofFields
 at-low f s zero t e = odd-sign (prec f) s t 0 (low f)
-at-low f s (suc x) t e = absurd (no x e)
-  where
-    no : (x : ℕ) → suc x ≡ 0 → ⊥
-    no x e = omega arith
+at-low f s (suc x) t e = absurd (suc-ne-zero x e)
 
 -- any other field
 pub at-mid : (f : Format) (s : Bool) (x t : ℕ) → (x ≡ 0 → ⊥) → (x ≡ ones f → ⊥) → HasValue (ofFields f s x t) s ((hid f + t) * 2 ^ (x - 1)) (2 ^ low f)
@@ -124,7 +122,7 @@ at-mid f s zero t z n = absurd (z refl)
 at-mid f s (suc x) t z n =
     let v = odd (prec f) s (hid f + t) x (low f) in
     subst (λ (y : Float). HasValue y s ((hid f + t) * 2 ^ (suc x - 1)) (2 ^ low f))
-    (sym (cond-no (eqb (suc x) (ones f)) (cond (eqb t 0) (inf s) nan) v (not-T (eqb (suc x) (ones f)) (λ u. n (eqb→eq (suc x) (ones f) u)))))
+    (sym (ap (λ (b : Bool). cond b (cond (eqb t 0) (inf s) nan) v) (ne-eqb (suc x) (ones f) n)))
     (subst (λ (k : ℕ). HasValue v s ((hid f + t) * 2 ^ k) (2 ^ low f)) (sym (less x)) (odd-sign (prec f) s (hid f + t) x (low f)))
   where
     less : (x : ℕ) → suc x - 1 ≡ x
@@ -140,10 +138,6 @@ narrowed-value (fin t m e) s a c C h = ap (λ (b : Bool). round binary32 b (m * 
 pub narrowed-nan : narrowed nan ≡ nan
 unfolding narrowed
 narrowed-nan = refl
-
-pub narrowed-inf : (s : Bool) → narrowed (inf s) ≡ inf s
-unfolding narrowed
-narrowed-inf s = refl
 
 -- the narrowed value of m * 2 ^ e / 2 ^ 1074, by its pattern
 pub narrowed-pattern : (x : Float) (s : Bool) (m e b : ℕ) → HasValue x s (m * 2 ^ e) (2 ^ 1074) → b ≡ pattern 24 (m * 2 ^ (e + 3171)) (2 ^ 4096)
@@ -177,6 +171,27 @@ closest-lift A x u U ev = ap (λ (q : ℕ). nearest q (compare ((A * u + x) % u 
       where
         next : (A q : ℕ) → suc (A + q) ≡ A + suc q
         next A q = omega arith
+
+-- the half less one, and one more where the quotient is odd, carry into the quotient just where it is rounded up
+pub half-even : (v : ℕ) → (v + 0xfff_ffff + v / 2 ^ 29 % 2) / 2 ^ 29 ≡ closest (2 * v + 0) (4 * 2 ^ 28)
+half-even v =
+    (elim (le-or-lt (v % 2 ^ 29 * 2) (2 ^ 29)) [
+      | inr g ↦ up v g ∙ sym (closest-gt v (2 ^ 29) g)
+      | inl g ↦ elim (eq-or-lt-of-le g) [ inl t ↦ tie v t ∙ sym (closest-eq v (2 ^ 29) t) | inr t ↦ down v t ∙ sym (closest-lt v (2 ^ 29) t) ]
+    ])
+    ∙ closest-same v (2 ^ 29) (2 * v + 0) (4 * 2 ^ 28) (lit< tt) (lit< tt) (twice v)
+  where
+    up : (v : ℕ) → 2 ^ 29 < v % 2 ^ 29 * 2 → (v + 0xfff_ffff + v / 2 ^ 29 % 2) / 2 ^ 29 ≡ suc (v / 2 ^ 29)
+    up v g = omega arith
+
+    tie : (v : ℕ) → v % 2 ^ 29 * 2 ≡ 2 ^ 29 → (v + 0xfff_ffff + v / 2 ^ 29 % 2) / 2 ^ 29 ≡ v / 2 ^ 29 + v / 2 ^ 29 % 2
+    tie v g = omega arith
+
+    down : (v : ℕ) → v % 2 ^ 29 * 2 < 2 ^ 29 → (v + 0xfff_ffff + v / 2 ^ 29 % 2) / 2 ^ 29 ≡ v / 2 ^ 29
+    down v g = omega arith
+
+    twice : (v : ℕ) → v * (4 * 2 ^ 28) ≡ (2 * v + 0) * 2 ^ 29
+    twice v = omega arith
 
 -- the pattern of (2 ^ 52 + t) * 2 ^ (k + 896) / 2 ^ 1074, of which the pattern is (k + 897) * 2 ^ 52 + t
 normal-pattern : (k t : ℕ) → k ≤ 1200 → t < 2 ^ 52 → closest (2 * (k * 2 ^ 52 + (2 ^ 52 + t)) + 0) (4 * 2 ^ 28) ≡ pattern 24 ((2 ^ 52 + t) * 2 ^ (k + 896 + 3171)) (2 ^ 4096)
@@ -221,14 +236,8 @@ narrow-finite x F N h =
 pub low-finite : (x : Float) → T (not (isNan x)) → toBits binary64 x % 2 ^ 63 < 0x3810_0000_0000_0000 → finite x ≡ true
 unfolding isNan toBits
 low-finite nan N h = absurd N
-low-finite (inf true) N h = absurd (no h)
-  where
-    no : 0x7ff0_0000_0000_0000 < 0x3810_0000_0000_0000 → ⊥
-    no h = omega arith
-low-finite (inf false) N h = absurd (no h)
-  where
-    no : 0x7ff0_0000_0000_0000 < 0x3810_0000_0000_0000 → ⊥
-    no h = omega arith
+low-finite (inf true) N h = absurd (not-le-of-lt h (lit≤ tt))
+low-finite (inf false) N h = absurd (not-le-of-lt h (lit≤ tt))
 low-finite (fin s m e) N h = refl
 
 pub narrow-normal : (x : Float) → T (fits binary64 x) → T (not (isNan x)) → 0x3810_0000_0000_0000 ≤ toBits binary64 x % 2 ^ 63

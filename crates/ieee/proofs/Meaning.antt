@@ -13,8 +13,8 @@ use lib.Ieee.{Float, nan, inf, fin, binary64, up, down, round, fits}
 use lib.Ieee.Fits.{and-l, and-r}
 use Rattle.ieee.specs.Root.{isqrt, rootOf, root, NearRoot, Rooted}
 use Rattle.ieee.proofs.Pack.{pow-le-back}
-use Rattle.ieee.proofs.Squares.{Cut, isqrt-cut, square-lt, twice, twice-ge, four}
-use Rattle.ieee.proofs.OddRoot.{Sticks, next-sq, root-below, root-above}
+use Rattle.ieee.proofs.Squares.{Cut, isqrt-cut, square-lt, twice, twice-ge, four, next-sq}
+use Rattle.ieee.proofs.OddRoot.{Sticks, root-below, root-above}
 
 -- what `rootOf` hands to `round` is the root of 4 * n, rounded to odd
 sticks : (n r : ℕ) → Cut n r → Sticks (4 * n) (twice n r)

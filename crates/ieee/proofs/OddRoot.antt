@@ -3,7 +3,7 @@
 use mathlib.Core.Path.{_≡_, sym, ap, _∙_, subst}
 use mathlib.Core.Logic.{_⊎_, inl, inr}
 use Prim.Native.Nat.{ℕ, suc, _+_, _-_, _*_, _%_, _^_, _≤_, _<_}
-use native.Mathlib.Nat.{le-refl, le-trans, le-of-eq, le-of-lt, lt-of-lt-of-le, lt-of-le-of-lt, lt-of-not-le, not-le-of-lt, mul-assoc, mul-comm, mul-left-comm, mul-right-comm, mul-pos, mul-le-mul, mul-le-mul-right, mul-lt-mul-of-pos-right, le-of-mul-le-mul-right, add-mul, mul-add, one-mul}
+use native.Mathlib.Nat.{le-refl, le-trans, le-of-eq, lt-of-lt-of-le, lt-of-le-of-lt, not-le-of-lt, mul-assoc, mul-comm, mul-left-comm, mul-right-comm, mul-pos, mul-le-mul-right, mul-lt-mul-of-pos-right, le-of-mul-le-mul-right, add-mul, one-mul, le-add-right, add-lt-add-of-lt-of-le}
 use native.Mathlib.Omega.{arith}
 use mathlib.Core.Bool.{false}
 use lib.Dec.{T}
@@ -14,22 +14,7 @@ use lib.Ieee.Scale.{round-same}
 use Rattle.ieee.proofs.Pack.{le-or-lt}
 use Rattle.ieee.specs.Words.{Sticky}
 use Rattle.ieee.proofs.Sticky.{round-sticky}
-
--- ---- squares keep the order
-pub sq-le : (x y : ℕ) → x * x ≤ y * y → x ≤ y
-sq-le x y h = elim (le-or-lt x y) [ inl l ↦ l | inr l ↦ absurd (not-le-of-lt (sq-lt y x l) h) ]
-  where
-    sq-lt : (y x : ℕ) → y < x → y * y < x * x
-    sq-lt y x l = lt-of-le-of-lt (mul-le-mul (le-refl y) (le-of-lt l)) (mul-lt-mul-of-pos-right l (pos y x l))
-      where
-        pos : (y x : ℕ) → y < x → 0 < x
-        pos y x l = omega arith
-
-pub sq-lt-back : (x y : ℕ) → x * x < y * y → x < y
-sq-lt-back x y h = lt-of-not-le (λ (l : y ≤ x). not-le-of-lt h (mul-le-mul l l))
-
-pub next-sq : (w : ℕ) → (w + 1) * (w + 1) ≡ w * w + 2 * w + 1
-next-sq w = mul-add (w + 1) w 1 ∙ ap (λ (x : ℕ). x + (w + 1) * 1) (add-mul w 1 w) ∙ omega arith
+use Rattle.ieee.proofs.Squares.{square-le, square-lt, next-sq}
 
 -- w is √n, or w is odd and √n lies between w - 1 and w + 1
 abbrev pub Sticks : ℕ → ℕ → Type 0
@@ -74,15 +59,12 @@ module _ (f : Format) (n w N D i j : ℕ) (P : 0 < D) (same : N * (2 ^ j * 2 ^ j
       go : (a * 2 ^ j ≤ w * (c * 2 ^ i)) ⊎ (w * (c * 2 ^ i) < a * 2 ^ j) → Sticks n w → T (le (round f false a c) (round f false (w * 2 ^ i) (2 ^ j)))
       go (inl l) s = mono l
       go (inr l) (inl e) =
-          absurd (not-le-of-lt l (sq-le (a * 2 ^ j) (w * (c * 2 ^ i)) (le-trans (lower a c h) (le-of-eq (ap (λ (x : ℕ). x * (c * 2 ^ i * (c * 2 ^ i))) (sym e) ∙ simp (mul-assoc, mul-left-comm))))))
+          absurd (not-le-of-lt l (square-le (a * 2 ^ j) (w * (c * 2 ^ i)) (le-trans (lower a c h) (le-of-eq (ap (λ (x : ℕ). x * (c * 2 ^ i * (c * 2 ^ i))) (sym e) ∙ simp (mul-assoc, mul-left-comm))))))
       go (inr l) (inr (o, lo, hi)) =
           let near : a * 2 ^ j < w * (c * 2 ^ i) + c * 2 ^ i =
-          sq-lt-back (a * 2 ^ j) (w * (c * 2 ^ i) + c * 2 ^ i)
+          square-lt (a * 2 ^ j) (w * (c * 2 ^ i) + c * 2 ^ i)
           (lt-of-le-of-lt (lower a c h) (lt-of-lt-of-le (mul-lt-mul-of-pos-right hi (mul-pos (mul-pos C (pow-pos i)) (mul-pos C (pow-pos i)))) (le-of-eq (next w (c * 2 ^ i))))) in
-          subst (λ (x : Float). T (le (round f false a c) x)) (sym (level a c C (inr (o, more (w * (c * 2 ^ i)) (a * 2 ^ j) (c * 2 ^ i) l, near)))) (self a c C)
-        where
-          more : (x y z : ℕ) → x < y → x < y + z
-          more x y z h = omega arith
+          subst (λ (x : Float). T (le (round f false a c) x)) (sym (level a c C (inr (o, lt-of-lt-of-le l (le-add-right (a * 2 ^ j) (c * 2 ^ i)), near)))) (self a c C)
 
   pub root-above : (a c : ℕ) → 0 < c → N * (c * c) ≤ a * a * D → T (le (round f false (w * 2 ^ i) (2 ^ j)) (round f false a c))
   root-above a c C h = go (le-or-lt (w * (c * 2 ^ i)) (a * 2 ^ j)) st
@@ -95,8 +77,8 @@ module _ (f : Format) (n w N D i j : ℕ) (P : 0 < D) (same : N * (2 ^ j * 2 ^ j
       before n w b x B o lo h =
           let u = w - 1 in
           let e : w ≡ u + 1 = pred w o in
-          let l : u * b < x = sq-lt-back (u * b) x (lt-of-lt-of-le (subst (λ (y : ℕ). y < n * (b * b)) (shuffle u b) (mul-lt-mul-of-pos-right (less-sq (u * u) u w (w * w) n e (ap (λ (y : ℕ). y * y) e ∙ next-sq u) lo) (mul-pos B B))) h) in
-          subst (λ (y : ℕ). y < x + b) (sym (ap (λ (y : ℕ). y * b) e ∙ add-mul u 1 b ∙ ap (λ (y : ℕ). u * b + y) (one-mul b))) (plus (u * b) x b l)
+          let l : u * b < x = square-lt (u * b) x (lt-of-lt-of-le (subst (λ (y : ℕ). y < n * (b * b)) (shuffle u b) (mul-lt-mul-of-pos-right (less-sq (u * u) u w (w * w) n e (ap (λ (y : ℕ). y * y) e ∙ next-sq u) lo) (mul-pos B B))) h) in
+          subst (λ (y : ℕ). y < x + b) (sym (ap (λ (y : ℕ). y * b) e ∙ add-mul u 1 b ∙ ap (λ (y : ℕ). u * b + y) (one-mul b))) (add-lt-add-of-lt-of-le l (le-refl b))
         where
           pred : (w : ℕ) → w % 2 ≡ 1 → w ≡ w - 1 + 1
           pred w o = omega arith
@@ -107,15 +89,9 @@ module _ (f : Format) (n w N D i j : ℕ) (P : 0 < D) (same : N * (2 ^ j * 2 ^ j
           less-sq : (U u w ww n : ℕ) → w ≡ u + 1 → ww ≡ U + 2 * u + 1 → ww + 1 < n + 2 * w → U < n
           less-sq U u w ww n a b c = omega arith
 
-          plus : (x y z : ℕ) → x < y → x + z < y + z
-          plus x y z h = omega arith
-
       go : (w * (c * 2 ^ i) ≤ a * 2 ^ j) ⊎ (a * 2 ^ j < w * (c * 2 ^ i)) → Sticks n w → T (le (round f false (w * 2 ^ i) (2 ^ j)) (round f false a c))
       go (inl l) s = mono l
       go (inr l) (inl e) =
-          absurd (not-le-of-lt l (sq-le (w * (c * 2 ^ i)) (a * 2 ^ j) (le-trans (le-of-eq ((simp (mul-assoc, mul-left-comm)) ∙ ap (λ (x : ℕ). x * (c * 2 ^ i * (c * 2 ^ i))) e)) (upper a c h))))
+          absurd (not-le-of-lt l (square-le (w * (c * 2 ^ i)) (a * 2 ^ j) (le-trans (le-of-eq ((simp (mul-assoc, mul-left-comm)) ∙ ap (λ (x : ℕ). x * (c * 2 ^ i * (c * 2 ^ i))) e)) (upper a c h))))
       go (inr l) (inr (o, lo, hi)) =
-          subst (λ (x : Float). T (le x (round f false a c))) (sym (level a c C (inr (o, before n w (c * 2 ^ i) (a * 2 ^ j) (mul-pos C (pow-pos i)) o lo (upper a c h), less (a * 2 ^ j) (w * (c * 2 ^ i)) (c * 2 ^ i) l)))) (self a c C)
-        where
-          less : (x y z : ℕ) → x < y → x < y + z
-          less x y z h = omega arith
+          subst (λ (x : Float). T (le x (round f false a c))) (sym (level a c C (inr (o, before n w (c * 2 ^ i) (a * 2 ^ j) (mul-pos C (pow-pos i)) o lo (upper a c h), lt-of-lt-of-le l (le-add-right (w * (c * 2 ^ i)) (c * 2 ^ i)))))) (self a c C)

@@ -1,10 +1,9 @@
--- The bit pattern of a rounded fraction. `round` drops k digits of the fraction, in units of the format's smallest value, and keeps the number q. Its pattern is
--- k * 2 ^ (prec - 1) + q, up to that of an infinity: a q that was rounded up to 2 ^ prec carries into the exponent's field, and an overflow is past the last field.
--- Stated once for both formats (`round-pattern`). Nothing here is about code. Assumes nothing.
+-- The bit pattern of a rounded fraction, once for both formats: `round` drops k digits and keeps q, and the pattern is k * 2 ^ (prec - 1) + q, up to that of an infinity.
+-- A q that was rounded up to 2 ^ prec carries into the exponent's field, and an overflow is past the last field (`round-pattern`). Assumes nothing.
 use mathlib.Core.Path.{_≡_, refl, sym, ap, _∙_, subst}
 use mathlib.Core.Logic.{_⊎_, inl, inr}
 use Prim.Native.Nat.{ℕ, suc, _+_, _-_, _*_, _/_, _%_, _^_, _≤_, _<_, compare, min}
-use native.Mathlib.Nat.{le-trans, le-of-eq, le-of-suc-le-suc, lt-of-lt-of-le, lt-of-le-of-lt, lt-of-not-le, not-le-of-lt, lt-irrefl, eq-zero-or-pos, eq-or-lt-of-le, add-assoc, add-mul, suc-mul, one-mul, mul-assoc, mul-comm, mul-le-mul-right, le-of-mul-le-mul-right, mul-div-cancel, pow-succ', div-div-eq-div-mul, le-div-iff-mul-le}
+use native.Mathlib.Nat.{le-trans, le-of-eq, le-of-suc-le-suc, lt-of-lt-of-le, lt-of-le-of-lt, lt-of-not-le, not-le-of-lt, lt-irrefl, eq-zero-or-pos, eq-or-lt-of-le, add-assoc, add-mul, suc-mul, one-mul, mul-assoc, mul-comm, mul-le-mul-right, le-of-mul-le-mul-right, mul-div-cancel, pow-succ', div-div-eq-div-mul, le-div-iff-mul-le, min-eq-left, min-eq-right, le-add-right, add-le-add, le-refl}
 use native.Mathlib.Omega.{arith}
 use mathlib.Core.Bool.{Bool, true, false, not, cond}
 use lib.Dec.{T, leb, ltb, leb→le, nleb→lt}
@@ -26,6 +25,12 @@ le-or-lt a b = go (leb a b) (leb→le a b) (nleb→lt a b)
     go : (t : Bool) → (T t → a ≤ b) → (T (not t) → b < a) → (a ≤ b) ⊎ (b < a)
     go true h k = inl (h tt)
     go false h k = inr (k tt)
+
+pub next-le : (a b : ℕ) → a < b → a + 1 ≤ b
+next-le a b h = omega arith
+
+pub before-next : (a b : ℕ) → a < b + 1 → a ≤ b
+before-next a b h = omega arith
 
 -- ---- a number's digits
 pub size-gt : (n j : ℕ) → 2 ^ j ≤ n → j < size n
@@ -50,7 +55,7 @@ kept-le p n den =
     let u = den * 2 ^ k in
     le-trans (nearest-le (n / u) (compare (n % u * 2) u)) (subst (λ (x : ℕ). x < 2 ^ p) (div-div-eq-div-mul n den (2 ^ k)) (kept-lt p (n / den)))
 
-all-in-use : (z p : ℕ) → 0 < p → 0 < z - p → p - 1 + (z - p) < z
+pub all-in-use : (z p : ℕ) → 0 < p → 0 < z - p → p - 1 + (z - p) < z
 all-in-use z p P h = omega arith
 
 pub kept-ge : (p n den : ℕ) → 0 < p → 0 < drop p n den → 2 ^ (p - 1) ≤ kept p n den
@@ -62,7 +67,7 @@ kept-ge p n den P K =
     le-trans (subst (λ (x : ℕ). 2 ^ (p - 1) ≤ x) (div-div-eq-div-mul n den (2 ^ k)) (le-div-iff-mul-le (pow-pos k) .1 a)) (nearest-ge (n / u) (compare (n % u * 2) u))
 
 -- ---- the fields of q * 2 ^ k units, for a q of p digits, or fewer where k is 0
-exactly : (z p k : ℕ) → z ≤ p + k → (k ≡ 0) ⊎ (p - 1 + k < z) → z - p ≡ k
+pub exactly : (z p k : ℕ) → z ≤ p + k → (k ≡ 0) ⊎ (p - 1 + k < z) → z - p ≡ k
 exactly z p k h (inl e) = omega arith
 exactly z p k h (inr l) = omega arith
 
@@ -88,15 +93,12 @@ digits p q k P h g = elim (eq-or-lt-of-le h) [
       ap (λ (x : ℕ). x * 2 ^ k) (e ∙ twice-hid p P ∙ mul-comm 2 H) ∙ mul-assoc H 2 (2 ^ k) ∙ ap (λ (x : ℕ). H * x) (sym (pow-succ' 2 k)) in
       ap (λ (x : ℕ). (size x - p) * H + x / 2 ^ (size x - p)) s
       ∙ fields-of p H (suc k) P (subst (λ (x : ℕ). H < x) (sym (twice-hid p P)) (grows H (pow-pos (p - 1)))) (λ _. le-of-eq refl)
-      ∙ carried k H (suc k * H) q (one-more k H) (e ∙ twice-hid p P)
+      ∙ carried k H (suc k * H) q (suc-mul k H) (e ∙ twice-hid p P)
   | inr l ↦ fields-of p q k P l g
 ]
   where
     grows : (x : ℕ) → 0 < x → x < 2 * x
     grows x h = omega arith
-
-    one-more : (k h : ℕ) → suc k * h ≡ k * h + h
-    one-more k h = suc-mul k h
 
 -- ---- where the infinity begins
 room : (p e k : ℕ) → 2 ≤ p → p ≤ suc e → (k ≡ 0) ⊎ (p - 1 + k < e + p - 2 + suc e) → k + 2 ≤ 2 * e + 1
@@ -104,10 +106,7 @@ room p e k a b (inl z) = omega arith
 room p e k a b (inr l) = omega arith
 
 pub two-more : (k h o x : ℕ) → k + 2 ≤ o → x ≤ 2 * h → k * h + x ≤ o * h
-two-more k h o x a b = le-trans (le-trans (plus (k * h) x (2 * h) b) (le-of-eq (sym (add-mul k 2 h)))) (mul-le-mul-right h a)
-  where
-    plus : (u x y : ℕ) → x ≤ y → u + x ≤ u + y
-    plus u x y l = omega arith
+two-more k h o x a b = le-trans (le-trans (add-le-add (le-refl (k * h)) b) (le-of-eq (sym (add-mul k 2 h)))) (mul-le-mul-right h a)
 
 within : (p e q k : ℕ) → 2 ≤ p → p ≤ suc e → q ≤ 2 ^ p → (0 < k → 2 ^ (p - 1) ≤ q) → q * 2 ^ k < 2 ^ (e + p - 2 + suc e) → k * 2 ^ (p - 1) + q ≤ (2 * e + 1) * 2 ^ (p - 1)
 within p e q k a b h g l =
@@ -136,28 +135,22 @@ beyond p e q k a b h g l =
     let H = 2 ^ (p - 1) in
     let far : e + p - 2 + suc e ≤ p + k = pow-le-back (e + p - 2 + suc e) (p + k) (le-trans l (le-trans (mul-le-mul-right (2 ^ k) h) (le-of-eq (sym (pow-add 2 p k))))) in
     elim (three p e k a far) [
-      | inl m ↦ le-trans (mul-le-mul-right H m) (more (k * H) q)
+      | inl m ↦ le-trans (mul-le-mul-right H m) (le-add-right (k * H) q)
       | inr r ↦ elim r [
-        | inl m ↦ le-trans (le-of-eq (ap (λ (x : ℕ). x * H) m ∙ add-mul k 1 H)) (plus (k * H) (1 * H) q (le-trans (le-of-eq (one-mul H)) (g (above e k b m))))
+        | inl m ↦ le-trans (le-of-eq (ap (λ (x : ℕ). x * H) m ∙ add-mul k 1 H)) (add-le-add (le-refl (k * H)) (le-trans (le-of-eq (one-mul H)) (g (above e k b m))))
         | inr m ↦
             le-trans (le-of-eq (ap (λ (x : ℕ). x * H) (m .0) ∙ add-mul k 2 H))
-            (plus (k * H) (2 * H) q
+            (add-le-add (le-refl (k * H))
             (le-trans (le-of-eq (sym (twice-hid p (two-le-pos p a))))
             (le-of-mul-le-mul-right (le-trans (le-of-eq (sym (pow-add 2 p k) ∙ ap (λ (x : ℕ). 2 ^ x) (sym (m .1)))) l) (pow-pos k))))
       ]
     ]
   where
-    more : (a b : ℕ) → a ≤ a + b
-    more a b = omega arith
-
-    plus : (u x y : ℕ) → x ≤ y → u + x ≤ u + y
-    plus u x y l = omega arith
-
     above : (e k : ℕ) → 1 ≤ e → 2 * e + 1 ≡ k + 1 → 0 < k
     above e k h m = omega arith
 
 -- ---- the pattern of a value, by its size in units of the smallest value
-toBits-val : (f : Format) (v : Float) (s : Bool) (a : ℕ) → HasValue v s a (2 ^ low f) → toBits f v ≡ cond s (top f) 0 + ((size a - prec f) * hid f + a / 2 ^ (size a - prec f))
+pub toBits-val : (f : Format) (v : Float) (s : Bool) (a : ℕ) → HasValue v s a (2 ^ low f) → toBits f v ≡ cond s (top f) 0 + ((size a - prec f) * hid f + a / 2 ^ (size a - prec f))
 unfolding toBits
 toBits-val f nan s a h = absurd h
 toBits-val f (inf t) s a h = absurd h
@@ -174,23 +167,21 @@ units-inf : (f : Format) (s : Bool) (q k : ℕ) → 2 ^ (low f + suc (emax f)) �
 unfolding units
 units-inf f s q k h = cond-no (ltb (q * 2 ^ k) (2 ^ (low f + suc (emax f)))) (odd (suc (prec f)) s q k (low f)) (inf s) (le→nltb (q * 2 ^ k) (2 ^ (low f + suc (emax f))) h)
 
-min-left : (a b : ℕ) → a ≤ b → min a b ≡ a
-min-left a b h = omega arith
-
-min-right : (a b : ℕ) → b ≤ a → min a b ≡ b
-min-right a b h = omega arith
-
 one-le : (p e : ℕ) → 2 ≤ p → p ≤ suc e → 1 ≤ e
 one-le p e a b = omega arith
+
+-- the pattern of q * 2 ^ k units, for a q as `digits` has it
+pub value-bits : (f : Format) (v : Float) (s : Bool) (q k : ℕ) → HasValue v s (q * 2 ^ k) (2 ^ low f) → q ≤ 2 ^ prec f → (0 < k → hid f ≤ q) → toBits f v ≡ cond s (top f) 0 + (k * hid f + q)
+value-bits f v s q k w h g = toBits-val f v s (q * 2 ^ k) w ∙ ap (λ (x : ℕ). cond s (top f) 0 + x) (digits (prec f) q k (two-le-pos (prec f) (two f)) h g)
 
 units-bits : (f : Format) (s : Bool) (q k : ℕ) → q ≤ 2 ^ prec f → (0 < k → hid f ≤ q) → toBits f (units f s q k) ≡ cond s (top f) 0 + min (k * hid f + q) (ones f * hid f)
 units-bits f s q k h g = elim (le-or-lt (2 ^ (low f + suc (emax f))) (q * 2 ^ k)) [
   | inl l ↦
       ap (toBits f) (units-inf f s q k l) ∙ toBits-inf f s
-      ∙ ap (λ (x : ℕ). cond s (top f) 0 + x) (sym (min-right (k * hid f + q) (ones f * hid f) (beyond (prec f) (emax f) q k (two f) (one-le (prec f) (emax f) (two f) (reach f)) h g l)))
+      ∙ ap (λ (x : ℕ). cond s (top f) 0 + x) (sym (min-eq-right (beyond (prec f) (emax f) q k (two f) (one-le (prec f) (emax f) (two f) (reach f)) h g l)))
   | inr l ↦
-      toBits-val f (units f s q k) s (q * 2 ^ k) (units-val f s q k l)
-      ∙ ap (λ (x : ℕ). cond s (top f) 0 + x) (digits (prec f) q k (two-le-pos (prec f) (two f)) h g ∙ sym (min-left (k * hid f + q) (ones f * hid f) (within (prec f) (emax f) q k (two f) (reach f) h g l)))
+      value-bits f (units f s q k) s q k (units-val f s q k l) h g
+      ∙ ap (λ (x : ℕ). cond s (top f) 0 + x) (sym (min-eq-left (within (prec f) (emax f) q k (two f) (reach f) h g l)))
 ]
 
 -- ---- the law: the pattern of a / c rounded to the format f

@@ -1,14 +1,13 @@
 -- What the steps of `root` give, on plain numbers. Assumes nothing.
 use mathlib.Core.Path.{_≡_, refl, sym, ap, _∙_, subst}
 use Prim.Native.Nat.{ℕ, zero, suc, _+_, _-_, _*_, _/_, _%_, _^_, _≤_, _<_, min}
-use native.Mathlib.Nat.{zero-lt-suc, le-refl, le-trans, le-of-eq, lt-of-not-le, lt-of-lt-of-le, lt-of-le-of-lt, not-le-of-lt, zero-mul, mul-pos, mul-le-mul, mul-assoc, mul-comm, mul-left-comm, mul-right-comm, mul-add, add-mul, mul-one, one-mul, add-assoc, add-comm, add-left-comm, mul-div-cancel, div-add-mod', mod-eq-of-lt}
+use native.Mathlib.Nat.{zero-lt-suc, le-refl, le-trans, le-of-eq, lt-of-not-le, zero-mul, mul-pos, mul-le-mul, mul-assoc, mul-comm, mul-left-comm, mul-right-comm, mul-add, add-mul, mul-one, one-mul, add-assoc, add-comm, add-left-comm, mul-div-cancel, div-add-mod', two-mul, suc-ne-zero, ne-of-gt, le-add-right, zero-add, min-eq-left}
 use native.Mathlib.Omega.{arith}
 use mathlib.Core.Bool.{Bool, true, false, not, _&&_, _||_, Bool·beq, cond, true≢false, false≢true}
 use borrow.Author.Tests.{ne-eqb, eq-eqb, eqb-true, ltb-true, lt-ltb}
 use lib.Dec.{T, eqb, ltb, leb, ltb→lt, nltb→le, leb→le, nleb→lt, lit≤}
 use mir.Val.{boolByte}
-use lib.Pow.{pow-add, pow-pos, pow-mono, shl-lt}
-use lib.Count.{leadingZeros, leading-top}
+use lib.Pow.{pow-add, shl-lt}
 use lib.IntN.{ℤ, pos}
 use lib.Ieee.{Float, nan, inf, fin, binary64, up, down, units, fits, ofBits, lt, eq}
 use lib.Ieee.Scale.{finite}
@@ -17,15 +16,12 @@ use lib.Ieee.Exact.{HasValue}
 use Rattle.ieee.specs.Root.{isqrt, rootOf, root}
 use Rattle.ieee.specs.Words.{NearestRoot}
 use Rattle.ieee.proofs.Fields.{both-true}
-use Rattle.ieee.proofs.Pack.{pow-lt-back, pattern-units}
-use Rattle.ieee.proofs.Squares.{nearest-root}
+use Rattle.ieee.proofs.Pack.{pattern-units, before-next}
+use Rattle.ieee.proofs.Squares.{nearest-root, next-sq}
 
 -- ---- `part`: q * q + q by digits of 26 bits
 twice : (a b : ℕ) → 2 * a * b ≡ a * b + a * b
-twice a b = mul-assoc 2 a b ∙ double (a * b)
-  where
-    double : (n : ℕ) → 2 * n ≡ n + n
-    double n = omega arith
+twice a b = mul-assoc 2 a b ∙ two-mul (a * b)
 
 square : (P a b : ℕ) → (a * P + b) * (a * P + b) ≡ a * a * (P * P) + (a * b + a * b) * P + b * b
 square P a b = simp (mul-add, add-mul, mul-assoc, mul-comm, mul-left-comm, add-assoc, add-comm, add-left-comm) refl
@@ -55,9 +51,6 @@ part-fits q h =
     let d : 2 * (q / 2 ^ 26) ≤ 2 ^ 28 = omega arith in
     (mul-le-mul b b, mul-le-mul d b, mul-le-mul a a)
 
-next : (q : ℕ) → (q + 1) * (q + 1) ≡ q * q + 2 * q + 1
-next q = mul-add (q + 1) q 1 ∙ ap (λ (x : ℕ). x + (q + 1) * 1) (add-mul q 1 q) ∙ omega arith
-
 -- ---- `bisect`: the root is between lo and hi
 pub record Between (w lo hi : ℕ) : Type 0 where
   pub order : lo < hi
@@ -77,7 +70,7 @@ upper w lo hi mid high low b l m e h = record { order = l; most = m; under = b .
 pub at-last : {w lo hi : ℕ} → Between w lo hi → hi ≤ lo + 1 → NearestRoot (w * 2 ^ 52) hi
 at-last {w} {lo} {hi} b h =
     let e : hi ≡ lo + 1 = omega arith in
-    let s : hi * hi ≡ lo * lo + 2 * lo + 1 = ap (λ (x : ℕ). x * x) e ∙ next lo in
+    let s : hi * hi ≡ lo * lo + 2 * lo + 1 = ap (λ (x : ℕ). x * x) e ∙ next-sq lo in
     record { one = omega arith; below = b .over; above = omega arith }
 
 -- ---- `near`: q, or one beside it, by d, which is q * q + q less M, moved up by 2 ^ 55
@@ -92,14 +85,14 @@ beside M q d one e lo hi = go (ltb d (2 ^ 55)) (leb (2 ^ 55 + 2 * q) d) (ltb→l
         no q d a b = omega arith
     go true false a b f g =
         let p = a tt in
-        let s = next q in
+        let s = next-sq q in
         let u : q + 1 - 0 ≡ q + 1 = omega arith in
         (omega arith, subst (λ (x : ℕ). NearestRoot M x) (sym u) (record { one = omega arith; below = omega arith; above = omega arith }))
     go false true a b f g =
         let r = f tt in
         let t = q - 1 in
         let z : q ≡ t + 1 = omega arith in
-        let s : q * q ≡ t * t + 2 * t + 1 = ap (λ (x : ℕ). x * x) z ∙ next t in
+        let s : q * q ≡ t * t + 2 * t + 1 = ap (λ (x : ℕ). x * x) z ∙ next-sq t in
         let u : q + 0 - 1 ≡ t = omega arith in
         (omega arith, subst (λ (x : ℕ). NearestRoot M x) (sym u) (record { one = omega arith; below = omega arith; above = omega arith }))
     go false false a b f g =
@@ -109,11 +102,8 @@ beside M q d one e lo hi = go (ltb d (2 ^ 55)) (leb (2 ^ 55 + 2 * q) d) (ltb→l
         (omega arith, subst (λ (x : ℕ). NearestRoot M x) (sym u) (record { one = one; below = omega arith; above = omega arith }))
 
 pub scaled-fits : (m odd : ℕ) → 2 ^ 52 ≤ m → m < 2 ^ 53 → odd < 2 → (0 < m * (1 + odd)) × (m * (1 + odd) < 2 ^ 54)
-scaled-fits m odd lo hi h = (pos m (m * (1 + odd)) lo (le-trans (le-of-eq (sym (mul-one m))) (mul-le-mul (le-refl m) (one odd))), less m (m * (1 + odd)) hi (mul-le-mul (le-refl m) (two odd h)))
+scaled-fits m odd lo hi h = (pos m (m * (1 + odd)) lo (le-trans (le-of-eq (sym (mul-one m))) (mul-le-mul (le-refl m) (le-add-right 1 odd))), less m (m * (1 + odd)) hi (mul-le-mul (le-refl m) (two odd h)))
   where
-    one : (odd : ℕ) → 1 ≤ 1 + odd
-    one odd = omega arith
-
     two : (odd : ℕ) → odd < 2 → 1 + odd ≤ 2
     two odd h = omega arith
 
@@ -135,7 +125,7 @@ shortfall w q high low e h = omega arith
 
 -- ---- `finish`
 least : (M q : ℕ) → 2 ^ 104 ≤ M → M ≤ q * q + q → 2 ^ 52 ≤ q
-least M q lo below = le-of-not (λ (g : q + 1 ≤ 2 ^ 52). no (q * q + q) q M lo below (subst (λ (x : ℕ). x ≤ (2 ^ 52 - 1) * 2 ^ 52) (mul-add q q 1 ∙ ap (λ (x : ℕ). q * q + x) (mul-one q)) (mul-le-mul (pred q g) g)))
+least M q lo below = before-next (2 ^ 52) q (lt-of-not-le (λ (g : q + 1 ≤ 2 ^ 52). no (q * q + q) q M lo below (subst (λ (x : ℕ). x ≤ (2 ^ 52 - 1) * 2 ^ 52) (mul-add q q 1 ∙ ap (λ (x : ℕ). q * q + x) (mul-one q)) (mul-le-mul (pred q g) g))))
   where
     pred : (q : ℕ) → q + 1 ≤ 2 ^ 52 → q ≤ 2 ^ 52 - 1
     pred q g = omega arith
@@ -143,15 +133,9 @@ least M q lo below = le-of-not (λ (g : q + 1 ≤ 2 ^ 52). no (q * q + q) q M lo
     no : (X q M : ℕ) → 2 ^ 104 ≤ M → M ≤ X → X ≤ (2 ^ 52 - 1) * 2 ^ 52 → ⊥
     no X q M a b c = omega arith
 
-    le-of-not : (q + 1 ≤ 2 ^ 52 → ⊥) → 2 ^ 52 ≤ q
-    le-of-not n = back q (lt-of-not-le n)
-      where
-        back : (q : ℕ) → 2 ^ 52 < q + 1 → 2 ^ 52 ≤ q
-        back q h = omega arith
-
 most-of : (M q : ℕ) → M < 2 ^ 106 → q * q < M + q → q ≤ 2 ^ 53
 most-of M q hi above =
-    back q (lt-of-not-le (λ (g : 2 ^ 53 + 1 ≤ q).
+    before-next q (2 ^ 53) (lt-of-not-le (λ (g : 2 ^ 53 + 1 ≤ q).
     let x : 2 ^ 53 * q + q ≤ q * q = le-trans (le-of-eq (sym (add-mul (2 ^ 53) 1 q ∙ ap (λ (x : ℕ). 2 ^ 53 * q + x) (one-mul q)))) (mul-le-mul g (le-refl q)) in
     no (2 ^ 53 * q) M hi (less (q * q) (2 ^ 53 * q) q M above x) (le-trans (lit≤ tt) (mul-le-mul (le-refl (2 ^ 53)) g))))
   where
@@ -160,9 +144,6 @@ most-of M q hi above =
 
     no : (Y M : ℕ) → M < 2 ^ 106 → Y < M → 2 ^ 106 ≤ Y → ⊥
     no Y M a b c = omega arith
-
-    back : (q : ℕ) → q < 2 ^ 53 + 1 → q ≤ 2 ^ 53
-    back q h = omega arith
 
 fits-root : (n : ℕ) → T (fits binary64 (rootOf n))
 unfolding rootOf
@@ -182,8 +163,8 @@ finished m e q lo hi n =
     let k = e / 2 in
     let M = m * (1 + e % 2) * 2 ^ 52 in
     let odd : e % 2 < 2 = omega arith in
-    let M-lo : 2 ^ 104 ≤ M = mul-le-mul (le-trans lo (le-trans (le-of-eq (sym (mul-one m))) (mul-le-mul (le-refl m) (ones e)))) (le-refl (2 ^ 52)) in
-    let M-hi : M < 2 ^ 106 = shl-lt 54 52 (lt-of-le-of-lt (mul-le-mul (le-refl m) (twos e)) (dbl m hi)) in
+    let M-lo : 2 ^ 104 ≤ M = mul-le-mul (le-trans lo (le-trans (le-of-eq (sym (mul-one m))) (mul-le-mul (le-refl m) (le-add-right 1 (e % 2))))) (le-refl (2 ^ 52)) in
+    let M-hi : M < 2 ^ 106 = shl-lt 54 52 (scaled-fits m (e % 2) lo hi odd .1) in
     let big : q ≤ 2 ^ 53 = most-of M q M-hi (n .above) in
     let scale : m * 2 ^ (e + 54) ≡ M * (4 * (2 ^ k * 2 ^ k)) =
     ap (λ (x : ℕ). m * 2 ^ (x + 54)) (sym (split e))
@@ -191,21 +172,9 @@ finished m e q lo hi n =
     ∙ ap (λ (x : ℕ). m * x * 2 ^ 52 * (4 * (2 ^ k * 2 ^ k))) (sym (power (e % 2) odd)) in
     let u : rootOf (m * 2 ^ (e + 54)) ≡ units binary64 false q k = ap rootOf scale ∙ nearest-root M q k (n .one) M-lo M-hi (n .below) (n .above) in (
       big,
-      λ h. ap (ofBits binary64) (held (k * 2 ^ 52 + q) (2047 * 2 ^ 52) h) ∙ pattern-units binary64 false q k big (λ _. least M q M-lo (n .below)) (subst (λ (x : Float). T (fits binary64 x)) u (fits-root (m * 2 ^ (e + 54)))) ∙ sym u,
+      λ h. ap (ofBits binary64) (sym (zero-add (min (k * 2 ^ 52 + q) (2047 * 2 ^ 52)) ∙ min-eq-left h)) ∙ pattern-units binary64 false q k big (λ _. least M q M-lo (n .below)) (subst (λ (x : Float). T (fits binary64 x)) u (fits-root (m * 2 ^ (e + 54)))) ∙ sym u,
     )
   where
-    held : (a b : ℕ) → a ≤ b → a ≡ 0 + min a b
-    held a b h = omega arith
-
-    ones : (e : ℕ) → 1 ≤ 1 + e % 2
-    ones e = omega arith
-
-    twos : (e : ℕ) → 1 + e % 2 ≤ 2
-    twos e = omega arith
-
-    dbl : (m : ℕ) → m < 2 ^ 53 → m * 2 < 2 ^ 54
-    dbl m h = omega arith
-
     split : (e : ℕ) → e % 2 + (e / 2 + e / 2) ≡ e
     split e = omega arith
 
@@ -218,24 +187,19 @@ finished m e q lo hi n =
         shuffle m o k c = simp (mul-assoc, mul-comm, mul-left-comm)
 
 -- ---- `root`, by what its argument is
-no-zero : (a b : ℕ) → a ≡ b → 0 < b → a ≡ 0 → ⊥
-no-zero a b e h z = omega arith
+pub factor-pos : (x y : ℕ) → 0 < x * y → 0 < x
+factor-pos zero y h = absurd (ne-of-gt h (zero-mul y))
+factor-pos (suc x) y h = zero-lt-suc x
 
 none : (u c : ℕ) → 0 * u * c ≡ 0
 none u c = ap (λ (x : ℕ). x * c) (zero-mul u) ∙ zero-mul c
 
 not-zero : (m : ℕ) → eqb (suc m) 0 ≡ false
-not-zero m = ne-eqb (suc m) 0 (no m)
-  where
-    no : (m : ℕ) → suc m ≡ 0 → ⊥
-    no m e = omega arith
+not-zero m = ne-eqb (suc m) 0 (suc-ne-zero m)
 
 -- the code's zero, and the two sides of a comparison with it
 abbrev nought : Float
 nought = fin false 0 (pos 0)
-
-left-zero : (e : ℤ) → 0 * 1 * down e ≡ 0
-left-zero e = zero-mul (down e)
 
 size-pos : (m : ℕ) (e : ℤ) → 0 < suc m * up e * 1
 size-pos m e = mul-pos (mul-pos (zero-lt-suc m) (up-pos e)) (zero-lt-suc 0)
@@ -244,14 +208,10 @@ size-pos m e = mul-pos (mul-pos (zero-lt-suc m) (up-pos e)) (zero-lt-suc 0)
 pub above-zero : (x : Float) (s : Bool) (a c : ℕ) → 0 < c → lt nought x ≡ true → HasValue x s a c → (s ≡ false) × (0 < a)
 unfolding lt
 above-zero (fin true m e) s a c C l h = absurd (false≢true l)
-above-zero (fin false m e) s a c C l h = (sym (h .0), pos a (m * up e * c) (down e) (h .1) (mul-pos (first (0 * 1 * down e) (m * up e) (ltb-true (0 * 1 * down e) (m * up e * 1) l)) C))
+above-zero (fin false m e) s a c C l h = (sym (h .0), factor-pos a (down e) (subst (λ (x : ℕ). 0 < x) (h .1) (mul-pos (first (0 * 1 * down e) (m * up e) (ltb-true (0 * 1 * down e) (m * up e * 1) l)) C)))
   where
     first : (x y : ℕ) → x < y * 1 → 0 < y
     first x y h = omega arith
-
-    pos : (a y d : ℕ) → y ≡ a * d → 0 < y → 0 < a
-    pos zero y d e h = absurd (no-zero y y refl h (e ∙ zero-mul d))
-    pos (suc a) y d e h = zero-lt-suc a
 
 -- above zero, and not finite
 pub root-unbounded : (x : Float) → lt nought x ≡ true → finite x ≡ false → x ≡ root x
@@ -266,7 +226,7 @@ unfolding eq root
 root-zero nan h = absurd (false≢true h)
 root-zero (inf s) h = absurd (false≢true h)
 root-zero (fin s zero e) h = refl
-root-zero (fin s (suc m) e) h = absurd (no-zero (suc m * up e * 1) (suc m * up e * 1) refl (size-pos m e) (eqb-true (suc m * up e * 1) (0 * 1 * down e) (both-true (eqb (suc m * up e * 1) (0 * 1 * down e)) (Bool·beq s false || eqb (suc m * up e * 1) 0) h .0) ∙ left-zero e))
+root-zero (fin s (suc m) e) h = absurd (ne-of-gt (size-pos m e) (eqb-true (suc m * up e * 1) (0 * 1 * down e) (both-true (eqb (suc m * up e * 1) (0 * 1 * down e)) (Bool·beq s false || eqb (suc m * up e * 1) 0) h .0) ∙ zero-mul (down e)))
 
 pub root-none : (x : Float) → lt nought x ≡ false → eq x nought ≡ false → nan ≡ root x
 unfolding lt eq root
@@ -279,17 +239,17 @@ root-none (fin s zero e) l h = absurd (true≢false (sym (whole s) ∙ h))
     nil = ap (λ (x : ℕ). x * 1) (zero-mul (up e))
 
     whole : (s : Bool) → (eqb (0 * up e * 1) (0 * 1 * down e) && (Bool·beq s false || eqb (0 * up e * 1) 0)) ≡ true
-    whole s = ap (λ (b : Bool). b && (Bool·beq s false || eqb (0 * up e * 1) 0)) (eq-eqb (0 * up e * 1) (0 * 1 * down e) (nil ∙ sym (left-zero e))) ∙ last s
+    whole s = ap (λ (b : Bool). b && (Bool·beq s false || eqb (0 * up e * 1) 0)) (eq-eqb (0 * up e * 1) (0 * 1 * down e) (nil ∙ sym (zero-mul (down e)))) ∙ last s
       where
         last : (s : Bool) → (Bool·beq s false || eqb (0 * up e * 1) 0) ≡ true
         last true = eq-eqb (0 * up e * 1) 0 nil
         last false = refl
 root-none (fin true (suc m) e) l h = sym (ap (λ (b : Bool). cond b (fin true (suc m) e) nan) (not-zero m))
-root-none (fin false (suc m) e) l h = absurd (true≢false (sym (lt-ltb (0 * 1 * down e) (suc m * up e * 1) (subst (λ (x : ℕ). x < suc m * up e * 1) (sym (left-zero e)) (size-pos m e))) ∙ l))
+root-none (fin false (suc m) e) l h = absurd (true≢false (sym (lt-ltb (0 * 1 * down e) (suc m * up e * 1) (subst (λ (x : ℕ). x < suc m * up e * 1) (sym (zero-mul (down e))) (size-pos m e))) ∙ l))
 
 pub root-positive : (x : Float) (a : ℕ) → HasValue x false a (2 ^ 1074) → 0 < a → rootOf (a * 2 ^ 1076) ≡ root x
 unfolding root
-root-positive (fin t zero e) a h A = absurd (no-zero (0 * up e * 2 ^ 1074) (a * down e) (h .1) (mul-pos A (down-pos e)) (none (up e) (2 ^ 1074)))
+root-positive (fin t zero e) a h A = absurd (ne-of-gt (mul-pos A (down-pos e)) (sym (h .1) ∙ none (up e) (2 ^ 1074)))
 root-positive (fin true (suc m) e) a h A = absurd (true≢false (h .0))
 root-positive (fin false (suc m) e) a h A =
     ap rootOf (sym (ap (λ (x : ℕ). x / down e) (split (suc m * up e) 1074 1076 ∙ ap (λ (x : ℕ). x * 2 ^ 1076) (h .1) ∙ mul-right-comm a (down e) (2 ^ 1076)) ∙ mul-div-cancel (a * 2 ^ 1076) (down-pos e)))
@@ -299,49 +259,14 @@ root-positive (fin false (suc m) e) a h A =
     split x i j = ap (λ (y : ℕ). x * y) (pow-add 2 i j) ∙ sym (mul-assoc x (2 ^ i) (2 ^ j))
 
 -- ---- a significand moved up to 53 digits
-pub record Raised (m z : ℕ) : Type 0 where
-  pub room : z ≤ 52
-  pub low : 2 ^ 52 ≤ m * 2 ^ z
-  pub high : m * 2 ^ z < 2 ^ 53
-
-pub raise : (m : ℕ) → 0 < m → m < 2 ^ 53 → (11 ≤ leadingZeros 64 m) × Raised m (leadingZeros 64 m - 11)
-raise m p d =
-    let t = leading-top 64 m p (lt-of-lt-of-le d (lit≤ tt)) in
-    let j = t .0 in
-    let z = leadingZeros 64 m in
-    let J : j < 53 = pow-lt-back j 53 (lt-of-le-of-lt (t .2) d) in (
-      eleven z j (t .1) J,
-      record {
-        room = few z j (t .1);
-        low = le-trans (le-of-eq (ap (λ (x : ℕ). 2 ^ x) (bot z j (t .1) J) ∙ pow-add 2 j (z - 11))) (mul-le-mul (t .2) (le-refl (2 ^ (z - 11))));
-        high = subst (λ (x : ℕ). m * 2 ^ (z - 11) < 2 ^ x) (all z j (t .1) J) (shl-lt (suc j) (z - 11) (t .3));
-      },
-    )
-  where
-    eleven : (z j : ℕ) → z + suc j ≡ 64 → j < 53 → 11 ≤ z
-    eleven z j a b = omega arith
-
-    few : (z j : ℕ) → z + suc j ≡ 64 → z - 11 ≤ 52
-    few z j a = omega arith
-
-    bot : (z j : ℕ) → z + suc j ≡ 64 → j < 53 → 52 ≡ j + (z - 11)
-    bot z j a b = omega arith
-
-    all : (z j : ℕ) → z + suc j ≡ 64 → j < 53 → suc j + (z - 11) ≡ 53
-    all z j a b = omega arith
-
-pub factor-pos : (x y : ℕ) → 0 < x * y → 0 < x
-factor-pos zero y h = absurd (no-zero (0 * y) (0 * y) refl h (zero-mul y))
-factor-pos (suc x) y h = zero-lt-suc x
-
 pub plain-scale : (m e : ℕ) → m * 2 ^ (e + 1022 + 54) ≡ m * 2 ^ e * 2 ^ 1076
 plain-scale m e = ap (λ (x : ℕ). m * x) (ap (λ (x : ℕ). 2 ^ x) (add-assoc e 1022 54) ∙ pow-add 2 e 1076) ∙ sym (mul-assoc m (2 ^ e) (2 ^ 1076))
 
-pub raised-scale : (m e z : ℕ) → z ≤ 52 → m * 2 ^ z * 2 ^ (e + 1022 - z + 54) ≡ m * 2 ^ e * 2 ^ 1076
+pub raised-scale : (m e z : ℕ) → z ≤ 63 → m * 2 ^ z * 2 ^ (e + 1022 - z + 54) ≡ m * 2 ^ e * 2 ^ 1076
 raised-scale m e z h =
     mul-assoc m (2 ^ z) (2 ^ (e + 1022 - z + 54))
     ∙ ap (λ (x : ℕ). m * x) (sym (pow-add 2 z (e + 1022 - z + 54)) ∙ ap (λ (x : ℕ). 2 ^ x) (whole e z h) ∙ pow-add 2 e 1076)
     ∙ sym (mul-assoc m (2 ^ e) (2 ^ 1076))
   where
-    whole : (e z : ℕ) → z ≤ 52 → z + (e + 1022 - z + 54) ≡ e + 1076
+    whole : (e z : ℕ) → z ≤ 63 → z + (e + 1022 - z + 54) ≡ e + 1076
     whole e z h = omega arith

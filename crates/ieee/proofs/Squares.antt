@@ -5,7 +5,7 @@ use Prim.Native.Nat.{ℕ, zero, suc, _+_, _-_, _*_, _/_, _%_, _^_, _≤_, _<_}
 use native.Mathlib.Nat.{le-antisymm, zero-mul, suc-mul, le-refl, le-trans, le-of-eq, le-of-lt, lt-of-le-of-lt, lt-of-lt-of-le, lt-of-not-le, not-le-of-lt, mul-le-mul, mul-mul-mul-comm, mul-assoc, mul-comm, mul-left-comm, mul-add, add-mul, mul-one, one-mul, pow-suc, mul-le-mul-right, mul-lt-mul-of-pos-right, mul-pos}
 use native.Mathlib.Omega.{arith}
 use mathlib.Core.Bool.{Bool, true, false, not, cond}
-use lib.Dec.{T, leb, eqb, leb→le, nleb→lt, eqb→eq}
+use lib.Dec.{T, leb, eqb, leb→le, nleb→lt, eqb→eq, lit≤}
 use lib.Pow.{pow-add, pow-pos}
 use lib.Ieee.{binary64, size, units}
 use lib.Ieee.Digits.{size-lt, size-le}
@@ -53,10 +53,7 @@ cut-in (suc k) n h = step n (rootIn k (n / 4)) (cut-in k (n / 4) (quarter n (4 ^
 
 two-four : (k : ℕ) → 2 ^ k ≤ 4 ^ k
 two-four zero = le-refl 1
-two-four (suc k) = le-trans (le-of-eq (pow-suc 2 k)) (le-trans (mul-le-mul (two-four k) two) (le-of-eq (sym (pow-suc 4 k))))
-  where
-    two : 2 ≤ 4
-    two = omega arith
+two-four (suc k) = le-trans (le-of-eq (pow-suc 2 k)) (le-trans (mul-le-mul (two-four k) (lit≤ tt)) (le-of-eq (sym (pow-suc 4 k))))
 
 pub isqrt-cut : (n : ℕ) → Cut n (isqrt n)
 unfolding isqrt
@@ -98,6 +95,12 @@ size-is a n lo hi = le-antisymm (size-le n (suc a) hi) (pow-lt-back a (size n) (
 -- ---- squares keep the order
 pub square-lt : (a b : ℕ) → a * a < b * b → a < b
 square-lt a b h = lt-of-not-le (λ (g : b ≤ a). not-le-of-lt h (mul-le-mul g g))
+
+pub next-sq : (w : ℕ) → (w + 1) * (w + 1) ≡ w * w + 2 * w + 1
+next-sq w = mul-add (w + 1) w 1 ∙ ap (λ (x : ℕ). x + (w + 1) * 1) (add-mul w 1 w) ∙ omega arith
+
+pub square-le : (a b : ℕ) → a * a ≤ b * b → a ≤ b
+square-le a b h = let l = square-lt a (b + 1) (omega (arith, next-sq b)) in omega arith
 
 -- ---- the number that is handed to `round`: 2 * r, and one more where r * r is not n
 abbrev pub twice : ℕ → ℕ → ℕ

@@ -1,23 +1,36 @@
--- What the steps of `cut`, `packed`, `float32` and `float64` give, on plain numbers. Assumes nothing.
+-- What the steps of `cut`, `pattern_top`, `pattern_of`, `signed32` and `signed64` give, on plain numbers. Assumes nothing.
 use mathlib.Core.Path.{_≡_, refl, sym, ap, _∙_, subst}
-use mathlib.Core.Logic.{_⊎_, inl, inr}
+use mathlib.Core.Logic.{inl, inr}
 use Prim.Native.Nat.{ℕ, zero, suc, _+_, _-_, _*_, _/_, _%_, _^_, _≤_, _<_, min, compare}
-use native.Mathlib.Nat.{le-antisymm, add-zero, le-refl, pow-succ', le-trans, le-of-eq, lt-of-lt-of-le, lt-of-le-of-lt, mul-one, one-mul, zero-mul, zero-add, mul-assoc, mul-comm, mul-left-comm, mul-right-comm, mul-pos, add-comm, mul-le-mul-right, div-div-eq-div-mul, div-add-mod', div-mul-le-self, mod-lt, mod-eq-of-lt, div-eq-of-lt, mod-le, add-mod-left, suc-mul, div-lt-iff-lt-mul, zero-lt-suc, eq-zero-or-pos}
+use native.Mathlib.Nat.{le-antisymm, add-zero, le-refl, le-trans, le-of-eq, lt-of-lt-of-le, lt-of-le-of-lt, zero-mul, zero-add, mul-assoc, mul-comm, mul-left-comm, mul-pos, add-comm, mul-le-mul-right, div-div-eq-div-mul, div-add-mod', mod-lt, mod-eq-of-lt, div-eq-of-lt, mod-le, add-mod-left, suc-mul, div-lt-iff-lt-mul, zero-lt-suc, sub-le, lt-irrefl, min-le-right, min-eq-left, sub-zero}
 use native.Mathlib.Omega.{arith}
 use mathlib.Core.Bool.{Bool, true, false, not, _||_, cond}
-use lib.Dec.{T, ltb, eqb, lt→ltb, lit<, lit≤}
+use lib.Dec.{T, ltb, eqb, lit≤}
 use mir.Val.{boolByte}
 use lib.Arith.{le→nltb, digits-div, digits-mod}
 use lib.Pow.{pow-add, pow-pos, pow-mono, shl-lt, shl-exact}
 use lib.Count.{leadingZeros, leading-top}
 use lib.Ieee.{Format, prec, low, size, round, hid, ones, top, ofBits, nanBits}
-use lib.Ieee.Bits.{nanBits-above, is-true, is-false}
+use lib.Ieee.Bits.{nanBits-above}
 use lib.Ieee.Fits.{two-le-pos, nearest-le}
 use lib.Ieee.Nearest.{closest, closest-same, div-same}
 use lib.Ieee.Order.{drop, kept}
+use borrow.Author.Tests.{lt-ltb, le-ltb}
+use native.Mathlib.Numerals.{add-one}
 use Rattle.ieee.specs.Pattern.{pattern}
-use Rattle.ieee.proofs.Pack.{le-or-lt, pattern-round, two-more, twice-hid}
+use Rattle.ieee.proofs.Pack.{le-or-lt, pattern-round, two-more, twice-hid, pow-lt-back}
 use Rattle.ieee.proofs.Sticky.{closest-lt, closest-eq, closest-gt, cut-law}
+
+-- ---- a test as a number
+pub flag-le : (b : Bool) → boolByte b ≤ 1
+flag-le true = lit≤ tt
+flag-le false = lit≤ tt
+
+pub flag-yes : (a b : ℕ) → a < b → boolByte (ltb a b) ≡ 1
+flag-yes a b h = ap boolByte (lt-ltb a b h)
+
+pub flag-no : (a b : ℕ) → b ≤ a → boolByte (ltb a b) ≡ 0
+flag-no a b h = ap boolByte (le-ltb a b h)
 
 -- ---- `cut`: half is h, and what is left of w below the quotient q is r
 module _ (w h q : ℕ) (s : Bool) (H : 0 < h) (is : q ≡ w / 2 / h) where
@@ -44,12 +57,8 @@ module _ (w h q : ℕ) (s : Bool) (H : 0 < h) (is : q ≡ w / 2 / h) where
       four x = omega arith
 
   small : 2 * (w - q * h * 2) + boolByte s < 4 * h
-  small = under (w - q * h * 2) (boolByte s) h (cut-rest .1) (flag s)
+  small = under (w - q * h * 2) (boolByte s) h (cut-rest .1) (flag-le s)
     where
-      flag : (s : Bool) → boolByte s ≤ 1
-      flag true = lit≤ tt
-      flag false = lit≤ tt
-
       under : (r b h : ℕ) → r < 2 * h → b ≤ 1 → 2 * r + b < 4 * h
       under r b h l k = omega arith
 
@@ -66,16 +75,7 @@ module _ (w h q : ℕ) (s : Bool) (H : 0 < h) (is : q ≡ w / 2 / h) where
   even e = sym (closest-eq (2 * w + boolByte s) (4 * h) (ap (λ (x : ℕ). x * 2) rem ∙ e) ∙ ap (λ (x : ℕ). x + x % 2) quo)
 
   over : 4 * h < (2 * (w - q * h * 2) + boolByte s) * 2 → q + 1 ≡ closest (2 * w + boolByte s) (4 * h)
-  over l = plus q ∙ sym (closest-gt (2 * w + boolByte s) (4 * h) (subst (λ (x : ℕ). 4 * h < x * 2) (sym rem) l) ∙ ap suc quo)
-    where
-      plus : (x : ℕ) → x + 1 ≡ suc x
-      plus x = omega arith
-
-flag-yes : (a b : ℕ) → a < b → boolByte (ltb a b) ≡ 1
-flag-yes a b h = ap boolByte (is-true (ltb a b) (lt→ltb a b h))
-
-flag-no : (a b : ℕ) → b ≤ a → boolByte (ltb a b) ≡ 0
-flag-no a b h = ap boolByte (is-false (ltb a b) (le→nltb a b h))
+  over l = add-one q ∙ sym (closest-gt (2 * w + boolByte s) (4 * h) (subst (λ (x : ℕ). 4 * h < x * 2) (sym rem) l) ∙ ap suc quo)
 
 -- o is 1 where a tie goes up
 tie : (h r o : ℕ) → 0 < h → r ≡ h → o ≤ 1 → boolByte (ltb (h - o) r) ≡ o
@@ -100,10 +100,6 @@ parity q = go (q % 2) (mod-lt q (zero-lt-suc 1))
         no : (x : ℕ) → suc (suc x) < 2 → ⊥
         no x l = omega arith
 
-pub flag-le : (b : Bool) → boolByte b ≤ 1
-flag-le true = lit≤ tt
-flag-le false = lit≤ tt
-
 pub cut-is : (w h q : ℕ) (s : Bool) → 0 < h → q ≡ w / 2 / h → q + boolByte (ltb (h - boolByte (s || eqb (q % 2) 1)) (w - q * h * 2)) ≡ closest (2 * w + boolByte s) (4 * h)
 cut-is w h q s H is =
     let r = w - q * h * 2 in
@@ -125,9 +121,6 @@ cut-is w h q s H is =
     high : (r h b : ℕ) → h < r → 4 * h < (2 * r + b) * 2
     high r h b l = omega arith
 
-    sub-le : (h o : ℕ) → h - o ≤ h
-    sub-le h o = omega arith
-
     half : (s : Bool) → q ≡ w / 2 / h → w - q * h * 2 ≡ h → q + boolByte (s || eqb (q % 2) 1) ≡ closest (2 * w + boolByte s) (4 * h)
     half true is e = over w h q true H is (past (w - q * h * 2) h e)
       where
@@ -138,25 +131,41 @@ cut-is w h q s H is =
         mid : (r h : ℕ) → r ≡ h → (2 * r + 0) * 2 ≡ 4 * h
         mid r h e = omega arith
 
--- ---- the normal form of w
-pub normal-form : (w : ℕ) → 0 < w → w < 2 ^ 64 → (leadingZeros 64 w ≤ 63) × (2 ^ 63 ≤ w * 2 ^ leadingZeros 64 w) × (w * 2 ^ leadingZeros 64 w < 2 ^ 64)
-normal-form w p h =
-    let t = leading-top 64 w p h in
+-- ---- w moved up until its leading digit is r places below the top of a word
+pub record Lead (w r y : ℕ) : Type 0 where
+  pub room : y ≤ 63
+  pub low : 2 ^ (63 - r) ≤ w * 2 ^ y
+  pub high : w * 2 ^ y < 2 ^ (64 - r)
+
+pub lead : (w r : ℕ) → 0 < w → w < 2 ^ (64 - r) → (r ≤ leadingZeros 64 w) × Lead w r (leadingZeros 64 w - r)
+lead w r p h =
+    let t = leading-top 64 w p (lt-of-lt-of-le h (pow-mono (sub-le 64 r))) in
     let j = t .0 in
-    let z = leadingZeros 64 w in (
-      small z j (t .1),
-      le-trans (le-of-eq (ap (λ (x : ℕ). 2 ^ x) (before z j (t .1)) ∙ pow-add 2 j z)) (mul-le-mul-right (2 ^ z) (t .2)),
-      subst (λ (x : ℕ). w * 2 ^ z < 2 ^ x) (after z j (t .1)) (shl-lt (suc j) z (t .3)),
+    let z = leadingZeros 64 w in
+    let y = z - r in
+    let l = pow-lt-back j (64 - r) (lt-of-le-of-lt (t .2) h) in (
+      first z r j (t .1) l,
+      record {
+        room = few z r j (t .1);
+        low = le-trans (le-of-eq (ap (λ (x : ℕ). 2 ^ x) (before z r j (t .1) l) ∙ pow-add 2 j y)) (mul-le-mul-right (2 ^ y) (t .2));
+        high = subst (λ (x : ℕ). w * 2 ^ y < 2 ^ x) (after z r j (t .1) l) (shl-lt (suc j) y (t .3));
+      },
     )
   where
-    small : (z j : ℕ) → z + suc j ≡ 64 → z ≤ 63
-    small z j e = omega arith
+    first : (z r j : ℕ) → z + suc j ≡ 64 → j < 64 - r → r ≤ z
+    first z r j e l = omega arith
 
-    before : (z j : ℕ) → z + suc j ≡ 64 → 63 ≡ j + z
-    before z j e = omega arith
+    few : (z r j : ℕ) → z + suc j ≡ 64 → z - r ≤ 63
+    few z r j e = omega arith
 
-    after : (z j : ℕ) → z + suc j ≡ 64 → suc j + z ≡ 64
-    after z j e = omega arith
+    before : (z r j : ℕ) → z + suc j ≡ 64 → j < 64 - r → 63 - r ≡ j + (z - r)
+    before z r j e l = omega arith
+
+    after : (z r j : ℕ) → z + suc j ≡ 64 → j < 64 - r → suc j + (z - r) ≡ 64 - r
+    after z r j e l = omega arith
+
+pub normal-form : (w : ℕ) → 0 < w → w < 2 ^ 64 → Lead w 0 (leadingZeros 64 w)
+normal-form w p h = rw sub-zero at (lead w 0 p h .1)
 
 -- c digits of a number of 65 digits are cut, and k units dropped
 pattern-cut : (p n t B c k : ℕ) → 0 < p → 2 ≤ c → 2 ^ 64 ≤ n → n < 2 ^ 65 → c + t ≡ B + k → 65 ≤ p + c → (0 < k → p + c ≡ 65)
@@ -172,11 +181,8 @@ pattern-cut p n t B c k P C lo hi S far near =
 
 pub pattern-zero : (p a d : ℕ) → 0 < p → 0 < d → a ≡ 0 → pattern p a d ≡ 0
 pattern-zero p a d P D e =
-    let r = cut-law p 0 d 0 2 0 P D (lit≤ tt) (inl (zero-mul (d * 1))) (pow-pos (p + 2)) (λ l. absurd (no l)) in
+    let r = cut-law p 0 d 0 2 0 P D (lit≤ tt) (inl (zero-mul (d * 1))) (pow-pos (p + 2)) (λ l. absurd (lt-irrefl 0 l)) in
     ap (λ (x : ℕ). pattern p x d) e ∙ ap (λ (x : ℕ). x * 2 ^ (p - 1) + kept p 0 d) (r .0) ∙ ap (λ (x : ℕ). 0 * 2 ^ (p - 1) + x) (r .1) ∙ ap (λ (x : ℕ). x + 0) (zero-mul (2 ^ (p - 1)))
-  where
-    no : 0 < 0 → ⊥
-    no l = omega arith
 
 closest-none : (n c : ℕ) → n < 2 ^ 65 → 66 ≤ c → closest n (2 ^ c) ≡ 0
 closest-none n c h g =
@@ -190,7 +196,7 @@ closest-none n c h g =
     less : (n m : ℕ) → n * 2 < m → n < m
     less n m l = omega arith
 
--- ---- `float32`, `float64`: the pattern is that of the rounded value
+-- ---- the pattern is that of the rounded value
 pub pattern-same : (p a b c d : ℕ) → 0 < b → 0 < d → a * d ≡ c * b → pattern p a b ≡ pattern p c d
 pattern-same p a b c d B D e =
     let k : drop p a b ≡ drop p c d = ap (λ (z : ℕ). size z - p) (div-same a b c d B D e) in
@@ -210,10 +216,7 @@ module _ (p n t : ℕ) (lo : 2 ^ 64 ≤ n) (hi : n < 2 ^ 65) (P : 2 ≤ p) (Q : 
   at c k C S far near = pattern-cut p n t 4161 c k (two-le-pos p P) C lo hi S far near
 
   at-zero : (c : ℕ) → 2 ≤ c → c + t ≡ 4161 → 65 ≤ p + c → pattern p (n * 2 ^ t) (2 ^ 4161) ≡ closest n (2 ^ c)
-  at-zero c C S far = at c 0 C S far (λ h. absurd (none h)) ∙ ap (λ (y : ℕ). y + closest n (2 ^ c)) (zero-mul (2 ^ (p - 1))) ∙ zero-add (closest n (2 ^ c))
-    where
-      none : 0 < 0 → ⊥
-      none l = omega arith
+  at-zero c C S far = at c 0 C S far (λ h. absurd (lt-irrefl 0 h)) ∙ ap (λ (y : ℕ). y + closest n (2 ^ c)) (zero-mul (2 ^ (p - 1))) ∙ zero-add (closest n (2 ^ c))
 
   -- `cut` takes two digits less for its last argument
   as-cut : (m c : ℕ) → 2 + m ≡ c → closest n (4 * 2 ^ m) ≡ closest n (2 ^ c)
@@ -280,19 +283,16 @@ made f s t m b e h = ap (λ (x : ℕ). ofBits f (cond t (top f) 0 + x)) e ∙ ap
 
 pub no-nan : (f : Format) (s : Bool) (m b : ℕ) → b ≡ min m (ones f * hid f) → T (not (nanBits f (cond s (top f) 0 + b)))
 no-nan f s m b e =
-    let h : b ≤ ones f * hid f = le-trans (le-of-eq e) (min-le m (ones f * hid f)) in
+    let h : b ≤ ones f * hid f = le-trans (le-of-eq e) (min-le-right m (ones f * hid f)) in
     subst (λ (t : Bool). T (not t)) (sym (nanBits-above f (cond s (top f) 0 + b)))
     (subst (λ (x : ℕ). T (not (ltb (ones f * hid f) x))) (sym (rest s)) (le→nltb (ones f * hid f) b h))
   where
-    min-le : (a b : ℕ) → min a b ≤ b
-    min-le a b = omega arith
-
     top-is : (h o t : ℕ) → t ≡ o * h + h → 0 < h → o * h < t
     top-is h o t e p = omega arith
 
     under : b < top f
     under =
-        lt-of-le-of-lt (le-trans (le-of-eq e) (min-le m (ones f * hid f)))
+        lt-of-le-of-lt (le-trans (le-of-eq e) (min-le-right m (ones f * hid f)))
         (top-is (hid f) (ones f) (top f) (mul-comm (hid f) (suc (ones f)) ∙ suc-mul (ones f) (hid f)) (pow-pos (prec f - 1)))
 
     rest : (s : Bool) → (cond s (top f) 0 + b) % top f ≡ b
@@ -300,7 +300,4 @@ no-nan f s m b e =
     rest false = ap (λ (x : ℕ). x % top f) (zero-add b) ∙ mod-eq-of-lt under
 
 pub plain-pattern : (f : Format) (b : ℕ) → b ≤ ones f * hid f → T (not (nanBits f b))
-plain-pattern f b h = subst (λ (x : ℕ). T (not (nanBits f x))) (zero-add b) (no-nan f false b b (held b (ones f * hid f) h))
-  where
-    held : (a b : ℕ) → a ≤ b → a ≡ min a b
-    held a b h = omega arith
+plain-pattern f b h = subst (λ (x : ℕ). T (not (nanBits f x))) (zero-add b) (no-nan f false b b (sym (min-eq-left h)))

@@ -1,10 +1,9 @@
--- Cutting a number's lowest digits off with rounding, where the number may be a fraction rounded to odd: its lowest digit is set wherever the fraction is not whole (a sticky bit).
--- With two digits or more cut, rounding such a number is rounding the fraction (`closest-sticky`). So a number of enough digits stands for the fraction in `round` (`round-sticky`).
--- Nothing here is about code, and only `round-sticky` is about floats. Assumes nothing.
+-- Cutting digits off a number that may be a fraction rounded to odd: its lowest digit, the sticky bit, is set wherever the fraction is not whole.
+-- With two digits or more cut, it is rounded as the fraction is (`closest-sticky`), so it stands for the fraction in `round` (`round-sticky`). Assumes nothing.
 use mathlib.Core.Path.{_≡_, refl, sym, ap, _∙_, subst}
 use mathlib.Core.Logic.{_⊎_, inl, inr}
 use Prim.Native.Nat.{ℕ, suc, _+_, _-_, _*_, _/_, _%_, _^_, _≤_, _<_, compare, Ordering, Ordering·lt, Ordering·eq, Ordering·gt}
-use native.Mathlib.Nat.{le-trans, le-of-eq, le-of-lt, zero-lt-suc, lt-of-lt-of-le, lt-of-le-of-lt, eq-zero-or-pos, add-mul, one-mul, mul-assoc, mul-comm, mul-left-comm, mul-pos, mul-le-mul-right, mul-lt-mul-of-pos-right, lt-of-mul-lt-mul-right, le-of-mul-le-mul-right, le-div-iff-mul-le, div-lt-iff-lt-mul, div-add-mod', mod-lt}
+use native.Mathlib.Nat.{le-trans, le-of-eq, le-of-lt, zero-lt-suc, lt-of-lt-of-le, lt-of-le-of-lt, eq-zero-or-pos, add-mul, one-mul, mul-assoc, mul-comm, mul-left-comm, mul-pos, mul-le-mul-right, mul-lt-mul-of-pos-right, lt-of-mul-lt-mul-right, le-of-mul-le-mul-right, le-div-iff-mul-le, div-lt-iff-lt-mul, div-add-mod', mod-lt, not-le-of-lt, add-assoc}
 use native.Mathlib.Omega.{arith}
 use mathlib.Core.Bool.{Bool, not}
 use lib.Dec.{T, isLe, isEq, eqb, leb→le, nleb→lt, eqb→eq, eqb-refl}
@@ -16,7 +15,7 @@ use lib.Ieee.Fits.{round-is, two, two-le-pos}
 use lib.Ieee.Nearest.{closest, closest-same}
 use lib.Ieee.Order.{drop, kept}
 use Rattle.ieee.specs.Words.{Sticky}
-use Rattle.ieee.proofs.Pack.{size-gt, pow-lt-back, le-or-lt}
+use Rattle.ieee.proofs.Pack.{size-gt, pow-lt-back, le-or-lt, exactly, all-in-use, next-le}
 
 -- ---- what `closest` is, by the remainder
 abbrev Cmp : Ordering → ℕ → ℕ → Type 0
@@ -33,10 +32,7 @@ cmp a b = go (compare a b) (leb→le a b) (nleb→lt a b) (eqb→eq a b) (λ (e 
     go Ordering·gt h k e n = k tt
 
 clash : {A : Type 0} (x y : ℕ) → x < y → y ≤ x → A
-clash x y a b = absurd (no x y a b)
-  where
-    no : (x y : ℕ) → x < y → y ≤ x → ⊥
-    no x y a b = omega arith
+clash x y a b = absurd (not-le-of-lt a b)
 
 pub closest-lt : (a b : ℕ) → a % b * 2 < b → closest a b ≡ a / b
 closest-lt a b h = go (compare (a % b * 2) b) (cmp (a % b * 2) b)
@@ -64,16 +60,7 @@ closest-gt a b h = go (compare (a % b * 2) b) (cmp (a % b * 2) b)
 
 -- ---- a fraction rounded to odd
 odd-rest : (w y r g : ℕ) → y * 4 + r ≡ w → w % 2 ≡ 1 → r < 4 * g → (r % 2 ≡ 1) × (r + 1 ≤ 4 * g) × (1 ≤ r)
-odd-rest w y r g e o h = (one w y r e o, room w y r g e o h, pos w y r e o)
-  where
-    one : (w y r : ℕ) → y * 4 + r ≡ w → w % 2 ≡ 1 → r % 2 ≡ 1
-    one w y r e o = omega arith
-
-    pos : (w y r : ℕ) → y * 4 + r ≡ w → w % 2 ≡ 1 → 1 ≤ r
-    pos w y r e o = omega arith
-
-    room : (w y r g : ℕ) → y * 4 + r ≡ w → w % 2 ≡ 1 → r < 4 * g → r + 1 ≤ 4 * g
-    room w y r g e o h = omega arith
+odd-rest w y r g e o h = (omega arith, omega arith, omega arith)
 
 sides : (r g : ℕ) → r % 2 ≡ 1 → (r + 1 ≤ 2 * g) ⊎ (2 * g + 1 ≤ r)
 sides r g o = elim (le-or-lt (r + 1) (2 * g)) [ inl h ↦ inl h | inr h ↦ inr (up r g o h) ]
@@ -142,16 +129,9 @@ closest-sticky w a b c B C (inl e) = closest-same w (2 ^ c) a (b * 2 ^ c) (pow-p
 closest-sticky w a b c B C (inr (o, lo, hi)) = ap (λ (x : ℕ). closest w x) (four c C) ∙ closest-odd w a b (2 ^ (c - 2)) B (pow-pos (c - 2)) o lo hi ∙ ap (λ (x : ℕ). closest a (b * x)) (sym (four c C))
 
 -- ---- a / d is near w * 2 ^ k / 2 ^ c, and w has p + c digits, or fewer where k is 0: k digits are dropped, and what is kept is w without c digits
-exactly : (z p k : ℕ) → z ≤ p + k → (k ≡ 0) ⊎ (p - 1 + k < z) → z - p ≡ k
-exactly z p k h (inl e) = omega arith
-exactly z p k h (inr l) = omega arith
-
 sticky-lt : (w a b n : ℕ) → Sticky w a b → 0 < b → w < n → a < n * b
 sticky-lt w a b n (inl e) B h = lt-of-le-of-lt (le-of-eq (sym e)) (mul-lt-mul-of-pos-right h B)
-sticky-lt w a b n (inr (o, lo, hi)) B h = lt-of-lt-of-le hi (le-trans (le-of-eq (ap (λ (x : ℕ). w * b + x) (sym (one-mul b)) ∙ sym (add-mul w 1 b))) (mul-le-mul-right b (next w n h)))
-  where
-    next : (w n : ℕ) → w < n → w + 1 ≤ n
-    next w n h = omega arith
+sticky-lt w a b n (inr (o, lo, hi)) B h = lt-of-lt-of-le hi (le-trans (le-of-eq (ap (λ (x : ℕ). w * b + x) (sym (one-mul b)) ∙ sym (add-mul w 1 b))) (mul-le-mul-right b (next-le w n h)))
 
 sticky-ge : (w a b n : ℕ) → Sticky w a b → 2 * n ≤ w → 2 * n * b ≤ a
 sticky-ge w a b n (inl e) h = le-trans (mul-le-mul-right b h) (le-of-eq e)
@@ -209,7 +189,7 @@ round-sticky f s w a b i j B st W =
     -- w * 2 ^ (i + l) is below 2 ^ (p + k + j)
     let hi : w * 2 ^ (i + l) < 2 ^ (p + (k + j)) =
     subst (λ (x : ℕ). x < 2 ^ (p + (k + j))) (mul-assoc w (2 ^ i) (2 ^ l) ∙ ap (λ (x : ℕ). w * x) (sym (pow-add 2 i l)))
-    (subst (λ (x : ℕ). n < x) (sym (pow-add 2 (p + k) j) ∙ ap (λ (x : ℕ). 2 ^ x) (assoc p k j))
+    (subst (λ (x : ℕ). n < x) (sym (pow-add 2 (p + k) j) ∙ ap (λ (x : ℕ). 2 ^ x) (add-assoc p k j))
     (div-lt-iff-lt-mul (pow-pos j) .0 (lt-of-lt-of-le (size-lt (n / 2 ^ j)) (pow-mono (cover (size (n / 2 ^ j)) p))))) in
     let far : suc p + (i + l) < p + (k + j) = pow-lt-back (suc p + (i + l)) (p + (k + j)) (lt-of-le-of-lt (le-trans (le-of-eq (pow-add 2 (suc p) (i + l))) (mul-le-mul-right (2 ^ (i + l)) W)) hi) in
     let C : 2 ≤ c = two-on p (i + l) k j far in
@@ -219,7 +199,7 @@ round-sticky f s w a b i j B st W =
     let w-lo : 0 < k → 2 ^ (p - 1 + c) ≤ w =
     λ K. le-of-mul-le-mul-right
     (le-trans (le-of-eq (sym (pow-add 2 (p - 1 + c) (i + l)) ∙ ap (λ (x : ℕ). 2 ^ x) (place' p (i + l) c k j sum) ∙ pow-add 2 (p - 1 + k) j))
-    (le-trans (le-div-iff-mul-le (pow-pos j) .0 (size-reaches (n / 2 ^ j) (p - 1 + k) (in-use (size (n / 2 ^ j)) p (two-le-pos p (two f)) K)))
+    (le-trans (le-div-iff-mul-le (pow-pos j) .0 (size-reaches (n / 2 ^ j) (p - 1 + k) (all-in-use (size (n / 2 ^ j)) p (two-le-pos p (two f)) K)))
     (le-of-eq (mul-assoc w (2 ^ i) (2 ^ l) ∙ ap (λ (x : ℕ). w * x) (sym (pow-add 2 i l))))))
     (pow-pos (i + l)) in
     let P = two-le-pos p (two f) in
@@ -234,14 +214,8 @@ round-sticky f s w a b i j B st W =
     ∙ ap (λ (x : ℕ). units f s (kept p (a * 2 ^ i * 2 ^ l) (b * 2 ^ j)) x) (sym (other .0))
     ∙ sym (round-is f s (a * 2 ^ i) (b * 2 ^ j))
   where
-    assoc : (p k j : ℕ) → p + k + j ≡ p + (k + j)
-    assoc p k j = omega arith
-
     cover : (z p : ℕ) → z ≤ p + (z - p)
     cover z p = omega arith
-
-    in-use : (z p : ℕ) → 0 < p → 0 < z - p → p - 1 + (z - p) < z
-    in-use z p P h = omega arith
 
     two-on : (p m k j : ℕ) → suc p + m < p + (k + j) → 2 ≤ j + k - m
     two-on p m k j h = omega arith

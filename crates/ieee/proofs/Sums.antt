@@ -2,33 +2,24 @@
 use mathlib.Core.Path.{_≡_, refl, sym, ap, _∙_, subst}
 use mathlib.Core.Logic.{_⊎_, inl, inr}
 use Prim.Native.Nat.{ℕ, zero, suc, _+_, _-_, _*_, _/_, _%_, _^_, _≤_, _<_}
-use native.Mathlib.Nat.{zero-add, zero-lt-suc, le-antisymm, le-refl, le-trans, le-of-eq, le-of-lt, lt-of-lt-of-le, lt-of-le-of-lt, lt-irrefl, zero-mul, one-mul, add-mul, mul-sub, mul-assoc, mul-comm, mul-left-comm, mul-right-comm, mul-pos, mul-le-mul-right, mul-lt-mul-of-pos-right, mul-mod-left, mul-div-cancel, div-add-mod', add-zero, lt-of-mul-lt-mul-right, eq-of-mul-eq-mul-right}
+use native.Mathlib.Nat.{zero-add, zero-lt-suc, le-antisymm, le-trans, le-of-eq, le-of-lt, lt-of-lt-of-le, lt-of-le-of-lt, one-mul, add-mul, mul-sub, mul-assoc, mul-comm, mul-left-comm, mul-pos, mul-le-mul-right, mul-lt-mul-of-pos-right, mul-mod-left, lt-of-mul-lt-mul-right, div-le-self, le-add-right, ne-of-gt, suc-ne-zero}
 use native.Mathlib.Omega.{arith}
-use mathlib.Core.Bool.{Bool, true, false, not, _&&_, _||_, Bool·beq, cond}
-use borrow.Author.Tests.{lt-ltb, le-ltb, eq-eqb, ne-eqb}
-use lib.Dec.{T, eqb, ltb, ltb→lt, nltb→le, lt→ltb, lit≤}
-use lib.Arith.{le→nltb, digits-lt}
+use mathlib.Core.Bool.{Bool, true, false, not, _&&_, _||_, Bool·beq, cond, and-true, and-false}
+use borrow.Author.Tests.{lt-ltb, le-ltb, eq-eqb, ne-eqb, ltb-true, ltb-false}
+use lib.Dec.{eqb, ltb, lit≤}
+use lib.Arith.{digits-lt}
 use lib.Pow.{pow-add, pow-pos, pow-mono, shr-lt}
 use lib.Ieee.{Format, prec, round, sum}
-use lib.Ieee.Bits.{is-true, is-false}
 use lib.Ieee.Scale.{round-same}
-use Rattle.ieee.proofs.Pack.{le-or-lt}
-use Rattle.ieee.specs.Words.{wide, Sticky, stuck, jammed, sumSize, sumSign, Addable}
+use Rattle.ieee.proofs.Pack.{le-or-lt, next-le}
+use Rattle.ieee.specs.Words.{wide, Sticky, jammed, sumSize, sumSign, Addable}
 use Rattle.ieee.proofs.Sticky.{round-sticky}
-use Rattle.ieee.proofs.Words.{zero-or, none-left, some-left, jammed-sticks}
+use Rattle.ieee.proofs.Words.{zero-or, none-left, some-left, jammed-sticks, jammed-exact, whole-back}
 
 pub sub-mul : (a b c : ℕ) → (a - b) * c ≡ a * c - b * c
 sub-mul a b c = mul-comm (a - b) c ∙ mul-sub c a b ∙ ap (λ (x : ℕ). x - c * b) (mul-comm c a) ∙ ap (λ (x : ℕ). a * c - x) (mul-comm c b)
 
 -- ---- `sum`, by its cases
-and-true : (s : Bool) → (s && true) ≡ s
-and-true true = refl
-and-true false = refl
-
-and-false : (s : Bool) → (s && false) ≡ false
-and-false true = refl
-and-false false = refl
-
 -- `sign`, with no branch
 pub sign-flat : (s t u z : Bool) → ((u && t) || ((not u && s) && (not z || Bool·beq s t))) ≡ cond (Bool·beq s t) s (cond u t (s && not z))
 sign-flat true true true z = refl
@@ -49,11 +40,8 @@ sign-is s t a b hi lo e = go (Bool·beq s t) (ltb a b) refl e
     zero-wide : (hi lo : ℕ) → (eqb hi 0 && eqb lo 0) ≡ eqb (wide hi lo) 0
     zero-wide zero zero = refl
     zero-wide zero (suc l) = ap (λ (x : ℕ). eqb x 0) (sym (zero-add (suc l)))
-    zero-wide (suc h) lo = ap (λ (x : Bool). x && eqb lo 0) (ne-eqb (suc h) 0 (no (suc h) (zero-lt-suc h))) ∙ sym (ne-eqb (wide (suc h) lo) 0 (no (wide (suc h) lo) (more (suc h * 2 ^ 64) lo (mul-pos (zero-lt-suc h) (pow-pos 64)))))
+    zero-wide (suc h) lo = ap (λ (x : Bool). x && eqb lo 0) (ne-eqb (suc h) 0 (suc-ne-zero h)) ∙ sym (ne-eqb (wide (suc h) lo) 0 (ne-of-gt (more (suc h * 2 ^ 64) lo (mul-pos (zero-lt-suc h) (pow-pos 64)))))
       where
-        no : (x : ℕ) → 0 < x → x ≡ 0 → ⊥
-        no x p e = omega arith
-
         more : (x y : ℕ) → 0 < x → 0 < x + y
         more x y p = omega arith
 
@@ -81,27 +69,21 @@ unfolding sum
 apart f s t a b c e = ap (λ (x : Bool). cond x (round f s (a + b) c) (cond (ltb a b) (round f t (b - a) c) (round f (s && ltb b a) (a - b) c))) e
 
 pub sum-less : (f : Format) (s t : Bool) (a b c : ℕ) → Bool·beq s t ≡ false → a < b → sum f s a t b c ≡ round f t (b - a) c
-sum-less f s t a b c e h = apart f s t a b c e ∙ ap (λ (x : Bool). cond x (round f t (b - a) c) (round f (s && ltb b a) (a - b) c)) (is-true (ltb a b) (lt→ltb a b h))
+sum-less f s t a b c e h = apart f s t a b c e ∙ ap (λ (x : Bool). cond x (round f t (b - a) c) (round f (s && ltb b a) (a - b) c)) (lt-ltb a b h)
 
 pub sum-more : (f : Format) (s t : Bool) (a b c : ℕ) → Bool·beq s t ≡ false → b < a → sum f s a t b c ≡ round f s (a - b) c
 sum-more f s t a b c e h =
     apart f s t a b c e
-    ∙ ap (λ (x : Bool). cond x (round f t (b - a) c) (round f (s && ltb b a) (a - b) c)) (is-false (ltb a b) (le→nltb a b (le-of-lt h)))
-    ∙ ap (λ (x : Bool). round f (s && x) (a - b) c) (is-true (ltb b a) (lt→ltb b a h))
+    ∙ ap (λ (x : Bool). cond x (round f t (b - a) c) (round f (s && ltb b a) (a - b) c)) (le-ltb a b (le-of-lt h))
+    ∙ ap (λ (x : Bool). round f (s && x) (a - b) c) (lt-ltb b a h)
     ∙ ap (λ (x : Bool). round f x (a - b) c) (and-true s)
 
 pub sum-level : (f : Format) (s t : Bool) (a b c : ℕ) → Bool·beq s t ≡ false → a ≡ b → sum f s a t b c ≡ round f false (a - b) c
 sum-level f s t a b c e h =
     apart f s t a b c e
-    ∙ ap (λ (x : Bool). cond x (round f t (b - a) c) (round f (s && ltb b a) (a - b) c)) (is-false (ltb a b) (le→nltb a b (le-of-eq (sym h))))
-    ∙ ap (λ (x : Bool). round f (s && x) (a - b) c) (is-false (ltb b a) (le→nltb b a (le-of-eq h)))
+    ∙ ap (λ (x : Bool). cond x (round f t (b - a) c) (round f (s && ltb b a) (a - b) c)) (le-ltb a b (le-of-eq (sym h)))
+    ∙ ap (λ (x : Bool). round f (s && x) (a - b) c) (le-ltb b a (le-of-eq h))
     ∙ ap (λ (x : Bool). round f x (a - b) c) (and-false s)
-
-pub test-lt : (r : Bool) (a b : ℕ) → r ≡ true → r ≡ ltb a b → a < b
-test-lt r a b e f = ltb→lt a b (subst T (sym (sym f ∙ e)) tt)
-
-pub test-ge : (r : Bool) (a b : ℕ) → r ≡ false → r ≡ ltb a b → b ≤ a
-test-ge r a b e f = nltb→le a b (subst (λ (x : Bool). T (not x)) (sym (sym f ∙ e)) tt)
 
 -- ---- A, and a J that is B / m, or sticks to it below the digits that count
 module _ (f : Format) (A B J m t j : ℕ) (M : 0 < m) (ad : (J * m ≡ B) ⊎ ((A % 2 ≡ 0) × Sticky J B m × (J + 2 ^ suc (prec f) ≤ A))) where
@@ -109,7 +91,7 @@ module _ (f : Format) (A B J m t j : ℕ) (M : 0 < m) (ad : (J * m ≡ B) ⊎ ((
   exactly : (s : Bool) (w a : ℕ) → w * m ≡ a → round f s (w * 2 ^ t) (2 ^ j) ≡ round f s (a * 2 ^ t) (m * 2 ^ j)
   exactly s w a e =
       round-same f s (w * 2 ^ t) (2 ^ j) (a * 2 ^ t) (m * 2 ^ j) (pow-pos j) (mul-pos M (pow-pos j))
-      ((simp (mul-assoc, mul-comm, mul-left-comm)) ∙ ap (λ (x : ℕ). x * (2 ^ t * 2 ^ j)) e ∙ (simp (mul-assoc, mul-comm, mul-left-comm)))
+      ((simp (mul-assoc, mul-comm, mul-left-comm)) ∙ ap (λ (x : ℕ). x * (2 ^ t * 2 ^ j)) e ∙ simp mul-assoc)
 
   like : (s u : Bool) → Bool·beq s u ≡ true → round f s ((A + J) * 2 ^ t) (2 ^ j) ≡ sum f s (A * m * 2 ^ t) u (B * 2 ^ t) (m * 2 ^ j)
   like s u q =
@@ -170,9 +152,6 @@ module _ (f : Format) (A B J m t j : ℕ) (M : 0 < m) (ad : (J * m ≡ B) ⊎ ((
       ∙ ap (λ (y : ℕ). round f s y (m * 2 ^ j)) (sub-mul (A * m) B (2 ^ t))
       ∙ sym (sum-more f s u (A * m * 2 ^ t) (B * 2 ^ t) (m * 2 ^ j) q (mul-lt-mul-of-pos-right (d .1) (pow-pos t)))
     where
-      next : (A J : ℕ) → J < A → J + 1 ≤ A
-      next A J h = omega arith
-
       odd : (A J : ℕ) → A % 2 ≡ 0 → J % 2 ≡ 1 → J < A → (A - J) % 2 ≡ 1
       odd A J a b h = omega arith
 
@@ -192,7 +171,7 @@ module _ (f : Format) (A B J m t j : ℕ) (M : 0 < m) (ad : (J * m ≡ B) ⊎ ((
       go (inl e) = whole e
       go (inr (ev, inl e, g)) = whole e
       go (inr (ev, inr (o, lo, hi), g)) =
-          let under : B < A * m = lt-of-lt-of-le hi (le-trans (le-of-eq (ap (λ (x : ℕ). J * m + x) (sym (one-mul m)) ∙ sym (add-mul J 1 m))) (mul-le-mul-right m (next A J l))) in
+          let under : B < A * m = lt-of-lt-of-le hi (le-trans (le-of-eq (ap (λ (x : ℕ). J * m + x) (sym (one-mul m)) ∙ sym (add-mul J 1 m))) (mul-le-mul-right m (next-le J A l))) in
           let jm : J * m < A * m = mul-lt-mul-of-pos-right l M in (
             round-sticky f s (A - J) (A * m - B) m t j M
                 (inr (
@@ -210,24 +189,21 @@ module _ (f : Format) (A B J m t j : ℕ) (M : 0 < m) (ad : (J * m ≡ B) ⊎ ((
       go : (x y z : Bool) → Bool·beq s u ≡ x → ltb A J ≡ y → ltb J A ≡ z
           → round f (cond x s (cond y u (s && z))) (cond x (A + J) (cond y (J - A) (A - J)) * 2 ^ t) (2 ^ j) ≡ sum f s (A * m * 2 ^ t) u (B * 2 ^ t) (m * 2 ^ j)
       go true y z q h k = like s u q
-      go false true z q h k = less s u q (test-lt true A J refl (sym h))
-      go false false true q h k = ap (λ (b : Bool). round f b ((A - J) * 2 ^ t) (2 ^ j)) (and-true s) ∙ more s u q (test-lt true J A refl (sym k))
+      go false true z q h k = less s u q (ltb-true A J h)
+      go false false true q h k = ap (λ (b : Bool). round f b ((A - J) * 2 ^ t) (2 ^ j)) (and-true s) ∙ more s u q (ltb-true J A k)
       go false false false q h k =
-          ap (λ (b : Bool). round f b ((A - J) * 2 ^ t) (2 ^ j)) (and-false s) ∙ level s u q (le-antisymm (test-ge false J A refl (sym k)) (test-ge false A J refl (sym h)))
+          ap (λ (b : Bool). round f b ((A - J) * 2 ^ t) (2 ^ j)) (and-false s) ∙ level s u q (le-antisymm (ltb-false J A k) (ltb-false A J h))
 
 -- ---- a term cut to the scale of a higher one may be added to it
 exact-low : (B d : ℕ) → B % 1024 ≡ 0 → d ≤ 10 → B % 2 ^ d ≡ 0
 exact-low B d h l =
     let p : 2 ^ (10 - d) * 2 ^ d ≡ 1024 = sym (pow-add 2 (10 - d) d) ∙ ap (λ (x : ℕ). 2 ^ x) (back d l) in
     let y = B / 1024 in
-    ap (λ (x : ℕ). x % 2 ^ d) (sym (div-add-mod' B 1024) ∙ ap (λ (x : ℕ). y * 1024 + x) h ∙ add-zero (y * 1024) ∙ ap (λ (x : ℕ). y * x) (sym p) ∙ sym (mul-assoc y (2 ^ (10 - d)) (2 ^ d)))
+    ap (λ (x : ℕ). x % 2 ^ d) (sym (whole-back B 1024 h) ∙ ap (λ (x : ℕ). y * x) (sym p) ∙ sym (mul-assoc y (2 ^ (10 - d)) (2 ^ d)))
     ∙ mul-mod-left (y * 2 ^ (10 - d)) (2 ^ d)
   where
     back : (d : ℕ) → d ≤ 10 → 10 - d + d ≡ 10
     back d h = omega arith
-
-jammed-exact : (v m : ℕ) → v % m ≡ 0 → jammed v m * m ≡ v
-jammed-exact v m z = ap (λ (x : ℕ). x * m) (none-left (v / m) (v % m) z) ∙ sym (add-zero (v / m * m)) ∙ ap (λ (x : ℕ). v / m * m + x) (sym z) ∙ div-add-mod' v m
 
 jammed-le : (v m : ℕ) → jammed v m ≤ v / m + 1
 jammed-le v m = elim (zero-or (v % m)) [ inl z ↦ le-trans (le-of-eq (none-left (v / m) (v % m) z)) (up (v / m)) | inr n ↦ le-trans (le-of-eq (some-left (v / m) (v % m) n)) (one (v / m)) ]
@@ -246,8 +222,8 @@ addable ah al bh bl d long even small low zeros = elim (le-or-lt d 10) [
       inr (
         even-wide ah al even,
         jammed-sticks (wide bh bl) (2 ^ d) (pow-pos d),
-        le-trans (raise (2 ^ 54) (le-trans (jammed-le (wide bh bl) (2 ^ d)) (next (wide bh bl / 2 ^ d) (2 ^ 115) q)))
-            (le-trans (lit≤ tt) (le-trans (mul-le-mul-right (2 ^ 64) long) (plus (ah * 2 ^ 64) al))),
+        le-trans (raise (2 ^ 54) (le-trans (jammed-le (wide bh bl) (2 ^ d)) (next-le (wide bh bl / 2 ^ d) (2 ^ 115) q)))
+            (le-trans (lit≤ tt) (le-trans (mul-le-mul-right (2 ^ 64) long) (le-add-right (ah * 2 ^ 64) al))),
       )
 ]
   where
@@ -260,12 +236,6 @@ addable ah al bh bl d long even small low zeros = elim (le-or-lt d 10) [
     far : (d : ℕ) → 10 < d → 62 + 64 ≤ 115 + d
     far d h = omega arith
 
-    next : (q p : ℕ) → q < p → q + 1 ≤ p
-    next q p h = omega arith
-
-    plus : (a b : ℕ) → a ≤ a + b
-    plus a b = omega arith
-
     even-wide : (x l : ℕ) → l % 2 ≡ 0 → wide x l % 2 ≡ 0
     even-wide x l h = omega arith
 
@@ -273,13 +243,10 @@ addable ah al bh bl d long even small low zeros = elim (le-or-lt d 10) [
 pub high-word : (bh bl d jh jl : ℕ) → bh < 2 ^ 62 → bl < 2 ^ 64 → wide jh jl ≡ jammed (wide bh bl) (2 ^ d) → jh < 2 ^ 63
 high-word bh bl d jh jl a b e =
     lt-of-mul-lt-mul-right (2 ^ 64)
-    (lt-of-le-of-lt (plus (jh * 2 ^ 64) jl)
+    (lt-of-le-of-lt (le-add-right (jh * 2 ^ 64) jl)
     (lt-of-le-of-lt (le-of-eq e)
     (lt-of-le-of-lt (jammed-le (wide bh bl) (2 ^ d))
-    (lt-of-lt-of-le (next (wide bh bl / 2 ^ d) (2 ^ 62 * 2 ^ 64) (lt-of-le-of-lt (native.Mathlib.Nat.div-le-self (wide bh bl) (2 ^ d)) (digits-lt a b))) (lit≤ tt)))))
+    (lt-of-lt-of-le (next (wide bh bl / 2 ^ d) (2 ^ 62 * 2 ^ 64) (lt-of-le-of-lt (div-le-self (wide bh bl) (2 ^ d)) (digits-lt a b))) (lit≤ tt)))))
   where
-    plus : (a b : ℕ) → a ≤ a + b
-    plus a b = omega arith
-
     next : (q p : ℕ) → q < p → q + 1 < p + 1
     next q p h = omega arith

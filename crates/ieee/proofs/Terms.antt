@@ -1,23 +1,25 @@
--- The two sides of `fma` as two-word numbers, and `sum` at equal fractions. Assumes nothing.
+-- The two sides of `mul_add` as two-word numbers, and `sum` at equal fractions. Assumes nothing.
 use mathlib.Core.Path.{_≡_, refl, sym, ap, _∙_, subst}
 use mathlib.Core.Logic.{_⊎_, inl, inr}
 use Prim.Native.Nat.{ℕ, zero, suc, _+_, _-_, _*_, _/_, _%_, _^_, _≤_, _<_}
-use native.Mathlib.Nat.{le-refl, le-trans, le-of-eq, le-of-lt, lt-of-lt-of-le, lt-of-le-of-lt, lt-of-not-le, not-le-of-lt, zero-mul, one-mul, add-mul, mul-one, mul-assoc, mul-comm, mul-left-comm, mul-right-comm, mul-pos, mul-le-mul, mul-le-mul-right, mul-lt-mul-of-pos-right, mul-mod-left, mod-eq-of-lt, lt-of-mul-lt-mul-right, eq-of-mul-eq-mul-right, add-zero, zero-add, add-comm}
+use native.Mathlib.Nat.{le-trans, le-of-eq, lt-of-lt-of-le, lt-of-not-le, not-le-of-lt, zero-mul, one-mul, add-mul, mul-one, mul-assoc, mul-comm, mul-left-comm, mul-right-comm, mul-pos, mul-le-mul, mul-lt-mul-of-pos-right, mul-mod-left, mod-eq-of-lt, lt-of-mul-lt-mul-right, eq-of-mul-eq-mul-right, add-zero, add-comm, mul-mul-mul-comm, suc-ne-zero, pos-of-ne-zero, le-antisymm, sub-add-cancel, le-of-suc-le-suc}
 use native.Mathlib.Omega.{arith}
-use mathlib.Core.Bool.{Bool, true, false, not, _&&_, _||_, Bool·beq, true≢false, false≢true}
+use mathlib.Core.Bool.{Bool, true, false, _&&_, _||_, Bool·beq, true≢false, false≢true}
 use lib.Dec.{eqb, lit≤}
 use borrow.Author.Tests.{eqb-true, eqb-false, ne-eqb}
 use lib.Arith.{digits-lt}
-use lib.Pow.{pow-add, pow-pos, pow-mono, shl-lt}
-use lib.Count.{leadingZeros, leading-top}
+use lib.Pow.{pow-add, pow-pos, pow-mono}
+use lib.Count.{leadingZeros}
 use lib.Ieee.{Float, nan, inf, fin, Format, binary64, up, down, unlike, round, sum, add, mul}
 use lib.Ieee.Fits.{down-pos}
 use lib.Ieee.Scale.{round-same, finite}
 use lib.Ieee.Exact.{HasValue}
-use Rattle.ieee.proofs.Pack.{le-or-lt, pow-lt-back}
+use Rattle.ieee.proofs.Pack.{le-or-lt}
 use Rattle.ieee.specs.Fused.{fused}
 use Rattle.ieee.specs.Words.{wide, Placed}
 use Rattle.ieee.proofs.Sums.{sub-mul, sum-like, sum-less, sum-more, sum-level}
+use Rattle.ieee.proofs.Words.{product-high}
+use Rattle.ieee.proofs.Steps.{Lead, lead}
 
 -- ---- `sum` sees only its fractions, and its sides may change places
 beq-is : (s t : Bool) → (Bool·beq s t ≡ true) ⊎ (Bool·beq s t ≡ false)
@@ -40,10 +42,7 @@ beq-swap false true b e = e
 beq-swap false false b e = e
 
 lt-or : (a b : ℕ) → (a < b) ⊎ ((b < a) ⊎ (a ≡ b))
-lt-or a b = elim (le-or-lt b a) [ inr l ↦ inl l | inl l ↦ elim (le-or-lt a b) [ inr g ↦ inr (inl g) | inl g ↦ inr (inr (same a b l g)) ] ]
-  where
-    same : (a b : ℕ) → b ≤ a → a ≤ b → a ≡ b
-    same a b h k = omega arith
+lt-or a b = elim (le-or-lt b a) [ inr l ↦ inl l | inl l ↦ elim (le-or-lt a b) [ inr g ↦ inr (inl g) | inl g ↦ inr (inr (le-antisymm g l)) ] ]
 
 scaled-lt : (a b c a' b' c' : ℕ) → 0 < c' → a * c' ≡ a' * c → b * c' ≡ b' * c → a < b → a' < b'
 scaled-lt a b c a' b' c' C e f l = lt-of-mul-lt-mul-right c (subst (λ (x : ℕ). x < b' * c) e (subst (λ (x : ℕ). a * c' < x) f (mul-lt-mul-of-pos-right l C)))
@@ -104,65 +103,25 @@ sum-exact f s u A B X Y t j a b =
 -- ---- a factor 0, or none
 pub factors-zero : (m n : ℕ) → (eqb m 0 || eqb n 0) ≡ true → m * n ≡ 0
 factors-zero zero n h = zero-mul n
-factors-zero (suc m) n h = ap (λ (x : ℕ). suc m * x) (eqb-true n 0 (sym (ap (λ (b : Bool). b || eqb n 0) (ne-eqb (suc m) 0 (no m))) ∙ h)) ∙ mul-comm (suc m) 0 ∙ zero-mul (suc m)
-  where
-    no : (m : ℕ) → suc m ≡ 0 → ⊥
-    no m e = omega arith
+factors-zero (suc m) n h = ap (λ (x : ℕ). suc m * x) (eqb-true n 0 (sym (ap (λ (b : Bool). b || eqb n 0) (ne-eqb (suc m) 0 (suc-ne-zero m))) ∙ h)) ∙ mul-comm (suc m) 0 ∙ zero-mul (suc m)
 
 pub factors-some : (m n : ℕ) → (eqb m 0 || eqb n 0) ≡ false → (0 < m) × (0 < n)
 factors-some m n h = go (eqb m 0) (eqb n 0) refl refl h
   where
-    pos : (m : ℕ) → (m ≡ 0 → ⊥) → 0 < m
-    pos m n = omega arith
-
     go : (a b : Bool) → eqb m 0 ≡ a → eqb n 0 ≡ b → (a || b) ≡ false → (0 < m) × (0 < n)
     go true b e f h = absurd (true≢false h)
     go false true e f h = absurd (true≢false h)
-    go false false e f h = (pos m (eqb-false m 0 e), pos n (eqb-false n 0 f))
+    go false false e f h = (pos-of-ne-zero (eqb-false m 0 e), pos-of-ne-zero (eqb-false n 0 f))
 
--- ---- a significand shifted up to r places below the top of a word
-pub record Normal (m r y : ℕ) : Type 0 where
-  pub room : y ≤ 63
-  pub low : 2 ^ (63 - r) ≤ m * 2 ^ y
-  pub high : m * 2 ^ y < 2 ^ (64 - r)
-  pub ends : m * 2 ^ y % 32 ≡ 0
-
-pub normal : (m r : ℕ) → 0 < m → m < 2 ^ 53 → r ≤ 2 → (r ≤ leadingZeros 64 m) × Normal m r (leadingZeros 64 m - r)
+-- ---- a significand shifted up to r places below the top of a word ends in zeros
+pub normal : (m r : ℕ) → 0 < m → m < 2 ^ 53 → r ≤ 2 → (r ≤ leadingZeros 64 m) × Lead m r (leadingZeros 64 m - r) × (5 ≤ leadingZeros 64 m - r)
 normal m r p d R =
-    let t = leading-top 64 m p (wider m d) in
-    let j = t .0 in
-    let z = leadingZeros 64 m in
-    let y = z - r in
-    let J : j < 53 = pow-lt-back j 53 (lt-of-le-of-lt (t .2) d) in (
-      one z r j (t .1) J R,
-      record {
-        room = few z r j (t .1);
-        low = le-trans (le-of-eq (ap (λ (x : ℕ). 2 ^ x) (bot z r j (t .1) J R) ∙ pow-add 2 j y)) (mul-le-mul-right (2 ^ y) (t .2));
-        high = subst (λ (x : ℕ). m * 2 ^ y < 2 ^ x) (all z r j (t .1) J R) (shl-lt (suc j) y (t .3));
-        ends = ap (λ (x : ℕ). x % 32) (ap (λ (x : ℕ). m * x) (ap (λ (x : ℕ). 2 ^ x) (five z r j (t .1) J R) ∙ pow-add 2 (y - 5) 5) ∙ sym (mul-assoc m (2 ^ (y - 5)) 32)) ∙ mul-mod-left (m * 2 ^ (y - 5)) 32;
-      },
-    )
-  where
-    wider : (s : ℕ) → s < 2 ^ 53 → s < 2 ^ 64
-    wider s h = omega arith
-
-    one : (z r j : ℕ) → z + suc j ≡ 64 → j < 53 → r ≤ 2 → r ≤ z
-    one z r j a b c = omega arith
-
-    few : (z r j : ℕ) → z + suc j ≡ 64 → z - r ≤ 63
-    few z r j a = omega arith
-
-    bot : (z r j : ℕ) → z + suc j ≡ 64 → j < 53 → r ≤ 2 → 63 - r ≡ j + (z - r)
-    bot z r j a b c = omega arith
-
-    all : (z r j : ℕ) → z + suc j ≡ 64 → j < 53 → r ≤ 2 → suc j + (z - r) ≡ 64 - r
-    all z r j a b c = omega arith
-
-    five : (z r j : ℕ) → z + suc j ≡ 64 → j < 53 → r ≤ 2 → z - r ≡ z - r - 5 + 5
-    five z r j a b c = omega arith
+    let room : 53 ≤ 64 - r = omega arith in
+    let n = lead m r p (lt-of-lt-of-le d (pow-mono room)) in
+    (n .0, n .1, omega (arith, lead m 11 p d .0))
 
 -- ---- `addend_term`
-pub addend : (m g y : ℕ) → Normal m 2 y → g ≤ 2045 → Placed m (g + 4096) (m * 2 ^ y % 2 ^ 64) 0 (g + 4032 - y)
+pub addend : (m g y : ℕ) → Lead m 2 y → g ≤ 2045 → Placed m (g + 4096) (m * 2 ^ y % 2 ^ 64) 0 (g + 4032 - y)
 addend m g y n G =
     let e : m * 2 ^ y % 2 ^ 64 ≡ m * 2 ^ y = mod-eq-of-lt (lt-of-lt-of-le (n .high) (lit≤ tt)) in
     record {
@@ -184,18 +143,18 @@ addend m g y n G =
     most g y h = omega arith
 
 -- ---- `product_term`
-pub product-placed : (m n e y z hi lo : ℕ) → Normal m 1 y → Normal n 1 z → e ≤ 4090 → lo < 2 ^ 64 → wide hi lo ≡ m * 2 ^ y % 2 ^ 64 * (n * 2 ^ z % 2 ^ 64) → Placed (m * n) (e + 3022) hi lo (e + 3022 - y - z)
-product-placed m n e y z hi lo a b E L w =
+pub product-placed : (m n e y z hi lo : ℕ) → Lead m 1 y → Lead n 1 z → 5 ≤ y → 5 ≤ z → e ≤ 4090 → lo < 2 ^ 64 → wide hi lo ≡ m * 2 ^ y % 2 ^ 64 * (n * 2 ^ z % 2 ^ 64) → Placed (m * n) (e + 3022) hi lo (e + 3022 - y - z)
+product-placed m n e y z hi lo a b Y Z E L w =
     let p : wide hi lo ≡ m * 2 ^ y * (n * 2 ^ z) =
     w ∙ ap (λ (x : ℕ). x * (n * 2 ^ z % 2 ^ 64)) (mod-eq-of-lt (lt-of-lt-of-le (a .high) (lit≤ tt))) ∙ ap (λ (x : ℕ). m * 2 ^ y * x) (mod-eq-of-lt (lt-of-lt-of-le (b .high) (lit≤ tt))) in
     record {
       value =
-          ap (λ (x : ℕ). x * 2 ^ (e + 3022 - y - z)) (p ∙ native.Mathlib.Nat.mul-mul-mul-comm m (2 ^ y) n (2 ^ z) ∙ ap (λ (x : ℕ). m * n * x) (sym (pow-add 2 y z)))
+          ap (λ (x : ℕ). x * 2 ^ (e + 3022 - y - z)) (p ∙ mul-mul-mul-comm m (2 ^ y) n (2 ^ z) ∙ ap (λ (x : ℕ). m * n * x) (sym (pow-add 2 y z)))
           ∙ mul-assoc (m * n) (2 ^ (y + z)) (2 ^ (e + 3022 - y - z))
           ∙ ap (λ (x : ℕ). m * n * x) (sym (pow-add 2 (y + z) (e + 3022 - y - z)) ∙ ap (λ (x : ℕ). 2 ^ x) (whole e y z (a .room) (b .room)));
-      long = lt-back hi (lt-of-not-le (λ (l : suc hi ≤ 2 ^ 60). not-le-of-lt (digits-lt l L) (le-trans (lit≤ tt) (le-trans (mul-le-mul (a .low) (b .low)) (le-of-eq (sym p))))));
-      short = lt-of-mul-lt-mul-right (2 ^ 64) (lt-of-le-of-lt (plus (hi * 2 ^ 64) lo) (lt-of-le-of-lt (le-of-eq p) (lt-of-lt-of-le (both (m * 2 ^ y) (n * 2 ^ z) (2 ^ 63) (2 ^ 63) (a .high) (b .high) (pow-pos 63)) (lit≤ tt))));
-      zeros = ends hi lo (ap (λ (x : ℕ). x % 1024) p ∙ thousand (m * 2 ^ y) (n * 2 ^ z) (a .ends) (b .ends));
+      long = le-of-suc-le-suc (lt-of-not-le (λ (l : suc hi ≤ 2 ^ 60). not-le-of-lt (digits-lt l L) (le-trans (lit≤ tt) (le-trans (mul-le-mul (a .low) (b .low)) (le-of-eq (sym p))))));
+      short = product-high (m * 2 ^ y) (n * 2 ^ z) hi lo (a .high) (b .high) p;
+      zeros = ends hi lo (ap (λ (x : ℕ). x % 1024) p ∙ thousand (m * 2 ^ y) (n * 2 ^ z) (five m y Y) (five n z Z));
       scale = most e y z E;
     }
   where
@@ -205,21 +164,15 @@ product-placed m n e y z hi lo a b E L w =
     most : (e y z : ℕ) → e ≤ 4090 → e + 3022 - y - z ≤ 7900
     most e y z h = omega arith
 
-    lt-back : (h : ℕ) → 2 ^ 60 < suc h → 2 ^ 60 ≤ h
-    lt-back h l = omega arith
-
-    plus : (a b : ℕ) → a ≤ a + b
-    plus a b = omega arith
-
-    both : (x y X Y : ℕ) → x < X → y < Y → 0 < Y → x * y < X * Y
-    both x y X Y h k p = lt-of-le-of-lt (mul-le-mul (le-refl x) (le-of-lt k)) (mul-lt-mul-of-pos-right h p)
+    five : (m y : ℕ) → 5 ≤ y → m * 2 ^ y % 32 ≡ 0
+    five m y h = ap (λ (x : ℕ). x % 32) (ap (λ (x : ℕ). m * x) (ap (λ (x : ℕ). 2 ^ x) (sym (sub-add-cancel h)) ∙ pow-add 2 (y - 5) 5) ∙ sym (mul-assoc m (2 ^ (y - 5)) 32)) ∙ mul-mod-left (m * 2 ^ (y - 5)) 32
 
     ends : (x l : ℕ) → (x * 2 ^ 64 + l) % 1024 ≡ 0 → l % 1024 ≡ 0
     ends x l h = omega arith
 
     thousand : (x y : ℕ) → x % 32 ≡ 0 → y % 32 ≡ 0 → x * y % 1024 ≡ 0
     thousand x y h k =
-        ap (λ (u : ℕ). u % 1024) (ap (λ (u : ℕ). u * y) (tw x h) ∙ ap (λ (u : ℕ). x / 32 * 32 * u) (tw y k) ∙ native.Mathlib.Nat.mul-mul-mul-comm (x / 32) 32 (y / 32) 32)
+        ap (λ (u : ℕ). u % 1024) (ap (λ (u : ℕ). u * y) (tw x h) ∙ ap (λ (u : ℕ). x / 32 * 32 * u) (tw y k) ∙ mul-mul-mul-comm (x / 32) 32 (y / 32) 32)
         ∙ mul-mod-left (x / 32 * (y / 32)) 1024
       where
         tw : (x : ℕ) → x % 32 ≡ 0 → x ≡ x / 32 * 32
@@ -264,9 +217,9 @@ fused-finite (fin s' m p) (fin t' n q) (fin u' l o) s t u a b k c e g j hx hy hz
     ∙ ap (λ (v : Bool). sum binary64 (unlike s t) (X * Y * O) v (Z * (P * Q)) (P * Q * O)) (hz .0)
     ∙ sum-same binary64 (unlike s t) u (X * Y * O) (Z * (P * Q)) (P * Q * O) e g j D J
     (eq-of-mul-eq-mul-right (c * c) (mul-pos C C) (X * Y * O * j) (e * (P * Q * O))
-    (go1 X Y O j c ∙ ap (λ (v : ℕ). v * (Y * c) * (O * j)) (hx .1) ∙ ap (λ (v : ℕ). a * P * v * (O * j)) (hy .1) ∙ go2 a P b Q O j ∙ ap (λ (v : ℕ). v * (P * Q * O)) (sym E) ∙ go3 e c (P * Q * O)))
+    (go1 X Y O j c ∙ ap (λ (v : ℕ). v * (Y * c) * (O * j)) (hx .1) ∙ ap (λ (v : ℕ). a * P * v * (O * j)) (hy .1) ∙ go2 a P b Q O j ∙ ap (λ (v : ℕ). v * (P * Q * O)) (sym E) ∙ mul-right-comm e (c * c) (P * Q * O)))
     (eq-of-mul-eq-mul-right c C (Z * (P * Q) * j) (g * (P * Q * O))
-    (go4 Z (P * Q) j c ∙ ap (λ (v : ℕ). v * (P * Q * j)) (hz .1) ∙ go5 k O (P * Q) j ∙ ap (λ (v : ℕ). v * (P * Q * O)) (sym G) ∙ mul-right-comm g c (P * Q * O)))
+    (go3 Z (P * Q) j c ∙ ap (λ (v : ℕ). v * (P * Q * j)) (hz .1) ∙ go4 k O (P * Q) j ∙ ap (λ (v : ℕ). v * (P * Q * O)) (sym G) ∙ mul-right-comm g c (P * Q * O)))
     )
   where
     go1 : (X Y O j c : ℕ) → X * Y * O * j * (c * c) ≡ X * c * (Y * c) * (O * j)
@@ -275,23 +228,20 @@ fused-finite (fin s' m p) (fin t' n q) (fin u' l o) s t u a b k c e g j hx hy hz
     go2 : (a P b Q O j : ℕ) → a * P * (b * Q) * (O * j) ≡ a * b * j * (P * Q * O)
     go2 a P b Q O j = simp (mul-assoc, mul-comm, mul-left-comm)
 
-    go3 : (e c R : ℕ) → e * (c * c) * R ≡ e * R * (c * c)
-    go3 e c R = mul-right-comm e (c * c) R
+    go3 : (Z R j c : ℕ) → Z * R * j * c ≡ Z * c * (R * j)
+    go3 Z R j c = simp (mul-assoc, mul-comm, mul-left-comm)
 
-    go4 : (Z R j c : ℕ) → Z * R * j * c ≡ Z * c * (R * j)
-    go4 Z R j c = simp (mul-assoc, mul-comm, mul-left-comm)
+    go4 : (k O R j : ℕ) → k * O * (R * j) ≡ k * j * (R * O)
+    go4 k O R j = simp (mul-assoc, mul-comm, mul-left-comm)
 
-    go5 : (k O R j : ℕ) → k * O * (R * j) ≡ k * j * (R * O)
-    go5 k O R j = simp (mul-assoc, mul-comm, mul-left-comm)
-
--- ---- the scales of `fma`
+-- ---- the scales of `mul_add`
 pub scale-product : (m n d e x y z : ℕ) → x + (y + y) ≡ z → m * n * 2 ^ (d + e + x) * (2 ^ y * 2 ^ y) ≡ m * 2 ^ d * (n * 2 ^ e) * 2 ^ z
 scale-product m n d e x y z h =
     ap (λ (u : ℕ). m * n * 2 ^ (d + e + x) * u) (sym (pow-add 2 y y))
     ∙ mul-assoc (m * n) (2 ^ (d + e + x)) (2 ^ (y + y))
     ∙ ap (λ (u : ℕ). m * n * u) (sym (pow-add 2 (d + e + x) (y + y)) ∙ ap (λ (u : ℕ). 2 ^ u) (at d e x y z h) ∙ pow-add 2 (d + e) z ∙ ap (λ (u : ℕ). u * 2 ^ z) (pow-add 2 d e))
     ∙ sym (mul-assoc (m * n) (2 ^ d * 2 ^ e) (2 ^ z))
-    ∙ ap (λ (u : ℕ). u * 2 ^ z) (native.Mathlib.Nat.mul-mul-mul-comm m n (2 ^ d) (2 ^ e))
+    ∙ ap (λ (u : ℕ). u * 2 ^ z) (mul-mul-mul-comm m n (2 ^ d) (2 ^ e))
   where
     at : (d e x y z : ℕ) → x + (y + y) ≡ z → d + e + x + (y + y) ≡ d + e + z
     at d e x y z h = omega arith

@@ -1,37 +1,39 @@
 -- Two-word numbers and the sticky bit, on plain numbers. Assumes nothing.
 use mathlib.Core.Path.{_≡_, refl, sym, ap, _∙_, subst}
 use mathlib.Core.Logic.{_⊎_, inl, inr}
-use Prim.Native.Nat.{ℕ, zero, suc, zero-le, _+_, _-_, _*_, _/_, _%_, _^_, _≤_, _<_}
-use native.Mathlib.Nat.{le-antisymm, le-refl, add-le-add, lt-of-mul-lt-mul-right, le-trans, le-of-eq, le-of-lt, lt-of-lt-of-le, lt-of-le-of-lt, zero-lt-suc, zero-mul, zero-add, add-zero, add-assoc, add-comm, one-mul, mul-one, add-mul, mul-add, mul-assoc, mul-comm, mul-left-comm, mul-right-comm, mul-pos, mul-le-mul, mul-le-mul-right, mul-lt-mul-of-pos-right, mul-div-cancel, mul-mod-left, add-mul-div-right, add-mul-mod-self-right, mul-add-mod-self-right, div-one, mod-one, mod-lt, mod-eq-of-lt, div-eq-of-lt, div-div-eq-div-mul, div-add-mod', eq-zero-or-pos, le-div-iff-mul-le}
+use Prim.Native.Nat.{ℕ, suc, zero-le, _+_, _-_, _*_, _/_, _%_, _^_, _≤_, _<_, suc-le-suc}
+use native.Mathlib.Nat.{le-refl, add-le-add, lt-of-mul-lt-mul-right, le-trans, le-of-eq, le-of-lt, lt-of-lt-of-le, lt-of-le-of-lt, zero-lt-suc, zero-mul, zero-add, add-zero, add-assoc, add-comm, one-mul, mul-one, add-mul, mul-add, mul-assoc, mul-comm, mul-right-comm, mul-pos, mul-le-mul, mul-le-mul-right, mul-lt-mul-of-pos-right, mul-div-cancel, mul-mod-left, add-mul-div-right, mul-add-mod-self-right, div-one, mod-one, mod-lt, mod-eq-of-lt, div-eq-of-lt, div-div-eq-div-mul, div-add-mod', eq-zero-or-pos, mul-mul-mul-comm, suc-mul, ne-of-gt, pos-of-ne-zero, le-add-right}
 use native.Mathlib.Omega.{arith}
-use mathlib.Core.Bool.{Bool, true, false, not, _&&_, _||_, cond}
+use mathlib.Core.Bool.{Bool, true, false, not, cond}
 use borrow.Author.Tests.{lt-ltb, le-ltb, ne-eqb, eq-eqb}
-use lib.Dec.{T, T-not, ltb, eqb, eqb→eq, not-T, lit<, lit≤, lt→ltb, ltb→lt, nltb→le}
+use lib.Dec.{T, ltb, eqb, lit<, lit≤, ltb→lt, nltb→le}
 use mir.Val.{boolByte}
 use lib.Ieee.Nearest.{div-same}
-use lib.Arith.{le→nltb, digits-lt, digits-div, mod-mul}
-use lib.Pow.{pow-add, pow-pos, pow-mono, shr-lt, shl-exact}
+use lib.Arith.{digits-lt, digits-div, mod-mul, digits-mod}
+use lib.Pow.{pow-add, pow-pos, pow-mono, shr-lt, pow-lt}
 use lib.Count.{leadingZeros, leading-top}
 use lib.Ieee.{Format, prec, round}
 use lib.Ieee.Scale.{round-same}
-use lib.Ieee.Fits.{eq→eqb}
-use lib.Ieee.Bits.{is-true, is-false}
-use Rattle.ieee.proofs.Pack.{le-or-lt}
+use Rattle.ieee.proofs.Pack.{le-or-lt, before-next}
 use Rattle.ieee.specs.Words.{wide, Sticky, stuck, jammed}
 use Rattle.ieee.proofs.Sticky.{round-sticky}
+use Rattle.ieee.proofs.Steps.{flag-yes, flag-no, normal-form}
 
 -- ---- the sticky bit
 pub none-left : (q r : ℕ) → r ≡ 0 → stuck q r ≡ q
-none-left q r e = ap (λ (b : Bool). q + cond b 0 (1 - q % 2)) (is-true (eqb r 0) (eq→eqb e)) ∙ add-zero q
+none-left q r e = ap (λ (b : Bool). q + cond b 0 (1 - q % 2)) (eq-eqb r 0 e) ∙ add-zero q
 
 pub some-left : (q r : ℕ) → (r ≡ 0 → ⊥) → stuck q r ≡ q + (1 - q % 2)
-some-left q r n = ap (λ (b : Bool). q + cond b 0 (1 - q % 2)) (is-false (eqb r 0) (not-T (eqb r 0) (λ t. n (eqb→eq r 0 t))))
+some-left q r n = ap (λ (b : Bool). q + cond b 0 (1 - q % 2)) (ne-eqb r 0 n)
 
 pub zero-or : (r : ℕ) → (r ≡ 0) ⊎ (r ≡ 0 → ⊥)
-zero-or r = elim (eq-zero-or-pos r) [ inl z ↦ inl z | inr p ↦ inr (λ e. no r p e) ]
-  where
-    no : (r : ℕ) → 0 < r → r ≡ 0 → ⊥
-    no r p e = omega arith
+zero-or r = elim (eq-zero-or-pos r) [ inl z ↦ inl z | inr p ↦ inr (ne-of-gt p) ]
+
+none-first : (r s : ℕ) → r + s ≡ 0 → r ≡ 0
+none-first r s e = omega arith
+
+none-second : (r s : ℕ) → r + s ≡ 0 → s ≡ 0
+none-second r s e = omega arith
 
 -- only whether anything is left counts
 pub stuck-same : (q r s : ℕ) → (r ≡ 0 → s ≡ 0) → (s ≡ 0 → r ≡ 0) → stuck q r ≡ stuck q s
@@ -39,22 +41,16 @@ stuck-same q r s f g = elim (zero-or r) [ inl z ↦ none-left q r z ∙ sym (non
 
 pub stuck-twice : (q r s : ℕ) → stuck (stuck q r) s ≡ stuck q (r + s)
 stuck-twice q r s = elim (zero-or r) [
-  | inl z ↦ ap (λ (x : ℕ). stuck x s) (none-left q r z) ∙ stuck-same q s (r + s) (λ e. both r s z e) (λ e. right r s e)
+  | inl z ↦ ap (λ (x : ℕ). stuck x s) (none-left q r z) ∙ stuck-same q s (r + s) (both r s z) (none-second r s)
   | inr n ↦
       let odd = q + (1 - q % 2) in
       ap (λ (x : ℕ). stuck x s) (some-left q r n)
       ∙ (elim (zero-or s) [ inl e ↦ none-left odd s e | inr m ↦ some-left odd s m ∙ still q ])
-      ∙ sym (some-left q (r + s) (λ e. n (left r s e)))
+      ∙ sym (some-left q (r + s) (λ e. n (none-first r s e)))
 ]
   where
     both : (r s : ℕ) → r ≡ 0 → s ≡ 0 → r + s ≡ 0
     both r s a b = omega arith
-
-    left : (r s : ℕ) → r + s ≡ 0 → r ≡ 0
-    left r s e = omega arith
-
-    right : (r s : ℕ) → r + s ≡ 0 → s ≡ 0
-    right r s e = omega arith
 
     still : (q : ℕ) → q + (1 - q % 2) + (1 - (q + (1 - q % 2)) % 2) ≡ q + (1 - q % 2)
     still q = omega arith
@@ -68,10 +64,17 @@ pub stick-fits : (q : ℕ) (b : Bool) → q < 2 ^ 64 → ((1 - q % 2) * boolByte
 stick-fits q true h = (omega arith, omega arith)
 stick-fits q false h = (omega arith, omega arith)
 
+-- nothing is cut off
+pub whole-back : (v m : ℕ) → v % m ≡ 0 → v / m * m ≡ v
+whole-back v m z = sym (add-zero (v / m * m)) ∙ ap (λ (x : ℕ). v / m * m + x) (sym z) ∙ div-add-mod' v m
+
+pub jammed-exact : (v m : ℕ) → v % m ≡ 0 → jammed v m * m ≡ v
+jammed-exact v m z = ap (λ (x : ℕ). x * m) (none-left (v / m) (v % m) z) ∙ whole-back v m z
+
 -- a cut number with its sticky bit sticks
 pub jammed-sticks : (v m : ℕ) → 0 < m → Sticky (jammed v m) v m
 jammed-sticks v m M = elim (zero-or (v % m)) [
-  | inl z ↦ inl (ap (λ (x : ℕ). x * m) (none-left (v / m) (v % m) z) ∙ sym (add-zero (v / m * m)) ∙ ap (λ (x : ℕ). v / m * m + x) (sym z) ∙ div-add-mod' v m)
+  | inl z ↦ inl (jammed-exact v m z)
   | inr n ↦
       let o = over (v / m) (v % m) (div-add-mod' v m) n (mod-lt v M) in
       subst (λ (w : ℕ). Sticky w v m) (sym (some-left (v / m) (v % m) n)) (inr (odd (v / m), o .0, o .1))
@@ -90,84 +93,57 @@ jammed-sticks v m M = elim (zero-or (v % m)) [
         on : (q : ℕ) → (q % 2 ≡ 0 → ⊥) → q + (1 - q % 2) ≡ q
         on q e = omega arith
 
-    pos : (r : ℕ) → (r ≡ 0 → ⊥) → 0 < r
-    pos r h = omega arith
-
     lo : (a r v m : ℕ) → a + r ≡ v → 0 < r → r < m → (a < v + m) × (v < a + m)
-    lo a r v m e p h = (one a r v m e p h, two a r v m e p h)
-      where
-        one : (a r v m : ℕ) → a + r ≡ v → 0 < r → r < m → a < v + m
-        one a r v m e p h = omega arith
-
-        two : (a r v m : ℕ) → a + r ≡ v → 0 < r → r < m → v < a + m
-        two a r v m e p h = omega arith
+    lo a r v m e p h = (omega arith, omega arith)
 
     hi : (a b r v m : ℕ) → a + r ≡ v → b ≡ a + m → 0 < r → r < m → (b < v + m) × (v < b + m)
-    hi a b r v m e f p h = (one a b r v m e f p h, two a b r v m e f p h)
-      where
-        one : (a b r v m : ℕ) → a + r ≡ v → b ≡ a + m → 0 < r → r < m → b < v + m
-        one a b r v m e f p h = omega arith
-
-        two : (a b r v m : ℕ) → a + r ≡ v → b ≡ a + m → 0 < r → r < m → v < b + m
-        two a b r v m e f p h = omega arith
+    hi a b r v m e f p h = (omega arith, omega arith)
 
     over : (q r : ℕ) → q * m + r ≡ v → (r ≡ 0 → ⊥) → r < m → ((q + (1 - q % 2)) * m < v + m) × (v < (q + (1 - q % 2)) * m + m)
     over q r e n h = elim (which q) [
-      | inl w ↦ subst (λ (x : ℕ). (x * m < v + m) × (v < x * m + m)) (sym w) (lo (q * m) r v m e (pos r n) h)
-      | inr w ↦ subst (λ (x : ℕ). (x * m < v + m) × (v < x * m + m)) (sym w) (hi (q * m) ((q + 1) * m) r v m e (add-mul q 1 m ∙ ap (λ (x : ℕ). q * m + x) (one-mul m)) (pos r n) h)
+      | inl w ↦ subst (λ (x : ℕ). (x * m < v + m) × (v < x * m + m)) (sym w) (lo (q * m) r v m e (pos-of-ne-zero n) h)
+      | inr w ↦ subst (λ (x : ℕ). (x * m < v + m) × (v < x * m + m)) (sym w) (hi (q * m) ((q + 1) * m) r v m e (add-mul q 1 m ∙ ap (λ (x : ℕ). q * m + x) (one-mul m)) (pos-of-ne-zero n) h)
     ]
 
 -- ---- `jam`
 pub jam-none : (v k : ℕ) → k ≡ 0 → v ≡ jammed v (2 ^ k)
 jam-none v k e = sym (ap (λ (x : ℕ). jammed v (2 ^ x)) e ∙ none-left (v / 1) (v % 1) (mod-one v) ∙ div-one v)
 
-wide-lt : (hi lo : ℕ) → hi < 2 ^ 64 → lo < 2 ^ 64 → wide hi lo < 2 ^ 128
-wide-lt hi lo a b = digits-lt a b
-
 same-zero : (hi lo M : ℕ) → 0 < M → (hi + lo ≡ 0 → hi * M + lo ≡ 0) × (hi * M + lo ≡ 0 → hi + lo ≡ 0)
 same-zero hi lo M P = (
-  λ e. ap (λ (x : ℕ). x * M + lo) (left hi lo e) ∙ ap (λ (x : ℕ). x + lo) (zero-mul M) ∙ zero-add lo ∙ right hi lo e,
+  λ e. ap (λ (x : ℕ). x * M + lo) (none-first hi lo e) ∙ ap (λ (x : ℕ). x + lo) (zero-mul M) ∙ zero-add lo ∙ none-second hi lo e,
   λ e. elim (eq-zero-or-pos hi) [
-    | inl z ↦ ap (λ (x : ℕ). x + lo) z ∙ zero-add lo ∙ right (hi * M) lo e
+    | inl z ↦ ap (λ (x : ℕ). x + lo) z ∙ zero-add lo ∙ none-second (hi * M) lo e
     | inr p ↦ absurd (no (hi * M) lo (mul-pos p P) e)
   ],
 )
   where
-    left : (r s : ℕ) → r + s ≡ 0 → r ≡ 0
-    left r s e = omega arith
-
-    right : (r s : ℕ) → r + s ≡ 0 → s ≡ 0
-    right r s e = omega arith
-
     no : (r s : ℕ) → 0 < r → r + s ≡ 0 → ⊥
     no r s p e = omega arith
-
-wide-zero : (s : ℕ) → wide 0 s ≡ s
-wide-zero s = zero-add s
 
 pub jam-all : (hi lo k s t : ℕ) → hi < 2 ^ 64 → lo < 2 ^ 64 → 128 ≤ k → s ≡ stuck 0 hi → t ≡ stuck s lo → wide 0 t ≡ jammed (wide hi lo) (2 ^ k)
 jam-all hi lo k s t a b h e f =
     let v = wide hi lo in
-    let l : v < 2 ^ k = lt-of-lt-of-le (wide-lt hi lo a b) (pow-mono h) in
+    let l : v < 2 ^ k = lt-of-lt-of-le (digits-lt a b) (pow-mono h) in
     let z = same-zero hi lo (2 ^ 64) (pow-pos 64) in
-    wide-zero t ∙ f ∙ ap (λ (x : ℕ). stuck x lo) e ∙ stuck-twice 0 hi lo
+    zero-add t ∙ f ∙ ap (λ (x : ℕ). stuck x lo) e ∙ stuck-twice 0 hi lo
     ∙ stuck-same 0 (hi + lo) v (z .0) (z .1)
     ∙ sym (ap (λ (x : ℕ). stuck x (v % 2 ^ k)) (div-eq-of-lt l) ∙ ap (λ (x : ℕ). stuck 0 x) (mod-eq-of-lt l))
 
 pub one-shifted : (n : ℕ) → n < 64 → 1 * 2 ^ n % 2 ^ 64 ≡ 2 ^ n
-one-shifted n h = ap (λ (x : ℕ). x % 2 ^ 64) (one-mul (2 ^ n)) ∙ mod-eq-of-lt (lib.Pow.pow-lt h)
+one-shifted n h = ap (λ (x : ℕ). x % 2 ^ 64) (one-mul (2 ^ n)) ∙ mod-eq-of-lt (pow-lt h)
 
 pub jam-high : (hi lo n k s t : ℕ) → hi < 2 ^ 64 → lo < 2 ^ 64 → k ≡ n + 64 → s ≡ stuck (hi / 2 ^ n) (hi % 2 ^ n) → t ≡ stuck s lo → wide 0 t ≡ jammed (wide hi lo) (2 ^ k)
 jam-high hi lo n k s t a b h e f =
     let v = wide hi lo in
     let p : 2 ^ k ≡ 2 ^ n * 2 ^ 64 = ap (λ (x : ℕ). 2 ^ x) h ∙ pow-add 2 n 64 in
     let top : v / 2 ^ 64 ≡ hi = digits-div hi b in
-    let bot : v % 2 ^ 64 ≡ lo = lib.Arith.digits-mod hi b in
+    let bot : v % 2 ^ 64 ≡ lo = digits-mod hi b in
     let quo : v / 2 ^ k ≡ hi / 2 ^ n = ap (λ (x : ℕ). v / x) (p ∙ mul-comm (2 ^ n) (2 ^ 64)) ∙ sym (div-div-eq-div-mul v (2 ^ 64) (2 ^ n)) ∙ ap (λ (x : ℕ). x / 2 ^ n) top in
     let rem : v % 2 ^ k ≡ hi % 2 ^ n * 2 ^ 64 + lo =
     ap (λ (x : ℕ). v % x) p ∙ mod-mul v (pow-pos n) (pow-pos 64) ∙ ap (λ (x : ℕ). x % 2 ^ n * 2 ^ 64 + v % 2 ^ 64) top ∙ ap (λ (x : ℕ). hi % 2 ^ n * 2 ^ 64 + x) bot in
     let z = same-zero (hi % 2 ^ n) lo (2 ^ 64) (pow-pos 64) in
-    wide-zero t ∙ f ∙ ap (λ (x : ℕ). stuck x lo) e ∙ stuck-twice (hi / 2 ^ n) (hi % 2 ^ n) lo
+    zero-add t ∙ f ∙ ap (λ (x : ℕ). stuck x lo) e ∙ stuck-twice (hi / 2 ^ n) (hi % 2 ^ n) lo
     ∙ stuck-same (hi / 2 ^ n) (hi % 2 ^ n + lo) (hi % 2 ^ n * 2 ^ 64 + lo) (z .0) (z .1)
     ∙ sym (ap (λ (x : ℕ). stuck x (v % 2 ^ k)) quo ∙ ap (λ (x : ℕ). stuck (hi / 2 ^ n) x) rem)
 
@@ -257,16 +233,16 @@ shifted-is v t l =
     all : (t : ℕ) → t < 64 → 64 ≡ t + (1 + (63 - t))
     all t l = omega arith
 
+half : (v : ℕ) → v < 2 ^ 64 → v / 2 < 2 ^ 63
+half v h = omega arith
+
 pub shifted-high : (v t : ℕ) → v < 2 ^ 64 → t < 63 → v / 2 / 2 ^ (63 - t) < 2 ^ 62
 shifted-high v t h l = shr-lt 62 (63 - t) (lt-of-lt-of-le (half v h) (pow-mono (far t l)))
   where
-    half : (v : ℕ) → v < 2 ^ 64 → v / 2 < 2 ^ 63
-    half v h = omega arith
-
     far : (t : ℕ) → t < 63 → 63 ≤ 62 + (63 - t)
     far t l = omega arith
 
--- ---- `taken`
+-- ---- the difference of two numbers, word by word
 pub less-high : (ah al bh bl M : ℕ) → bh * M + bl ≤ ah * M + al → al < bl → bh < ah
 less-high ah al bh bl M h l = elim (le-or-lt ah bh) [ inl g ↦ absurd (no (ah * M) al (bh * M) bl h l (mul-le-mul-right M g)) | inr g ↦ g ]
   where
@@ -274,7 +250,7 @@ less-high ah al bh bl M h l = elim (le-or-lt ah bh) [ inl g ↦ absurd (no (ah *
     no x al y bl h l g = omega arith
 
 pub at-most-high : (ah al bh bl M : ℕ) → bh * M + bl ≤ ah * M + al → al < M → bh ≤ ah
-at-most-high ah al bh bl M h l = elim (le-or-lt bh ah) [ inl g ↦ g | inr g ↦ absurd (no (ah * M) al (bh * M) bl M h l (le-trans (le-of-eq (sym (native.Mathlib.Nat.suc-mul ah M))) (mul-le-mul-right M g))) ]
+at-most-high ah al bh bl M h l = elim (le-or-lt bh ah) [ inl g ↦ g | inr g ↦ absurd (no (ah * M) al (bh * M) bl M h l (le-trans (le-of-eq (sym (suc-mul ah M))) (mul-le-mul-right M g))) ]
   where
     no : (x al y bl M : ℕ) → y + bl ≤ x + al → al < M → x + M ≤ y → ⊥
     no x al y bl M h l g = omega arith
@@ -310,12 +286,6 @@ lowWord p al bl = ((al + flipped p bl) % 2 ^ 64 + boolByte (not p)) % 2 ^ 64
 
 abbrev carries : Bool → ℕ → ℕ → ℕ
 carries p al bl = boolByte (ltb ((al + flipped p bl) % 2 ^ 64) (flipped p bl)) + boolByte (ltb (lowWord p al bl) (boolByte (not p)))
-
-flag-yes : (a b : ℕ) → a < b → boolByte (ltb a b) ≡ 1
-flag-yes a b h = ap boolByte (lt-ltb a b h)
-
-flag-no : (a b : ℕ) → b ≤ a → boolByte (ltb a b) ≡ 0
-flag-no a b h = ap boolByte (le-ltb a b h)
 
 words : (h h' l l' : ℕ) → h ≡ h' → l ≡ l' → wide h l ≡ wide h' l'
 words h h' l l' e f = ap (λ (x : ℕ). wide x l) e ∙ ap (wide h') f
@@ -460,10 +430,7 @@ halves-fit a b h k =
 pub product-high : (a b hi lo : ℕ) → a < 2 ^ 63 → b < 2 ^ 63 → wide hi lo ≡ a * b → hi < 2 ^ 62
 product-high a b hi lo h k e =
     lt-of-mul-lt-mul-right (2 ^ 64)
-    (lt-of-le-of-lt (more (hi * 2 ^ 64) lo) (lt-of-le-of-lt (le-of-eq e) (lt-of-lt-of-le (lt-of-le-of-lt (mul-le-mul (le-refl a) (le-of-lt k)) (mul-lt-mul-of-pos-right h (pow-pos 63))) (lit≤ tt))))
-  where
-    more : (a b : ℕ) → a ≤ a + b
-    more a b = omega arith
+    (lt-of-le-of-lt (le-add-right (hi * 2 ^ 64) lo) (lt-of-le-of-lt (le-of-eq e) (lt-of-lt-of-le (lt-of-le-of-lt (mul-le-mul (le-refl a) (le-of-lt k)) (mul-lt-mul-of-pos-right h (pow-pos 63))) (lit≤ tt))))
 
 pub product-is : (a b : ℕ) → (let R : ℕ = 4294967296 in let low = a % R * (b % R) in let mid = a % R * (b / R) + a / R * (b % R) + low / R in wide (a / R * (b / R) + mid / R) (mid * R % (R * R) + low % R) ≡ a * b)
 product-is a b =
@@ -484,7 +451,7 @@ product-is a b =
         add-mul (a1 * R) a0 (b1 * R + b0)
         ∙ ap (λ (x : ℕ). x + a0 * (b1 * R + b0)) (mul-add (a1 * R) (b1 * R) b0)
         ∙ ap (λ (x : ℕ). a1 * R * (b1 * R) + a1 * R * b0 + x) (mul-add a0 (b1 * R) b0)
-        ∙ ap (λ (x : ℕ). x + a1 * R * b0 + (a0 * (b1 * R) + a0 * b0)) (native.Mathlib.Nat.mul-mul-mul-comm a1 R b1 R)
+        ∙ ap (λ (x : ℕ). x + a1 * R * b0 + (a0 * (b1 * R) + a0 * b0)) (mul-mul-mul-comm a1 R b1 R)
         ∙ sums (a1 * b1 * (R * R)) (a1 * R * b0) (a0 * (b1 * R)) (a0 * b0) (a0 * b1 * R) (a1 * b0 * R) ((a0 * b1 + a1 * b0) * R) (mul-right-comm a1 R b0) (sym (mul-assoc a0 b1 R)) (add-mul (a0 * b1) (a1 * b0) R)
 
     shift : (m R : ℕ) → 0 < R → m * R % (R * R) ≡ m % R * R
@@ -535,10 +502,7 @@ module _ (hi lo : ℕ) (H : 0 < hi) (a : hi < 2 ^ 64) (b : lo < 2 ^ 64) where
   place = leading-top 64 hi H a
 
   pub lead-room : z < 64
-  lead-room = room z (place .0) (place .1)
-    where
-      room : (z j : ℕ) → z + suc j ≡ 64 → z < 64
-      room z j e = omega arith
+  lead-room = suc-le-suc (normal-form hi H a .room)
 
   abbrev low : ℕ
   low = lo / 2 / 2 ^ (63 - z)
@@ -546,9 +510,6 @@ module _ (hi lo : ℕ) (H : 0 < hi) (a : hi < 2 ^ 64) (b : lo < 2 ^ 64) where
   low-lt : low < 2 ^ z
   low-lt = shr-lt z (63 - z) (lt-of-lt-of-le (half lo b) (pow-mono (far z lead-room)))
     where
-      half : (v : ℕ) → v < 2 ^ 64 → v / 2 < 2 ^ 63
-      half v h = omega arith
-
       far : (z : ℕ) → z < 64 → 63 ≤ z + (63 - z)
       far z l = omega arith
 
@@ -567,13 +528,7 @@ module _ (hi lo : ℕ) (H : 0 < hi) (a : hi < 2 ^ 64) (b : lo < 2 ^ 64) where
   pub lead-top : 2 ^ 63 ≤ hi * 2 ^ z % 2 ^ 64 + low
   lead-top =
       subst (λ (x : ℕ). 2 ^ 63 ≤ x + low) (sym plain)
-      (le-trans (le-of-eq (ap (λ (x : ℕ). 2 ^ x) (before z (place .0) (place .1)) ∙ pow-add 2 (place .0) z)) (le-trans (mul-le-mul-right (2 ^ z) (place .2)) (more (hi * 2 ^ z) low)))
-    where
-      before : (z j : ℕ) → z + suc j ≡ 64 → 63 ≡ j + z
-      before z j e = omega arith
-
-      more : (a b : ℕ) → a ≤ a + b
-      more a b = omega arith
+      (le-trans (normal-form hi H a .low) (le-add-right (hi * 2 ^ z) low))
 
   moved : (hi * 2 ^ z % 2 ^ 64 + low) * 2 ^ 64 + lo * 2 ^ z % 2 ^ 64 ≡ wide hi lo * 2 ^ z
   moved =
@@ -607,7 +562,7 @@ module _ (hi lo : ℕ) (H : 0 < hi) (a : hi < 2 ^ 64) (b : lo < 2 ^ 64) where
           ap (λ (u : ℕ). u * 2 ^ j) (left W z c) ∙ ap (λ (u : ℕ). W * 2 ^ u * 2 ^ j) e ∙ right W t x y j
         where
           left : (W z c : ℕ) → W * 2 ^ z * 2 * 2 ^ c ≡ W * 2 ^ (z + 1 + c)
-          left W z c = sym (ap (λ (u : ℕ). W * u) (pow-add 2 (z + 1) c ∙ ap (λ (u : ℕ). u * 2 ^ c) (pow-add 2 z 1)) ∙ (simp (mul-assoc)))
+          left W z c = sym (ap (λ (u : ℕ). W * u) (pow-add 2 (z + 1) c ∙ ap (λ (u : ℕ). u * 2 ^ c) (pow-add 2 z 1)) ∙ simp mul-assoc)
 
           right : (W t x y j : ℕ) → W * 2 ^ (t + (x + y)) * 2 ^ j ≡ W * 2 ^ t * (2 ^ x * 2 ^ (y + j))
           right W t x y j = simp (pow-add, mul-assoc)
@@ -617,17 +572,14 @@ pub less-is : (ah al bh bl M : ℕ) → al < M → bl < M → ltb ah (bh + boolB
 less-is ah al bh bl M a b = elim (le-or-lt bl al) [
   | inl g ↦ ap (λ (x : ℕ). ltb ah (bh + x)) (flag-no al bl g) ∙ (elim (le-or-lt (bh + 0) ah) [
     | inl l ↦ le-ltb ah (bh + 0) l ∙ sym (le-ltb (ah * M + al) (bh * M + bl) (at-least (ah * M) (bh * M) al bl g (mul-le-mul-right M (plain bh ah l))))
-    | inr l ↦ lt-ltb ah (bh + 0) l ∙ sym (lt-ltb (ah * M + al) (bh * M + bl) (lt-of-lt-of-le (digits-lt (plain-lt ah bh l) a) (more (bh * M) bl)))
+    | inr l ↦ lt-ltb ah (bh + 0) l ∙ sym (lt-ltb (ah * M + al) (bh * M + bl) (lt-of-lt-of-le (digits-lt (plain-lt ah bh l) a) (le-add-right (bh * M) bl)))
   ])
   | inr g ↦ ap (λ (x : ℕ). ltb ah (bh + x)) (flag-yes al bl g) ∙ (elim (le-or-lt (bh + 1) ah) [
-    | inl l ↦ le-ltb ah (bh + 1) l ∙ sym (le-ltb (ah * M + al) (bh * M + bl) (le-of-lt (lt-of-lt-of-le (digits-lt (next bh ah l) b) (more (ah * M) al))))
-    | inr l ↦ lt-ltb ah (bh + 1) l ∙ sym (lt-ltb (ah * M + al) (bh * M + bl) (below (ah * M) (bh * M) al bl g (mul-le-mul-right M (back ah bh l))))
+    | inl l ↦ le-ltb ah (bh + 1) l ∙ sym (le-ltb (ah * M + al) (bh * M + bl) (le-of-lt (lt-of-lt-of-le (digits-lt (next bh ah l) b) (le-add-right (ah * M) al))))
+    | inr l ↦ lt-ltb ah (bh + 1) l ∙ sym (lt-ltb (ah * M + al) (bh * M + bl) (below (ah * M) (bh * M) al bl g (mul-le-mul-right M (before-next ah bh l))))
   ])
 ]
   where
-    more : (a b : ℕ) → a ≤ a + b
-    more a b = omega arith
-
     plain : (x y : ℕ) → x + 0 ≤ y → x ≤ y
     plain x y h = omega arith
 
@@ -636,9 +588,6 @@ less-is ah al bh bl M a b = elim (le-or-lt bl al) [
 
     next : (x y : ℕ) → x + 1 ≤ y → x < y
     next x y h = omega arith
-
-    back : (x y : ℕ) → x < y + 1 → x ≤ y
-    back x y h = omega arith
 
     at-least : (x y a b : ℕ) → b ≤ a → y ≤ x → y + b ≤ x + a
     at-least x y a b h g = omega arith

@@ -1,7 +1,6 @@
 // An f64 as an f32, to the nearest one, a tie to the even one.
 ghost use mathlib.Core.Path.{_≡_};
 ghost use Rattle.ieee.specs.Narrow.{narrowed};
-use crate::rounding::cut;
 use crate::rounding::pattern_of;
 use crate::rounding::signed32;
 use crate::rounding::unpack;
@@ -16,9 +15,11 @@ pub fn narrow(x: f64) -> f32
     let a = b % 0x8000_0000_0000_0000;
     // From 2^-126 on, infinities included, exponent and digits are rounded as one number: a carry goes from the one into the other.
     if 0x3810_0000_0000_0000 <= a {
+        let v = a - 0x3800_0000_0000_0000;
+        let odd = v / 0x2000_0000 % 2;
         return signed32(
             b >= 0x8000_0000_0000_0000,
-            cut(a - 0x3800_0000_0000_0000, false, 28),
+            (v + 0xfff_ffff + odd) / 0x2000_0000,
         );
     }
     let p = unpack(x);

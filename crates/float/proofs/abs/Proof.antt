@@ -1,17 +1,18 @@
+-- `abs` meets its contract. Assumes nothing.
 use denote.Floats.{passes}
 use lib.Dec.{T}
 use mathlib.Core.Bool.{not}
 use lib.Ieee.{binary64, isNan}
 use lib.Ieee.Compare.{differs-from-itself}
 use Rattle.float.specs.Order.{magnitude}
-use Rattle.float.proofs.Tests.{no-nan}
+use Rattle.ieee.proofs.Fields.{no-nan-of-same}
 use Rattle.float.proofs.Values.{magnitude-is, magnitude-no-nan, no-nan-bits}
 use Rattle.float.proofs.abs.Statement.{statement}
 use Rattle.float.proofs.abs.Tie as tie
 
 -- past the test for a NaN
 number : (c : tie.Else1) → T (not (isNan (c .before .args .x)))
-number c = no-nan (c .before .args .x) (c .if1 .left)
+number c = no-nan-of-same (c .before .args .x) (c .if1 .left)
 
 returns : tie.Need-returns
 unfolding magnitude

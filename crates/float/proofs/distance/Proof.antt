@@ -1,3 +1,4 @@
+-- `distance` meets its contract. Assumes nothing.
 use Rattle.float.proofs.Powers.{room, as-positive, as-turned, read, read-turned}
 use Rattle.float.proofs.distance.Statement.{statement}
 use Rattle.float.proofs.distance.Tie as tie

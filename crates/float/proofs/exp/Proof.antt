@@ -1,3 +1,4 @@
+-- `exp` meets its contract. Assumes nothing.
 use mathlib.Core.Path.{_≡_, sym, ap, _∙_}
 use mathlib.Core.Bool.{false}
 use denote.Floats.{passes}

@@ -1,3 +1,4 @@
+-- `floor` meets its contract. Assumes nothing.
 use mathlib.Core.Bool.{true, false}
 use denote.Floats.{passes}
 use lib.Ieee.{ofBits, neg, sub}

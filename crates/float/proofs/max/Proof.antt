@@ -1,3 +1,4 @@
+-- `max` meets its contract. Assumes nothing.
 use mathlib.Core.Bool.{true, false}
 use lib.Ieee.{lt}
 use Rattle.float.proofs.Tests.{farther-by}

@@ -1,3 +1,4 @@
+-- `place` meets its contract. Assumes nothing.
 use borrow.Author.Needs.{needs}
 use borrow.Author.Tests.{lt-ltb, le-ltb}
 use denote.Floats.{passes}
@@ -6,7 +7,7 @@ use lib.Ieee.{binary64, toBits}
 use lib.Ieee.Bits.{toBits-lt}
 use lib.Ieee.Compare.{differs-from-itself}
 use Rattle.float.specs.Order.{rank}
-use Rattle.float.proofs.Tests.{no-nan}
+use Rattle.ieee.proofs.Fields.{no-nan-of-same}
 use Rattle.float.proofs.place.Statement.{statement}
 use Rattle.float.proofs.place.Tie as tie
 
@@ -15,7 +16,7 @@ unfolding rank toBits
 returns c = rw (differs-from-itself (c .before .args .x) (passes _ (c .if1 .taken)))
 
 float-to-bits-b : tie.Need-float-to-bits-b
-float-to-bits-b c = no-nan (c .before .args .x) (c .if1 .left)
+float-to-bits-b c = no-nan-of-same (c .before .args .x) (c .if1 .left)
 
 add-result : tie.Need-add-result
 add-result c = search needs

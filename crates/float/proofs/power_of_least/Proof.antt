@@ -1,8 +1,10 @@
+-- `power_of_least` meets its contract. Assumes nothing.
 use borrow.Author.Needs.{needs}
 use native.Mathlib.Omega.{arith}
 use Prim.Native.Nat.{_<_}
 use lib.Ieee.{binary64}
-use Rattle.float.proofs.Powers.{one-shifted, low-power, high-power, power-no-nan}
+use Rattle.ieee.proofs.Words.{one-shifted}
+use Rattle.float.proofs.Powers.{low-power, high-power, power-no-nan}
 use Rattle.float.proofs.power_of_least.Statement.{statement}
 use Rattle.float.proofs.power_of_least.Tie as tie
 

@@ -1,3 +1,4 @@
+-- `rem_tau` meets its contract. Assumes nothing.
 use mathlib.Core.Bool.{true, false}
 use Rattle.float.proofs.Tests.{angle-by}
 use Rattle.float.proofs.rem_tau.Statement.{statement}

@@ -1,3 +1,4 @@
+-- `series` meets its contract. Assumes nothing.
 use mathlib.Core.Path.{refl}
 use Rattle.float.proofs.series.Statement.{statement}
 use Rattle.float.proofs.series.Tie as tie

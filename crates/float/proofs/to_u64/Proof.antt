@@ -1,13 +1,14 @@
-use mathlib.Core.Path.{sym, subst}
-use lib.Dec.{T}
+-- `to_u64` meets its contract. Assumes nothing.
+use mathlib.Core.Path.{sym}
 use lib.Ieee.{ofBits, neg}
+use denote.Floats.{passes}
 use Rattle.float.proofs.Ends.{unsigned-top, unsigned-low}
 use Rattle.float.proofs.to_u64.Statement.{statement}
 use Rattle.float.proofs.to_u64.Tie as tie
 
 truncating-f64-to-u64-requires : tie.Need-truncating-f64-to-u64-requires
 unfolding ofBits neg
-truncating-f64-to-u64-requires c κs = (subst T (sym (c .before .if1 .taken)) tt, subst T (sym (c .if2 .taken)) tt)
+truncating-f64-to-u64-requires c κs = (passes _ (c .before .if1 .taken), passes _ (c .if2 .taken))
 
 returns : tie.Need-returns
 returns c = c .truncating-f64-to-u64 .ensures

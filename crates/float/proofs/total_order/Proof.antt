@@ -1,3 +1,4 @@
+-- `total_order` meets its contract. Assumes nothing.
 use Rattle.float.proofs.total_order.Statement.{statement}
 use Rattle.float.proofs.total_order.Tie as tie
 

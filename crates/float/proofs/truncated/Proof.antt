@@ -1,3 +1,4 @@
+-- `truncated` meets its contract. Assumes nothing.
 use mathlib.Core.Path.{_≡_}
 use borrow.Author.Needs.{needs}
 use borrow.Author.Tests.{le-leb, lt-leb}
@@ -11,7 +12,7 @@ use lib.Ieee.{fin, binary64, isNan, fits, neg, toBits, ofBits}
 use lib.Ieee.Bits.{toBits-lt}
 use lib.Ieee.Compare.{differs-from-itself}
 use Rattle.float.specs.Whole.{truncation}
-use Rattle.float.proofs.Tests.{no-nan}
+use Rattle.ieee.proofs.Fields.{no-nan-of-same}
 use Rattle.float.proofs.Values.{no-nan-bits}
 use Rattle.float.proofs.Fields.{field}
 use Rattle.float.proofs.Truncation.{tiny, large, between, stays-in, truncation-no-nan}
@@ -22,7 +23,7 @@ held : (c : tie.Start) → T (fits binary64 (c .args .x))
 held c = passes _ (c .good .0 .1)
 
 number : (c : tie.Else1) → T (not (isNan (c .before .args .x)))
-number c = no-nan (c .before .args .x) (c .if1 .left)
+number c = no-nan-of-same (c .before .args .x) (c .if1 .left)
 
 returns : tie.Need-returns
 unfolding truncation

@@ -4,12 +4,13 @@ use native.Mathlib.Nat.{lt-of-le-of-lt}
 use native.Mathlib.Omega.{arith}
 use lib.Dec.{lit<, lit≤}
 use lib.Count.{leadingZeros, leading-le}
-use Rattle.ieee.proofs.Terms.{Normal, normal, addend}
+use Rattle.ieee.proofs.Terms.{normal, addend}
 use borrow.Author.Needs.{needs}
 use Rattle.ieee.proofs.fused.addend_term.Statement.{statement}
 use Rattle.ieee.proofs.fused.addend_term.Tie as tie
+use Rattle.ieee.proofs.Steps.{Lead}
 
-norm : (c : tie.Start) → (2 ≤ leadingZeros 64 (c .args .k)) × Normal (c .args .k) 2 (leadingZeros 64 (c .args .k) - 2)
+norm : (c : tie.Start) → (2 ≤ leadingZeros 64 (c .args .k)) × Lead (c .args .k) 2 (leadingZeros 64 (c .args .k) - 2) × (5 ≤ leadingZeros 64 (c .args .k) - 2)
 norm c = normal (c .args .k) 2 (c .pre .0) (c .pre .1) (lit≤ tt)
 
 cast-z : tie.Need-cast-z

@@ -1,13 +1,11 @@
 -- `aligned_far` meets its contract. Assumes nothing.
-use mathlib.Core.Path.{_≡_, refl, sym, ap, _∙_, subst}
+use mathlib.Core.Path.{refl, sym, ap, _∙_}
 use mathlib.Core.Logic.{inl}
 use Prim.Native.Nat.{ℕ, _+_, _*_, _^_}
 use native.Mathlib.Nat.{zero-mul, zero-add, mul-one}
 use native.Mathlib.Omega.{arith}
-use mathlib.Core.Bool.{Bool}
 use lib.Dec.{lit<}
 use lib.Ieee.{binary64, sum}
-use Rattle.ieee.specs.Aligned.{Aligned}
 use Rattle.ieee.specs.Words.{wide}
 use Rattle.ieee.proofs.Terms.{factors-zero, factors-some, sum-exact, sum-swap}
 use borrow.Author.Needs.{needs}

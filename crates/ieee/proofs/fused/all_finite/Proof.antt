@@ -1,5 +1,5 @@
 -- `all_finite` meets its contract. Assumes nothing.
-use mathlib.Core.Path.{_≡_, refl, sym, ap, _∙_}
+use mathlib.Core.Path.{sym, ap, _∙_}
 use mathlib.Core.Bool.{Bool, _&&_}
 use lib.Ieee.Scale.{finite}
 use Rattle.ieee.proofs.Fields.{finite-sum}

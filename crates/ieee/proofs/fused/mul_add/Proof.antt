@@ -1,7 +1,7 @@
 -- `mul_add` meets its contract. Assumes nothing.
 use mathlib.Core.Path.{_≡_, refl, sym, ap, _∙_}
-use Prim.Native.Nat.{ℕ, _+_, _*_, _^_}
-use mathlib.Core.Bool.{Bool, true, false, _&&_}
+use Prim.Native.Nat.{_+_, _*_, _^_}
+use mathlib.Core.Bool.{Bool, true, _&&_}
 use lib.Pow.{pow-pos}
 use lib.Ieee.Scale.{finite}
 use Rattle.ieee.proofs.Fields.{both-true}

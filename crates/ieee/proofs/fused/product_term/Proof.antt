@@ -5,15 +5,16 @@ use native.Mathlib.Nat.{lt-of-lt-of-le, lt-of-le-of-lt, mod-eq-of-lt}
 use native.Mathlib.Omega.{arith}
 use lib.Dec.{lit<, lit≤}
 use lib.Count.{leadingZeros, leading-le}
-use Rattle.ieee.proofs.Terms.{Normal, normal, product-placed}
+use Rattle.ieee.proofs.Terms.{normal, product-placed}
 use borrow.Author.Needs.{needs}
 use Rattle.ieee.proofs.fused.product_term.Statement.{statement}
 use Rattle.ieee.proofs.fused.product_term.Tie as tie
+use Rattle.ieee.proofs.Steps.{Lead}
 
-norm-m : (c : tie.Start) → (1 ≤ leadingZeros 64 (c .args .m)) × Normal (c .args .m) 1 (leadingZeros 64 (c .args .m) - 1)
+norm-m : (c : tie.Start) → (1 ≤ leadingZeros 64 (c .args .m)) × Lead (c .args .m) 1 (leadingZeros 64 (c .args .m) - 1) × (5 ≤ leadingZeros 64 (c .args .m) - 1)
 norm-m c = normal (c .args .m) 1 (c .pre .0) (c .pre .1) (lit≤ tt)
 
-norm-n : (c : tie.Start) → (1 ≤ leadingZeros 64 (c .args .n)) × Normal (c .args .n) 1 (leadingZeros 64 (c .args .n) - 1)
+norm-n : (c : tie.Start) → (1 ≤ leadingZeros 64 (c .args .n)) × Lead (c .args .n) 1 (leadingZeros 64 (c .args .n) - 1) × (5 ≤ leadingZeros 64 (c .args .n) - 1)
 norm-n c = normal (c .args .n) 1 (c .pre .2) (c .pre .3) (lit≤ tt)
 
 word : (a : ℕ) → a < 2 ^ 63 → a % 2 ^ 64 < 2 ^ 63
@@ -58,7 +59,7 @@ sub-t10 c = rest (c .before .args .e) (leadingZeros 64 (c .before .args .m) - 1)
 returns : tie.Need-returns
 returns c =
     let k = c .before in
-    product-placed (k .args .m) (k .args .n) (k .args .e) (leadingZeros 64 (k .args .m) - 1) (leadingZeros 64 (k .args .n) - 1) (c .product .result .hi) (c .product .result .lo) (norm-m k .1) (norm-n k .1) (k .pre .4) (low c) (c .product .ensures .0)
+    product-placed (k .args .m) (k .args .n) (k .args .e) (leadingZeros 64 (k .args .m) - 1) (leadingZeros 64 (k .args .n) - 1) (c .product .result .hi) (c .product .result .lo) (norm-m k .1) (norm-n k .1) (norm-m k .2) (norm-n k .2) (k .pre .4) (low c) (c .product .ensures .0)
 
 pub product-term-spec : {M : Type 1} → statement M
 product-term-spec =

@@ -1,8 +1,8 @@
 -- `sum_sides` meets its contract. Assumes nothing.
-use mathlib.Core.Path.{_≡_, sym, ap, _∙_}
+use mathlib.Core.Path.{_≡_, ap, _∙_}
 use Prim.Native.Nat.{ℕ, _+_, _-_, _*_, _^_}
 use mathlib.Core.Bool.{Bool, cond, not, _&&_, Bool·beq}
-use lib.Dec.{eqb, ltb}
+use lib.Dec.{eqb}
 use lib.Ieee.{binary64, round}
 use Rattle.ieee.specs.Words.{wide, sumSize, sumSign}
 use Rattle.ieee.proofs.Sums.{summed, sign-is}

@@ -1,12 +1,12 @@
 -- `narrow` meets its contract. Assumes nothing.
 use mathlib.Core.Path.{_≡_, sym, ap, _∙_, subst}
-use Prim.Native.Nat.{ℕ, _+_, _*_, min}
+use Prim.Native.Nat.{ℕ, _+_, _-_, _*_, _%_, _^_, min}
 use mathlib.Core.Bool.{cond}
 use lib.Dec.{T, leb}
 use lib.Ieee.{binary32, binary64, ofBits, toBits, top, ones, hid, fits, div}
 use lib.Ieee.Compare.{differs-from-itself}
 use Rattle.ieee.specs.Narrow.{narrowed}
-use Rattle.ieee.proofs.Fields.{no-nan-of-same, low-finite, narrowed-nan, narrowed-pattern, narrow-normal}
+use Rattle.ieee.proofs.Fields.{no-nan-of-same, low-finite, narrowed-nan, narrowed-pattern, half-even, narrow-normal}
 use borrow.Author.Needs.{needs}
 use Rattle.ieee.proofs.narrowing.narrow.Statement.{statement}
 use Rattle.ieee.proofs.narrowing.narrow.Tie as tie
@@ -22,22 +22,26 @@ returns c = sym (ap narrowed (differs-from-itself (c .before .args .x) (subst T 
 float-to-bits-b : tie.Need-float-to-bits-b
 float-to-bits-b c = no-nan-of-same (c .before .args .x) (c .if1 .left)
 
-sub-cut : tie.Need-sub-cut
-sub-cut c = search needs
+sub-v : tie.Need-sub-v
+sub-v c = search needs
 
-cut-requires : tie.Need-cut-requires
-cut-requires c κs = search needs
+add-signed32 : tie.Need-add-signed32
+add-signed32 c = search needs
+
+add-signed32-2 : tie.Need-add-signed32-2
+add-signed32-2 c = search needs
 
 signed32-requires : tie.Need-signed32-requires
 signed32-requires c κs = search needs
 
 returns-2 : tie.Need-returns-2
 returns-2 c =
-    let e = c .before .before .before in
+    let e = c .before .before in
     let x = e .before .args .x in
+    let b = toBits binary64 x in
     c .signed32 .ensures
-    ∙ ap (λ (m : ℕ). ofBits binary32 (cond (leb 0x8000_0000_0000_0000 (toBits binary64 x)) (top binary32) 0 + min m (ones binary32 * hid binary32))) (c .before .cut .ensures)
-    ∙ narrow-normal x (held (e .before)) (no-nan-of-same x (e .if1 .left)) (c .before .before .if2 .taken)
+    ∙ ap (λ (m : ℕ). ofBits binary32 (cond (leb 0x8000_0000_0000_0000 b) (top binary32) 0 + min m (ones binary32 * hid binary32))) (half-even (b % 2 ^ 63 - 0x3800_0000_0000_0000))
+    ∙ narrow-normal x (held (e .before)) (no-nan-of-same x (e .if1 .left)) (c .before .if2 .taken)
 
 unpack-requires : tie.Need-unpack-requires
 unpack-requires c κs = low-finite (c .before .before .args .x) (no-nan-of-same (c .before .before .args .x) (c .before .if1 .left)) (c .if2 .left)
@@ -63,8 +67,9 @@ narrow-spec =
     (tie.spec
     returns
     float-to-bits-b
-    sub-cut
-    cut-requires
+    sub-v
+    add-signed32
+    add-signed32-2
     signed32-requires
     returns-2
     unpack-requires

@@ -1,5 +1,5 @@
 -- `bisect` meets its contract. Assumes nothing.
-use Prim.Native.Nat.{_+_, _-_, _/_, _<_, _≤_}
+use Prim.Native.Nat.{_+_, _-_, _/_}
 use native.Mathlib.Omega.{arith}
 use Rattle.ieee.proofs.RootSteps.{Between, at-first, lower, upper, at-last}
 use Rattle.ieee.proofs.roots.bisect.Statement.{statement}

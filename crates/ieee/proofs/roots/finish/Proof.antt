@@ -1,5 +1,5 @@
 -- `finish` meets its contract. Assumes nothing.
-use Prim.Native.Nat.{_+_, _*_, _/_, _^_, _≤_}
+use Prim.Native.Nat.{_^_, _≤_}
 use native.Mathlib.Omega.{arith}
 use lib.Ieee.{binary64}
 use Rattle.ieee.proofs.RootSteps.{finished}

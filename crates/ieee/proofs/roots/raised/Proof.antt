@@ -5,13 +5,14 @@ use native.Mathlib.Nat.{lt-of-le-of-lt, lt-of-lt-of-le, mod-eq-of-lt}
 use native.Mathlib.Omega.{arith}
 use lib.Dec.{lit<, lit≤}
 use lib.Count.{leadingZeros, leading-le}
-use Rattle.ieee.proofs.RootSteps.{Raised, raise, raised-scale, plain-scale}
+use Rattle.ieee.proofs.RootSteps.{raised-scale, plain-scale}
 use borrow.Author.Needs.{needs}
 use Rattle.ieee.proofs.roots.raised.Statement.{statement}
 use Rattle.ieee.proofs.roots.raised.Tie as tie
+use Rattle.ieee.proofs.Steps.{Lead, lead}
 
-up : (c : tie.Start) → (let s = c .args .p .sig in (11 ≤ leadingZeros 64 s) × Raised s (leadingZeros 64 s - 11))
-up c = raise (c .args .p .sig) (c .pre .0) (c .pre .1)
+up : (c : tie.Start) → (let s = c .args .p .sig in (11 ≤ leadingZeros 64 s) × Lead s 11 (leadingZeros 64 s - 11))
+up c = lead (c .args .p .sig) 11 (c .pre .0) (c .pre .1)
 
 whole : (c : tie.Start) → (let s = c .args .p .sig in let z = leadingZeros 64 s - 11 in s * 2 ^ z % 2 ^ 64 ≡ s * 2 ^ z)
 whole c = mod-eq-of-lt (lt-of-lt-of-le (up c .1 .high) (lit≤ tt))

@@ -1,6 +1,6 @@
 -- `root` meets its contract. Assumes nothing.
 use mathlib.Core.Path.{_≡_, sym, ap, _∙_, subst}
-use Prim.Native.Nat.{ℕ, _*_, _^_, _<_}
+use Prim.Native.Nat.{_*_, _^_, _<_}
 use mathlib.Core.Bool.{Bool, false}
 use lib.Pow.{pow-pos}
 use lib.Ieee.{ofBits, div}

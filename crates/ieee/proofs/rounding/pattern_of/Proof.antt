@@ -1,22 +1,19 @@
 -- `pattern_of` meets its contract. Assumes nothing.
-use mathlib.Core.Path.{_≡_, sym, ap, _∙_, subst}
-use Prim.Native.Nat.{ℕ, _*_, _%_, _^_, _≤_, _<_, suc-le-suc}
-use native.Mathlib.Nat.{lt-of-le-of-lt, zero-mul, mod-eq-of-lt}
+use mathlib.Core.Path.{sym, ap, _∙_, subst}
+use Prim.Native.Nat.{ℕ, _*_, _%_, _^_, _≤_, suc-le-suc}
+use native.Mathlib.Nat.{lt-of-le-of-lt, zero-mul, mod-eq-of-lt, pos-of-ne-zero}
 use native.Mathlib.Omega.{arith}
 use lib.Dec.{lit<}
 use lib.Pow.{pow-pos}
 use lib.Count.{leadingZeros, leading-le}
 use lib.Ieee.Fits.{two-le-pos}
-use Rattle.ieee.proofs.Steps.{normal-form, pattern-zero, pattern-lead}
+use Rattle.ieee.proofs.Steps.{Lead, normal-form, pattern-zero, pattern-lead}
 use borrow.Author.Needs.{needs}
 use Rattle.ieee.proofs.rounding.pattern_of.Statement.{statement}
 use Rattle.ieee.proofs.rounding.pattern_of.Tie as tie
 
-positive : (w : ℕ) → (w ≡ 0 → ⊥) → 0 < w
-positive w h = omega arith
-
-norm : (c : tie.Else1) → (leadingZeros 64 (c .before .args .w) ≤ 63) × (2 ^ 63 ≤ c .before .args .w * 2 ^ leadingZeros 64 (c .before .args .w)) × (c .before .args .w * 2 ^ leadingZeros 64 (c .before .args .w) < 2 ^ 64)
-norm c = normal-form (c .before .args .w) (positive (c .before .args .w) (c .if1 .left)) (c .before .fits .w .fits)
+norm : (c : tie.Else1) → Lead (c .before .args .w) 0 (leadingZeros 64 (c .before .args .w))
+norm c = normal-form (c .before .args .w) (pos-of-ne-zero (c .if1 .left)) (c .before .fits .w .fits)
 
 returns : tie.Need-returns
 returns c =
@@ -27,7 +24,7 @@ cast-z : tie.Need-cast-z
 cast-z c = record { fits = lt-of-le-of-lt (leading-le 64 (c .before .args .w)) (lit< tt) }
 
 shl-pattern-top : tie.Need-shl-pattern-top
-shl-pattern-top c = suc-le-suc (norm c .0)
+shl-pattern-top c = suc-le-suc (norm c .room)
 
 add-pattern-top : tie.Need-add-pattern-top
 add-pattern-top c = search needs
@@ -36,13 +33,13 @@ sub-pattern-top : tie.Need-sub-pattern-top
 sub-pattern-top c = omega (arith, leading-le 64 (c .before .args .w))
 
 pattern-top-requires : tie.Need-pattern-top-requires
-pattern-top-requires c κs = (subst (λ (x : ℕ). 2 ^ 63 ≤ x) (sym (mod-eq-of-lt (norm c .2))) (norm c .1), omega arith, c .before .pre .1, c .before .pre .2)
+pattern-top-requires c κs = (subst (λ (x : ℕ). 2 ^ 63 ≤ x) (sym (mod-eq-of-lt (norm c .high))) (norm c .low), omega arith, c .before .pre .1, c .before .pre .2)
 
 returns-2 : tie.Need-returns-2
 returns-2 c =
     let s = c .before .before in
     let z = leadingZeros 64 (s .args .w) in
-    c .pattern-top .ensures ∙ pattern-lead (s .args .p) (s .args .w) (s .args .e) z (s .args .w * 2 ^ z % 2 ^ 64) (norm (c .before) .0) (mod-eq-of-lt (norm (c .before) .2))
+    c .pattern-top .ensures ∙ pattern-lead (s .args .p) (s .args .w) (s .args .e) z (s .args .w * 2 ^ z % 2 ^ 64) (norm (c .before) .room) (mod-eq-of-lt (norm (c .before) .high))
 
 pub pattern-of-spec : {M : Type 1} → statement M
 pattern-of-spec =

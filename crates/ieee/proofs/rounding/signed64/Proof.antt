@@ -1,8 +1,6 @@
 -- `signed64` meets its contract. Assumes nothing.
-use mathlib.Core.Path.{_≡_, sym, ap, _∙_}
-use Prim.Native.Nat.{ℕ, _+_, _*_, min}
-use mathlib.Core.Bool.{Bool, true, false, cond}
-use lib.Ieee.{binary64, ofBits, top, ones, hid}
+use mathlib.Core.Bool.{true, false}
+use lib.Ieee.{binary64}
 use Rattle.ieee.proofs.Steps.{made, no-nan}
 use borrow.Author.Needs.{needs}
 use Rattle.ieee.proofs.rounding.signed64.Statement.{statement}

@@ -5,6 +5,7 @@ use native.Mathlib.Omega.{arith}
 use lib.Dec.{T, leb}
 use lib.Ieee.{Float, binary64, toBits, ofFields, fits}
 use lib.Ieee.Exact.{HasValue}
+use denote.Floats.{passes}
 use Rattle.ieee.proofs.Fields.{finite-no-nan, finite-field, as-fields, at-low, at-mid}
 use borrow.Author.Needs.{needs}
 use Rattle.ieee.proofs.rounding.unpack.Statement.{statement}
@@ -12,7 +13,7 @@ use Rattle.ieee.proofs.rounding.unpack.Tie as tie
 
 -- an `f64` is a value that the format holds
 held : (c : tie.Start) → T (fits binary64 (c .args .x))
-held c = subst T (sym (c .good .0 .1)) tt
+held c = passes _ (c .good .0 .1)
 
 field-is : (b : ℕ) → b / 2 ^ 52 % 2048 ≡ b % 2 ^ 63 / 2 ^ 52
 field-is b = omega arith

@@ -1,11 +1,9 @@
 -- `combined` meets its contract. Assumes nothing.
-use mathlib.Core.Path.{_≡_, sym, ap, _∙_, subst}
-use Prim.Native.Nat.{ℕ, _+_, _%_, _^_, _<_}
+use Prim.Native.Nat.{_^_, _<_}
 use native.Mathlib.Omega.{arith}
 use mathlib.Core.Bool.{not}
 use lib.Dec.{ltb}
 use mir.Val.{boolByte}
-use Rattle.ieee.specs.Words.{wide}
 use Rattle.ieee.proofs.Steps.{flag-le}
 use Rattle.ieee.proofs.Words.{combined-is}
 use borrow.Author.Needs.{needs}
@@ -60,8 +58,6 @@ returns c =
     let y = s .before in
     let x = y .before in
     let a = x .before .args in
-    let one = boolByte (not (a .like)) in
-    let carry : ℕ → ℕ → ℕ → ℕ = λ u v w. boolByte (ltb u w) + boolByte (ltb v one) in
     rw (c .wrapping-add-u644 .ensures, g .wrapping-add-u643 .ensures, l .wrapping-add-u642 .ensures, s .wrapping-add-u64 .ensures, y .flip2 .ensures, x .flip .ensures)
     (combined-is (a .like) (a .a .hi) (a .a .lo) (a .b .hi) (a .b .lo) (x .before .pre .0) (low-a (x .before)) (x .before .pre .1) (low-b (x .before)) (x .before .pre .2))
 

@@ -1,6 +1,6 @@
 -- `joined` meets its contract. Assumes nothing.
 use mathlib.Core.Path.{_≡_, sym, ap, _∙_, subst}
-use Prim.Native.Nat.{ℕ, _+_, _-_, _^_, _<_, _≤_}
+use Prim.Native.Nat.{ℕ, _+_, _-_, _^_, _≤_}
 use mathlib.Core.Bool.{cond}
 use Rattle.ieee.specs.Words.{wide}
 use Rattle.ieee.proofs.Words.{picked-wide, picked-lt, picked-le, picked-size}

@@ -1,7 +1,7 @@
 -- `round_wide` meets its contract. Assumes nothing.
-use mathlib.Core.Path.{_≡_, sym, ap, _∙_}
-use Prim.Native.Nat.{ℕ, _+_, _-_, _*_, _/_, _%_, _^_, _<_, _≤_}
-use native.Mathlib.Nat.{lt-of-le-of-lt, zero-add}
+use mathlib.Core.Path.{sym, ap, _∙_}
+use Prim.Native.Nat.{ℕ, _+_, _-_, _*_, _/_, _%_, _^_, _<_}
+use native.Mathlib.Nat.{lt-of-le-of-lt, zero-add, pos-of-ne-zero}
 use native.Mathlib.Omega.{arith}
 use mathlib.Core.Bool.{not}
 use lib.Dec.{eqb, lit<, lit≤}
@@ -21,11 +21,8 @@ high c = search needs
 low : (c : tie.Start) → c .args .w .lo < 2 ^ 64
 low c = search needs
 
-positive : (w : ℕ) → (w ≡ 0 → ⊥) → 0 < w
-positive w h = omega arith
-
 some : (c : tie.Else1) → 0 < c .before .args .w .hi
-some c = positive (c .before .args .w .hi) (c .if1 .left)
+some c = pos-of-ne-zero (c .if1 .left)
 
 room : (c : tie.Else1) → leadingZeros 64 (c .before .args .w .hi) < 64
 room c = lead-room (c .before .args .w .hi) (c .before .args .w .lo) (some c) (high (c .before)) (low (c .before))
