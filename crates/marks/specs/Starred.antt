@@ -2,10 +2,12 @@
 -- Numbers in hexadecimal are bit patterns.
 use mathlib.Core.Path.{_≡_, refl}
 use Prim.Native.Nat.{ℕ}
-use lib.Ieee.{Float, binary32, binary64, ofBits, toBits, add, sub, mul, lt, isNan, toSigned}
+use lib.Ieee.{Float, binary32, binary64, ofBits, toBits, add, sub, mul, rem, lt, isNan, toSigned}
 use Rattle.ieee.specs.Root.{root}
 use Rattle.ieee.specs.Fused.{fused}
 use Rattle.ieee.specs.Narrow.{narrowed}
+use Rattle.grid.specs.Bins.{distanceBin, dihedralCount, dihedralBin}
+use Rattle.float.specs.Order.{angle}
 use Rattle.float.specs.Whole.{integral}
 use Rattle.float.specs.Exp.{twoTo, doublings, residue, scaled, exponential}
 
@@ -25,9 +27,15 @@ pub record Starred : Type 0 where
   pub exp-of-zero : toBits binary64 (exponential (f64 0)) ≡ 0x3FF0_0000_0000_0000
   -- E(-709) = 0
   pub exp-below : toBits binary64 (exponential (f64 0xC086_2800_0000_0000)) ≡ 0
+  -- with rmin 0, dr 1, four bins: r 0.5 in bin 1
+  pub distance-half : distanceBin (f64 0x3FE0_0000_0000_0000) (f64 0) (f64 0x3FF0_0000_0000_0000) 4 ≡ 1
+  -- r 4 in bin 3
+  pub distance-last : distanceBin (f64 0x4010_0000_0000_0000) (f64 0) (f64 0x3FF0_0000_0000_0000) 4 ≡ 3
+  -- step 3: omega 6 in bin 0 of 2
+  pub dihedral-first : (dihedralCount (f64 0x4008_0000_0000_0000) ≡ 2) × (dihedralBin (f64 0x4018_0000_0000_0000) (f64 0x4008_0000_0000_0000) 2 ≡ 0)
 
 pub starred : Starred
-unfolding root fused narrowed ofBits toBits exponential isNan lt scaled mul add residue sub doublings integral twoTo toSigned
+unfolding root fused narrowed ofBits toBits exponential isNan lt scaled mul add residue sub doublings integral twoTo toSigned distanceBin dihedralCount dihedralBin angle rem
 starred = record {
   root-of-two = refl;
   fused-once = refl;
@@ -35,4 +43,7 @@ starred = record {
   narrows-up = refl;
   exp-of-zero = refl;
   exp-below = refl;
+  distance-half = refl;
+  distance-last = refl;
+  dihedral-first = (refl, refl);
 }

@@ -47,4 +47,12 @@ fn main() {
     );
     mark(b"E(0)", bits(float::exp(0.0)), bits(1.0));
     mark(b"E(-709)", bits(float::exp(-709.0)), bits(0.0));
+    mark(
+        b"rmin 0, dr 1, four bins: bin of r 0.5",
+        grid::distance_bin(0.5, 0.0, 1.0, 4),
+        1,
+    );
+    mark(b"bin of r 4", grid::distance_bin(4.0, 0.0, 1.0, 4), 3);
+    mark(b"step 3: bins", grid::dihedral_count(3.0), 2);
+    mark(b"bin of omega 6", grid::dihedral_bin(6.0, 3.0, 2), 0);
 }

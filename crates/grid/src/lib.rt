@@ -1,0 +1,119 @@
+// The settings of a table's grid, the bin counts that they give, and the bins of a reading.
+ghost use mathlib.Core.Path.{_≡_};
+ghost use Rattle.grid.specs.Bins.{nearestBin, distanceCount, dihedralCount, tableRmax, distanceBin, dihedralBin};
+ghost use Rattle.grid.specs.Settings.{above, inRange, binsInRange, countsHeld, ownCount};
+
+// TAU's bits are 401921FB54442D18.
+const TAU: f64 = 6.283185307179586;
+
+// The settings beside the bin counts that they give. In a table that was read, rmax is the table's own.
+pub struct Grid {
+    pub rmin: f64,
+    pub rmax: f64,
+    pub dr: f64,
+    pub omega_step: f64,
+    pub threshold: f64,
+    pub beta: f64,
+    pub n_r: u64,
+    pub n_omega: u64,
+}
+
+// x / step, to the nearest whole number, in floats.
+fn nearest_bin(x: f64, step: f64) -> u64
+    ensures { λ r. ⌜ r ≡ nearestBin x step ⌝ }
+{
+    float::to_u64(x / step + 0.5)
+}
+
+pub fn distance_count(rmin: f64, rmax: f64, dr: f64) -> u64
+    ensures { λ r. ⌜ r ≡ distanceCount rmin rmax dr ⌝ }
+{
+    nearest_bin(rmax - rmin, dr)
+}
+
+pub fn dihedral_count(step: f64) -> u64
+    ensures { λ r. ⌜ r ≡ dihedralCount step ⌝ }
+{
+    nearest_bin(TAU, step)
+}
+
+// The table's own rmax, by one fused operation.
+pub fn table_rmax(n: u64, dr: f64, rmin: f64) -> f64
+    ensures { λ r. ⌜ r ≡ tableRmax n dr rmin ⌝ }
+{
+    ieee::mul_add(float::of_u64(n), dr, rmin)
+}
+
+// The bin of a distance; from rmax on it is the last one.
+pub fn distance_bin(r: f64, rmin: f64, dr: f64, n: u64) -> u64
+    ensures { λ b. ⌜ b ≡ distanceBin r rmin dr n ⌝ }
+{
+    let b = nearest_bin(r - rmin, dr);
+    if n == 0 {
+        return 0;
+    }
+    if b < n { b } else { n - 1 }
+}
+
+// The bin of a dihedral angle; near TAU it is the first one again.
+pub fn dihedral_bin(omega: f64, step: f64, n: u64) -> u64
+    ensures { λ b. ⌜ b ≡ dihedralBin omega step n ⌝ }
+{
+    let b = nearest_bin(float::rem_tau(omega), step);
+    if n == 0 {
+        return 0;
+    }
+    b % n
+}
+
+// Finite and above 0.
+fn positive(x: f64) -> bool
+    ensures { λ r. ⌜ r ≡ above x ⌝ }
+{
+    ieee::is_finite(x) & (0.0 < x)
+}
+
+// Question 1.
+pub fn in_range(g: Grid) -> bool
+    ensures { λ r. ⌜ r ≡ inRange g ⌝ }
+{
+    let rmin = g.rmin;
+    let rmax = g.rmax;
+    let dr = g.dr;
+    let step = g.omega_step;
+    let beta = g.beta;
+    let threshold = g.threshold;
+    ieee::is_finite(rmin)
+        & ((rmin < rmax)
+            & (positive(dr)
+                & (positive(step)
+                    & (positive(beta) & (ieee::is_finite(threshold) & !(threshold < 0.0))))))
+}
+
+// Question 3 of a fresh builder: both counts from 1 to 65,535.
+pub fn bins_in_range(n: u64, m: u64) -> bool
+    ensures { λ r. ⌜ r ≡ binsInRange n m ⌝ }
+{
+    (1 <= n) & ((n <= 65535) & ((1 <= m) & (m <= 65535)))
+}
+
+// Question 3 of a held builder: they are also those that the settings give.
+pub fn counts_held(g: Grid) -> bool
+    ensures { λ r. ⌜ r ≡ countsHeld g ⌝ }
+{
+    let rmin = g.rmin;
+    let rmax = g.rmax;
+    let dr = g.dr;
+    let step = g.omega_step;
+    let n_r = g.n_r;
+    let n_omega = g.n_omega;
+    bins_in_range(n_r, n_omega)
+        & ((n_r == distance_count(rmin, rmax, dr)) & (n_omega == dihedral_count(step)))
+}
+
+// Question 4: the distance count comes out the same with the table's own rmax.
+pub fn own_count(n: u64, dr: f64, rmin: f64) -> bool
+    ensures { λ r. ⌜ r ≡ ownCount n dr rmin ⌝ }
+{
+    n == distance_count(rmin, table_rmax(n, dr, rmin), dr)
+}
