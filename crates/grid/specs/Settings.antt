@@ -1,9 +1,10 @@
--- The questions 1, 3 and 4 of document 01, each as a test of the settings. Definitions only.
-use Prim.Native.Nat.{ℕ}
-use mathlib.Core.Bool.{Bool, not, _&&_}
+-- The questions 1 to 5 of document 01, each as a test of the settings, and in their order. Definitions only.
+use Prim.Native.Nat.{ℕ, _*_}
+use mathlib.Core.Bool.{Bool, cond, not, _&&_}
 use lib.Dec.{leb, eqb}
 use lib.Ieee.{Float, binary64, ofBits, lt}
 use lib.Ieee.Scale.{finite}
+use Rattle.mesh.specs.Levels.{per}
 use Rattle.grid.specs.Bins.{distanceCount, dihedralCount, tableRmax}
 use Rattle.grid.specs.declared.Grid.{Grid}
 
@@ -16,6 +17,10 @@ above x = finite x && lt (ofBits binary64 0) x
 unfoldable pub inRange : Grid → Bool
 unfolding above lt
 inRange g = finite (g .rmin) && (lt (g .rmin) (g .rmax) && (above (g .dr) && (above (g .«omega_step») && (above (g .beta) && (finite (g .threshold) && not (lt (g .threshold) (ofBits binary64 0)))))))
+
+-- 2: "Is the top level at most 15?", and of a held builder "also the current level, at most the top"
+unfoldable pub levelsHeld : ℕ → ℕ → Bool
+levelsHeld top level = leb top 15 && leb level top
 
 -- 3: "Are both bin counts from 1 to 65,535"
 unfoldable pub binsInRange : ℕ → ℕ → Bool
@@ -30,3 +35,31 @@ countsHeld g = binsInRange (g .«n_r») (g .«n_omega») && (eqb (g .«n_r») (d
 unfoldable pub ownCount : ℕ → Float → Float → Bool
 unfolding distanceCount tableRmax
 ownCount n dr rmin = eqb n (distanceCount rmin (tableRmax n dr rmin) dr)
+
+-- 5: "Is slabs × n·n of the top level at most 4,294,967,295?"
+unfoldable pub slabsHeld : ℕ → ℕ → ℕ → Bool
+slabsHeld n m top = leb (n * m * per top) 4294967295
+
+-- "the first one answered no gives its number": 1 to 5 put to the settings, counts and levels of a held builder; 0 where none is answered no
+unfoldable pub question : Grid → ℕ → ℕ → ℕ
+question g top level =
+    cond (inRange g) (cond (levelsHeld top level) (cond (countsHeld g) (cond (ownCount (g .«n_r») (g .dr) (g .rmin)) (cond (slabsHeld (g .«n_r») (g .«n_omega») top) 0 5) 4) 3) 2) 1
+
+-- the settings with the counts that they give, whatever counts were handed in
+unfoldable pub counted : Grid → Grid
+unfolding distanceCount dihedralCount
+counted g = record {
+  rmin = g .rmin;
+  rmax = g .rmax;
+  dr = g .dr;
+  «omega_step» = g .«omega_step»;
+  threshold = g .threshold;
+  beta = g .beta;
+  «n_r» = distanceCount (g .rmin) (g .rmax) (g .dr);
+  «n_omega» = dihedralCount (g .«omega_step»);
+}
+
+-- the same of a fresh builder, whose current level is the top
+unfoldable pub freshQuestion : Grid → ℕ → ℕ
+unfolding question counted
+freshQuestion g top = question (counted g) top top

@@ -1,7 +1,8 @@
 // The settings of a table's grid, the bin counts that they give, and the bins of a reading.
 ghost use mathlib.Core.Path.{_≡_};
+ghost use Prim.Native.Nat.{_≤_};
 ghost use Rattle.grid.specs.Bins.{nearestBin, distanceCount, dihedralCount, tableRmax, distanceBin, dihedralBin};
-ghost use Rattle.grid.specs.Settings.{above, inRange, binsInRange, countsHeld, ownCount};
+ghost use Rattle.grid.specs.Settings.{above, inRange, levelsHeld, binsInRange, countsHeld, ownCount, slabsHeld, question, counted, freshQuestion};
 
 // TAU's bits are 401921FB54442D18.
 const TAU: f64 = 6.283185307179586;
@@ -90,6 +91,13 @@ pub fn in_range(g: Grid) -> bool
                     & (positive(beta) & (ieee::is_finite(threshold) & !(threshold < 0.0))))))
 }
 
+// Question 2.
+pub fn levels_held(top: u64, level: u64) -> bool
+    ensures { λ r. ⌜ r ≡ levelsHeld top level ⌝ }
+{
+    (top <= 15) & (level <= top)
+}
+
 // Question 3 of a fresh builder: both counts from 1 to 65,535.
 pub fn bins_in_range(n: u64, m: u64) -> bool
     ensures { λ r. ⌜ r ≡ binsInRange n m ⌝ }
@@ -116,4 +124,67 @@ pub fn own_count(n: u64, dr: f64, rmin: f64) -> bool
     ensures { λ r. ⌜ r ≡ ownCount n dr rmin ⌝ }
 {
     n == distance_count(rmin, table_rmax(n, dr, rmin), dr)
+}
+
+// Question 5, once the others are answered yes.
+fn slabs_held(n: u64, m: u64, top: u64) -> bool
+    requires { ⌜ (n ≤ 65535) × (m ≤ 65535) × (top ≤ 15) ⌝ }
+    ensures { λ r. ⌜ r ≡ slabsHeld n m top ⌝ }
+{
+    n * m * mesh::per_level(top as u8) <= 4294967295
+}
+
+// Questions 1 to 5 of a held builder: the number of the first one that is answered no, or 0.
+pub fn question(g: Grid, top: u64, level: u64) -> u64
+    ensures { λ r. ⌜ r ≡ question g top level ⌝ }
+{
+    let rmin = g.rmin;
+    let dr = g.dr;
+    let n_r = g.n_r;
+    let n_omega = g.n_omega;
+    if !in_range(g) {
+        return 1;
+    }
+    if !levels_held(top, level) {
+        return 2;
+    }
+    if !counts_held(g) {
+        return 3;
+    }
+    if !own_count(n_r, dr, rmin) {
+        return 4;
+    }
+    if !slabs_held(n_r, n_omega, top) {
+        return 5;
+    }
+    0
+}
+
+// The settings with the counts that they give.
+pub fn counted(g: Grid) -> Grid
+    ensures { λ r. ⌜ r ≡ counted g ⌝ }
+{
+    let rmin = g.rmin;
+    let rmax = g.rmax;
+    let dr = g.dr;
+    let omega_step = g.omega_step;
+    let threshold = g.threshold;
+    let beta = g.beta;
+    Grid {
+        rmin,
+        rmax,
+        dr,
+        omega_step,
+        threshold,
+        beta,
+        n_r: distance_count(rmin, rmax, dr),
+        n_omega: dihedral_count(omega_step),
+    }
+}
+
+// Questions 1 to 5 of a fresh builder.
+pub fn fresh_question(g: Grid, top: u64) -> u64
+    ensures { λ r. ⌜ r ≡ freshQuestion g top ⌝ }
+{
+    question(counted(g), top, top)
 }

@@ -55,4 +55,19 @@ fn main() {
     mark(b"bin of r 4", grid::distance_bin(4.0, 0.0, 1.0, 4), 3);
     mark(b"step 3: bins", grid::dihedral_count(3.0), 2);
     mark(b"bin of omega 6", grid::dihedral_bin(6.0, 3.0, 2), 0);
+    let g = grid::Grid {
+        rmin: 0.0,
+        rmax: 1.79e308,
+        dr: 1.1e308,
+        omega_step: 6.0,
+        threshold: 0.1,
+        beta: 1.0,
+        n_r: 0,
+        n_omega: 0,
+    };
+    mark(
+        b"rmin 0, rmax 1.79e308, dr 1.1e308: the question that refuses",
+        grid::fresh_question(g, 0),
+        4,
+    );
 }

@@ -1,0 +1,43 @@
+-- What the questions' answers say of the numbers asked about.
+use mathlib.Core.Path.{_≡_, sym, _∙_}
+use mathlib.Core.Bool.{Bool, true, false, not, _&&_}
+use Prim.Native.Nat.{ℕ, _+_, _*_, _≤_, _<_}
+use native.Mathlib.Nat.{mul-le-mul}
+use native.Mathlib.Omega.{arith}
+use lib.Dec.{leb, eqb}
+use borrow.Author.Tests.{leb-true, not-true, not-false}
+use Rattle.ieee.proofs.Fields.{both-true}
+use Rattle.mesh.specs.Levels.{per}
+use Rattle.mesh.proofs.Laws.{per-le}
+use Rattle.grid.specs.Bins.{distanceCount, dihedralCount}
+use Rattle.grid.specs.Settings.{levelsHeld, binsInRange, countsHeld}
+use Rattle.grid.specs.declared.Grid.{Grid}
+
+-- a question was asked, with the answer r, and the branch on `!r` was passed by; or taken
+pub yes : {q r : Bool} → r ≡ q → not r ≡ false → q ≡ true
+yes {q} {r} e t = sym e ∙ not-false r t
+
+pub no : {q r : Bool} → r ≡ q → not r ≡ true → q ≡ false
+no {q} {r} e t = sym e ∙ not-true r t
+
+pub bins-le : (n m : ℕ) → binsInRange n m ≡ true → (n ≤ 65535) × (m ≤ 65535)
+unfolding binsInRange
+bins-le n m h =
+    let a = both-true (leb 1 n) (leb n 65535 && (leb 1 m && leb m 65535)) h .1 in
+    let b = both-true (leb n 65535) (leb 1 m && leb m 65535) a in
+    (leb-true n 65535 (b .0), leb-true m 65535 (both-true (leb 1 m) (leb m 65535) (b .1) .1))
+
+pub counts-le : (g : Grid) → countsHeld g ≡ true → (g .«n_r» ≤ 65535) × (g .«n_omega» ≤ 65535)
+unfolding countsHeld
+counts-le g h = bins-le (g .«n_r») (g .«n_omega») (both-true (binsInRange (g .«n_r») (g .«n_omega»)) (eqb (g .«n_r») (distanceCount (g .rmin) (g .rmax) (g .dr)) && eqb (g .«n_omega») (dihedralCount (g .«omega_step»))) h .0)
+
+pub top-le : (top level : ℕ) → levelsHeld top level ≡ true → top ≤ 15
+unfolding levelsHeld
+top-le top level h = leb-true top 15 (both-true (leb top 15) (leb level top) h .0)
+
+-- slabs, and the energies that they hold at the top level
+pub slabs-le : (n m : ℕ) → n ≤ 65535 → m ≤ 65535 → n * m ≤ 65535 * 65535
+slabs-le n m h k = mul-le-mul h k
+
+pub energies-le : (n m top : ℕ) → n ≤ 65535 → m ≤ 65535 → top ≤ 15 → n * m * per top ≤ 65535 * 65535 * (2562 * 2562)
+energies-le n m top h k l = mul-le-mul (slabs-le n m h k) (per-le top 16 (omega arith))

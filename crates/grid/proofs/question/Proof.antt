@@ -1,0 +1,89 @@
+-- `question` meets its contract. Assumes nothing.
+use mathlib.Core.Path.{_≡_}
+use mathlib.Core.Bool.{true}
+use Rattle.grid.specs.Settings.{inRange, levelsHeld, countsHeld, question}
+use Rattle.grid.proofs.Laws.{yes, no, counts-le, top-le}
+use borrow.Author.Needs.{needs}
+use Rattle.grid.proofs.question.Statement.{statement}
+use Rattle.grid.proofs.question.Tie as tie
+
+-- the answers that were yes so far
+ranges : (c : tie.Else1) → inRange (c .before .before .args .g) ≡ true
+ranges c = yes (c .before .in-range .ensures) (c .if1 .left)
+
+levels : (c : tie.Else2) → levelsHeld (c .before .before .before .before .args .top) (c .before .before .before .before .args .level) ≡ true
+levels c = yes (c .before .levels-held .ensures) (c .if2 .left)
+
+counts : (c : tie.Else3) → countsHeld (c .before .before .before .before .before .before .args .g) ≡ true
+counts c = yes (c .before .counts-held .ensures) (c .if3 .left)
+
+in-range-requires : tie.Need-in-range-requires
+in-range-requires c κs = search needs
+
+returns : tie.Need-returns
+unfolding question
+returns c = rw (no (c .before .in-range .ensures) (c .if1 .taken))
+
+levels-held-requires : tie.Need-levels-held-requires
+levels-held-requires c κs = search needs
+
+returns-2 : tie.Need-returns-2
+unfolding question
+returns-2 c = rw (ranges (c .before .before), no (c .before .levels-held .ensures) (c .if2 .taken))
+
+counts-held-requires : tie.Need-counts-held-requires
+counts-held-requires c κs = search needs
+
+returns-3 : tie.Need-returns-3
+unfolding question
+returns-3 c = rw (ranges (c .before .before .before .before), levels (c .before .before), no (c .before .counts-held .ensures) (c .if3 .taken))
+
+own-count-requires : tie.Need-own-count-requires
+own-count-requires c κs = search needs
+
+returns-4 : tie.Need-returns-4
+unfolding question
+returns-4 c =
+    let e = c .before .before in
+    let d = e .before .before in
+    rw (ranges (d .before .before), levels d, counts e, no (c .before .own-count .ensures) (c .if4 .taken))
+
+slabs-held-requires : tie.Need-slabs-held-requires
+slabs-held-requires c κs =
+    let e = c .before .before in
+    let d = e .before .before in
+    let s = d .before .before .before .before in
+    let n = counts-le (s .args .g) (counts e) in
+    (n .0, n .1, top-le (s .args .top) (s .args .level) (levels d))
+
+returns-5 : tie.Need-returns-5
+unfolding question
+returns-5 c =
+    let f = c .before .before in
+    let e = f .before .before in
+    let d = e .before .before in
+    rw (ranges (d .before .before), levels d, counts e, yes (f .before .own-count .ensures) (f .if4 .left), no (c .before .slabs-held .ensures) (c .if5 .taken))
+
+returns-6 : tie.Need-returns-6
+unfolding question
+returns-6 c =
+    let f = c .before .before in
+    let e = f .before .before in
+    let d = e .before .before in
+    rw (ranges (d .before .before), levels d, counts e, yes (f .before .own-count .ensures) (f .if4 .left), yes (c .before .slabs-held .ensures) (c .if5 .left))
+
+pub question-spec : {M : Type 1} → statement M
+question-spec =
+    tie.close
+    (tie.spec
+    in-range-requires
+    returns
+    levels-held-requires
+    returns-2
+    counts-held-requires
+    returns-3
+    own-count-requires
+    returns-4
+    slabs-held-requires
+    returns-5
+    returns-6)

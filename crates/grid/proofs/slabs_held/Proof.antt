@@ -1,0 +1,29 @@
+-- `slabs_held` meets its contract. Assumes nothing.
+use native.Mathlib.Omega.{arith}
+use Rattle.grid.specs.Settings.{slabsHeld}
+use Rattle.grid.proofs.Laws.{slabs-le, energies-le}
+use borrow.Author.Needs.{needs}
+use Rattle.grid.proofs.slabs_held.Statement.{statement}
+use Rattle.grid.proofs.slabs_held.Tie as tie
+
+mul-result : tie.Need-mul-result
+mul-result c = omega (arith, slabs-le (c .args .n) (c .args .m) (c .pre .0) (c .pre .1))
+
+cast-per-level : tie.Need-cast-per-level
+cast-per-level c = search needs
+
+per-level-requires : tie.Need-per-level-requires
+per-level-requires c κs = search needs
+
+mul-result-2 : tie.Need-mul-result-2
+mul-result-2 c =
+    let s = c .before in
+    rw (c .per-level .ensures) (omega (arith, energies-le (s .args .n) (s .args .m) (s .args .top) (s .pre .0) (s .pre .1) (s .pre .2)))
+
+returns : tie.Need-returns
+unfolding slabsHeld
+returns c = rw (c .per-level .ensures)
+
+pub slabs-held-spec : {M : Type 1} → statement M
+slabs-held-spec =
+    tie.close (tie.spec mul-result cast-per-level per-level-requires mul-result-2 returns)

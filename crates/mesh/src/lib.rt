@@ -1,0 +1,17 @@
+// Levels of a mesh: how many vertices one has, and how many energies a slab holds at it.
+ghost use mathlib.Core.Path.{_≡_};
+ghost use Rattle.mesh.specs.Levels.{vertexCount, per};
+
+pub fn vertex_count(level: u8) -> u64
+    ensures { λ r. ⌜ r ≡ vertexCount level ⌝ }
+{
+    let k = level as u64 + 1;
+    10 * (k * k) + 2
+}
+
+pub fn per_level(level: u8) -> u64
+    ensures { λ r. ⌜ r ≡ per level ⌝ }
+{
+    let n = vertex_count(level);
+    n * n
+}
