@@ -11,7 +11,8 @@ ghost use Rattle.float.specs.Order.{magnitude, larger, smaller, rank, or
 ghost use Rattle.float.specs.Whole.{floored, ceiled, truncation};
 ghost use Rattle.float.specs.Exp.{bits, inverseFactorials, horner, twoTo, exponential};
 
-const TAU: f64 = 6.283185307179586;
+// Its bits are 401921FB54442D18.
+pub const TAU: f64 = 6.283185307179586;
 
 // x with its sign cleared; of a NaN a NaN.
 pub fn abs(x: f64) -> f64

@@ -35,9 +35,6 @@ pub top-le : (top level : ℕ) → levelsHeld top level ≡ true → top ≤ 15
 unfolding levelsHeld
 top-le top level h = leb-true top 15 (both-true (leb top 15) (leb level top) h .0)
 
--- slabs, and the energies that they hold at the top level
-pub slabs-le : (n m : ℕ) → n ≤ 65535 → m ≤ 65535 → n * m ≤ 65535 * 65535
-slabs-le n m h k = mul-le-mul h k
-
+-- the energies that slabs hold at the top level
 pub energies-le : (n m top : ℕ) → n ≤ 65535 → m ≤ 65535 → top ≤ 15 → n * m * per top ≤ 65535 * 65535 * (2562 * 2562)
-energies-le n m top h k l = mul-le-mul (slabs-le n m h k) (per-le top 16 (omega arith))
+energies-le n m top h k l = mul-le-mul (mul-le-mul h k) (per-le top 16 (omega arith))

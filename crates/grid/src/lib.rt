@@ -4,9 +4,6 @@ ghost use Prim.Native.Nat.{_≤_};
 ghost use Rattle.grid.specs.Bins.{nearestBin, distanceCount, dihedralCount, tableRmax, distanceBin, dihedralBin};
 ghost use Rattle.grid.specs.Settings.{above, inRange, levelsHeld, binsInRange, countsHeld, ownCount, slabsHeld, question, counted, freshQuestion};
 
-// TAU's bits are 401921FB54442D18.
-const TAU: f64 = 6.283185307179586;
-
 // The settings beside the bin counts that they give. In a table that was read, rmax is the table's own.
 pub struct Grid {
     pub rmin: f64,
@@ -35,7 +32,7 @@ pub fn distance_count(rmin: f64, rmax: f64, dr: f64) -> u64
 pub fn dihedral_count(step: f64) -> u64
     ensures { λ r. ⌜ r ≡ dihedralCount step ⌝ }
 {
-    nearest_bin(TAU, step)
+    nearest_bin(float::TAU, step)
 }
 
 // The table's own rmax, by one fused operation.

@@ -2,6 +2,7 @@
 // one blank between them.
 ghost use mathlib.Core.Path.{_≡_};
 ghost use Prim.Native.Nat.{_≤_};
+ghost use lib.ListN.{length};
 ghost use Rattle.io.specs.Counts.{Counts};
 ghost use Rattle.vectors.specs.Hex.{digit as digitOf, word};
 use crate::operation;
@@ -84,15 +85,23 @@ fn field(text: &[u8], at: usize, width: usize) -> Word {
     hex(&text[start..start + width])
 }
 
+// The place of the first such byte from `at` on, or the length where there is none.
+pub(crate) fn place_of(byte: u8, text: &[u8], at: usize) -> usize
+    requires { ⌜ at ≤ length (now text) ⌝ }
+    ensures { λ r. ⌜ (at ≤ r) × (r ≤ length (now (text .entry))) ⌝ }
+{
+    let mut end = at;
+    while end < text.len() && text[end] != byte {
+        end += 1;
+    }
+    end
+}
+
 // The place of the first blank, or the length.
 pub fn name_end(text: &[u8]) -> usize
     ensures { λ r. ⌜ Counts r (now (text .entry)) ⌝ }
 {
-    let mut end = 0;
-    while end < text.len() && text[end] != b' ' {
-        end += 1;
-    }
-    end
+    place_of(b' ', text, 0)
 }
 
 // The number of a word, and 0 of what is none.

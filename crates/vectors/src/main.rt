@@ -44,18 +44,6 @@ fn keep(piece: &mut [u8], from: usize, have: usize) -> usize
     i
 }
 
-// The place of the first line end from `at` on, or the length where there is none.
-fn line_end(text: &[u8], at: usize) -> usize
-    requires { ⌜ at ≤ length (now text) ⌝ }
-    ensures { λ r. ⌜ (at ≤ r) × (r ≤ length (now (text .entry))) ⌝ }
-{
-    let mut end = at;
-    while end < text.len() && text[end] != b'\n' {
-        end += 1;
-    }
-    end
-}
-
 // Runs one line, and counts how it went.
 fn judge(text: &[u8], t: Tally) -> Tally {
     match line::parse(text) {
@@ -72,7 +60,7 @@ fn judge_all(text: &[u8], before: Tally) -> Tally {
     let mut t = before;
     let mut at = 0;
     while at < text.len() {
-        let end = line_end(text, at);
+        let end = line::place_of(b'\n', text, at);
         t = judge(&text[at..end], t);
         at = end + 1;
     }

@@ -1,13 +1,14 @@
 -- `slabs_held` meets its contract. Assumes nothing.
+use native.Mathlib.Nat.{mul-le-mul}
 use native.Mathlib.Omega.{arith}
 use Rattle.grid.specs.Settings.{slabsHeld}
-use Rattle.grid.proofs.Laws.{slabs-le, energies-le}
+use Rattle.grid.proofs.Laws.{energies-le}
 use borrow.Author.Needs.{needs}
 use Rattle.grid.proofs.slabs_held.Statement.{statement}
 use Rattle.grid.proofs.slabs_held.Tie as tie
 
 mul-result : tie.Need-mul-result
-mul-result c = omega (arith, slabs-le (c .args .n) (c .args .m) (c .pre .0) (c .pre .1))
+mul-result c = omega (arith, mul-le-mul (c .pre .0) (c .pre .1))
 
 cast-per-level : tie.Need-cast-per-level
 cast-per-level c = search needs

@@ -1,21 +1,17 @@
 -- `per_level` meets its contract. Assumes nothing.
-use Prim.Native.Nat.{_+_, _*_, _≤_}
 use native.Mathlib.Omega.{arith}
 use borrow.Author.Needs.{needs}
 use Rattle.mesh.specs.Levels.{per}
-use Rattle.mesh.proofs.Laws.{count-le, square-le}
+use Rattle.mesh.proofs.Laws.{per-le}
 use Rattle.mesh.proofs.per_level.Statement.{statement}
 use Rattle.mesh.proofs.per_level.Tie as tie
 
 vertex-count-requires : tie.Need-vertex-count-requires
 vertex-count-requires c κs = search needs
 
--- a `u8` is below 256
-small : (c : tie.After-vertex-count) → c .vertex-count .result ≤ 10 * (256 * 256) + 2
-small c = rw (c .vertex-count .ensures) (count-le (c .before .args .level) 256 (omega arith))
-
 mul-result : tie.Need-mul-result
-mul-result c = omega (arith, square-le (c .vertex-count .result) (10 * (256 * 256) + 2) (small c))
+unfolding per
+mul-result c = rw (c .vertex-count .ensures) (omega (arith, per-le (c .before .args .level) 256 (omega arith)))
 
 returns : tie.Need-returns
 unfolding per

@@ -1,49 +1,14 @@
--- `vectors::line::name_end` meets its contract. The end goes up to the length. Assumes nothing.
-use native.Mathlib.Omega.{arith}
+-- `vectors::line::name_end` meets its contract. Assumes nothing.
 use Rattle.io.proofs.Counting.{counts}
 use borrow.Author.Needs.{needs}
-use Prim.Native.Nat.{_≤_, _-_}
-use lib.ListN.{length}
 use Rattle.vectors.proofs.line.name_end.Statement.{statement}
 use Rattle.vectors.proofs.line.name_end.Tie as tie
 
-abbrev Inv-loop : tie.InvT-loop
-Inv-loop text end₀ end = end ≤ length text
+place-of-requires : tie.Need-place-of-requires
+place-of-requires c κs = search needs
 
-abbrev μ-loop : tie.MeasureT-loop
-μ-loop text end₀ end = length text - end
-
-loop-holds : tie.Need-loop-holds Inv-loop μ-loop
-loop-holds c = search needs
-
-shared-slice-read-if1 : tie.Need-shared-slice-read-if1 Inv-loop μ-loop
-shared-slice-read-if1 c = search needs
-
-add-end : tie.Need-add-end Inv-loop μ-loop
-add-end c = search needs
-
-loop-less : tie.Need-loop-less Inv-loop μ-loop
-loop-less c = search needs
-
-loop-again : tie.Need-loop-again Inv-loop μ-loop
-loop-again c = search needs
-
-returns : tie.Need-returns Inv-loop μ-loop
-returns c = counts _ _ (omega arith)
-
-returns-2 : tie.Need-returns-2 Inv-loop μ-loop
-returns-2 c = counts _ _ (omega arith)
+returns : tie.Need-returns
+returns c = counts _ _ (c .place-of .ensures .1)
 
 pub name-end-spec : {M : Type 1} → statement M
-name-end-spec =
-    tie.close
-    (tie.spec
-    Inv-loop
-    μ-loop
-    loop-holds
-    shared-slice-read-if1
-    add-end
-    loop-less
-    loop-again
-    returns
-    returns-2)
+name-end-spec = tie.close (tie.spec place-of-requires returns)

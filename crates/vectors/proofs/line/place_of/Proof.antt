@@ -1,15 +1,15 @@
--- `vectors::line_end` meets its contract. The end goes up from `at` to the length. Assumes nothing.
+-- `vectors::line::place_of` meets its contract. The end goes up from `at` to the length. Assumes nothing.
 use borrow.Author.Needs.{needs}
 use Prim.Native.Nat.{_≤_, _-_}
 use lib.ListN.{length}
-use Rattle.vectors.proofs.line_end.Statement.{statement}
-use Rattle.vectors.proofs.line_end.Tie as tie
+use Rattle.vectors.proofs.line.place_of.Statement.{statement}
+use Rattle.vectors.proofs.line.place_of.Tie as tie
 
 abbrev Inv-loop : tie.InvT-loop
-Inv-loop text at end₀ end = (at ≤ end) × (end ≤ length text)
+Inv-loop byte text at end₀ end = (at ≤ end) × (end ≤ length text)
 
 abbrev μ-loop : tie.MeasureT-loop
-μ-loop text at end₀ end = length text - end
+μ-loop byte text at end₀ end = length text - end
 
 loop-holds : tie.Need-loop-holds Inv-loop μ-loop
 loop-holds c = search needs
@@ -32,8 +32,8 @@ returns c = search needs
 returns-2 : tie.Need-returns-2 Inv-loop μ-loop
 returns-2 c = search needs
 
-pub line-end-spec : {M : Type 1} → statement M
-line-end-spec =
+pub place-of-spec : {M : Type 1} → statement M
+place-of-spec =
     tie.close
     (tie.spec
     Inv-loop
