@@ -1,9 +1,10 @@
 -- The questions 1 to 5 of document 01, each as a test of the settings, and in their order. Definitions only.
 use Prim.Native.Nat.{ℕ, _*_}
-use mathlib.Core.Bool.{Bool, cond, not, _&&_}
+use mathlib.Core.Bool.{Bool, not, _&&_}
 use lib.Dec.{leb, eqb}
 use lib.Ieee.{Float, binary64, ofBits, lt}
 use lib.Ieee.Scale.{finite}
+use Rattle.mesh.specs.Questions.{ask}
 use Rattle.mesh.specs.Levels.{per}
 use Rattle.grid.specs.Bins.{distanceCount, dihedralCount, tableRmax}
 use Rattle.grid.specs.declared.Grid.{Grid}
@@ -42,8 +43,13 @@ slabsHeld n m top = leb (n * m * per top) 4294967295
 
 -- "the first one answered no gives its number": 1 to 5 put to the settings, counts and levels of a held builder; 0 where none is answered no
 unfoldable pub question : Grid → ℕ → ℕ → ℕ
+unfolding ask
 question g top level =
-    cond (inRange g) (cond (levelsHeld top level) (cond (countsHeld g) (cond (ownCount (g .«n_r») (g .dr) (g .rmin)) (cond (slabsHeld (g .«n_r») (g .«n_omega») top) 0 5) 4) 3) 2) 1
+    ask (inRange g) 1
+    (ask (levelsHeld top level) 2
+    (ask (countsHeld g) 3
+    (ask (ownCount (g .«n_r») (g .dr) (g .rmin)) 4
+    (ask (slabsHeld (g .«n_r») (g .«n_omega») top) 5 0))))
 
 -- the settings with the counts that they give, whatever counts were handed in
 unfoldable pub counted : Grid → Grid

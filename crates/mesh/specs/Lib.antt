@@ -1,1 +1,5 @@
+pub mod Questions
+pub mod Lists
 pub mod Levels
+pub mod Mesh
+pub mod Faces

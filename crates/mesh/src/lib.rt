@@ -2,6 +2,13 @@
 ghost use mathlib.Core.Path.{_≡_};
 ghost use Rattle.mesh.specs.Levels.{vertexCount, per};
 
+// The vertices of a face, ascending.
+pub struct Face {
+    pub a: u64,
+    pub b: u64,
+    pub c: u64,
+}
+
 pub fn vertex_count(level: u8) -> u64
     ensures { λ r. ⌜ r ≡ vertexCount level ⌝ }
 {

@@ -1,0 +1,4 @@
+pub mod Gradient
+pub mod Settling
+pub mod Lists
+pub mod Calls

@@ -1,0 +1,91 @@
+-- Demand 3 as one type.
+use mathlib.Core.Path.{_≡_}
+use mathlib.Core.List.{List, map}
+use mathlib.Core.Logic.{_↔_}
+use Prim.Native.Nat.{ℕ, suc, _<_}
+use lib.ListN.{getD, take}
+use lib.Dec.{T}
+use lib.Ieee.{binary64, toBits, fits}
+use Rattle.mesh.specs.Mesh.{Mesh}
+use Rattle.grid.specs.Settings.{counted}
+use Rattle.grid.specs.declared.Grid.{Grid}
+use Rattle.rows.specs.Rows.{Row, repulsive, compared}
+use Rattle.locator.specs.Search.{Locator}
+use Rattle.locator.specs.Several.{locators, Roomy}
+use Rattle.builder.specs.Lists.{Lists, slabs}
+use Rattle.builder.specs.Calls.{BuiltOut, builtNumber, builderAfter, freshBuilder, freshOut}
+use Rattle.table.specs.Write.{WriteOut, writtenNumber, writtenLength, writeOut}
+use Rattle.table.specs.Read.{readNumber, readTable, readOut}
+use Rattle.reading.specs.Resolve.{Query}
+use Rattle.reading.specs.Reading.{readingOut}
+use Rattle.reading.specs.Rule.{ruled}
+use Rattle.ledger.specs.Ledger.{Call, State, run, opened, ledger}
+
+-- "lists of set, settle and write calls, refused ones included, each from a fresh builder": what is handed to fresh (lists of any contents
+-- and any length), the calls after it (any list, the empty one too), and the output that is handed to the write after them
+pub record History : Type 0 where
+  pub grid : Grid
+  pub top : ℕ
+  pub meshes : Mesh
+  pub lists : Lists
+  pub calls : List Call
+  pub output : List ℕ
+
+-- ---- the list as the operations run it
+
+abbrev pub fresh : History → BuiltOut
+fresh h = freshOut (h .grid) (h .top) (h .meshes) (h .lists)
+
+-- after the calls
+unfoldable pub ended : History → State
+ended h = run (h .meshes) (record { builder = builderAfter (freshBuilder (h .grid) (h .top)) (fresh h .answer); lists = fresh h .lists }) (h .calls)
+
+abbrev pub lastWrite : History → WriteOut
+lastWrite h = writeOut (ended h .builder) (h .meshes) (ended h .lists) (h .output)
+
+-- "The file of an accepted write is the first bytes of its output, as many as it returns."
+unfoldable pub file : History → List ℕ
+file h = take (writtenLength (lastWrite h .answer)) (lastWrite h .output)
+
+-- fresh and the write after the calls are accepted. A setting is a value that an f64 can have: of the model's floats these are all that code can hand in.
+pub record Accepted (h : History) : Type 0 where
+  pub rmin : T (fits binary64 (h .grid .rmin))
+  pub dr : T (fits binary64 (h .grid .dr))
+  pub step : T (fits binary64 (h .grid .«omega_step»))
+  pub fresh : builtNumber (fresh h .answer) ≡ 0
+  pub write : writtenNumber (lastWrite h .answer) ≡ 0
+
+-- ---- the list as the ledger keeps it
+
+-- "The ledger is fed the settings, top level and meshes that fresh accepted, then in order set's bins and energies and settle's distance bin";
+-- its rows at the end, as rows compare
+unfoldable pub rows : History → List (Row ℕ)
+rows h = map compared (ledger (counted (h .grid)) (h .meshes) (opened (counted (h .grid)) (h .top)) (h .calls) .rows)
+
+-- "exactly when grids and level counts are equal and 01's ledger, run over each list alone, ends with the same row at every slab".
+-- "Grids are equal when rmin, dr and omega step have equal bits and both counts are equal. The level count is the top level plus one."
+pub record Same (a b : History) : Type 0 where
+  pub rmin : toBits binary64 (a .grid .rmin) ≡ toBits binary64 (b .grid .rmin)
+  pub dr : toBits binary64 (a .grid .dr) ≡ toBits binary64 (b .grid .dr)
+  pub step : toBits binary64 (a .grid .«omega_step») ≡ toBits binary64 (b .grid .«omega_step»)
+  pub «n_r» : counted (a .grid) .«n_r» ≡ counted (b .grid) .«n_r»
+  pub «n_omega» : counted (a .grid) .«n_omega» ≡ counted (b .grid) .«n_omega»
+  pub levels : suc (a .top) ≡ suc (b .top)
+  pub rows : (s : ℕ) → s < slabs (counted (a .grid)) → getD (rows a) s repulsive ≡ getD (rows b) s repulsive
+
+-- ---- what is promised of one list's file
+
+pub record Kept (h : History) : Type 0 where
+  -- "The reader accepts both."
+  pub read : readNumber (readOut (file h)) ≡ 0
+  -- "Every admitted reading gives what the reading rule gives from that ledger's rows": "a reading is handed its file, what read returned for it, the
+  -- meshes of its builder and the locators that the locator call made of them". The rule refuses with 18 and 20 what a reading refuses with
+  -- them, and never with 19; so a reading that the rule admits is admitted, and one that is refused is refused alike.
+  pub readings : (l : Locator) → Roomy (h .top) l → (q : Query) →
+      readingOut (file h) (readTable (readOut (file h))) (h .meshes .vertices) (locators (h .top) (h .meshes) l) q ≡ ruled (counted (h .grid)) (rows h) (h .meshes) q
+
+-- ---- demand 3
+
+-- "For every two lists .. the files that an accepted write gives are equal byte for byte exactly when .. The reader accepts both. Every admitted reading .. One theorem."
+abbrev pub Promise : Type 0
+Promise = (a b : History) → Accepted a → Accepted b → ((file a ≡ file b) ↔ Same a b) × (Kept a × Kept b)

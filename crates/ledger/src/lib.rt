@@ -1,0 +1,1 @@
+// Definitions and the theorem of demand 3; there is no code here.

@@ -1,0 +1,5 @@
+pub mod Geometry
+pub mod Cells
+pub mod Search
+pub mod Locator
+pub mod Several

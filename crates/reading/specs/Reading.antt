@@ -1,0 +1,66 @@
+-- The reading of a file, over its bytes, read's answer, the lent vertices and locators. Total: any of these may be damaged or made by a host. Definitions only.
+use mathlib.Core.Bool.{Bool, false, cond, _&&_}
+use mathlib.Core.List.{List, map}
+use Prim.Native.Nat.{ℕ, _+_, _*_}
+use lib.ListN.{length, take, drop}
+use lib.Dec.{leb, ltb, eqb}
+use lib.Ieee.{Float, inf, binary64, ofBits}
+use Rattle.mesh.specs.Lists.{every}
+use Rattle.mesh.specs.Levels.{vertexCount, gridSize}
+use Rattle.locator.specs.Geometry.{unit}
+use Rattle.locator.specs.Search.{Locator, locatorFrom, verticesFrom, nearestIn, locateIn}
+use Rattle.table.specs.Bytes.{numberAt}
+use Rattle.table.specs.File.{Entry, entryOf}
+use Rattle.table.specs.declared.Table.{Table}
+use Rattle.reading.specs.Resolve.{Query, Resolved, unresolved, beyond, slabAt, resolve, Picks, unpicked, picked, nearestPick, facePick, widened, combined}
+use Rattle.reading.specs.declared.Reading.{Reading}
+use Rattle.reading.specs.declared.Reading.the-variants.{Energy, Refused}
+
+-- 19: "every row, energy .. entry touched inside what was lent": below its count, and its bytes inside the file
+unfoldable pub rowInside : List ℕ → Table → ℕ → Bool
+rowInside file t s = ltb s (t .rows) && leb (t .«rows_start» + s * 10 + 10) (length file)
+
+unfoldable pub energyInside : List ℕ → Table → ℕ → Bool
+energyInside file t k = ltb k (t .energies) && leb (t .«energies_start» + k * 4 + 4) (length file)
+
+unfoldable pub entryAt : List ℕ → Table → ℕ → Entry
+entryAt file t s = entryOf (take 10 (drop (t .«rows_start» + s * 10) file))
+
+unfoldable pub energyAt : List ℕ → Table → ℕ → ℕ
+energyAt file t k = numberAt 4 file (t .«energies_start» + k * 4)
+
+-- the search of both directions at a level, 19 before 20
+unfoldable pub searchIn : List Float → Locator → Query → ℕ → Bool → Picks
+searchIn vertices l q v interpolate =
+    let n = vertexCount v in
+    let g = gridSize n in
+    let vs = verticesFrom v vertices in
+    let p = locatorFrom v l in
+    cond interpolate
+    (facePick n (locateIn p vs n g (unit (q .a))) (locateIn p vs n g (unit (q .b))))
+    (nearestPick n (nearestIn p vs n g (unit (q .a))) (nearestIn p vs n g (unit (q .b))))
+
+-- the energies picked, from a row's offset o on; the last of 19
+abbrev pub readPicks : List ℕ → Table → Bool → ℕ → Picks → Reading
+readPicks file t interpolate o (unpicked n) = Refused n
+readPicks file t interpolate o (picked ks a b) =
+    cond (every (λ k. energyInside file t (o + k)) ks)
+    (Energy (combined interpolate a b (map (λ k. energyAt file t (o + k)) ks)))
+    (Refused 19)
+
+-- "the row's kind known, a Mesh row's level held"; "then the row: Scalar as f64, Repulsive infinity, nearest or the nine-term sum"
+unfoldable pub readEntry : List ℕ → Table → List Float → Locator → Query → Entry → Reading
+readEntry file t vertices l q e =
+    cond (eqb (e .kind) 0) (Energy (widened (e .scalar)))
+    (cond (eqb (e .kind) 1) (Energy (inf false))
+    (cond (leb (e .kind) 3 && ltb (e .level) (t .levels))
+    (readPicks file t (eqb (e .kind) 3) (e .offset) (searchIn vertices l q (e .level) (eqb (e .kind) 3)))
+    (Refused 19)))
+
+abbrev pub readSlab : List ℕ → Table → List Float → Locator → Query → Resolved → Reading
+readSlab file t vertices l q (unresolved n) = Refused n
+readSlab file t vertices l q beyond = Energy (ofBits binary64 0)
+readSlab file t vertices l q (slabAt s) = cond (rowInside file t s) (readEntry file t vertices l q (entryAt file t s)) (Refused 19)
+
+unfoldable pub readingOut : List ℕ → Table → List Float → Locator → Query → Reading
+readingOut file t vertices l q = readSlab file t vertices l q (resolve (t .grid) q)

@@ -1,0 +1,44 @@
+-- The reading rule, over rows as they compare and the meshes themselves. Definitions only.
+use mathlib.Core.Bool.{Bool, false, cond}
+use mathlib.Core.List.{List, map}
+use Prim.Native.Nat.{ℕ}
+use lib.ListN.{getD}
+use lib.Ieee.{inf, binary64, ofBits}
+use Rattle.mesh.specs.Levels.{vertexCount, gridSize}
+use Rattle.mesh.specs.Mesh.{Mesh, levelPart}
+use Rattle.grid.specs.declared.Grid.{Grid}
+use Rattle.rows.specs.Rows.{Row, scalar, repulsive, mesh}
+use Rattle.locator.specs.Geometry.{unit}
+use Rattle.locator.specs.Search.{nearestOf, locate}
+use Rattle.reading.specs.Resolve.{Query, Resolved, unresolved, beyond, slabAt, resolve, Picks, unpicked, picked, nearestPick, facePick, widened, combined}
+use Rattle.reading.specs.declared.Reading.{Reading}
+use Rattle.reading.specs.declared.Reading.the-variants.{Energy, Refused}
+
+-- the search of both directions over the mesh of level v
+unfoldable pub search : Mesh → Query → ℕ → Bool → Picks
+search ms q v interpolate =
+    let n = vertexCount v in
+    let g = gridSize n in
+    let m = levelPart v ms in
+    cond interpolate
+    (facePick n (locate m n g (unit (q .a))) (locate m n g (unit (q .b))))
+    (nearestPick n (nearestOf m n g (unit (q .a))) (nearestOf m n g (unit (q .b))))
+
+abbrev pub rulePicks : Bool → List ℕ → Picks → Reading
+rulePicks interpolate es (unpicked n) = Refused n
+rulePicks interpolate es (picked ks a b) = Energy (combined interpolate a b (map (λ k. getD es k 0) ks))
+
+-- "Scalar as f64, Repulsive infinity, nearest or the nine-term sum"
+abbrev pub ruleRow : Mesh → Query → Row ℕ → Reading
+ruleRow ms q (scalar x) = Energy (widened x)
+ruleRow ms q repulsive = Energy (inf false)
+ruleRow ms q (mesh v b es) = rulePicks b es (search ms q v b)
+
+-- "A distance below rmin or above rmax gives 0.0. For any other: bins as `resolve_slab_idx`, then the row"
+abbrev pub ruleSlab : List (Row ℕ) → Mesh → Query → Resolved → Reading
+ruleSlab rows ms q (unresolved n) = Refused n
+ruleSlab rows ms q beyond = Energy (ofBits binary64 0)
+ruleSlab rows ms q (slabAt s) = ruleRow ms q (getD rows s repulsive)
+
+unfoldable pub ruled : Grid → List (Row ℕ) → Mesh → Query → Reading
+ruled g rows ms q = ruleSlab rows ms q (resolve g q)

@@ -1,0 +1,161 @@
+-- Read, in stages over one walk of the sections: layout (13), grid (14), rows (15), tiling (16), energies (17). Definitions only.
+use mathlib.Core.Bool.{Bool, true, not, cond, _&&_}
+use mathlib.Core.List.{List, [], _∷_}
+use Prim.Native.Nat.{ℕ, _+_, _*_, _-_}
+use lib.ListN.{length}
+use lib.Dec.{leb, ltb, eqb}
+use lib.Ieee.{Float, binary32, binary64, ofBits, nanBits}
+use lib.Ieee.Scale.{finite}
+use Rattle.mesh.specs.Questions.{ask}
+use Rattle.mesh.specs.Lists.{allUpTo, every}
+use Rattle.mesh.specs.Levels.{vertexCount, per}
+use Rattle.grid.specs.Bins.{dihedralCount, tableRmax}
+use Rattle.grid.specs.Settings.{above, binsInRange, ownCount, slabsHeld}
+use Rattle.grid.specs.declared.Grid.{Grid}
+use Rattle.table.specs.Bytes.{numberOf, numberAt, items}
+use Rattle.table.specs.File.{Entry, entryOf}
+use Rattle.table.specs.declared.Table.{Table}
+use Rattle.table.specs.declared.Read.{Read}
+use Rattle.table.specs.declared.Read.the-variants.{Accepted as Reads, Refused as NotRead}
+
+-- 01's number and values for each case; the fields of a refused answer are 0
+abbrev pub readNumber : Read → ℕ
+readNumber (Reads t) = 0
+readNumber (NotRead n) = n
+
+abbrev noGrid : Grid
+noGrid = let x = ofBits binary64 0 in record { rmin = x; rmax = x; dr = x; «omega_step» = x; threshold = x; beta = x; «n_r» = 0; «n_omega» = 0 }
+
+abbrev noTable : Table
+noTable =
+    record { grid = noGrid; levels = 0; rows = 0; energies = 0; «grid_start» = 0; «bins_start» = 0; «levels_start» = 0; «rows_start» = 0; «energies_start» = 0 }
+
+abbrev pub readTable : Read → Table
+readTable (Reads t) = t
+readTable (NotRead n) = noTable
+
+-- ---- 13, the layout
+
+-- where each section begins, with its count, and where the last one ends
+pub record Layout : Type 0 where
+  pub bins : ℕ
+  pub levels : ℕ
+  pub rows : ℕ
+  pub energies : ℕ
+  pub end : ℕ
+
+-- the count of the section at a byte, and the byte after the section, its items w bytes each
+abbrev pub countAt : List ℕ → ℕ → ℕ
+countAt file at = numberAt 4 file at
+
+abbrev pub past : List ℕ → ℕ → ℕ → ℕ
+past file at w = at + 4 + countAt file at * w
+
+unfoldable pub layout : List ℕ → Layout
+layout file =
+    let bins = past file 0 8 in
+    let levels = past file bins 4 in
+    let rows = past file levels 4 in
+    let energies = past file rows 10 in
+    record { bins = bins; levels = levels; rows = rows; energies = energies; end = past file energies 4 }
+
+-- "do the sections follow their counts and end with the last byte? 13. The counts of sections 1 and 2 belong to 13."
+unfoldable pub laidOut : List ℕ → Layout → Bool
+laidOut file p = eqb (countAt file 0) 3 && (eqb (countAt file (p .bins)) 2 && eqb (p .end) (length file))
+
+-- ---- what the sections hold
+
+abbrev pub f64At : List ℕ → ℕ → Float
+f64At file at = ofBits binary64 (numberAt 8 file at)
+
+-- "read returns the grid, the counts and each section's start (the byte after its count)"; the grid's rmax is the table's own, and it has neither threshold nor beta
+unfoldable pub gridOf : List ℕ → Layout → Grid
+gridOf file p =
+    let rmin = f64At file 4 in
+    let dr = f64At file 12 in
+    let n = numberAt 4 file (p .bins + 4) in
+    record {
+      rmin = rmin;
+      rmax = tableRmax n dr rmin;
+      dr = dr;
+      «omega_step» = f64At file 20;
+      threshold = ofBits binary64 0;
+      beta = ofBits binary64 0;
+      «n_r» = n;
+      «n_omega» = numberAt 4 file (p .bins + 8);
+    }
+
+unfoldable pub tableOf : List ℕ → Layout → Table
+tableOf file p =
+    record {
+      grid = gridOf file p;
+      levels = countAt file (p .levels);
+      rows = countAt file (p .rows);
+      energies = countAt file (p .energies);
+      «grid_start» = 4;
+      «bins_start» = p .bins + 4;
+      «levels_start» = p .levels + 4;
+      «rows_start» = p .rows + 4;
+      «energies_start» = p .energies + 4;
+    }
+
+abbrev pub rowItems : List ℕ → Table → List Entry
+rowItems file t = items entryOf 10 file (t .«rows_start») (t .rows)
+
+abbrev pub energyItems : List ℕ → Table → List ℕ
+energyItems file t = items numberOf 4 file (t .«energies_start») (t .energies)
+
+-- ---- 14, grid and levels
+
+-- "the range parts of 1 (rmin, dr, step), then 2 to 5, with 1 to 16 levels, the dihedral count the one that the step gives"
+unfoldable pub gridHeld : Grid → ℕ → Bool
+gridHeld g levels =
+    finite (g .rmin) && (above (g .dr) && (above (g .«omega_step»)
+    && (leb 1 levels && (leb levels 16
+    && (binsInRange (g .«n_r») (g .«n_omega») && (eqb (g .«n_omega») (dihedralCount (g .«omega_step»))
+    && (ownCount (g .«n_r») (g .dr) (g .rmin) && slabsHeld (g .«n_r») (g .«n_omega») (levels - 1))))))))
+
+-- "the row count the product of the bin counts, and each vertex count its level's"
+unfoldable pub tableHeld : List ℕ → Table → Bool
+tableHeld file t =
+    gridHeld (t .grid) (t .levels)
+    && (eqb (t .rows) (t .grid .«n_r» * t .grid .«n_omega»)
+    && allUpTo (t .levels) (λ m. eqb (numberAt 4 file (t .«levels_start» + 4 * m)) (vertexCount m)))
+
+-- ---- 15, rows
+
+-- "no scalar NaN but 0x7FC00000"
+unfoldable pub scalarHeld : ℕ → Bool
+scalarHeld x = cond (nanBits binary32 x) (eqb x 0x7FC0_0000) true
+
+-- "Has each row a known kind, a held level if it is Mesh, its unused fields as below": of n levels
+unfoldable pub entryHeld : ℕ → Entry → Bool
+entryHeld n r =
+    cond (eqb (r .kind) 0) (eqb (r .level) 0 && (eqb (r .offset) 0xFFFF_FFFF && scalarHeld (r .scalar)))
+    (cond (eqb (r .kind) 1) (eqb (r .level) 0 && (eqb (r .offset) 0xFFFF_FFFF && eqb (r .scalar) 0))
+    (leb (r .kind) 3 && (ltb (r .level) n && eqb (r .scalar) 0)))
+
+-- ---- 16, tiling
+
+-- "Do offsets tile the energies in row order?": from place o on, ending at n
+unfoldable pub tiled : ℕ → ℕ → List Entry → Bool
+tiled o n [] = eqb o n
+tiled o n (r ∷ rs) = cond (leb (r .kind) 1) (tiled o n rs) (eqb (r .offset) o && tiled (o + per (r .level)) n rs)
+
+-- ---- 17, energies, and the whole
+
+-- "Read": 13 to 17, each put to the whole file before the next
+unfoldable pub readRefusal : List ℕ → Layout → Table → ℕ
+readRefusal file p t =
+    ask (laidOut file p) 13
+    (ask (tableHeld file t) 14
+    (ask (every (entryHeld (t .levels)) (rowItems file t)) 15
+    (ask (tiled 0 (t .energies) (rowItems file t)) 16
+    (ask (every (λ x. not (nanBits binary32 x)) (energyItems file t)) 17 0))))
+
+unfoldable pub readOut : List ℕ → Read
+readOut file =
+    let p = layout file in
+    let t = tableOf file p in
+    let r = readRefusal file p t in
+    cond (eqb r 0) (Reads t) (NotRead r)

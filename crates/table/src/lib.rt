@@ -1,0 +1,27 @@
+// The table file.
+use grid::Grid;
+
+// What write answers: the length of the file.
+pub enum Written {
+    Accepted(u64),
+    Refused(u64),
+}
+
+// What a file holds: its grid, the counts of levels, rows and energies, and where each section starts, at the byte after its count.
+pub struct Table {
+    pub grid: Grid,
+    pub levels: u64,
+    pub rows: u64,
+    pub energies: u64,
+    pub grid_start: u64,
+    pub bins_start: u64,
+    pub levels_start: u64,
+    pub rows_start: u64,
+    pub energies_start: u64,
+}
+
+// What read answers.
+pub enum Read {
+    Accepted(Table),
+    Refused(u64),
+}
