@@ -10,7 +10,7 @@ use Rattle.mesh.specs.Mesh.{Mesh}
 use Rattle.grid.specs.Settings.{counted}
 use Rattle.grid.specs.declared.Grid.{Grid}
 use Rattle.rows.specs.Rows.{Row, repulsive, compared}
-use Rattle.locator.specs.Search.{Locator}
+use Rattle.search.specs.Search.{Locator}
 use Rattle.locator.specs.Several.{locators, Roomy}
 use Rattle.builder.specs.Lists.{Lists, slabs}
 use Rattle.builder.specs.Calls.{BuiltOut, builtNumber, builderAfter, freshBuilder, freshOut}

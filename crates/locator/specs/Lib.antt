@@ -1,5 +1,2 @@
-pub mod Geometry
-pub mod Cells
-pub mod Search
 pub mod Locator
 pub mod Several

@@ -7,8 +7,8 @@ use Rattle.mesh.specs.Lists.{joined, starts, put}
 use Rattle.mesh.specs.Levels.{vertexCount, gridSize, cellCount}
 use Rattle.mesh.specs.Mesh.{Mesh, keepsRule, meshHeld}
 use Rattle.mesh.specs.Questions.{ask}
-use Rattle.locator.specs.Cells.{cell, facesOf, flat}
-use Rattle.locator.specs.Search.{Locator}
+use Rattle.search.specs.Cells.{cell, facesOf, flat}
+use Rattle.search.specs.Search.{Locator}
 
 -- 6, of the four lists: "6·g·g+1 u32 and 27n u16 for cells, n+1 u32 and 45n u16 for faces by vertex"
 unfoldable pub locatorRoom : ℕ → ℕ → ℕ → ℕ → ℕ → ℕ → Bool

@@ -6,7 +6,7 @@ use lib.Seq.{slice}
 use Rattle.mesh.specs.Lists.{joined}
 use Rattle.mesh.specs.Levels.{verticesBelow, cellOffsetsBelow}
 use Rattle.mesh.specs.Mesh.{Mesh, levelPart}
-use Rattle.locator.specs.Search.{Locator}
+use Rattle.search.specs.Search.{Locator}
 use Rattle.locator.specs.Locator.{locatorOut}
 
 -- level m's part of the four lists

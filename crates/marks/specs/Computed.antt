@@ -14,9 +14,9 @@ use Rattle.mesh.specs.Lists.{allUpTo, anyUpTo, forEach, sum, below, every, filt
 use Rattle.mesh.specs.Levels.{vertexCount, per, gridSize, cellCount, verticesBelow, cellOffsetsBelow}
 use Rattle.mesh.specs.Mesh.{within, lists, angleKept, neighbourKept, vertexKept, verticesFinite, keepsRule, levelPart, meshRoom, meshesKeep}
 use Rattle.mesh.specs.Faces.{isFace, facesFrom, extractFaces, has}
-use Rattle.locator.specs.Geometry.{dot, norm, unit, difference, vertexAt, cubeFaceProject, cubeFace, cubeProject, inCells, clamp, cellCoordinate, cellIndex, projectedBarycentric}
-use Rattle.locator.specs.Cells.{near, cellNumber, nearCell, inCell, cell, facesOf, flat, triples}
-use Rattle.locator.specs.Search.{squared, nearer, nearestFrom, nearestAmong, better, fitFrom, bestFace, nearestOf, locate, locatorFrom, verticesFrom, vertexInside, entriesAt, entriesInside, nearestIn, locateIn}
+use Rattle.search.specs.Geometry.{dot, norm, unit, difference, vertexAt, cubeFaceProject, cubeFace, cubeProject, inCells, clamp, cellCoordinate, cellIndex, projectedBarycentric}
+use Rattle.search.specs.Cells.{near, cellNumber, nearCell, inCell, cell, facesOf, flat, triples}
+use Rattle.search.specs.Search.{squared, nearer, nearestFrom, nearestAmong, better, fitFrom, bestFace, nearestOf, locate, locatorFrom, verticesFrom, vertexInside, entriesAt, entriesInside, nearestIn, locateIn}
 use Rattle.locator.specs.Locator.{locatorRoom, locatorRefusal, located, locatorOut}
 use Rattle.locator.specs.Several.{locatorPart, locators}
 use Rattle.grid.specs.Bins.{distanceBin, dihedralBin}

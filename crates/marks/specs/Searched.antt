@@ -8,10 +8,10 @@ use lib.Ieee.{Float, nan, binary64, toBits, ofInt}
 use Rattle.mesh.specs.Lists.{below}
 use Rattle.mesh.specs.Mesh.{Mesh}
 use Rattle.mesh.specs.Faces.{extractFaces}
-use Rattle.locator.specs.Search.{Locator}
+use Rattle.search.specs.Search.{Locator}
 use Rattle.locator.specs.Several.{locators}
 use Rattle.locator.specs.Locator.{locatorOut}
-use Rattle.locator.specs.declared.Vector3.{Vector3}
+use Rattle.search.specs.declared.Vector3.{Vector3}
 use Rattle.grid.specs.Settings.{counted}
 use Rattle.table.specs.Read.{readTable, readOut}
 use Rattle.reading.specs.Resolve.{Query, readingNumber, readingEnergy}

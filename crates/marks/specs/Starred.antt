@@ -11,7 +11,7 @@ use Rattle.ieee.specs.Narrow.{narrowed}
 use Rattle.grid.specs.Bins.{distanceBin, dihedralCount, dihedralBin}
 use Rattle.float.specs.Exp.{exponential}
 use Rattle.mesh.specs.Mesh.{meshesKeep}
-use Rattle.locator.specs.Geometry.{cubeProject}
+use Rattle.search.specs.Geometry.{cubeProject}
 use Rattle.builder.specs.Calls.{builtNumber}
 use Rattle.table.specs.declared.Written.the-variants.{Accepted as Writes}
 use Rattle.ledger.specs.Promise.{fresh, lastWrite, file}

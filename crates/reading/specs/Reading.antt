@@ -7,8 +7,8 @@ use lib.Dec.{leb, ltb, eqb}
 use lib.Ieee.{Float, inf, binary64, ofBits}
 use Rattle.mesh.specs.Lists.{every}
 use Rattle.mesh.specs.Levels.{vertexCount, gridSize}
-use Rattle.locator.specs.Geometry.{unit}
-use Rattle.locator.specs.Search.{Locator, locatorFrom, verticesFrom, nearestIn, locateIn}
+use Rattle.search.specs.Geometry.{unit}
+use Rattle.search.specs.Search.{Locator, locatorFrom, verticesFrom, nearestIn, locateIn}
 use Rattle.table.specs.Bytes.{numberAt}
 use Rattle.table.specs.File.{Entry, entryOf}
 use Rattle.table.specs.declared.Table.{Table}

@@ -11,11 +11,11 @@ use Rattle.mesh.specs.declared.Face.{Face}
 use Rattle.grid.specs.Bins.{tableRmax, distanceBin, dihedralBin}
 use Rattle.grid.specs.Settings.{above}
 use Rattle.grid.specs.declared.Grid.{Grid}
-use Rattle.locator.specs.Geometry.{norm}
-use Rattle.locator.specs.declared.Vector3.{Vector3}
-use Rattle.locator.specs.declared.Weights.{Weights}
-use Rattle.locator.specs.declared.Nearest.{Nearest}
-use Rattle.locator.specs.declared.Located.{Located}
+use Rattle.search.specs.Geometry.{norm}
+use Rattle.search.specs.declared.Vector3.{Vector3}
+use Rattle.search.specs.declared.Weights.{Weights}
+use Rattle.search.specs.declared.Nearest.{Nearest}
+use Rattle.search.specs.declared.Located.{Located}
 use Rattle.reading.specs.declared.Reading.{Reading}
 use Rattle.reading.specs.declared.Reading.the-variants.{Energy, Refused}
 

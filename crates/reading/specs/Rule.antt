@@ -8,8 +8,8 @@ use Rattle.mesh.specs.Levels.{vertexCount, gridSize}
 use Rattle.mesh.specs.Mesh.{Mesh, levelPart}
 use Rattle.grid.specs.declared.Grid.{Grid}
 use Rattle.rows.specs.Rows.{Row, scalar, repulsive, mesh}
-use Rattle.locator.specs.Geometry.{unit}
-use Rattle.locator.specs.Search.{nearestOf, locate}
+use Rattle.search.specs.Geometry.{unit}
+use Rattle.search.specs.Search.{nearestOf, locate}
 use Rattle.reading.specs.Resolve.{Query, Resolved, unresolved, beyond, slabAt, resolve, Picks, unpicked, picked, nearestPick, facePick, widened, combined}
 use Rattle.reading.specs.declared.Reading.{Reading}
 use Rattle.reading.specs.declared.Reading.the-variants.{Energy, Refused}

@@ -12,12 +12,12 @@ use Rattle.mesh.specs.Levels.{verticesBelow, cellOffsetsBelow}
 use Rattle.mesh.specs.Mesh.{Mesh}
 use Rattle.mesh.specs.Faces.{face}
 use Rattle.mesh.specs.declared.Face.{Face}
-use Rattle.locator.specs.Geometry.{zero, dot, difference, vertexAt, cellIndex, projectedBarycentric}
-use Rattle.locator.specs.Cells.{cell, facesOf, triples}
-use Rattle.locator.specs.declared.Vector3.{Vector3}
-use Rattle.locator.specs.declared.Weights.{Weights}
-use Rattle.locator.specs.declared.Nearest.{Nearest}
-use Rattle.locator.specs.declared.Located.{Located}
+use Rattle.search.specs.Geometry.{zero, dot, difference, vertexAt, cellIndex, projectedBarycentric}
+use Rattle.search.specs.Cells.{cell, facesOf, triples}
+use Rattle.search.specs.declared.Vector3.{Vector3}
+use Rattle.search.specs.declared.Weights.{Weights}
+use Rattle.search.specs.declared.Nearest.{Nearest}
+use Rattle.search.specs.declared.Located.{Located}
 
 -- ---- the nearest vertex (`nearest_in_cell`)
 

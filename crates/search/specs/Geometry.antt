@@ -9,8 +9,8 @@ use lib.Ieee.{Float, nan, binary64, ofBits, ofInt, neg, add, sub, mul, div, lt, 
 use Rattle.ieee.specs.Root.{root}
 use Rattle.ieee.specs.Fused.{fused}
 use Rattle.float.specs.Order.{magnitude}
-use Rattle.locator.specs.declared.Vector3.{Vector3}
-use Rattle.locator.specs.declared.Weights.{Weights}
+use Rattle.search.specs.declared.Vector3.{Vector3}
+use Rattle.search.specs.declared.Weights.{Weights}
 
 abbrev pub plus : Float → Float → Float
 plus = add binary64
