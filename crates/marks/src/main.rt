@@ -1,17 +1,9 @@
 // Works out the marks of document 01 with the compiled operations, and prints each beside what the document says.
 use libc::STDOUT_FILENO;
 
-// The bits of a float that is no NaN; a NaN is printed as the quiet one.
-fn bits(x: f64) -> u64 {
-    if x != x {
-        return 0x7ff8_0000_0000_0000;
-    }
-    f64::to_bits(x)
-}
-
 // The bits of an f32, by its value as an f64.
 fn widened(x: f32) -> u64 {
-    bits(float::widen(x))
+    bits::bits64(float::widen(x))
 }
 
 fn mark(what: &[u8], got: u64, marked: u64) {
@@ -28,25 +20,33 @@ fn mark(what: &[u8], got: u64, marked: u64) {
 }
 
 fn main() {
-    mark(b"root of 2", bits(ieee::root(2.0)), 0x3ff6_a09e_667f_3bcd);
+    mark(
+        b"root of 2",
+        bits::bits64(ieee::root(2.0)),
+        0x3ff6_a09e_667f_3bcd,
+    );
     let e = 1.0 / 1073741824.0;
     mark(
         b"fused (1+2^-30)(1-2^-30) - 1",
-        bits(ieee::mul_add(1.0 + e, 1.0 - e, -1.0)),
+        bits::bits64(ieee::mul_add(1.0 + e, 1.0 - e, -1.0)),
         0xbc30_0000_0000_0000,
     );
     mark(
         b"16777217 narrowed",
         widened(ieee::narrow(16777217.0)),
-        bits(16777216.0),
+        bits::bits64(16777216.0),
     );
     mark(
         b"16777219 narrowed",
         widened(ieee::narrow(16777219.0)),
-        bits(16777220.0),
+        bits::bits64(16777220.0),
     );
-    mark(b"E(0)", bits(float::exp(0.0)), bits(1.0));
-    mark(b"E(-709)", bits(float::exp(-709.0)), bits(0.0));
+    mark(b"E(0)", bits::bits64(float::exp(0.0)), bits::bits64(1.0));
+    mark(
+        b"E(-709)",
+        bits::bits64(float::exp(-709.0)),
+        bits::bits64(0.0),
+    );
     mark(
         b"rmin 0, dr 1, four bins: bin of r 0.5",
         grid::distance_bin(0.5, 0.0, 1.0, 4),

@@ -1,14 +1,11 @@
--- Floats and their bits at both formats, the letters of a word, and the two's complement. Assumes nothing.
-use mathlib.Core.Path.{_≡_, refl, sym, ap, _∙_}
-use mathlib.Core.Bool.{true, false, not}
+-- The letters of a word, and the two's complement. Assumes nothing.
+use mathlib.Core.Path.{_≡_, refl, ap}
+use mathlib.Core.Bool.{true, false}
 use mathlib.Core.List.{List}
-use Prim.Native.Nat.{ℕ, zero, suc, _+_, _-_, _%_, _*_, _^_, _≤_, _<_}
+use Prim.Native.Nat.{ℕ, suc, _+_, _-_, _*_, _^_, _≤_, _<_}
 use native.Mathlib.Numerals.{add-one}
 use native.Mathlib.Omega.{arith}
 use lib.Dec.{T}
-use lib.Ieee.{Float, nan, inf, fin, Format, hid, ones, top, ofBits, isNan, nanBits, ne}
-use lib.Ieee.Compare.{nan-differs}
-use lib.Ieee.Bits.{nanBits-is, nanBits-above}
 use lib.IntN.{ℤ, pos, negsuc, _-ℤ_, natAbs}
 use lib.ListN.{length, drop, getD, drop-of-length-le}
 use lib.Seq.{drop-cons}
@@ -16,30 +13,10 @@ use lib.Signed.{nonNeg, ltZ}
 use mir.Syntax.{w64}
 use mir.Val.{SFits, Fits, ofZ, toZ}
 use mir.ValLaws.{toZ-ofZ}
-use borrow.Author.Tests.{ltb-true, lt-ltb, le-ltb, le-leb, lt-leb, eq-eqb, ne-eqb}
+use borrow.Author.Tests.{ltb-true, le-ltb, le-leb, lt-leb, eq-eqb, ne-eqb}
 use Rattle.vectors.specs.Hex.{digit, word}
 use Rattle.vectors.specs.Signed.{complement}
 use Rattle.vectors.specs.declared.line.Word.the-variants.{Number, Bad}
-
--- what equals itself is no NaN
-pub no-nan : (x : Float) → ne x x ≡ false → T (not (isNan x))
-unfolding isNan
-no-nan nan e = absurd (let z : _≡_ {A = ℕ} 0 1 = cc nan-differs in omega arith)
-no-nan (inf s) e = tt
-no-nan (fin s m d) e = tt
-
-is-nan : (x : Float) → isNan x ≡ true → x ≡ nan
-unfolding isNan
-is-nan nan e = refl
-is-nan (inf s) e = absurd (let z : _≡_ {A = ℕ} 0 1 = cc in omega arith)
-is-nan (fin s m d) e = absurd (let z : _≡_ {A = ℕ} 0 1 = cc in omega arith)
-
--- the patterns of NaNs are those above infinity's, apart from the sign
-pub above : (f : Format) (b : ℕ) → ones f * hid f < b % top f → nan ≡ ofBits f b
-above f b h = sym (is-nan (ofBits f b) (sym (nanBits-is f b) ∙ nanBits-above f b ∙ lt-ltb _ _ h))
-
-pub below : (f : Format) (b : ℕ) → b % top f ≤ ones f * hid f → T (not (nanBits f b))
-below f b h = rw (nanBits-above f b ∙ le-ltb _ _ h) tt
 
 -- one letter of a word: text at i has the value d, and the letters before it make n
 module _ (text : List ℕ) (n i d : ℕ) (there : i < length text) (value : d ≡ digit (getD text i 0)) where

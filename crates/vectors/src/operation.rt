@@ -1,7 +1,6 @@
 // The operations under test. An operation is known by its number in this list, and its place in the report is that number.
 ghost use mathlib.Core.Path.{_≡_};
 ghost use Prim.Native.Nat.{_≤_};
-ghost use lib.Ieee.{binary32, binary64, ofBits, toBits};
 ghost use Rattle.vectors.specs.Signed.{complement};
 use crate::line;
 use libc::STDOUT_FILENO;
@@ -126,44 +125,6 @@ pub fn result_width(op: usize) -> usize
     }
 }
 
-// The float of a bit pattern: a NaN for every pattern of a NaN.
-fn float64(b: u64) -> f64
-    ensures { λ r. ⌜ r ≡ ofBits binary64 b ⌝ }
-{
-    if b % 0x8000_0000_0000_0000 > 0x7ff0_0000_0000_0000 {
-        0.0 / 0.0
-    } else {
-        f64::from_bits(b)
-    }
-}
-
-fn float32(b: u32) -> f32
-    ensures { λ r. ⌜ r ≡ ofBits binary32 b ⌝ }
-{
-    if b % 0x8000_0000 > 0x7f80_0000 {
-        0.0 / 0.0
-    } else {
-        f32::from_bits(b)
-    }
-}
-
-// The bit pattern of a float: one and the same for every NaN.
-fn bits64(x: f64) -> u64
-    ensures { λ r. ⌜ r ≡ toBits binary64 x ⌝ }
-{
-    if x != x {
-        0x7ff8_0000_0000_0000
-    } else {
-        f64::to_bits(x)
-    }
-}
-
-fn bits32(x: f32) -> u32
-    ensures { λ r. ⌜ r ≡ toBits binary32 x ⌝ }
-{
-    if x != x { 0x7fc0_0000 } else { f32::to_bits(x) }
-}
-
 // A function of its own, so that the cast needs no proof where it is used.
 fn wide(n: u32) -> u64 {
     n as u64
@@ -187,25 +148,25 @@ fn low(n: u64) -> u32 {
 
 // The bits of what the operation gives of its operands' bits.
 pub fn run(op: usize, a: u64, b: u64, c: u64) -> u64 {
-    let x = float64(a);
-    let y = float64(b);
+    let x = bits::float64(a);
+    let y = bits::float64(b);
     match op {
-        ROOT => bits64(ieee::root(x)),
-        MUL_ADD => bits64(ieee::mul_add(x, y, float64(c))),
-        NARROW => wide(bits32(ieee::narrow(x))),
-        WIDEN => bits64(float::widen(float32(low(a)))),
-        FLOOR => bits64(float::floor(x)),
-        CEILING => bits64(float::ceiling(x)),
+        ROOT => bits::bits64(ieee::root(x)),
+        MUL_ADD => bits::bits64(ieee::mul_add(x, y, bits::float64(c))),
+        NARROW => wide(bits::bits32(ieee::narrow(x))),
+        WIDEN => bits::bits64(float::widen(bits::float32(low(a)))),
+        FLOOR => bits::bits64(float::floor(x)),
+        CEILING => bits::bits64(float::ceiling(x)),
         TO_U64 => float::to_u64(x),
         TO_I64 => bits_signed(float::to_i64(x)),
-        OF_U64 => bits64(float::of_u64(a)),
+        OF_U64 => bits::bits64(float::of_u64(a)),
         TOTAL_ORDER => float::total_order(x, y) as u64,
-        MAX => bits64(float::max(x, y)),
-        MIN => bits64(float::min(x, y)),
-        ABS => bits64(float::abs(x)),
+        MAX => bits::bits64(float::max(x, y)),
+        MIN => bits::bits64(float::min(x, y)),
+        ABS => bits::bits64(float::abs(x)),
         IS_FINITE => ieee::is_finite(x) as u64,
-        REM_TAU => bits64(float::rem_tau(x)),
-        EXP => bits64(float::exp(x)),
+        REM_TAU => bits::bits64(float::rem_tau(x)),
+        EXP => bits::bits64(float::exp(x)),
         _ => 0,
     }
 }
@@ -214,7 +175,7 @@ pub fn run(op: usize, a: u64, b: u64, c: u64) -> u64 {
 pub fn settled(op: usize, want: u64) -> u64 {
     match op {
         TO_U64 | TO_I64 | TOTAL_ORDER | IS_FINITE => want,
-        NARROW => wide(bits32(float32(low(want)))),
-        _ => bits64(float64(want)),
+        NARROW => wide(bits::bits32(bits::float32(low(want)))),
+        _ => bits::bits64(bits::float64(want)),
     }
 }

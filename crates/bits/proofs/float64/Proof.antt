@@ -1,9 +1,9 @@
--- `vectors::operation::float64` meets its contract. Assumes nothing.
+-- `bits::float64` meets its contract. Assumes nothing.
 use borrow.Author.Needs.{needs}
 use lib.Ieee.{binary64, div, ofBits}
-use Rattle.vectors.proofs.Laws.{above, below}
-use Rattle.vectors.proofs.operation.float64.Statement.{statement}
-use Rattle.vectors.proofs.operation.float64.Tie as tie
+use Rattle.bits.proofs.Laws.{above, below}
+use Rattle.bits.proofs.float64.Statement.{statement}
+use Rattle.bits.proofs.float64.Tie as tie
 
 float-from-bits-result : tie.Need-float-from-bits-result
 float-from-bits-result c = below binary64 (c .before .args .b) (c .if1 .left)

@@ -1,12 +1,12 @@
--- `vectors::operation::bits32` meets its contract. Assumes nothing.
+-- `bits::bits64` meets its contract. Assumes nothing.
 use borrow.Author.Needs.{needs}
 use mathlib.Core.Path.{sym, subst}
 use lib.Dec.{T}
-use lib.Ieee.{binary32, toBits}
+use lib.Ieee.{toBits}
 use lib.Ieee.Compare.{differs-from-itself}
-use Rattle.vectors.proofs.Laws.{no-nan}
-use Rattle.vectors.proofs.operation.bits32.Statement.{statement}
-use Rattle.vectors.proofs.operation.bits32.Tie as tie
+use Rattle.bits.proofs.Laws.{no-nan}
+use Rattle.bits.proofs.bits64.Statement.{statement}
+use Rattle.bits.proofs.bits64.Tie as tie
 
 float-to-bits-result : tie.Need-float-to-bits-result
 float-to-bits-result c = no-nan (c .before .args .x) (c .if1 .left)
@@ -18,5 +18,5 @@ returns c = rw (differs-from-itself (c .before .args .x) (subst T (sym (c .if1 .
 returns-2 : tie.Need-returns-2
 returns-2 c = search needs
 
-pub bits32-spec : {M : Type 1} → statement M
-bits32-spec = tie.close (tie.spec float-to-bits-result returns returns-2)
+pub bits64-spec : {M : Type 1} → statement M
+bits64-spec = tie.close (tie.spec float-to-bits-result returns returns-2)
