@@ -1,11 +1,11 @@
 -- NaNs and their bit patterns, at both formats. Assumes nothing.
-use mathlib.Core.Path.{_≡_, refl, sym, _∙_}
-use mathlib.Core.Bool.{true, false, not}
+use mathlib.Core.Path.{_≡_, refl, sym, subst, _∙_}
+use mathlib.Core.Bool.{Bool, true, false, not}
 use Prim.Native.Nat.{ℕ, _%_, _*_, _≤_, _<_}
 use native.Mathlib.Omega.{arith}
 use lib.Dec.{T}
 use lib.Ieee.{Float, nan, inf, fin, Format, hid, ones, top, ofBits, isNan, nanBits, ne}
-use lib.Ieee.Compare.{nan-differs}
+use lib.Ieee.Compare.{nan-differs, differs-from-itself}
 use lib.Ieee.Bits.{nanBits-is, nanBits-above}
 use borrow.Author.Tests.{lt-ltb, le-ltb}
 
@@ -28,3 +28,14 @@ above f b h = sym (is-nan (ofBits f b) (sym (nanBits-is f b) ∙ nanBits-above f
 
 pub below : (f : Format) (b : ℕ) → b % top f ≤ ones f * hid f → T (not (nanBits f b))
 below f b h = rw (nanBits-above f b ∙ le-ltb _ _ h) tt
+
+-- only a NaN differs from itself
+unlike-by : (x : Float) (t : Bool) → ne x x ≡ t → ne x x ≡ isNan x
+unfolding isNan
+unlike-by x true e = let h : x ≡ nan = differs-from-itself x (subst T (sym e) tt) in rw h nan-differs
+unlike-by nan false e = nan-differs
+unlike-by (inf s) false e = e
+unlike-by (fin s m d) false e = e
+
+pub unlike-itself : (x : Float) → ne x x ≡ isNan x
+unlike-itself x = unlike-by x (ne x x) refl

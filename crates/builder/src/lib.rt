@@ -1,5 +1,14 @@
 // The builder of a table, by value; its store, rows and meshes are lent.
+ghost use mathlib.Core.Path.{_≡_};
+ghost use lib.ListN.{length};
+ghost use Rattle.rows.specs.Rows.{Rows};
+ghost use Rattle.builder.specs.Lists.{Lists};
+ghost use Rattle.builder.specs.Calls.{BuiltOut, setOut};
 use grid::Grid;
+use rows::SlabResolution;
+
+mod copies;
+mod room;
 
 // The settings, the top level and the current one.
 pub struct Builder {
@@ -18,4 +27,47 @@ pub enum Built {
 pub enum Settled {
     Accepted(Builder, f64),
     Refused(u64),
+}
+
+// Gives a slab its energies, which are those of the current level.
+pub fn set(
+    b: Builder,
+    store: &mut [f64],
+    kinds: &mut [u8],
+    levels: &mut [u8],
+    values: &mut [u32],
+    ri: u64,
+    oi: u64,
+    energies: &[f64],
+) -> Built
+    ensures { λ r. ⌜ _≡_ {A = BuiltOut}
+        (record { answer = r; lists = record { store = now (store .exit); rows = record { kinds = now (kinds .exit); levels = now (levels .exit); values = now (values .exit) } } })
+        (setOut b (record { store = now (store .entry); rows = record { kinds = now (kinds .entry); levels = now (levels .entry); values = now (values .entry) } }) ri oi (now (energies .entry))) ⌝ }
+{
+    let no = room::set_refusal(
+        b,
+        store.len() as u64,
+        kinds.len() as u64,
+        levels.len() as u64,
+        values.len() as u64,
+        ri,
+        oi,
+        energies,
+    );
+    if no != 0 {
+        return Built::Refused(no);
+    }
+    let n_omega = b.grid.n_omega;
+    let top = b.top;
+    let level = b.level;
+    let s = ri * n_omega + oi;
+    copies::copy_at(store, (s * mesh::per_level(top as u8)) as usize, energies);
+    rows::replace(
+        kinds,
+        levels,
+        values,
+        s,
+        SlabResolution::Mesh(level as u8, true),
+    );
+    Built::Accepted(b)
 }

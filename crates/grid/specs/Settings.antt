@@ -43,7 +43,6 @@ slabsHeld n m top = leb (n * m * per top) 4294967295
 
 -- "the first one answered no gives its number": 1 to 5 put to the settings, counts and levels of a held builder; 0 where none is answered no
 unfoldable pub question : Grid → ℕ → ℕ → ℕ
-unfolding ask
 question g top level =
     ask (inRange g) 1
     (ask (levelsHeld top level) 2

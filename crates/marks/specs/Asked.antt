@@ -3,6 +3,7 @@
 use mathlib.Core.Path.{_≡_, refl}
 use Prim.Native.Nat.{ℕ}
 use lib.Ieee.{binary64, ofBits}
+use Rattle.mesh.specs.Questions.{ask}
 use Rattle.mesh.specs.Levels.{per}
 use Rattle.grid.specs.Settings.{inRange, levelsHeld, countsHeld, ownCount, slabsHeld, question, freshQuestion}
 use Rattle.grid.specs.declared.Grid.{Grid}
@@ -55,7 +56,7 @@ pub record Asked : Type 0 where
   pub held-level : question (settings 0 0x3FF0_0000_0000_0000 0x3FF0_0000_0000_0000 0x4018_0000_0000_0000 0x3FB9_9999_9999_999A 0x3FF0_0000_0000_0000 1 1) 0 1 ≡ 2
 
 pub asked : Asked
-unfolding question freshQuestion inRange levelsHeld countsHeld ownCount slabsHeld per
+unfolding ask question freshQuestion inRange levelsHeld countsHeld ownCount slabsHeld per
 asked = record {
   accepted = refl;
   threshold-zero = refl;

@@ -1,6 +1,7 @@
 -- `question` meets its contract. Assumes nothing.
 use mathlib.Core.Path.{_≡_}
 use mathlib.Core.Bool.{true}
+use Rattle.mesh.specs.Questions.{ask}
 use Rattle.grid.specs.Settings.{inRange, levelsHeld, countsHeld, question}
 use Rattle.grid.proofs.Laws.{yes, no, counts-le, top-le}
 use borrow.Author.Needs.{needs}
@@ -21,28 +22,28 @@ in-range-requires : tie.Need-in-range-requires
 in-range-requires c κs = search needs
 
 returns : tie.Need-returns
-unfolding question
+unfolding question ask
 returns c = rw (no (c .before .in-range .ensures) (c .if1 .taken))
 
 levels-held-requires : tie.Need-levels-held-requires
 levels-held-requires c κs = search needs
 
 returns-2 : tie.Need-returns-2
-unfolding question
+unfolding question ask
 returns-2 c = rw (ranges (c .before .before), no (c .before .levels-held .ensures) (c .if2 .taken))
 
 counts-held-requires : tie.Need-counts-held-requires
 counts-held-requires c κs = search needs
 
 returns-3 : tie.Need-returns-3
-unfolding question
+unfolding question ask
 returns-3 c = rw (ranges (c .before .before .before .before), levels (c .before .before), no (c .before .counts-held .ensures) (c .if3 .taken))
 
 own-count-requires : tie.Need-own-count-requires
 own-count-requires c κs = search needs
 
 returns-4 : tie.Need-returns-4
-unfolding question
+unfolding question ask
 returns-4 c =
     let e = c .before .before in
     let d = e .before .before in
@@ -57,7 +58,7 @@ slabs-held-requires c κs =
     (n .0, n .1, top-le (s .args .top) (s .args .level) (levels d))
 
 returns-5 : tie.Need-returns-5
-unfolding question
+unfolding question ask
 returns-5 c =
     let f = c .before .before in
     let e = f .before .before in
@@ -65,7 +66,7 @@ returns-5 c =
     rw (ranges (d .before .before), levels d, counts e, yes (f .before .own-count .ensures) (f .if4 .left), no (c .before .slabs-held .ensures) (c .if5 .taken))
 
 returns-6 : tie.Need-returns-6
-unfolding question
+unfolding question ask
 returns-6 c =
     let f = c .before .before in
     let e = f .before .before in

@@ -1,0 +1,122 @@
+-- What questions that were answered yes say of the numbers. Assumes nothing.
+use mathlib.Core.Path.{_≡_, refl, sym, ap, _∙_}
+use mathlib.Core.Bool.{Bool, true, false, cond, not, _&&_}
+use mathlib.Core.List.{List}
+use Prim.Native.Nat.{ℕ, _+_, _*_, _^_, _≤_, _<_}
+use native.Mathlib.Nat.{mul-le-mul, mul-le-mul-right, add-mul, one-mul}
+use native.Mathlib.Omega.{arith}
+use lib.Dec.{leb, ltb, eqb, lit<}
+use lib.Ieee.{Float, isNan}
+use lib.ListN.{length}
+use borrow.Author.Tests.{leb-true, ltb-true, eqb-true, eqb-false}
+use Rattle.ieee.proofs.Fields.{both-true}
+use Rattle.mesh.specs.Questions.{ask, first}
+use Rattle.mesh.specs.Lists.{every}
+use Rattle.mesh.specs.Levels.{per}
+use Rattle.mesh.proofs.Laws.{per-le}
+use Rattle.mesh.proofs.Sizes.{per-mono}
+use Rattle.grid.specs.Settings.{question, inRange, levelsHeld, countsHeld, ownCount, slabsHeld}
+use Rattle.grid.specs.declared.Grid.{Grid}
+use Rattle.grid.proofs.Laws.{counts-le, top-le}
+use Rattle.rows.specs.Rows.{rowRoom}
+use Rattle.builder.specs.Lists.{slabs, slab, storePlace, listRoom}
+use Rattle.builder.specs.Calls.{builderQuestion, setQuestion}
+use Rattle.builder.specs.declared.Builder.{Builder}
+
+ask-by : (q : Bool) (n r : ℕ) → 0 < n → cond q r n ≡ 0 → (q ≡ true) × (r ≡ 0)
+ask-by true n r p e = (refl, e)
+ask-by false n r p e = absurd (omega arith)
+
+-- a chain of questions gave 0: the first one was answered yes, and so were the rest
+pub ask-yes : {q : Bool} {n r : ℕ} → 0 < n → ask q n r ≡ 0 → (q ≡ true) × (r ≡ 0)
+unfolding ask
+ask-yes {q} {n} {r} p e = ask-by q n r p e
+
+first-by : (n r : ℕ) (t : Bool) → eqb n 0 ≡ t → cond t r n ≡ 0 → (n ≡ 0) × (r ≡ 0)
+first-by n r true t e = (eqb-true n 0 t, e)
+first-by n r false t e = (e, absurd (eqb-false n 0 t e))
+
+pub first-yes : {n r : ℕ} → first n r ≡ 0 → (n ≡ 0) × (r ≡ 0)
+unfolding first
+first-yes {n} {r} e = first-by n r (eqb n 0) refl e
+
+-- 1 to 5 answered yes
+pub record Asked (g : Grid) (top level : ℕ) : Type 0 where
+  pub top-le : top ≤ 15
+  pub level-le : level ≤ top
+  pub rs : g .«n_r» ≤ 65535
+  pub omegas : g .«n_omega» ≤ 65535
+  pub few : slabs g * per top ≤ 4294967295
+
+pub asked : (g : Grid) (top level : ℕ) → question g top level ≡ 0 → Asked g top level
+unfolding question levelsHeld slabsHeld
+asked g top level e =
+    let q2 = ask-yes (lit< tt) (ask-yes (lit< tt) e .1) in
+    let q3 = ask-yes (lit< tt) (q2 .1) in
+    let q5 = ask-yes (lit< tt) (ask-yes (lit< tt) (q3 .1) .1) in
+    let l = both-true (leb top 15) (leb level top) (q2 .0) in
+    let n = counts-le g (q3 .0) in
+    record {
+      top-le = leb-true top 15 (l .0);
+      level-le = leb-true level top (l .1);
+      rs = n .0;
+      omegas = n .1;
+      few = leb-true (slabs g * per top) 4294967295 (q5 .0);
+    }
+
+-- row s of n rows of z places: its first k places
+pub place : (s n k z : ℕ) → s < n → k ≤ z → s * z + k ≤ n * z
+place s n k z h l =
+    let m : (s + 1) * z ≤ n * z = mul-le-mul-right z (omega arith) in
+    omega (arith, rw (add-mul, one-mul) at m)
+
+-- 6, of store and rows, answered yes
+pub record Roomy (g : Grid) (top store kinds levels values : ℕ) : Type 0 where
+  pub store-le : slabs g * per top ≤ store
+  pub kinds-le : slabs g ≤ kinds
+  pub levels-le : slabs g ≤ levels
+  pub values-le : slabs g ≤ values
+
+pub roomy : (g : Grid) (top store kinds levels values : ℕ) → listRoom g top store kinds levels values ≡ true → Roomy g top store kinds levels values
+unfolding listRoom rowRoom
+roomy g top store kinds levels values e =
+    let a = both-true (leb (slabs g * per top) store) (leb (slabs g) kinds && (leb (slabs g) levels && leb (slabs g) values)) e in
+    let b = both-true (leb (slabs g) kinds) (leb (slabs g) levels && leb (slabs g) values) (a .1) in
+    let d = both-true (leb (slabs g) levels) (leb (slabs g) values) (b .1) in
+    record {
+      store-le = leb-true (slabs g * per top) store (a .0);
+      kinds-le = leb-true (slabs g) kinds (b .0);
+      levels-le = leb-true (slabs g) levels (d .0);
+      values-le = leb-true (slabs g) values (d .1);
+    }
+
+-- what an accepted set may count on: its row is inside the rows, and its energies inside the store
+pub record Set (b : Builder) (ri oi : ℕ) (e : List Float) (store kinds levels values : ℕ) : Type 0 where
+  pub asked : Asked (b .grid) (b .top) (b .level)
+  pub room : Roomy (b .grid) (b .top) store kinds levels values
+  pub row : slab (b .grid) ri oi < slabs (b .grid)
+  pub energies : storePlace (b .top) (slab (b .grid) ri oi) + length e ≤ store
+
+pub accepted : (b : Builder) (ri oi : ℕ) (e : List Float) (store kinds levels values : ℕ)
+    → first (builderQuestion b) (ask (listRoom (b .grid) (b .top) store kinds levels values) 6 (setQuestion (b .grid) (b .level) ri oi e)) ≡ 0
+    → Set b ri oi e store kinds levels values
+unfolding setQuestion
+accepted b ri oi e store kinds levels values p =
+    let f = first-yes p in
+    let q6 = ask-yes (lit< tt) (f .1) in
+    let q8 = ask-yes (lit< tt) (q6 .1) in
+    let q9 = ask-yes (lit< tt) (q8 .1) in
+    let g = b .grid in
+    let a = asked g (b .top) (b .level) (f .0) in
+    let r = roomy g (b .top) store kinds levels values (q6 .0) in
+    let bins = both-true (ltb ri (g .«n_r»)) (ltb oi (g .«n_omega»)) (q8 .0) in
+    let row : slab g ri oi < slabs g =
+    omega (arith, place ri (g .«n_r») (oi + 1) (g .«n_omega») (ltb-true ri (g .«n_r») (bins .0)) (omega (arith, ltb-true oi (g .«n_omega») (bins .1)))) in
+    let many : length e ≡ per (b .level) = eqb-true (length e) (per (b .level)) (q9 .0) in
+    let fits : length e ≤ per (b .top) = omega (arith, many, per-mono (b .level) (b .top) (a .level-le)) in
+    record {
+      asked = a;
+      room = r;
+      row = row;
+      energies = omega (arith, r .store-le, place (slab g ri oi) (slabs g) (length e) (per (b .top)) row fits);
+    }

@@ -1,0 +1,34 @@
+-- A turn of a loop over a list, and its end. Assumes nothing.
+use mathlib.Core.Path.{_≡_, refl, sym, ap, _∙_}
+use mathlib.Core.Bool.{Bool, true, false, _&&_}
+use mathlib.Core.List.{List, _++_, append-assoc}
+use Prim.Native.Nat.{ℕ, _+_, _≤_, _<_}
+use native.Mathlib.Numerals.{add-one}
+use lib.ListN.{length, take, drop, getD, set, drop-of-length-le}
+use lib.Seq.{drop-cons, paste, paste-suc, take-length}
+use Rattle.mesh.specs.Lists.{every, put}
+
+-- a test of every entry, looked at from place i on
+module _ {A : Type 0} (p : A → Bool) (l : List A) (i : ℕ) (z : A) where
+  step : i < length l → every p (drop i l) ≡ p (getD l i z) && every p (drop (i + 1) l)
+  unfolding every
+  step h = rw (add-one, drop-cons l i z)
+
+  pub every-fails : i < length l → p (getD l i z) ≡ false → every p (drop i l) ≡ false
+  every-fails h e = step h ∙ rw e
+
+  pub every-next : i < length l → p (getD l i z) ≡ true → every p (drop i l) ≡ every p (drop (i + 1) l)
+  every-next h e = step h ∙ rw e
+
+  pub every-end : length l ≤ i → every p (drop i l) ≡ true
+  unfolding every
+  every-end h = rw (drop-of-length-le l h)
+
+-- a copy of s into d from place at on: one more entry, and all of them
+pub copy-turn : {A : Type 0} (d : List A) (at : ℕ) (s dst : List A) (j : ℕ) (z : A) → dst ≡ paste d at s j → at + j < length d → j < length s
+    → set dst (at + j) (getD s j z) ≡ paste d at s (j + 1)
+copy-turn d at s dst j z e hd hs = rw (e, add-one) (paste-suc d at s j z hd hs)
+
+pub copy-all : {A : Type 0} (d : List A) (at : ℕ) (s : List A) → paste d at s (length s) ≡ put d at s
+unfolding put
+copy-all d at s = rw (take-length s, append-assoc)

@@ -1,0 +1,93 @@
+// The questions that a call puts before it acts. They take the lengths of the lists that are lent.
+ghost use mathlib.Core.Path.{_≡_};
+ghost use mathlib.Core.Bool.{not, _&&_};
+ghost use Prim.Native.Nat.{_≤_};
+ghost use lib.Dec.{ltb};
+ghost use lib.Ieee.{isNan};
+ghost use Rattle.mesh.specs.Questions.{ask, first};
+ghost use Rattle.mesh.specs.Lists.{every};
+ghost use Rattle.builder.specs.Lists.{listRoom};
+ghost use Rattle.builder.specs.Calls.{builderQuestion, setQuestion};
+use crate::Builder;
+use grid::Grid;
+
+// Question 6 of store and rows, once 1 to 5 are answered yes.
+pub(crate) fn list_room(g: Grid, top: u64, store: u64, kinds: u64, levels: u64, values: u64) -> bool
+    requires { ⌜ (g .«n_r» ≤ 65535) × (g .«n_omega» ≤ 65535) × (top ≤ 15) ⌝ }
+    ensures { λ r. ⌜ r ≡ listRoom g top store kinds levels values ⌝ }
+{
+    let n_r = g.n_r;
+    let n_omega = g.n_omega;
+    let n = n_r * n_omega;
+    (n * mesh::per_level(top as u8) <= store) & ((n <= kinds) & ((n <= levels) & (n <= values)))
+}
+
+fn is_number(x: f64) -> bool
+    ensures { λ r. ⌜ r ≡ not (isNan x) ⌝ }
+{
+    !(x != x)
+}
+
+fn no_nan(e: &[f64]) -> bool
+    ensures { λ r. ⌜ r ≡ every (λ x. not (isNan x)) (now (e .entry)) ⌝ }
+{
+    let mut i = 0;
+    while i < e.len() {
+        if !is_number(e[i]) {
+            return false;
+        }
+        i += 1;
+    }
+    true
+}
+
+// Question 8 of set.
+fn bins_held(g: Grid, ri: u64, oi: u64) -> bool
+    ensures { λ r. ⌜ r ≡ ltb ri (g .«n_r») && ltb oi (g .«n_omega») ⌝ }
+{
+    let n_r = g.n_r;
+    let n_omega = g.n_omega;
+    (ri < n_r) & (oi < n_omega)
+}
+
+// Questions 8 to 10 of set.
+fn set_question(g: Grid, level: u64, ri: u64, oi: u64, energies: &[f64]) -> u64
+    requires { ⌜ level ≤ 15 ⌝ }
+    ensures { λ r. ⌜ r ≡ setQuestion g level ri oi (now (energies .entry)) ⌝ }
+{
+    if !bins_held(g, ri, oi) {
+        return 8;
+    }
+    if energies.len() as u64 != mesh::per_level(level as u8) {
+        return 9;
+    }
+    if !no_nan(energies) {
+        return 10;
+    }
+    0
+}
+
+pub(crate) fn set_refusal(
+    b: Builder,
+    store: u64,
+    kinds: u64,
+    levels: u64,
+    values: u64,
+    ri: u64,
+    oi: u64,
+    energies: &[f64],
+) -> u64
+    ensures { λ r. ⌜ r ≡ first (builderQuestion b) (ask (listRoom (b .grid) (b .top) store kinds levels values) 6 (setQuestion (b .grid) (b .level) ri oi (now (energies .entry)))) ⌝ }
+{
+    let g = b.grid;
+    let top = b.top;
+    let level = b.level;
+    let no = grid::question(g, top, level);
+    if no != 0 {
+        return no;
+    }
+    if !list_room(g, top, store, kinds, levels, values) {
+        return 6;
+    }
+    set_question(g, level, ri, oi, energies)
+}
