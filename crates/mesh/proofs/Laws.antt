@@ -1,8 +1,10 @@
 -- Bounds on the sizes of a level.
-use Prim.Native.Nat.{ℕ, _+_, _*_, _≤_, _<_}
+use mathlib.Core.Path.{_≡_, refl}
+use Prim.Native.Nat.{ℕ, zero, suc, _+_, _*_, _≤_, _<_}
 use native.Mathlib.Nat.{mul-le-mul}
 use native.Mathlib.Omega.{arith}
-use Rattle.mesh.specs.Levels.{vertexCount, per}
+use Rattle.mesh.specs.Lists.{sum}
+use Rattle.mesh.specs.Levels.{vertexCount, per, verticesBelow}
 
 pub next-square : (m b : ℕ) → m < b → (m + 1) * (m + 1) ≤ b * b
 next-square m b h = let l : m + 1 ≤ b = omega arith in mul-le-mul l l
@@ -14,3 +16,16 @@ count-le m b h = omega (arith, next-square m b h)
 pub per-le : (m b : ℕ) → m < b → per m ≤ (10 * (b * b) + 2) * (10 * (b * b) + 2)
 unfolding per
 per-le m b h = mul-le-mul (count-le m b h) (count-le m b h)
+
+-- the squares below m, three times over
+pub squares : (m : ℕ) → 3 * verticesBelow m ≡ 5 * (m * (m + 1) * (2 * m + 1)) + 6 * m
+unfolding verticesBelow vertexCount sum
+squares zero = refl
+squares (suc m) = omega (arith, squares m)
+
+pub squares-le : (m : ℕ) → m < 256 → (m * (m + 1) ≤ 65280) × (m * (m + 1) * (2 * m + 1) ≤ 33358080)
+squares-le m h =
+    let a : m ≤ 255 = omega arith in
+    let b : m + 1 ≤ 256 = omega arith in
+    let d : 2 * m + 1 ≤ 511 = omega arith in
+    (mul-le-mul a b, mul-le-mul (mul-le-mul a b) d)

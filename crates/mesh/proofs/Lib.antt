@@ -1,2 +1,6 @@
 -- Laws that belong to no one function.
 pub mod Laws
+pub mod Counting
+pub mod Sums
+pub mod Written
+pub mod Tables
