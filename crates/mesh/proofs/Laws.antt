@@ -1,7 +1,8 @@
 -- Bounds on the sizes of a level.
 use mathlib.Core.Path.{_≡_, refl}
 use Prim.Native.Nat.{ℕ, zero, suc, _+_, _*_, _≤_, _<_}
-use native.Mathlib.Nat.{mul-le-mul}
+use mathlib.Core.Logic.{⊎-elim}
+use native.Mathlib.Nat.{mul-le-mul, eq-or-lt-of-le, le-of-suc-le-suc}
 use native.Mathlib.Omega.{arith}
 use Rattle.mesh.specs.Lists.{sum}
 use Rattle.mesh.specs.Levels.{vertexCount, per, verticesBelow}
@@ -29,3 +30,16 @@ squares-le m h =
     let b : m + 1 ≤ 256 = omega arith in
     let d : 2 * m + 1 ≤ 511 = omega arith in
     (mul-le-mul a b, mul-le-mul (mul-le-mul a b) d)
+
+-- the levels up to m, and the levels below the next
+pub below-more : (m : ℕ) → verticesBelow (suc m) ≡ verticesBelow m + vertexCount m
+unfolding verticesBelow sum
+below-more m = refl
+
+pub below-le : (m n : ℕ) → m ≤ n → verticesBelow m ≤ verticesBelow n
+below-le m zero h = let e : m ≡ zero = omega arith in rw e (omega arith)
+below-le m (suc n) h =
+    ⊎-elim (λ e. rw e (omega arith)) (λ l. omega (arith, below-le m n (le-of-suc-le-suc l), below-more n)) (eq-or-lt-of-le h)
+
+pub below-few : (m : ℕ) → m < 257 → verticesBelow m ≤ 56252672
+below-few m h = omega (arith, below-le m 256 (omega arith), squares 256)

@@ -4,3 +4,4 @@ pub mod Counting
 pub mod Sums
 pub mod Written
 pub mod Tables
+pub mod Kept

@@ -3,12 +3,12 @@ use mathlib.Core.Path.{_≡_, refl, sym, ap, _∙_}
 use mathlib.Core.Bool.{Bool, true, false, cond}
 use mathlib.Core.List.{List, [], _∷_, _++_, append-assoc, append-nil}
 use mathlib.Core.Logic.{⊎-elim}
-use Prim.Native.Nat.{ℕ, zero, suc, _+_, _*_, _≤_, _<_}
+use Prim.Native.Nat.{ℕ, zero, suc, _+_, _-_, _*_, _≤_, _<_}
 use native.Mathlib.Nat.{add-zero, eq-or-lt-of-le, le-of-suc-le-suc}
 use native.Mathlib.Numerals.{add-one}
 use native.Mathlib.Omega.{arith}
 use lib.ListN.{length, take, drop, getD, set, length-set, length-append, length-drop, take-append-drop}
-use lib.Seq.{drop-cons, set-at, take-at, drop-drop, drop-append-add, append-snoc, length-take-le}
+use lib.Seq.{drop-cons, set-at, take-at, drop-drop, drop-append-add, append-snoc, length-take-le, take-add, drop-at, slice}
 use Rattle.mesh.specs.Lists.{put, below, filter, joined, starts, sum}
 use Rattle.mesh.proofs.Sums.{one, count, sum-eq, sum-le, sum-swap, sum-const}
 
@@ -137,6 +137,14 @@ pub joined-filter-le : (m n k : ℕ) (p : ℕ → ℕ → Bool) → ((v : ℕ) �
     → length (joined m (λ c. filter (p c) (below n))) ≤ n * k
 joined-filter-le m n k p h =
     omega (arith, joined-filter-length m n p, sum-le n (λ v. count m (λ c. p c v)) (λ v. k) h, sum-const n k)
+
+-- a part of a list, as the code cuts it
+pub part : {A : Type 0} (a b : ℕ) (l : List A) → a ≤ b → b ≤ length l → take (b - a) (drop a l) ≡ slice a b l
+part {A} a b l h k =
+    let e : b ≡ a + (b - a) = omega arith in
+    sym (drop-at (take a l) (take (b - a) (drop a l)) a (length-take-le a l (omega arith)))
+    ∙ ap (λ (r : List A). drop a r) (sym (take-add a (b - a) l))
+    ∙ ap (λ (n : ℕ). drop a (take n l)) (sym e)
 
 -- ---- what is written
 

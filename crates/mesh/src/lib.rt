@@ -1,11 +1,19 @@
 // Meshes: sizes of a level, where each level begins in lists that hold several, and the mesh rule.
 mod levels;
+mod rule;
+mod several;
 
 pub use levels::cell_offsets_below;
 pub use levels::grid_size;
 pub use levels::per_level;
 pub use levels::vertex_count;
 pub use levels::vertices_below;
+pub use rule::degree;
+pub use rule::lists;
+pub use rule::mesh_keeps;
+pub use rule::mesh_room;
+pub use rule::neighbour;
+pub use several::meshes_keep;
 
 // The vertices of a face, ascending.
 pub struct Face {
