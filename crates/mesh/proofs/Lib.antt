@@ -1,3 +1,8 @@
 -- Laws that belong to no one function.
 pub mod Laws
 pub mod Sizes
+pub mod Counting
+pub mod Sums
+pub mod Written
+pub mod Tables
+pub mod Kept

@@ -3,3 +3,4 @@ pub mod Lists
 pub mod Levels
 pub mod Mesh
 pub mod Faces
+pub mod Steps

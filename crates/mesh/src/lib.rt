@@ -1,24 +1,23 @@
-// Levels of a mesh: how many vertices one has, and how many energies a slab holds at it.
-ghost use mathlib.Core.Path.{_≡_};
-ghost use Rattle.mesh.specs.Levels.{vertexCount, per};
+// Meshes: sizes of a level, where each level begins in lists that hold several, and the mesh rule.
+mod levels;
+mod rule;
+mod several;
+
+pub use levels::cell_offsets_below;
+pub use levels::grid_size;
+pub use levels::per_level;
+pub use levels::vertex_count;
+pub use levels::vertices_below;
+pub use rule::degree;
+pub use rule::lists;
+pub use rule::mesh_keeps;
+pub use rule::mesh_room;
+pub use rule::neighbour;
+pub use several::meshes_keep;
 
 // The vertices of a face, ascending.
 pub struct Face {
     pub a: u64,
     pub b: u64,
     pub c: u64,
-}
-
-pub fn vertex_count(level: u8) -> u64
-    ensures { λ r. ⌜ r ≡ vertexCount level ⌝ }
-{
-    let k = level as u64 + 1;
-    10 * (k * k) + 2
-}
-
-pub fn per_level(level: u8) -> u64
-    ensures { λ r. ⌜ r ≡ per level ⌝ }
-{
-    let n = vertex_count(level);
-    n * n
 }

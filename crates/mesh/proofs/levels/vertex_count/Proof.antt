@@ -5,8 +5,8 @@ use native.Mathlib.Omega.{arith}
 use borrow.Author.Needs.{needs}
 use Rattle.mesh.specs.Levels.{vertexCount}
 use Rattle.mesh.proofs.Laws.{next-square}
-use Rattle.mesh.proofs.vertex_count.Statement.{statement}
-use Rattle.mesh.proofs.vertex_count.Tie as tie
+use Rattle.mesh.proofs.levels.vertex_count.Statement.{statement}
+use Rattle.mesh.proofs.levels.vertex_count.Tie as tie
 
 small : (c : tie.Start) → (let k = c .args .level + 1 in k * k ≤ 256 * 256)
 small c = next-square (c .args .level) 256 (omega arith)

@@ -3,8 +3,8 @@ use native.Mathlib.Omega.{arith}
 use borrow.Author.Needs.{needs}
 use Rattle.mesh.specs.Levels.{per}
 use Rattle.mesh.proofs.Laws.{per-le}
-use Rattle.mesh.proofs.per_level.Statement.{statement}
-use Rattle.mesh.proofs.per_level.Tie as tie
+use Rattle.mesh.proofs.levels.per_level.Statement.{statement}
+use Rattle.mesh.proofs.levels.per_level.Tie as tie
 
 vertex-count-requires : tie.Need-vertex-count-requires
 vertex-count-requires c κs = search needs

@@ -1,0 +1,69 @@
+-- `vertices_finite` meets its contract. Assumes nothing.
+use mathlib.Core.Path.{_≡_, refl, sym, ap, _∙_}
+use mathlib.Core.Bool.{true}
+use Prim.Native.Nat.{ℕ, _-_, _*_, _≤_}
+use native.Mathlib.Omega.{arith}
+use lib.ListN.{getD}
+use lib.Ieee.{nan}
+use lib.Ieee.Scale.{finite}
+use borrow.Author.Needs.{needs}
+use Rattle.mesh.specs.Lists.{allUpTo}
+use Rattle.mesh.specs.Mesh.{verticesFinite}
+use Rattle.mesh.proofs.Counting.{all-turn, all-fails, yes, no}
+use Rattle.mesh.proofs.rule.vertices_finite.Statement.{statement}
+use Rattle.mesh.proofs.rule.vertices_finite.Tie as tie
+
+abbrev Inv-loop : tie.InvT-loop
+Inv-loop n vertices end i₀ i = (i ≤ end) × (allUpTo i (λ i. finite (getD vertices i nan)) ≡ true)
+
+abbrev μ-loop : tie.MeasureT-loop
+μ-loop n vertices end i₀ i = end - i
+
+mul-end : tie.Need-mul-end Inv-loop μ-loop
+mul-end c = search needs
+
+loop-holds : tie.Need-loop-holds Inv-loop μ-loop
+unfolding allUpTo
+loop-holds c = (omega arith, refl)
+
+entry-requires : tie.Need-entry-requires Inv-loop μ-loop
+entry-requires c κs = search needs
+
+is-finite-requires : tie.Need-is-finite-requires Inv-loop μ-loop
+is-finite-requires c κs = search needs
+
+returns : tie.Need-returns Inv-loop μ-loop
+unfolding verticesFinite
+returns c = let l = c .before .before .before .before in let a = l .before .before .args in
+    sym (all-fails (λ i. finite (getD (a .vertices .now) i nan)) (l .loop .i) (3 * a .n) (omega arith) (no (c .before .is-finite .ensures ∙ ap finite (c .before .before .entry .ensures)) (c .if1 .taken)))
+
+add-i : tie.Need-add-i Inv-loop μ-loop
+add-i c = search needs
+
+loop-less : tie.Need-loop-less Inv-loop μ-loop
+loop-less c = search needs
+
+loop-again : tie.Need-loop-again Inv-loop μ-loop
+loop-again c = let l = c .before .before .before .before in let a = l .before .before .args in
+    (omega arith, all-turn (λ i. finite (getD (a .vertices .now) i nan)) (l .loop .i) (l .loop .inv .1) (yes (c .before .is-finite .ensures ∙ ap finite (c .before .before .entry .ensures)) (c .if1 .left)))
+
+returns-2 : tie.Need-returns-2 Inv-loop μ-loop
+unfolding verticesFinite
+returns-2 c = let l = c .before in
+    let full : l .loop .i ≡ 3 * l .before .before .args .n = omega arith in sym (rw full at (l .loop .inv .1))
+
+pub vertices-finite-spec : {M : Type 1} → statement M
+vertices-finite-spec =
+    tie.close
+    (tie.spec
+    Inv-loop
+    μ-loop
+    mul-end
+    loop-holds
+    entry-requires
+    is-finite-requires
+    returns
+    add-i
+    loop-less
+    loop-again
+    returns-2)

@@ -1,0 +1,63 @@
+-- `within` meets its contract. Assumes nothing.
+use mathlib.Core.Path.{_≡_, refl, sym, _∙_}
+use mathlib.Core.Bool.{false}
+use mathlib.Core.List.{[]}
+use Prim.Native.Nat.{ℕ, _+_, _-_, _*_, _≤_}
+use native.Mathlib.Omega.{arith}
+use lib.ListN.{getD}
+use lib.Dec.{eqb}
+use borrow.Author.Tests.{eq-eqb, ne-eqb}
+use borrow.Author.Needs.{needs}
+use Rattle.mesh.specs.Lists.{anyUpTo}
+use Rattle.mesh.specs.Mesh.{within}
+use Rattle.mesh.specs.Steps.{links}
+use Rattle.mesh.proofs.Counting.{any-turn, any-found}
+use Rattle.mesh.proofs.rule.within.Statement.{statement}
+use Rattle.mesh.proofs.rule.within.Tie as tie
+
+abbrev Inv-loop : tie.InvT-loop
+Inv-loop neighbours v k w j₀ j = (j ≤ k) × (within (links [] neighbours) v j w ≡ false)
+
+abbrev μ-loop : tie.MeasureT-loop
+μ-loop neighbours v k w j₀ j = k - j
+
+loop-holds : tie.Need-loop-holds Inv-loop μ-loop
+unfolding within anyUpTo
+loop-holds c = (omega arith, refl)
+
+neighbour-requires : tie.Need-neighbour-requires Inv-loop μ-loop
+neighbour-requires c κs = search needs
+
+returns : tie.Need-returns Inv-loop μ-loop
+unfolding within
+returns c = let l = c .before .before .before in let a = l .before .before .args in
+    sym (any-found (λ j. eqb (getD (a .neighbours .now) (6 * a .v + j) 0) (a .w)) (l .loop .j) (a .k) (omega arith) (eq-eqb _ _ (sym (c .before .neighbour .ensures) ∙ c .if1 .taken)))
+
+add-j : tie.Need-add-j Inv-loop μ-loop
+add-j c = search needs
+
+loop-less : tie.Need-loop-less Inv-loop μ-loop
+loop-less c = search needs
+
+loop-again : tie.Need-loop-again Inv-loop μ-loop
+unfolding within
+loop-again c = let l = c .before .before .before in let a = l .before .before .args in
+    (omega arith, any-turn (λ j. eqb (getD (a .neighbours .now) (6 * a .v + j) 0) (a .w)) (l .loop .j) (l .loop .inv .1) (ne-eqb _ _ (λ e. c .if1 .left (c .before .neighbour .ensures ∙ e))))
+
+returns-2 : tie.Need-returns-2 Inv-loop μ-loop
+returns-2 c = let l = c .before in
+    let full : l .loop .j ≡ l .before .before .args .k = omega arith in sym (rw full at (l .loop .inv .1))
+
+pub within-spec : {M : Type 1} → statement M
+within-spec =
+    tie.close
+    (tie.spec
+    Inv-loop
+    μ-loop
+    loop-holds
+    neighbour-requires
+    returns
+    add-j
+    loop-less
+    loop-again
+    returns-2)

@@ -1,0 +1,179 @@
+// The mesh rule. The entries are read by functions that have an answer at every place, so that no list has to be questioned before another.
+ghost use mathlib.Core.Path.{_≡_};
+ghost use mathlib.Core.Bool.{_&&_};
+ghost use mathlib.Core.List.{[]};
+ghost use Prim.Native.Nat.{_+_, _*_};
+ghost use lib.ListN.{length, getD};
+ghost use lib.Ieee.{nan};
+ghost use Rattle.mesh.specs.Levels.{vertexCount};
+ghost use Rattle.mesh.specs.Mesh.{within, lists, angleKept, neighbourKept, vertexKept, verticesFinite, keepsRule, meshRoom, meshHeld};
+ghost use Rattle.mesh.specs.Steps.{links};
+use crate::levels::vertex_count;
+
+// How many neighbours v has; 0 where no count was lent.
+pub fn degree(counts: &[u8], v: u32) -> u32
+    ensures { λ r. ⌜ r ≡ getD (now (counts .entry)) v 0 ⌝ }
+{
+    let i = v as usize;
+    if i < counts.len() {
+        return counts[i] as u32;
+    }
+    0
+}
+
+// The neighbour at place k of v; 0 where none was lent.
+pub fn neighbour(neighbours: &[u16], v: u32, k: u32) -> u32
+    ensures { λ r. ⌜ r ≡ getD (now (neighbours .entry)) (6 * v + k) 0 ⌝ }
+{
+    let i = 6 * v as usize + k as usize;
+    if i < neighbours.len() {
+        return neighbours[i] as u32;
+    }
+    0
+}
+
+// The entry at place i; a NaN where none was lent.
+fn entry(list: &[f64], i: usize) -> f64
+    ensures { λ r. ⌜ r ≡ getD (now (list .entry)) i nan ⌝ }
+{
+    if i < list.len() {
+        return list[i];
+    }
+    0.0 / 0.0
+}
+
+// w is among the first k neighbours of v.
+fn within(neighbours: &[u16], v: u32, k: u32, w: u32) -> bool
+    ensures { λ r. ⌜ r ≡ within (links [] (now (neighbours .entry))) v k w ⌝ }
+{
+    let mut j: u32 = 0;
+    while j < k {
+        if neighbour(neighbours, v, j) == w {
+            return true;
+        }
+        j += 1;
+    }
+    false
+}
+
+// w is among the neighbours of v.
+pub fn lists(counts: &[u8], neighbours: &[u16], v: u32, w: u32) -> bool
+    ensures { λ r. ⌜ r ≡ lists (links (now (counts .entry)) (now (neighbours .entry))) v w ⌝ }
+{
+    within(neighbours, v, degree(counts, v), w)
+}
+
+fn angle_kept(x: f64) -> bool
+    ensures { λ r. ⌜ r ≡ angleKept x ⌝ }
+{
+    ieee::is_finite(x) & !(x < 0.0)
+}
+
+// The neighbour at place k of v keeps the rule.
+fn neighbour_kept(n: u32, counts: &[u8], neighbours: &[u16], angles: &[f64], v: u32, k: u32) -> bool
+    ensures { λ r. ⌜ r ≡ neighbourKept n (record { vertices = []; counts = now (counts .entry); neighbours = now (neighbours .entry); angles = now (angles .entry) }) v k ⌝ }
+{
+    let w = neighbour(neighbours, v, k);
+    if n <= w {
+        return false;
+    }
+    if w == v {
+        return false;
+    }
+    if within(neighbours, v, k, w) {
+        return false;
+    }
+    if !lists(counts, neighbours, w, v) {
+        return false;
+    }
+    angle_kept(entry(angles, 6 * v as usize + k as usize))
+}
+
+fn vertex_kept(n: u32, counts: &[u8], neighbours: &[u16], angles: &[f64], v: u32) -> bool
+    ensures { λ r. ⌜ r ≡ vertexKept n (record { vertices = []; counts = now (counts .entry); neighbours = now (neighbours .entry); angles = now (angles .entry) }) v ⌝ }
+{
+    let d = degree(counts, v);
+    if d < 5 {
+        return false;
+    }
+    if 6 < d {
+        return false;
+    }
+    let mut k: u32 = 0;
+    while k < d {
+        if !neighbour_kept(n, counts, neighbours, angles, v, k) {
+            return false;
+        }
+        k += 1;
+    }
+    true
+}
+
+fn vertices_finite(n: u32, vertices: &[f64]) -> bool
+    ensures { λ r. ⌜ r ≡ verticesFinite n (now (vertices .entry)) ⌝ }
+{
+    let end = 3 * n as usize;
+    let mut i: usize = 0;
+    while i < end {
+        if !ieee::is_finite(entry(vertices, i)) {
+            return false;
+        }
+        i += 1;
+    }
+    true
+}
+
+// The mesh rule, of one level's lists.
+pub(crate) fn keeps_rule(
+    n: u32,
+    vertices: &[f64],
+    counts: &[u8],
+    neighbours: &[u16],
+    angles: &[f64],
+) -> bool
+    ensures { λ r. ⌜ r ≡ keepsRule n (record { vertices = now (vertices .entry); counts = now (counts .entry); neighbours = now (neighbours .entry); angles = now (angles .entry) }) ⌝ }
+{
+    if !vertices_finite(n, vertices) {
+        return false;
+    }
+    let mut v: u32 = 0;
+    while v < n {
+        if !vertex_kept(n, counts, neighbours, angles, v) {
+            return false;
+        }
+        v += 1;
+    }
+    true
+}
+
+// The lengths that n vertices need.
+pub fn mesh_room(n: u32, vertices: usize, counts: usize, neighbours: usize, angles: usize) -> bool
+    ensures { λ r. ⌜ r ≡ meshRoom n vertices counts neighbours angles ⌝ }
+{
+    let m = n as usize;
+    (3 * m <= vertices) & ((m <= counts) & ((6 * m <= neighbours) & (6 * m <= angles)))
+}
+
+// A level's mesh is as long as it needs to be, and keeps the rule.
+pub fn mesh_keeps(
+    level: u8,
+    vertices: &[f64],
+    counts: &[u8],
+    neighbours: &[u16],
+    angles: &[f64],
+) -> bool
+    ensures { λ r. ⌜ r ≡ meshHeld (vertexCount level) (record { vertices = now (vertices .entry); counts = now (counts .entry); neighbours = now (neighbours .entry); angles = now (angles .entry) })
+        && keepsRule (vertexCount level) (record { vertices = now (vertices .entry); counts = now (counts .entry); neighbours = now (neighbours .entry); angles = now (angles .entry) }) ⌝ }
+{
+    let n = vertex_count(level) as u32;
+    if !mesh_room(
+        n,
+        vertices.len(),
+        counts.len(),
+        neighbours.len(),
+        angles.len(),
+    ) {
+        return false;
+    }
+    keeps_rule(n, vertices, counts, neighbours, angles)
+}

@@ -1,0 +1,71 @@
+// The mesh rule over meshes of several levels, which are lent one after another.
+ghost use mathlib.Core.Path.{_≡_};
+ghost use mathlib.Core.Bool.{_&&_, true};
+ghost use Prim.Native.Nat.{suc, _+_, _*_, _≤_};
+ghost use lib.ListN.{length};
+ghost use Rattle.mesh.specs.Levels.{vertexCount, verticesBelow};
+ghost use Rattle.mesh.specs.Mesh.{keepsRule, levelPart, meshRoom, meshHeld, meshesKeep};
+use crate::levels::vertex_count;
+use crate::levels::vertices_below;
+use crate::rule::keeps_rule;
+use crate::rule::mesh_room;
+
+// One level's part keeps the rule. The lists hold the levels up to it.
+fn level_keeps(
+    level: u8,
+    vertices: &[f64],
+    counts: &[u8],
+    neighbours: &[u16],
+    angles: &[f64],
+) -> bool
+    requires { ⌜ (3 * verticesBelow (suc level) ≤ length (now vertices)) × (verticesBelow (suc level) ≤ length (now counts))
+        × (6 * verticesBelow (suc level) ≤ length (now neighbours)) × (6 * verticesBelow (suc level) ≤ length (now angles)) ⌝ }
+    ensures { λ r. ⌜ r ≡ keepsRule (vertexCount level) (levelPart level (record { vertices = now (vertices .entry); counts = now (counts .entry); neighbours = now (neighbours .entry); angles = now (angles .entry) })) ⌝ }
+{
+    let n = vertex_count(level);
+    let a = vertices_below(level) as usize;
+    let b = a + n as usize;
+    let a3 = 3 * a;
+    let b3 = 3 * b;
+    let a6 = 6 * a;
+    let b6 = 6 * b;
+    keeps_rule(
+        n as u32,
+        &vertices[a3..b3],
+        &counts[a..b],
+        &neighbours[a6..b6],
+        &angles[a6..b6],
+    )
+}
+
+// The meshes of the levels from 0 to the top are as long as they need to be, and keep the rule.
+pub fn meshes_keep(
+    top: u8,
+    vertices: &[f64],
+    counts: &[u8],
+    neighbours: &[u16],
+    angles: &[f64],
+) -> bool
+    ensures { λ r. ⌜ r ≡ meshHeld (verticesBelow (suc top)) (record { vertices = now (vertices .entry); counts = now (counts .entry); neighbours = now (neighbours .entry); angles = now (angles .entry) })
+        && meshesKeep top (record { vertices = now (vertices .entry); counts = now (counts .entry); neighbours = now (neighbours .entry); angles = now (angles .entry) }) ⌝ }
+{
+    let n = vertices_below(top) + vertex_count(top);
+    if !mesh_room(
+        n as u32,
+        vertices.len(),
+        counts.len(),
+        neighbours.len(),
+        angles.len(),
+    ) {
+        return false;
+    }
+    let levels = top as u64 + 1;
+    let mut m: u64 = 0;
+    while m < levels {
+        if !level_keeps(m as u8, vertices, counts, neighbours, angles) {
+            return false;
+        }
+        m += 1;
+    }
+    true
+}
