@@ -2,7 +2,7 @@
 use mathlib.Core.Path.{_≡_, refl, sym, ap, _∙_}
 use mathlib.Core.Bool.{Bool, true, false, cond, not, _&&_}
 use mathlib.Core.List.{List}
-use Prim.Native.Nat.{ℕ, _+_, _*_, _^_, _≤_, _<_}
+use Prim.Native.Nat.{ℕ, suc, _+_, _*_, _^_, _≤_, _<_}
 use native.Mathlib.Nat.{mul-le-mul, mul-le-mul-right, add-mul, one-mul}
 use native.Mathlib.Omega.{arith}
 use lib.Dec.{leb, ltb, eqb, lit<}
@@ -12,12 +12,13 @@ use borrow.Author.Tests.{leb-true, ltb-true, eqb-true, eqb-false}
 use Rattle.ieee.proofs.Fields.{both-true}
 use Rattle.mesh.specs.Questions.{ask, first}
 use Rattle.mesh.specs.Lists.{every}
-use Rattle.mesh.specs.Levels.{per}
+use Rattle.mesh.specs.Levels.{per, verticesBelow}
+use Rattle.mesh.specs.Mesh.{Mesh, meshHeld, meshesKeep}
 use Rattle.mesh.proofs.Laws.{per-le}
 use Rattle.mesh.proofs.Sizes.{per-mono}
 use Rattle.grid.specs.Settings.{question, inRange, levelsHeld, countsHeld, ownCount, slabsHeld}
 use Rattle.grid.specs.declared.Grid.{Grid}
-use Rattle.grid.proofs.Laws.{counts-le, top-le}
+use Rattle.grid.proofs.Laws.{yes, no, counts-le}
 use Rattle.rows.specs.Rows.{rowRoom}
 use Rattle.builder.specs.Lists.{slabs, slab, storePlace, listRoom}
 use Rattle.builder.specs.Calls.{builderQuestion, setQuestion}
@@ -39,6 +40,13 @@ first-by n r false t e = (e, absurd (eqb-false n 0 t e))
 pub first-yes : {n r : ℕ} → first n r ≡ 0 → (n ≡ 0) × (r ≡ 0)
 unfolding first
 first-yes {n} {r} e = first-by n r (eqb n 0) refl e
+
+-- the first of two tests was passed before; the branch on `!r`, r being both, was passed by, or taken
+pub second-yes : {a q r : Bool} → r ≡ a && q → a ≡ true → not r ≡ false → q ≡ true
+second-yes {a} {q} {r} e h t = let z : a && q ≡ true = yes e t in rw h at z
+
+pub second-no : {a q r : Bool} → r ≡ a && q → a ≡ true → not r ≡ true → q ≡ false
+second-no {a} {q} {r} e h t = let z : a && q ≡ false = no e t in rw h at z
 
 -- 1 to 5 answered yes
 pub record Asked (g : Grid) (top level : ℕ) : Type 0 where
@@ -120,3 +128,20 @@ accepted b ri oi e store kinds levels values p =
       row = row;
       energies = omega (arith, r .store-le, place (slab g ri oi) (slabs g) (length e) (per (b .top)) row fits);
     }
+
+-- what an accepted call may count on that the meshes are lent to
+pub record Meshed (b : Builder) (m : Mesh) (store kinds levels values : ℕ) : Type 0 where
+  pub asked : Asked (b .grid) (b .top) (b .level)
+  pub room : Roomy (b .grid) (b .top) store kinds levels values
+  pub held : meshHeld (verticesBelow (suc (b .top))) m ≡ true
+  pub kept : meshesKeep (b .top) m ≡ true
+
+pub meshed : (b : Builder) (m : Mesh) (store kinds levels values : ℕ)
+    → first (builderQuestion b) (ask (listRoom (b .grid) (b .top) store kinds levels values && meshHeld (verticesBelow (suc (b .top))) m) 6 (ask (meshesKeep (b .top) m) 7 0)) ≡ 0
+    → Meshed b m store kinds levels values
+meshed b m store kinds levels values p =
+    let f = first-yes p in
+    let q6 = ask-yes (lit< tt) (f .1) in
+    let q7 = ask-yes (lit< tt) (q6 .1) in
+    let r = both-true (listRoom (b .grid) (b .top) store kinds levels values) (meshHeld (verticesBelow (suc (b .top))) m) (q6 .0) in
+    record { asked = asked (b .grid) (b .top) (b .level) (f .0); room = roomy (b .grid) (b .top) store kinds levels values (r .0); held = r .1; kept = q7 .0 }

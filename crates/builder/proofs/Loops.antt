@@ -4,9 +4,11 @@ use mathlib.Core.Bool.{Bool, true, false, _&&_}
 use mathlib.Core.List.{List, _++_, append-assoc}
 use Prim.Native.Nat.{ℕ, _+_, _≤_, _<_}
 use native.Mathlib.Numerals.{add-one}
-use lib.ListN.{length, take, drop, getD, set, drop-of-length-le}
+use native.Mathlib.Omega.{arith}
+use lib.ListN.{length, take, drop, getD, set, replicate, drop-of-length-le, length-replicate, replicate-append-replicate}
 use lib.Seq.{drop-cons, paste, paste-suc, take-length}
 use Rattle.mesh.specs.Lists.{every, put}
+use Rattle.mesh.proofs.Written.{put-push}
 
 -- a test of every entry, looked at from place i on
 module _ {A : Type 0} (p : A → Bool) (l : List A) (i : ℕ) (z : A) where
@@ -32,3 +34,9 @@ copy-turn d at s dst j z e hd hs = rw (e, add-one) (paste-suc d at s j z hd hs)
 pub copy-all : {A : Type 0} (d : List A) (at : ℕ) (s : List A) → paste d at s (length s) ≡ put d at s
 unfolding put
 copy-all d at s = rw (take-length s, append-assoc)
+
+-- the first i entries are x: one more
+pub fill-turn : {A : Type 0} (d : List A) (x : A) (out : List A) (i : ℕ) → out ≡ put d 0 (replicate i x) → i < length d → set out i x ≡ put d 0 (replicate (i + 1) x)
+fill-turn d x out i e h =
+    let n : 0 + length (replicate i x) ≡ i = omega (arith, length-replicate i x) in
+    rw (e, ← replicate-append-replicate i 1 x) (rw n at (put-push d 0 (replicate i x) x (omega (arith, n))))

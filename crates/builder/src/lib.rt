@@ -3,7 +3,7 @@ ghost use mathlib.Core.Path.{_≡_};
 ghost use lib.ListN.{length};
 ghost use Rattle.rows.specs.Rows.{Rows};
 ghost use Rattle.builder.specs.Lists.{Lists};
-ghost use Rattle.builder.specs.Calls.{BuiltOut, setOut};
+ghost use Rattle.builder.specs.Calls.{BuiltOut, freshBuilder, freshOut, setOut};
 use grid::Grid;
 use rows::SlabResolution;
 
@@ -27,6 +27,58 @@ pub enum Built {
 pub enum Settled {
     Accepted(Builder, f64),
     Refused(u64),
+}
+
+fn fresh_builder(g: Grid, top: u64) -> Builder
+    ensures { λ r. ⌜ r ≡ freshBuilder g top ⌝ }
+{
+    Builder {
+        grid: grid::counted(g),
+        top,
+        level: top,
+    }
+}
+
+// A builder of these settings, with no slab set; the counts in the settings are ignored.
+pub fn fresh(
+    g: Grid,
+    top: u64,
+    store: &mut [f64],
+    kinds: &mut [u8],
+    levels: &mut [u8],
+    values: &mut [u32],
+    vertices: &[f64],
+    counts: &[u8],
+    neighbours: &[u16],
+    angles: &[f64],
+) -> Built
+    ensures { λ r. ⌜ _≡_ {A = BuiltOut}
+        (record { answer = r; lists = record { store = now (store .exit); rows = record { kinds = now (kinds .exit); levels = now (levels .exit); values = now (values .exit) } } })
+        (freshOut g top (record { vertices = now (vertices .entry); counts = now (counts .entry); neighbours = now (neighbours .entry); angles = now (angles .entry) })
+        (record { store = now (store .entry); rows = record { kinds = now (kinds .entry); levels = now (levels .entry); values = now (values .entry) } })) ⌝ }
+{
+    let b = fresh_builder(g, top);
+    let no = room::meshed_refusal(
+        b,
+        store.len() as u64,
+        kinds.len() as u64,
+        levels.len() as u64,
+        values.len() as u64,
+        vertices,
+        counts,
+        neighbours,
+        angles,
+    );
+    if no != 0 {
+        return Built::Refused(no);
+    }
+    let n_r = b.grid.n_r;
+    let n_omega = b.grid.n_omega;
+    let most = b.top;
+    let n = n_r * n_omega;
+    copies::clear_store(store, (n * mesh::per_level(most as u8)) as usize);
+    copies::clear_rows(kinds, levels, values, n as usize);
+    Built::Accepted(b)
 }
 
 // Gives a slab its energies, which are those of the current level.

@@ -1,11 +1,13 @@
 // The questions that a call puts before it acts. They take the lengths of the lists that are lent.
 ghost use mathlib.Core.Path.{_≡_};
 ghost use mathlib.Core.Bool.{not, _&&_};
-ghost use Prim.Native.Nat.{_≤_};
+ghost use Prim.Native.Nat.{suc, _≤_};
 ghost use lib.Dec.{ltb};
 ghost use lib.Ieee.{isNan};
 ghost use Rattle.mesh.specs.Questions.{ask, first};
 ghost use Rattle.mesh.specs.Lists.{every};
+ghost use Rattle.mesh.specs.Levels.{verticesBelow};
+ghost use Rattle.mesh.specs.Mesh.{meshHeld, meshesKeep};
 ghost use Rattle.builder.specs.Lists.{listRoom};
 ghost use Rattle.builder.specs.Calls.{builderQuestion, setQuestion};
 use crate::Builder;
@@ -90,4 +92,45 @@ pub(crate) fn set_refusal(
         return 6;
     }
     set_question(g, level, ri, oi, energies)
+}
+
+// Questions 1 to 7 of a call that the meshes are lent to.
+pub(crate) fn meshed_refusal(
+    b: Builder,
+    store: u64,
+    kinds: u64,
+    levels: u64,
+    values: u64,
+    vertices: &[f64],
+    counts: &[u8],
+    neighbours: &[u16],
+    angles: &[f64],
+) -> u64
+    ensures { λ r. ⌜ r ≡ first (builderQuestion b)
+        (ask (listRoom (b .grid) (b .top) store kinds levels values && meshHeld (verticesBelow (suc (b .top))) (record { vertices = now (vertices .entry); counts = now (counts .entry); neighbours = now (neighbours .entry); angles = now (angles .entry) })) 6
+        (ask (meshesKeep (b .top) (record { vertices = now (vertices .entry); counts = now (counts .entry); neighbours = now (neighbours .entry); angles = now (angles .entry) })) 7 0)) ⌝ }
+{
+    let g = b.grid;
+    let top = b.top;
+    let level = b.level;
+    let no = grid::question(g, top, level);
+    if no != 0 {
+        return no;
+    }
+    if !list_room(g, top, store, kinds, levels, values) {
+        return 6;
+    }
+    if !mesh::meshes_room(
+        top as u8,
+        vertices.len(),
+        counts.len(),
+        neighbours.len(),
+        angles.len(),
+    ) {
+        return 6;
+    }
+    if !mesh::meshes_keep(top as u8, vertices, counts, neighbours, angles) {
+        return 7;
+    }
+    0
 }

@@ -14,6 +14,7 @@ pub use rule::mesh_keeps;
 pub use rule::mesh_room;
 pub use rule::neighbour;
 pub use several::meshes_keep;
+pub use several::meshes_room;
 
 // The vertices of a face, ascending.
 pub struct Face {

@@ -38,6 +38,20 @@ fn level_keeps(
     )
 }
 
+// The lengths that the meshes of the levels from 0 to the top need.
+pub fn meshes_room(
+    top: u8,
+    vertices: usize,
+    counts: usize,
+    neighbours: usize,
+    angles: usize,
+) -> bool
+    ensures { λ r. ⌜ r ≡ meshRoom (verticesBelow (suc top)) vertices counts neighbours angles ⌝ }
+{
+    let n = vertices_below(top) + vertex_count(top);
+    mesh_room(n as u32, vertices, counts, neighbours, angles)
+}
+
 // The meshes of the levels from 0 to the top are as long as they need to be, and keep the rule.
 pub fn meshes_keep(
     top: u8,
@@ -49,9 +63,8 @@ pub fn meshes_keep(
     ensures { λ r. ⌜ r ≡ meshHeld (verticesBelow (suc top)) (record { vertices = now (vertices .entry); counts = now (counts .entry); neighbours = now (neighbours .entry); angles = now (angles .entry) })
         && meshesKeep top (record { vertices = now (vertices .entry); counts = now (counts .entry); neighbours = now (neighbours .entry); angles = now (angles .entry) }) ⌝ }
 {
-    let n = vertices_below(top) + vertex_count(top);
-    if !mesh_room(
-        n as u32,
+    if !meshes_room(
+        top,
         vertices.len(),
         counts.len(),
         neighbours.len(),

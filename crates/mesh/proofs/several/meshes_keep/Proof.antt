@@ -9,39 +9,23 @@ use lib.ListN.{length}
 use Rattle.mesh.specs.Lists.{allUpTo}
 use Rattle.mesh.specs.Levels.{vertexCount, verticesBelow}
 use Rattle.mesh.specs.Mesh.{Mesh, keepsRule, levelPart, meshRoom, meshHeld, meshesKeep}
-use Rattle.mesh.proofs.Laws.{below-more, below-le, below-few}
+use Rattle.mesh.proofs.Laws.{below-le}
 use Rattle.mesh.proofs.Counting.{all-turn, all-fails, yes, no}
 use Rattle.mesh.proofs.Kept.{held}
 use Rattle.mesh.proofs.several.meshes_keep.Statement.{statement}
 use Rattle.mesh.proofs.several.meshes_keep.Tie as tie
 
 abbrev Inv-loop : tie.InvT-loop
-Inv-loop top vertices counts neighbours angles n levels m₀ m = (m ≤ levels) × (allUpTo m (λ k. keepsRule (vertexCount k) (levelPart k (record { vertices = vertices; counts = counts; neighbours = neighbours; angles = angles }))) ≡ true)
+Inv-loop top vertices counts neighbours angles levels m₀ m = (m ≤ levels) × (allUpTo m (λ k. keepsRule (vertexCount k) (levelPart k (record { vertices = vertices; counts = counts; neighbours = neighbours; angles = angles }))) ≡ true)
 
 abbrev μ-loop : tie.MeasureT-loop
-μ-loop top vertices counts neighbours angles n levels m₀ m = levels - m
+μ-loop top vertices counts neighbours angles levels m₀ m = levels - m
 
--- the number of vertices that the code adds up
-all-of : (c : tie.After-vertex-count Inv-loop μ-loop) → c .before .vertices-below .result + c .vertex-count .result ≡ verticesBelow (suc (c .before .before .before .before .before .before .args .top))
-all-of c = omega (arith, below-more (c .before .before .before .before .before .before .args .top))
-
-vertices-below-requires : tie.Need-vertices-below-requires Inv-loop μ-loop
-vertices-below-requires c κs = search needs
-
-vertex-count-requires : tie.Need-vertex-count-requires Inv-loop μ-loop
-vertex-count-requires c κs = search needs
-
-add-n : tie.Need-add-n Inv-loop μ-loop
-add-n c = omega (arith, below-more (c .before .before .before .before .before .before .args .top), below-few (suc (c .before .before .before .before .before .before .args .top)) (omega arith))
-
-cast-mesh-room : tie.Need-cast-mesh-room Inv-loop μ-loop
-cast-mesh-room c = omega (arith, below-more (c .before .before .before .before .before .before .args .top), below-few (suc (c .before .before .before .before .before .before .args .top)) (omega arith))
-
-mesh-room-requires : tie.Need-mesh-room-requires Inv-loop μ-loop
-mesh-room-requires c κs = search needs
+meshes-room-requires : tie.Need-meshes-room-requires Inv-loop μ-loop
+meshes-room-requires c κs = search needs
 
 returns : tie.Need-returns Inv-loop μ-loop
-returns c = rw (← all-of (c .before .before), no (c .before .mesh-room .ensures) (c .if1 .taken))
+returns c = rw (no (c .before .meshes-room .ensures) (c .if1 .taken))
 
 add-levels : tie.Need-add-levels Inv-loop μ-loop
 add-levels c = search needs
@@ -54,18 +38,18 @@ cast-level-keeps : tie.Need-cast-level-keeps Inv-loop μ-loop
 cast-level-keeps c = search needs
 
 level-keeps-requires : tie.Need-level-keeps-requires Inv-loop μ-loop
-level-keeps-requires c κs = let l = c .before in let a = l .before .before .before .before .before .before .before .before .before .args in
+level-keeps-requires c κs = let l = c .before in let a = l .before .before .before .before .before .before .before .args in
     let m : Mesh = record { vertices = a .vertices .now; counts = a .counts .now; neighbours = a .neighbours .now; angles = a .angles .now } in
-    let room : meshHeld (verticesBelow (suc (a .top))) m ≡ true = rw (← all-of (l .before .before .before)) (yes (l .before .before .mesh-room .ensures) (l .before .if1 .left)) in
+    let room : meshHeld (verticesBelow (suc (a .top))) m ≡ true = yes (l .before .before .meshes-room .ensures) (l .before .if1 .left) in
     let h = held (verticesBelow (suc (a .top))) m room in
     let le : verticesBelow (suc (l .loop .m)) ≤ verticesBelow (suc (a .top)) = below-le (suc (l .loop .m)) (suc (a .top)) (omega arith) in
     (omega (arith, h .vertices), omega (arith, h .counts), omega (arith, h .neighbours), omega (arith, h .angles))
 
 returns-2 : tie.Need-returns-2 Inv-loop μ-loop
 unfolding meshesKeep
-returns-2 c = let l = c .before .before .before in let a = l .before .before .before .before .before .before .before .before .before .args in
+returns-2 c = let l = c .before .before .before in let a = l .before .before .before .before .before .before .before .args in
     let m : Mesh = record { vertices = a .vertices .now; counts = a .counts .now; neighbours = a .neighbours .now; angles = a .angles .now } in
-    rw (← all-of (l .before .before .before), yes (l .before .before .mesh-room .ensures) (l .before .if1 .left))
+    rw (yes (l .before .before .meshes-room .ensures) (l .before .if1 .left))
     (sym (all-fails (λ k. keepsRule (vertexCount k) (levelPart k m)) (l .loop .m) (suc (a .top)) (omega arith) (no (c .before .level-keeps .ensures) (c .if2 .taken))))
 
 add-m : tie.Need-add-m Inv-loop μ-loop
@@ -75,15 +59,15 @@ loop-less : tie.Need-loop-less Inv-loop μ-loop
 loop-less c = search needs
 
 loop-again : tie.Need-loop-again Inv-loop μ-loop
-loop-again c = let l = c .before .before .before in let a = l .before .before .before .before .before .before .before .before .before .args in
+loop-again c = let l = c .before .before .before in let a = l .before .before .before .before .before .before .before .args in
     let m : Mesh = record { vertices = a .vertices .now; counts = a .counts .now; neighbours = a .neighbours .now; angles = a .angles .now } in
     (omega arith, all-turn (λ k. keepsRule (vertexCount k) (levelPart k m)) (l .loop .m) (l .loop .inv .1) (yes (c .before .level-keeps .ensures) (c .if2 .left)))
 
 returns-3 : tie.Need-returns-3 Inv-loop μ-loop
 unfolding meshesKeep
-returns-3 c = let l = c .before in let a = l .before .before .before .before .before .before .before .before .before .args in
+returns-3 c = let l = c .before in let a = l .before .before .before .before .before .before .before .args in
     let full : l .loop .m ≡ suc (a .top) = omega arith in
-    rw (← all-of (l .before .before .before), yes (l .before .before .mesh-room .ensures) (l .before .if1 .left)) (sym (rw full at (l .loop .inv .1)))
+    rw (yes (l .before .before .meshes-room .ensures) (l .before .if1 .left)) (sym (rw full at (l .loop .inv .1)))
 
 pub meshes-keep-spec : {M : Type 1} → statement M
 meshes-keep-spec =
@@ -91,11 +75,7 @@ meshes-keep-spec =
     (tie.spec
     Inv-loop
     μ-loop
-    vertices-below-requires
-    vertex-count-requires
-    add-n
-    cast-mesh-room
-    mesh-room-requires
+    meshes-room-requires
     returns
     add-levels
     loop-holds
