@@ -1,2 +1,6 @@
 pub mod Laws
 pub mod Loops
+pub mod Lines
+pub mod Orders
+pub mod Largest
+pub mod Slopes

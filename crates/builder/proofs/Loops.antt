@@ -7,7 +7,7 @@ use native.Mathlib.Numerals.{add-one}
 use native.Mathlib.Omega.{arith}
 use lib.ListN.{length, take, drop, getD, set, replicate, drop-of-length-le, length-replicate, replicate-append-replicate}
 use lib.Seq.{drop-cons, paste, paste-suc, take-length}
-use Rattle.mesh.specs.Lists.{every, put}
+use Rattle.mesh.specs.Lists.{every, put, forEach}
 use Rattle.mesh.proofs.Written.{put-push}
 
 -- a test of every entry, looked at from place i on
@@ -40,3 +40,8 @@ pub fill-turn : {A : Type 0} (d : List A) (x : A) (out : List A) (i : ℕ) → o
 fill-turn d x out i e h =
     let n : 0 + length (replicate i x) ≡ i = omega (arith, length-replicate i x) in
     rw (e, ← replicate-append-replicate i 1 x) (rw n at (put-push d 0 (replicate i x) x (omega (arith, n))))
+
+-- a loop over 0 .. n - 1 makes a turn more
+pub each-turn : {S : Type 0} (f : ℕ → S → S) (k : ℕ) (s t : S) → t ≡ forEach k f s → f k t ≡ forEach (k + 1) f s
+unfolding forEach
+each-turn f k s t e = rw (e, add-one)

@@ -8,6 +8,7 @@ use grid::Grid;
 use rows::SlabResolution;
 
 mod copies;
+mod gradient;
 mod room;
 
 // The settings, the top level and the current one.

@@ -9,6 +9,7 @@ pub use levels::per_level;
 pub use levels::vertex_count;
 pub use levels::vertices_below;
 pub use rule::degree;
+pub use rule::entry;
 pub use rule::lists;
 pub use rule::mesh_keeps;
 pub use rule::mesh_room;

@@ -33,7 +33,7 @@ pub fn neighbour(neighbours: &[u16], v: u32, k: u32) -> u32
 }
 
 // The entry at place i; a NaN where none was lent.
-fn entry(list: &[f64], i: usize) -> f64
+pub fn entry(list: &[f64], i: usize) -> f64
     ensures { λ r. ⌜ r ≡ getD (now (list .entry)) i nan ⌝ }
 {
     if i < list.len() {

@@ -12,7 +12,7 @@ use Rattle.builder.proofs.fresh.Tie as tie
 -- where no question was answered no
 facts : (c : tie.Else1) → let a = c .before .before .before .before .before .before .before .before .before .before .before .args in
     Meshed (c .before .before .fresh-builder .result) (record { vertices = a .vertices .now; counts = a .counts .now; neighbours = a .neighbours .now; angles = a .angles .now })
-      (length (a .store .now)) (length (a .kinds .now)) (length (a .levels .now)) (length (a .values .now))
+    (length (a .store .now)) (length (a .kinds .now)) (length (a .levels .now)) (length (a .values .now))
 facts c = meshed _ _ _ _ _ _ (sym (c .before .meshed-refusal .ensures) ∙ c .if1 .left)
 
 fresh-builder-requires : tie.Need-fresh-builder-requires

@@ -39,14 +39,18 @@ loop-less : tie.Need-loop-less Inv-loop μ-loop
 loop-less c = omega arith
 
 loop-again : tie.Need-loop-again Inv-loop μ-loop
-loop-again c = 
+loop-again c =
     let l = c .before in
     let a = l .before .args in
-    let v = l .loop .inv in
-    (omega arith, simp length-set (v .1), simp length-set (v .2), simp length-set (v .3),
+    let v = l .loop .inv in (
+      omega arith,
+      simp length-set (v .1),
+      simp length-set (v .2),
+      simp length-set (v .3),
       fill-turn (a .kinds .now) 0 (l .loop .kinds) (l .loop .i) (v .4) (omega arith),
       fill-turn (a .levels .now) 0 (l .loop .levels) (l .loop .i) (v .5) (omega arith),
-      fill-turn (a .values .now) 0 (l .loop .values) (l .loop .i) (v .6) (omega arith))
+      fill-turn (a .values .now) 0 (l .loop .values) (l .loop .i) (v .6) (omega arith),
+    )
 
 same-length : tie.Need-same-length Inv-loop μ-loop
 same-length c = search needs
@@ -58,7 +62,7 @@ same-length-3 : tie.Need-same-length-3 Inv-loop μ-loop
 same-length-3 c = search needs
 
 returns : tie.Need-returns Inv-loop μ-loop
-returns c = 
+returns c =
     let l = c .before in
     let v = l .loop .inv in
     let full : l .loop .i ≡ l .before .args .n = omega arith in

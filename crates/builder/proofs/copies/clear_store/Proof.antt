@@ -33,7 +33,7 @@ loop-less : tie.Need-loop-less Inv-loop μ-loop
 loop-less c = omega arith
 
 loop-again : tie.Need-loop-again Inv-loop μ-loop
-loop-again c = 
+loop-again c =
     let l = c .before in
     let a = l .before .args in
     (omega arith, simp length-set (l .loop .inv .1), fill-turn (a .store .now) zero (l .loop .store) (l .loop .i) (l .loop .inv .2) (omega arith))
@@ -42,7 +42,7 @@ same-length : tie.Need-same-length Inv-loop μ-loop
 same-length c = search needs
 
 returns : tie.Need-returns Inv-loop μ-loop
-returns c = 
+returns c =
     let l = c .before in
     let full : l .loop .i ≡ l .before .args .n = omega arith in
     l .loop .inv .2 ∙ rw full

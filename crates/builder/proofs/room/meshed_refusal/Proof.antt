@@ -25,7 +25,7 @@ list-room-requires c κs = let a = held c in (a .rs, a .omegas, a .top-le)
 
 returns-2 : tie.Need-returns-2
 unfolding ask first
-returns-2 c = 
+returns-2 c =
     let d = c .before .before in
     rw (← d .before .question .ensures, eq-eqb _ _ (d .if1 .left), no (c .before .list-room .ensures) (c .if2 .taken))
 
@@ -37,7 +37,7 @@ meshes-room-requires c κs = search needs
 
 returns-3 : tie.Need-returns-3
 unfolding ask first
-returns-3 c = 
+returns-3 c =
     let e = c .before .before in
     let d = e .before .before in
     rw (← d .before .question .ensures, eq-eqb _ _ (d .if1 .left), yes (e .before .list-room .ensures) (e .if2 .left), no (c .before .meshes-room .ensures) (c .if3 .taken))
@@ -50,7 +50,7 @@ meshes-keep-requires c κs = search needs
 
 returns-4 : tie.Need-returns-4
 unfolding ask first
-returns-4 c = 
+returns-4 c =
     let f = c .before .before in
     let e = f .before .before in
     let d = e .before .before in
@@ -59,7 +59,7 @@ returns-4 c =
 
 returns-5 : tie.Need-returns-5
 unfolding ask first
-returns-5 c = 
+returns-5 c =
     let f = c .before .before in
     let e = f .before .before in
     let d = e .before .before in
