@@ -73,7 +73,7 @@ between (fin true m e) (fin false n d) (fin false k c) hv hw p q =
 between (fin false m e) (fin false n d) (fin false k c) hv hw p q =
     lt-ltb (m * up e * down c) (k * up c * down e)
     (fractions (m * up e) (down e) (n * up d) (down d) (k * up c) (down c) (down-pos e) (down-pos d) (down-pos c)
-      (ltb-true (m * up e * down d) (n * up d * down e) p) (ltb-true (n * up d * down c) (k * up c * down d) q))
+    (ltb-true (m * up e * down d) (n * up d * down e) p) (ltb-true (n * up d * down c) (k * up c * down d) q))
 
 other-way : (v w : Float) → T (clear v) → T (clear w) → lt v w ≡ true → lt w v ≡ false
 unfolding lt
@@ -117,9 +117,9 @@ moved : (x dx y dy a c : ℕ) → 0 < dx → x * dy ≡ y * dx → x * c ≡ a *
 moved x dx y dy a c h p q =
     eq-of-mul-eq-mul-right dx h (y * c) (a * dy)
     (let l : y * c * dx ≡ y * dx * c = simp (mul-assoc, mul-comm, mul-left-comm) in
-     let m : x * dy * c ≡ x * c * dy = simp (mul-assoc, mul-comm, mul-left-comm) in
-     let r : a * dx * dy ≡ a * dy * dx = simp (mul-assoc, mul-comm, mul-left-comm) in
-     l ∙ ap (λ (z : ℕ). z * c) (sym p) ∙ m ∙ ap (λ (z : ℕ). z * dy) q ∙ r)
+    let m : x * dy * c ≡ x * c * dy = simp (mul-assoc, mul-comm, mul-left-comm) in
+    let r : a * dx * dy ≡ a * dy * dx = simp (mul-assoc, mul-comm, mul-left-comm) in
+    l ∙ ap (λ (z : ℕ). z * c) (sym p) ∙ m ∙ ap (λ (z : ℕ). z * dy) q ∙ r)
 
 neither : (v w : Float) → Slope v → Slope w → isNan v ≡ false → isNan w ≡ false → lt v w ≡ false → lt w v ≡ false → v ≡ w
 unfolding lt isNan
@@ -140,7 +140,7 @@ neither (fin false m e) (fin true n d) hv hw a b p q = absurd (hw .clear)
 neither (fin false m e) (fin false n d) hv hw a b p q =
     let u = units (fin false m e) (hv .held) refl in
     let same : m * up e * down d ≡ n * up d * down e =
-        omega (arith, ltb-false (m * up e * down d) (n * up d * down e) p, ltb-false (n * up d * down e) (m * up e * down d) q) in
+    omega (arith, ltb-false (m * up e * down d) (n * up d * down e) p, ltb-false (n * up d * down e) (m * up e * down d) q) in
     same-value binary64 (fin false m e) (fin false n d) (u .sign) (u .count) (hv .held) (hw .held) (u .value)
     (u .value .0, moved (m * up e) (down e) (n * up d) (down d) (u .count) (2 ^ low binary64) (down-pos e) same (u .value .1))
 

@@ -8,7 +8,9 @@ use native.Mathlib.Omega.{arith}
 use lib.ListN.{length, take, drop, getD, set, replicate, drop-of-length-le, length-replicate, replicate-append-replicate}
 use lib.Seq.{drop-cons, paste, paste-suc, take-length}
 use Rattle.mesh.specs.Lists.{every, put, forEach}
+use lib.Ieee.{Float, nan, binary64, add}
 use Rattle.mesh.proofs.Written.{put-push}
+use Rattle.builder.specs.Gradient.{sumFrom}
 
 -- a test of every entry, looked at from place i on
 module _ {A : Type 0} (p : A → Bool) (l : List A) (i : ℕ) (z : A) where
@@ -45,3 +47,12 @@ fill-turn d x out i e h =
 pub each-turn : {S : Type 0} (f : ℕ → S → S) (k : ℕ) (s t : S) → t ≡ forEach k f s → f k t ≡ forEach (k + 1) f s
 unfolding forEach
 each-turn f k s t e = rw (e, add-one)
+
+-- a sum, of what is left
+pub sum-turn : (l : List Float) (i : ℕ) (x : Float) → i < length l → sumFrom x (drop i l) ≡ sumFrom (add binary64 x (getD l i nan)) (drop (i + 1) l)
+unfolding sumFrom
+sum-turn l i x h = rw (add-one, drop-cons l i nan)
+
+pub sum-end : (l : List Float) (i : ℕ) (x : Float) → length l ≤ i → sumFrom x (drop i l) ≡ x
+unfolding sumFrom
+sum-end l i x h = rw (drop-of-length-le l h)

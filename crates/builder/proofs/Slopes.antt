@@ -17,7 +17,7 @@ use Rattle.mesh.specs.Lists.{allUpTo, forEach}
 use Rattle.mesh.specs.Mesh.{Mesh, degree, neighbour, angleTo, within, lists, angleKept, neighbourKept, vertexKept, verticesFinite, keepsRule}
 use Rattle.mesh.proofs.Counting.{all-at}
 use Rattle.builder.specs.Gradient.{zero, weight, steeper, alongNeighbours, gradientOf, gradient}
-use Rattle.builder.specs.Steps.{lineWeights, lineGradient, linesGradient}
+use Rattle.builder.specs.Steps.{lineWeights, lineGradient, linesGradient, Below}
 use Rattle.builder.proofs.Largest.{clash, clear, Slope, larger-swap}
 use Rattle.builder.proofs.Orders.{Commute, loops-commute, each-split, each-swap, each-same}
 use Rattle.builder.proofs.Laws.{place}
@@ -92,9 +92,9 @@ along-same m v f g x y h e s =
 
 -- ---- what the mesh rule says of neighbours
 
-pub neighbour-below : (n : ℕ) (m : Mesh) (v k : ℕ) → keepsRule n m ≡ true → v < n → k < degree m v → neighbour m v k < n
+pub kept-below : (n : ℕ) (m : Mesh) → keepsRule n m ≡ true → Below n m
 unfolding keepsRule vertexKept neighbourKept
-neighbour-below n m v k e h l =
+kept-below n m e v k h l =
     let a = both-true (verticesFinite n (m .vertices)) (allUpTo n (vertexKept n m)) e .1 in
     let b = all-at (vertexKept n m) v n h a in
     let c = both-true (leb 5 (degree m v)) (leb (degree m v) 6 && allUpTo (degree m v) (neighbourKept n m v)) b .1 in
@@ -109,7 +109,7 @@ map-at f [] i x y h = absurd (omega arith)
 map-at f (a ∷ l) none x y h = refl
 map-at f (a ∷ l) (suc i) x y h = map-at f l i x y (omega arith)
 
-module _ (m : Mesh) (n : ℕ) (beta : Float) (e : List Float) (kept : keepsRule n m ≡ true) (many : length e ≡ n * n) where
+module _ (m : Mesh) (n : ℕ) (beta : Float) (e : List Float) (below : Below n m) (many : length e ≡ n * n) where
   at : ℕ → ℕ → Float
   at i j = getD (map (weight beta) e) (i * n + j) nan
 
@@ -126,9 +126,9 @@ module _ (m : Mesh) (n : ℕ) (beta : Float) (e : List Float) (kept : keepsRule 
       each-same n (λ i. forEach n (λ j g. second i j (first i j g))) (λ i g. forEach n (second i) (forEach n (first i) g))
       (λ i s l. each-split n (second i) (first i) (λ j k. along-commutes m j i (λ t. at i t) (λ t. at t k) (at i j) (at i k)) s) zero
       ∙ each-split n (λ i. forEach n (second i)) (λ i. forEach n (first i))
-          (λ i k. loops-commute n n (second i) (first k) (λ j l. along-commutes m j k (λ t. at i t) (λ t. at t l) (at i j) (at k l))) zero
+      (λ i k. loops-commute n n (second i) (first k) (λ j l. along-commutes m j k (λ t. at i t) (λ t. at t l) (at i j) (at k l))) zero
       ∙ ap (forEach n (λ i. forEach n (second i)))
-          (each-swap n n first (λ i j k l. along-commutes m i k (λ t. at t j) (λ t. at t l) (at i j) (at k l)) zero)
+      (each-swap n n first (λ i j k l. along-commutes m i k (λ t. at t j) (λ t. at t l) (at i j) (at k l)) zero)
 
   -- an entry of the slab, and where it stands in a line
   entry : (i j k : ℕ) → i < n → j < n → k ≡ i * n + j → weight beta (getD e k nan) ≡ at i j
@@ -143,24 +143,27 @@ module _ (m : Mesh) (n : ℕ) (beta : Float) (e : List Float) (kept : keepsRule 
   in-column : (i j : ℕ) → i < n → j < n → getD (lineWeights beta e (1 * j) n n) i nan ≡ at i j
   in-column i j hi hj = line-at beta e (1 * j) n n i hi ∙ entry i j (1 * j + n * i) hi hj (simp (mul-comm, one-mul, add-comm))
 
-  below : (v k : ℕ) → v < n → k < degree m v → neighbour m v k < n
-  below v k h l = neighbour-below n m v k kept h l
-
   rows : (s : Float) → linesGradient m n beta e n 1 s ≡ forEach n (λ i. forEach n (second i)) s
   unfolding linesGradient lineGradient second
   rows s =
       each-same n (λ t. lineGradient m n (lineWeights beta e (n * t) 1 n)) (λ i. forEach n (second i))
       (λ i t hi. each-same n (λ v. alongNeighbours m v (λ k. getD (lineWeights beta e (n * i) 1 n) k nan) (getD (lineWeights beta e (n * i) 1 n) v nan)) (second i)
-        (λ j u hj. along-same m j (λ k. getD (lineWeights beta e (n * i) 1 n) k nan) (λ k. at i k) (getD (lineWeights beta e (n * i) 1 n) j nan) (at i j)
-          (λ k l. in-row i (neighbour m j k) hi (below j k hj l)) (in-row i j hi hj) u) t) s
+      (λ j u hj. along-same m j (λ k. getD (lineWeights beta e (n * i) 1 n) k nan) (λ k. at i k) (getD (lineWeights beta e (n * i) 1 n) j nan) (at i j)
+      (λ k l. in-row i (neighbour m j k) hi (below j k hj l)) (in-row i j hi hj) u) t) s
 
   columns : (s : Float) → linesGradient m n beta e 1 n s ≡ forEach n (λ j. forEach n (λ i. first i j)) s
   unfolding linesGradient lineGradient first
   columns s =
       each-same n (λ t. lineGradient m n (lineWeights beta e (1 * t) n n)) (λ j. forEach n (λ i. first i j))
       (λ j t hj. each-same n (λ v. alongNeighbours m v (λ k. getD (lineWeights beta e (1 * j) n n) k nan) (getD (lineWeights beta e (1 * j) n n) v nan)) (λ i. first i j)
-        (λ i u hi. along-same m i (λ k. getD (lineWeights beta e (1 * j) n n) k nan) (λ k. at k j) (getD (lineWeights beta e (1 * j) n n) i nan) (at i j)
-          (λ k l. in-column (neighbour m i k) j (below i k hi l) hj) (in-column i j hi hj) u) t) s
+      (λ i u hi. along-same m i (λ k. getD (lineWeights beta e (1 * j) n n) k nan) (λ k. at k j) (getD (lineWeights beta e (1 * j) n n) i nan) (at i j)
+      (λ k l. in-column (neighbour m i k) j (below i k hi l) hj) (in-column i j hi hj) u) t) s
 
   pub by-lines : linesGradient m n beta e n 1 (linesGradient m n beta e 1 n zero) ≡ gradient m n beta e
   by-lines = ap (linesGradient m n beta e n 1) (columns zero) ∙ rows (forEach n (λ j. forEach n (λ i. first i j)) zero) ∙ sym by-parts
+
+-- a gradient looks at the links alone
+pub gradient-links : (m : Mesh) (n : ℕ) (beta : Float) (e : List Float)
+    → gradient (record { vertices = []; counts = m .counts; neighbours = m .neighbours; angles = m .angles }) n beta e ≡ gradient m n beta e
+unfolding gradient gradientOf alongNeighbours
+gradient-links m n beta e = refl

@@ -18,11 +18,15 @@ zero = ofBits binary64 0
 unfoldable pub weight : Float → Float → Float
 weight beta e = exponential (mul binary64 (neg beta) e)
 
--- "All energies e with E(-beta·e) - 1 below 1e-4 - 1"
-unfoldable pub allRepulsive : Float → List Float → Bool
-allRepulsive beta e =
+-- "E(-beta·e) - 1 below 1e-4 - 1"
+unfoldable pub repulsive : Float → Float → Bool
+repulsive beta x =
     let one = ofBits binary64 0x3FF0_0000_0000_0000 in
-    every (λ x. lt (sub binary64 (weight beta x) one) (sub binary64 (ofBits binary64 0x3F1A_36E2_EB1C_432D) one)) e
+    lt (sub binary64 (weight beta x) one) (sub binary64 (ofBits binary64 0x3F1A_36E2_EB1C_432D) one)
+
+-- "All energies e with" this
+unfoldable pub allRepulsive : Float → List Float → Bool
+allRepulsive beta e = every (repulsive beta) e
 
 -- the larger of g and |x - y| over the angle; "a pair at angle 1e-12 or less is passed over"
 unfoldable pub steeper : Float → Float → Float → Float → Float

@@ -12,7 +12,8 @@ use Rattle.mesh.specs.Mesh.{Mesh, meshHeld}
 use Rattle.grid.specs.declared.Grid.{Grid}
 use Rattle.rows.specs.declared.SlabResolution.{SlabResolution}
 use Rattle.rows.specs.Rows.{Rows, resolutionAt, replaced, rowKnown, rowRoom, Row, rowWith}
-use Rattle.builder.specs.Settling.{Verdict, newRow}
+use Rattle.builder.specs.Settling.{newRow}
+use Rattle.builder.specs.declared.Verdict.{Verdict}
 use Rattle.builder.specs.declared.Builder.{Builder}
 
 -- the store and the rows

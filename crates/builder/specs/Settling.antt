@@ -13,15 +13,9 @@ use Rattle.grid.specs.declared.Grid.{Grid}
 use Rattle.rows.specs.declared.SlabResolution.{SlabResolution}
 use Rattle.rows.specs.declared.SlabResolution.the-variants.{Scalar as toScalar, Mesh as toMesh, Repulsive as toRepulsive}
 use Rattle.rows.specs.Rows.{Row, scalar, repulsive, mesh, rowWith}
+use Rattle.builder.specs.declared.Verdict.{Verdict}
+use Rattle.builder.specs.declared.Verdict.the-variants.{Empty as empty, Blocked as blocked, Isotropic as isotropic, Smooth as smooth, Rough as rough}
 use Rattle.builder.specs.Gradient.{zero, allRepulsive, gradient, meanNarrowed}
-
--- what settling finds of a slab: that its row holds no energies; or what its row becomes, with the gradient of one that is left as Mesh
-pub data Verdict : Type 0 where
-  empty : Verdict
-  blocked : Verdict
-  isotropic : Float → Verdict
-  smooth : Float → Verdict
-  rough : Float → Verdict
 
 -- "Gradient below threshold/10: Scalar of the mean narrowed to f32 .. Below threshold: flag false."
 unfoldable pub byGradient : Float → List Float → Float → Verdict
@@ -29,18 +23,18 @@ byGradient threshold e x =
     cond (lt x (div binary64 threshold (ofBits binary64 0x4024_0000_0000_0000))) (isotropic (meanNarrowed e)) (cond (lt x threshold) (smooth x) (rough x))
 
 -- of n·n energies at the level of a mesh of n vertices
-unfoldable pub verdict : Grid → Mesh → ℕ → List Float → Verdict
-verdict g m n e = cond (allRepulsive (g .beta) e) blocked (byGradient (g .threshold) e (gradient m n (g .beta) e))
+unfoldable pub verdict : Float → Float → Mesh → ℕ → List Float → Verdict
+verdict threshold beta m n e = cond (allRepulsive beta e) blocked (byGradient threshold e (gradient m n beta e))
 
 -- "A slab holds energies exactly while its row is Mesh."
-unfoldable pub verdictOf : Grid → Mesh → ℕ → Row Float → Verdict
-verdictOf g m n (scalar x) = empty
-verdictOf g m n repulsive = empty
-verdictOf g m n (mesh v b e) = verdict g m n e
+abbrev pub verdictOf : Float → Float → Mesh → ℕ → Row Float → Verdict
+verdictOf threshold beta m n (scalar x) = empty
+verdictOf threshold beta m n repulsive = empty
+verdictOf threshold beta m n (mesh v b e) = verdict threshold beta m n e
 
 -- of the rows of a slice at the current level c, over the lent meshes
 unfoldable pub verdicts : Grid → Mesh → ℕ → List (Row Float) → List Verdict
-verdicts g ms c rs = map (verdictOf g (levelPart c ms) (vertexCount c)) rs
+verdicts g ms c rs = map (verdictOf (g .threshold) (g .beta) (levelPart c ms) (vertexCount c)) rs
 
 -- the row that takes the place of the slab's, or none where the row stays as it is, flag and all
 abbrev pub newRow : ℕ → Verdict → Option SlabResolution

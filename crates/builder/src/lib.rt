@@ -10,6 +10,7 @@ use rows::SlabResolution;
 mod copies;
 mod gradient;
 mod room;
+mod settling;
 
 // The settings, the top level and the current one.
 pub struct Builder {
@@ -22,6 +23,22 @@ pub struct Builder {
 pub enum Built {
     Accepted(Builder),
     Refused(u64),
+}
+
+// What settling finds of a slab: that its row holds no energies; that it is repulsive; or, by its gradient, that it becomes a scalar, is read at the nearest vertex or stays as it is.
+pub enum Verdict {
+    Empty,
+    Blocked,
+    Isotropic(f32),
+    Smooth(f64),
+    Rough(f64),
+}
+
+// What a slice adds up to: the largest gradient of slabs left as Mesh, whether some slab was settled, and whether no row is Repulsive.
+pub struct Tally {
+    pub gradient: f64,
+    pub settled: bool,
+    pub clear: bool,
 }
 
 // What settle answers: the builder, and the largest gradient.

@@ -50,16 +50,17 @@ loop-less : tie.Need-loop-less Inv-loop μ-loop
 loop-less c = omega arith
 
 loop-again : tie.Need-loop-again Inv-loop μ-loop
-loop-again c = 
+loop-again c =
     let l = c .before .before in
-    let a = l .before .before .before .before .before .args in
-    (omega arith,
+    let a = l .before .before .before .before .before .args in (
+      omega arith,
       rw (c .line .ensures)
-      (each-turn (turn (a .counts .now) (a .neighbours .now) (a .angles .now) (a .energies .now) (a .beta) (a .apart) (a .step) (a .n)) (l .loop .t) (a .g) (l .loop .h) (l .loop .inv .1)))
+          (each-turn (turn (a .counts .now) (a .neighbours .now) (a .angles .now) (a .energies .now) (a .beta) (a .apart) (a .step) (a .n)) (l .loop .t) (a .g) (l .loop .h) (l .loop .inv .1)),
+    )
 
 returns : tie.Need-returns Inv-loop μ-loop
 unfolding linesGradient
-returns c = 
+returns c =
     let l = c .before in
     let full : l .loop .t ≡ l .before .before .before .before .before .args .n = omega arith in
     l .loop .inv .1 ∙ rw full
