@@ -4,3 +4,4 @@ pub mod Lines
 pub mod Orders
 pub mod Largest
 pub mod Slopes
+pub mod Changes

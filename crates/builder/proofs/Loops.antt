@@ -2,11 +2,11 @@
 use mathlib.Core.Path.{_≡_, refl, sym, ap, _∙_}
 use mathlib.Core.Bool.{Bool, true, false, _&&_}
 use mathlib.Core.List.{List, _++_, append-assoc}
-use Prim.Native.Nat.{ℕ, _+_, _≤_, _<_}
+use Prim.Native.Nat.{ℕ, _+_, _-_, _≤_, _<_}
 use native.Mathlib.Numerals.{add-one}
 use native.Mathlib.Omega.{arith}
-use lib.ListN.{length, take, drop, getD, set, replicate, drop-of-length-le, length-replicate, replicate-append-replicate}
-use lib.Seq.{drop-cons, paste, paste-suc, take-length}
+use lib.ListN.{length, take, drop, getD, set, replicate, length-drop, drop-of-length-le, length-replicate, replicate-append-replicate}
+use lib.Seq.{drop-cons, paste, paste-suc, take-length, length-take-le}
 use Rattle.mesh.specs.Lists.{every, put, forEach}
 use lib.Ieee.{Float, nan, binary64, add}
 use Rattle.mesh.proofs.Written.{put-push}
@@ -56,3 +56,12 @@ sum-turn l i x h = rw (add-one, drop-cons l i nan)
 pub sum-end : (l : List Float) (i : ℕ) (x : Float) → length l ≤ i → sumFrom x (drop i l) ≡ x
 unfolding sumFrom
 sum-end l i x h = rw (drop-of-length-le l h)
+
+-- a part of a list by its ends
+pub part-length : {A : Type 0} (l : List A) (at k : ℕ) → at + k ≤ length l → length (take (at + k - at) (drop at l)) ≡ k
+part-length l at k h =
+    let e : at + k - at ≡ k = omega arith in
+    rw e (length-take-le k (drop at l) (omega (arith, length-drop at l)))
+
+pub part-is : {A : Type 0} (l : List A) (at k : ℕ) → take (at + k - at) (drop at l) ≡ take k (drop at l)
+part-is l at k = let e : at + k - at ≡ k = omega arith in rw e

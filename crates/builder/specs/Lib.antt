@@ -1,5 +1,5 @@
 pub mod Gradient
 pub mod Settling
-pub mod Steps
 pub mod Lists
+pub mod Steps
 pub mod Calls

@@ -1,15 +1,20 @@
 -- Steps of the code. Definitions only.
-use mathlib.Core.Bool.{Bool, true, false, _&&_, _||_}
+use mathlib.Core.Bool.{Bool, true, false, cond, _&&_, _||_}
 use mathlib.Core.List.{List, [], _∷_, _++_}
-use Prim.Native.Nat.{ℕ, zero, suc, _+_, _*_, _<_}
-use lib.ListN.{getD}
+use Prim.Native.Nat.{ℕ, zero, suc, _+_, _*_, _≤_, _<_}
+use mathlib.Core.Path.{_≡_}
+use lib.ListN.{length, getD}
 use lib.Ieee.{Float, nan}
-use Rattle.mesh.specs.Lists.{forEach}
+use Rattle.mesh.specs.Lists.{forEach, every}
+use Rattle.mesh.specs.Levels.{vertexCount, per}
 use Rattle.mesh.specs.Mesh.{Mesh, degree, neighbour}
-use Rattle.rows.specs.Rows.{Row, rowWith}
+use Rattle.rows.specs.Rows.{Rows, Row}
 use Rattle.rows.specs.declared.SlabResolution.{SlabResolution}
+use Rattle.rows.specs.declared.SlabResolution.the-variants.{Scalar as toScalar, Mesh as toMesh, Repulsive as toRepulsive}
 use Rattle.builder.specs.Gradient.{weight, alongNeighbours}
-use Rattle.builder.specs.Settling.{newRow, inPlaceOf, steeperOf, settles, notRepulsive}
+use Rattle.builder.specs.Settling.{verdictOf, newRow, inPlaceOf, steeperOf, settles, notRepulsive, fromLevel}
+use Rattle.builder.specs.Lists.{Lists, slab, slabs, sliceAt, replacedBy}
+use Rattle.builder.specs.declared.Builder.{Builder}
 use Rattle.builder.specs.declared.Tally.{Tally}
 use Rattle.builder.specs.declared.Verdict.{Verdict}
 use Rattle.builder.specs.declared.Verdict.the-variants.{Empty, Blocked, Isotropic, Smooth, Rough}
@@ -31,20 +36,52 @@ linesGradient m n beta e apart step g = forEach n (λ t. lineGradient m n (lineW
 abbrev pub Below : ℕ → Mesh → Type 0
 Below n m = (v k : ℕ) → v < n → k < degree m v → neighbour m v k < n
 
--- after a verdict the row is not Repulsive
-abbrev pub leftClear : SlabResolution → Verdict → Bool
-leftClear row Empty = notRepulsive (rowWith row [])
-leftClear row Blocked = false
-leftClear row (Isotropic x) = true
-leftClear row (Smooth x) = true
-leftClear row (Rough x) = true
+-- the row stays as it is; and the row that takes its place where it does not
+abbrev pub stays : Verdict → Bool
+stays Empty = true
+stays Blocked = false
+stays (Isotropic x) = false
+stays (Smooth x) = false
+stays (Rough x) = true
+
+abbrev pub becomes : ℕ → Verdict → SlabResolution
+becomes c Empty = toRepulsive
+becomes c Blocked = toRepulsive
+becomes c (Isotropic x) = toScalar x
+becomes c (Smooth x) = toMesh c false
+becomes c (Rough x) = toRepulsive
+
+-- the row after a verdict at level c
+unfoldable pub leftRow : ℕ → SlabResolution → Verdict → SlabResolution
+leftRow c row v = cond (stays v) row (becomes c v)
+
+abbrev pub isClear : SlabResolution → Bool
+isClear (toScalar x) = true
+isClear (toMesh v b) = true
+isClear toRepulsive = false
 
 -- what a slice adds up to so far, and with one slab more
 unfoldable pub tallied : ℕ → Tally → Row Float → Verdict → Tally
 tallied c t r v =
     record { gradient = steeperOf (t .gradient) v; settled = t .settled || settles v; clear = t .clear && notRepulsive (inPlaceOf r (newRow c v)) }
 
+-- what settling a slab at level c gives and leaves: the tally, and the rows
+abbrev pub settledSlab : Float → Float → Mesh → ℕ → Tally → Row Float → ℕ → Rows → Tally → Rows → Type 0
+settledSlab threshold beta m c t r s rows t′ rows′ =
+    let v = verdictOf threshold beta m (vertexCount c) r in
+    (t′ ≡ tallied c t r v) × (rows′ ≡ replacedBy rows s (newRow c v))
+
 -- over rows, each with the verdict that f finds
 unfoldable pub tallyFrom : (Row Float → Verdict) → ℕ → Tally → List (Row Float) → Tally
 tallyFrom f c t [] = t
 tallyFrom f c t (r ∷ rs) = tallyFrom f c (tallied c t r (f r)) rs
+
+-- what an accepted settle may count on, over the mesh of the current level
+pub record Ready (b : Builder) (m : Mesh) (l : Lists) (ri : ℕ) : Type 0 where
+  pub top-le : b .top ≤ 15
+  pub level-le : b .level ≤ b .top
+  pub slice-le : slab (b .grid) ri 0 + b .grid .«n_omega» ≤ slabs (b .grid)
+  pub few : slabs (b .grid) * per (b .top) ≤ 4294967295
+  pub store-le : slabs (b .grid) * per (b .top) ≤ length (l .store)
+  pub below : Below (vertexCount (b .level)) m
+  pub same-level : every (fromLevel (b .level)) (sliceAt b l ri) ≡ true

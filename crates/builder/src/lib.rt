@@ -11,6 +11,7 @@ mod copies;
 mod gradient;
 mod room;
 mod settling;
+mod slices;
 
 // The settings, the top level and the current one.
 pub struct Builder {

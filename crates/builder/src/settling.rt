@@ -1,13 +1,15 @@
 // The settling of one slab.
 ghost use mathlib.Core.Path.{_≡_};
+ghost use mathlib.Core.Bool.{_&&_, _||_};
 ghost use mathlib.Core.List.{[]};
 ghost use Prim.Native.Nat.{_*_, _≤_};
 ghost use lib.ListN.{length};
 ghost use lib.Ieee.{binary64, ofBits};
-ghost use Rattle.rows.specs.Rows.{rowWith};
+ghost use Rattle.rows.specs.Rows.{Rows, rowWith};
 ghost use Rattle.builder.specs.Gradient.{repulsive, allRepulsive, sumFrom, meanNarrowed};
-ghost use Rattle.builder.specs.Settling.{byGradient, steeperOf, settles, verdict, verdictOf};
-ghost use Rattle.builder.specs.Steps.{Below, leftClear};
+ghost use Rattle.builder.specs.Settling.{byGradient, newRow, steeperOf, settles, verdict, verdictOf};
+ghost use Rattle.builder.specs.Lists.{replacedBy};
+ghost use Rattle.builder.specs.Steps.{Below, stays, becomes, leftRow, isClear};
 use crate::Tally;
 use crate::Verdict;
 use crate::gradient;
@@ -138,19 +140,80 @@ pub(crate) fn verdict_of(
     }
 }
 
-// No row becomes or stays Repulsive.
-fn left_clear(row: SlabResolution, v: Verdict) -> bool
-    ensures { λ r. ⌜ r ≡ leftClear row v ⌝ }
+fn stays(v: Verdict) -> bool
+    ensures { λ r. ⌜ r ≡ stays v ⌝ }
 {
     match v {
-        Verdict::Empty => match row {
-            SlabResolution::Repulsive => false,
-            SlabResolution::Scalar(_) => true,
-            SlabResolution::Mesh(_, _) => true,
-        },
+        Verdict::Empty => true,
         Verdict::Blocked => false,
-        Verdict::Isotropic(_) => true,
-        Verdict::Smooth(_) => true,
+        Verdict::Isotropic(_) => false,
+        Verdict::Smooth(_) => false,
         Verdict::Rough(_) => true,
     }
+}
+
+// The row that takes a slab's place; where the row stays, it is not used.
+fn becomes(level: u8, v: Verdict) -> SlabResolution
+    ensures { λ r. ⌜ r ≡ becomes level v ⌝ }
+{
+    match v {
+        Verdict::Empty => SlabResolution::Repulsive,
+        Verdict::Blocked => SlabResolution::Repulsive,
+        Verdict::Isotropic(x) => SlabResolution::Scalar(x),
+        Verdict::Smooth(_) => SlabResolution::Mesh(level, false),
+        Verdict::Rough(_) => SlabResolution::Repulsive,
+    }
+}
+
+// The row after a verdict.
+fn left_row(level: u8, row: SlabResolution, v: Verdict) -> SlabResolution
+    ensures { λ r. ⌜ r ≡ leftRow level row v ⌝ }
+{
+    if stays(v) {
+        return row;
+    }
+    becomes(level, v)
+}
+
+fn is_clear(row: SlabResolution) -> bool
+    ensures { λ r. ⌜ r ≡ isClear row ⌝ }
+{
+    match row {
+        SlabResolution::Scalar(_) => true,
+        SlabResolution::Mesh(_, _) => true,
+        SlabResolution::Repulsive => false,
+    }
+}
+
+// The slice with one slab more.
+pub(crate) fn tallied(level: u8, t: Tally, row: SlabResolution, v: Verdict) -> Tally
+    ensures { λ r. ⌜ r ≡ record { gradient = steeperOf (t .gradient) v; settled = t .settled || settles v; clear = t .clear && isClear (leftRow level row v) } ⌝ }
+{
+    let gradient = t.gradient;
+    let settled = t.settled;
+    let clear = t.clear;
+    Tally {
+        gradient: steeper_of(gradient, v),
+        settled: settled | settles(v),
+        clear: clear & is_clear(left_row(level, row, v)),
+    }
+}
+
+// Puts the settled row in its place; a row that stays keeps its bits.
+pub(crate) fn replace_by(
+    kinds: &mut [u8],
+    levels: &mut [u8],
+    values: &mut [u32],
+    s: u64,
+    level: u8,
+    v: Verdict,
+)
+    ensures { λ _. ⌜ _≡_ {A = Rows}
+        (record { kinds = now (kinds .exit); levels = now (levels .exit); values = now (values .exit) })
+        (replacedBy (record { kinds = now (kinds .entry); levels = now (levels .entry); values = now (values .entry) }) s (newRow level v)) ⌝ }
+{
+    if stays(v) {
+        return;
+    }
+    rows::replace(kinds, levels, values, s, becomes(level, v));
 }

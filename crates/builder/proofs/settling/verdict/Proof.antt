@@ -24,12 +24,12 @@ by-gradient-requires c κs = search needs
 
 returns-2 : tie.Need-returns-2
 unfolding verdict
-returns-2 c = 
+returns-2 c =
     let s = c .before .before .before .before .before .before .before .before in
     let a = s .args in
     let m : Mesh = record { vertices = []; counts = a .counts .now; neighbours = a .neighbours .now; angles = a .angles .now } in
     let g : c .before .gradient .result ≡ gradient m (a .n) (a .beta) (a .energies .now) =
-        c .before .gradient .ensures ∙ by-lines m (a .n) (a .beta) (a .energies .now) (s .pre .2) (s .pre .1) in
+    c .before .gradient .ensures ∙ by-lines m (a .n) (a .beta) (a .energies .now) (s .pre .2) (s .pre .1) in
     rw (← c .before .before .before .all-repulsive .ensures, c .before .before .if1 .left, c .by-gradient .ensures, g)
 
 pub verdict-spec : {M : Type 1} → statement M
