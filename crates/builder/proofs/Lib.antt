@@ -5,3 +5,4 @@ pub mod Orders
 pub mod Largest
 pub mod Slopes
 pub mod Changes
+pub mod Turns

@@ -1,10 +1,10 @@
 -- Steps of the code. Definitions only.
 use mathlib.Core.Bool.{Bool, true, false, cond, _&&_, _||_}
-use mathlib.Core.List.{List, [], _∷_, _++_}
+use mathlib.Core.List.{List, [], _∷_, _++_, map}
 use Prim.Native.Nat.{ℕ, zero, suc, _+_, _*_, _≤_, _<_}
 use mathlib.Core.Path.{_≡_}
 use lib.ListN.{length, getD}
-use lib.Ieee.{Float, nan}
+use lib.Ieee.{Float, nan, binary64, ofBits}
 use Rattle.mesh.specs.Lists.{forEach, every}
 use Rattle.mesh.specs.Levels.{vertexCount, per}
 use Rattle.mesh.specs.Mesh.{Mesh, degree, neighbour}
@@ -13,7 +13,7 @@ use Rattle.rows.specs.declared.SlabResolution.{SlabResolution}
 use Rattle.rows.specs.declared.SlabResolution.the-variants.{Scalar as toScalar, Mesh as toMesh, Repulsive as toRepulsive}
 use Rattle.builder.specs.Gradient.{weight, alongNeighbours}
 use Rattle.builder.specs.Settling.{verdictOf, newRow, inPlaceOf, steeperOf, settles, notRepulsive, fromLevel}
-use Rattle.builder.specs.Lists.{Lists, slab, slabs, sliceAt, replacedBy}
+use Rattle.builder.specs.Lists.{Lists, slab, slabs, sliceAt, replacedBy, settledLists}
 use Rattle.builder.specs.declared.Builder.{Builder}
 use Rattle.builder.specs.declared.Tally.{Tally}
 use Rattle.builder.specs.declared.Verdict.{Verdict}
@@ -81,7 +81,17 @@ pub record Ready (b : Builder) (m : Mesh) (l : Lists) (ri : ℕ) : Type 0 where
   pub top-le : b .top ≤ 15
   pub level-le : b .level ≤ b .top
   pub slice-le : slab (b .grid) ri 0 + b .grid .«n_omega» ≤ slabs (b .grid)
-  pub few : slabs (b .grid) * per (b .top) ≤ 4294967295
+  pub few : slabs (b .grid) ≤ 4294967295
   pub store-le : slabs (b .grid) * per (b .top) ≤ length (l .store)
   pub below : Below (vertexCount (b .level)) m
   pub same-level : every (fromLevel (b .level)) (sliceAt b l ri) ≡ true
+
+-- nothing so far
+abbrev pub start : Tally
+start = record { gradient = ofBits binary64 0; settled = false; clear = true }
+
+-- what settling a slice gives and leaves, over the mesh of the current level
+abbrev pub settledRows : Builder → Mesh → Lists → ℕ → Tally → Rows → Type 0
+settledRows b m l ri t rows =
+    let f = verdictOf (b .grid .threshold) (b .grid .beta) m (vertexCount (b .level)) in
+    (t ≡ tallyFrom f (b .level) start (sliceAt b l ri)) × (rows ≡ settledLists (b .level) (l .rows) (slab (b .grid) ri 0) (map f (sliceAt b l ri)))

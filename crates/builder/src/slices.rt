@@ -1,15 +1,11 @@
 // The settling of a slice.
 ghost use mathlib.Core.Path.{_≡_};
-ghost use mathlib.Core.Bool.{true, false};
-ghost use mathlib.Core.List.{[], map};
+ghost use mathlib.Core.List.{[]};
 ghost use Prim.Native.Nat.{_+_, _*_, _≤_};
 ghost use lib.ListN.{length, take, drop};
 ghost use Rattle.mesh.specs.Levels.{vertexCount};
 ghost use Rattle.rows.specs.Rows.{Rows, resolutionAt, rowWith};
-ghost use Rattle.builder.specs.Gradient.{zero};
-ghost use Rattle.builder.specs.Settling.{newRow, verdictOf};
-ghost use Rattle.builder.specs.Lists.{replacedBy, slab, sliceAt, settledLists};
-ghost use Rattle.builder.specs.Steps.{Below, Ready, tallied, tallyFrom, settledSlab};
+ghost use Rattle.builder.specs.Steps.{Below, Ready, settledSlab, settledRows};
 use crate::Builder;
 use crate::Tally;
 use crate::settling;
@@ -52,4 +48,57 @@ fn settle_slab(
     );
     settling::replace_by(kinds, levels, values, s, level, v);
     settling::tallied(level, t, row, v)
+}
+
+// Settles the slabs of a slice, one after another, over the mesh of the current level.
+pub(crate) fn settle_rows(
+    b: Builder,
+    ri: u64,
+    store: &[f64],
+    counts: &[u8],
+    neighbours: &[u16],
+    angles: &[f64],
+    kinds: &mut [u8],
+    levels: &mut [u8],
+    values: &mut [u32],
+) -> Tally
+    requires { ⌜ Ready b (record { vertices = []; counts = now counts; neighbours = now neighbours; angles = now angles })
+        (record { store = now store; rows = record { kinds = now kinds; levels = now levels; values = now values } }) ri ⌝ }
+    ensures { λ r. ⌜ settledRows b (record { vertices = []; counts = now (counts .entry); neighbours = now (neighbours .entry); angles = now (angles .entry) })
+        (record { store = now (store .entry); rows = record { kinds = now (kinds .entry); levels = now (levels .entry); values = now (values .entry) } }) ri
+        r (record { kinds = now (kinds .exit); levels = now (levels .exit); values = now (values .exit) }) ⌝ }
+{
+    let threshold = b.grid.threshold;
+    let beta = b.grid.beta;
+    let n = b.grid.n_omega;
+    let level = b.level as u8;
+    let top = b.top as u8;
+    let apart = mesh::per_level(top);
+    let base = ri * n;
+    let mut t = Tally {
+        gradient: 0.0,
+        settled: false,
+        clear: true,
+    };
+    let mut i: u64 = 0;
+    while i < n {
+        let s = base + i;
+        t = settle_slab(
+            threshold,
+            beta,
+            store,
+            (s * apart) as usize,
+            counts,
+            neighbours,
+            angles,
+            level,
+            kinds,
+            levels,
+            values,
+            s,
+            t,
+        );
+        i += 1;
+    }
+    t
 }

@@ -81,7 +81,7 @@ returns c =
     let m : Mesh = record { vertices = []; counts = a .counts .now; neighbours = a .neighbours .now; angles = a .angles .now } in
     let v = verdictOf (a .threshold) (a .beta) m n (rowWith x e) in
     let found : c .before .before .before .before .before .before .before .before .before .before .before .verdict-of .result ≡ v =
-        rw (c .before .before .before .before .before .before .before .before .before .before .before .before .before .vertex-count .ensures, part-is (a .store .now) (a .at) (n * n), c .before .before .before .before .before .before .before .before .before .before .before .before .before .before .resolution-at .ensures) at (c .before .before .before .before .before .before .before .before .before .before .before .verdict-of .ensures) in
+    rw (c .before .before .before .before .before .before .before .before .before .before .before .before .before .vertex-count .ensures, part-is (a .store .now) (a .at) (n * n), c .before .before .before .before .before .before .before .before .before .before .before .before .before .before .resolution-at .ensures) at (c .before .before .before .before .before .before .before .before .before .before .before .verdict-of .ensures) in
     (c .tallied .ensures ∙ rw (c .before .before .before .before .before .before .before .before .before .before .before .before .before .before .resolution-at .ensures, found, row-clear x e (a .level) v), c .before .before .before .before .before .before .before .replace-by .ensures ∙ rw found)
 
 pub settle-slab-spec : {M : Type 1} → statement M

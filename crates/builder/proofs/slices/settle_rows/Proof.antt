@@ -1,0 +1,133 @@
+-- `settle_rows` meets its contract. Assumes nothing.
+use mathlib.Core.Path.{_≡_, refl, sym, _∙_}
+use mathlib.Core.List.{List, []}
+use mathlib.Core.Bool.{true}
+use Prim.Native.Nat.{ℕ, _+_, _*_, _-_, _≤_, _<_}
+use native.Mathlib.Omega.{arith}
+use lib.ListN.{length}
+use lib.Ieee.{Float, ofBits}
+use borrow.Author.Needs.{needs}
+use Rattle.mesh.specs.Levels.{vertexCount, per}
+use Rattle.mesh.proofs.Sizes.{per-mono}
+use Rattle.rows.specs.Rows.{Rows, Row}
+use Rattle.builder.specs.Settling.{verdictOf, fromLevel}
+use Rattle.builder.specs.Lists.{Lists, slabs, rowAt}
+use Rattle.builder.specs.Steps.{start}
+use Rattle.builder.specs.declared.Verdict.{Verdict}
+use Rattle.builder.proofs.Laws.{place}
+use Rattle.builder.proofs.Turns.{After, begin, again, end, row-passes, read-row}
+use Rattle.builder.proofs.slices.settle_rows.Statement.{statement}
+use Rattle.builder.proofs.slices.settle_rows.Tie as tie
+
+-- what settling finds of a row
+abbrev found : Float → Float → List ℕ → List ℕ → List Float → ℕ → Row Float → Verdict
+found threshold beta counts neighbours angles level =
+    verdictOf threshold beta (record { vertices = []; counts = counts; neighbours = neighbours; angles = angles }) (vertexCount level)
+
+abbrev Inv-loop : tie.InvT-loop
+Inv-loop ri store counts neighbours angles kinds₀ levels₀ values₀ threshold beta n level top apart base t₀ i₀ kinds levels values t i =
+    After (found threshold beta counts neighbours angles level) level top base n (record { store = store; rows = record { kinds = kinds₀; levels = levels₀; values = values₀ } }) start i t
+    (record { kinds = kinds; levels = levels; values = values })
+
+abbrev μ-loop : tie.MeasureT-loop
+μ-loop ri store counts neighbours angles kinds₀ levels₀ values₀ threshold beta n level top apart base t₀ i₀ kinds levels values t i =
+    n - i
+
+-- a slab of the slice lies in the store
+inside : (c : tie.In-loop Inv-loop μ-loop) → let a = c .before .before .before .before .before .before .before .before .before .before .before .before .args in
+    (a .ri * a .b .grid .«n_omega» + c .before .loop .i) * per (a .b .top) + per (a .b .level) ≤ length (a .store .now)
+inside c =
+    let s = c .before .before .before .before .before .before .before .before .before .before .before .before in
+    let g = s .args .b .grid in
+    let at : s .args .ri * g .«n_omega» + c .before .loop .i < slabs g = omega (arith, s .pre .slice-le) in
+    omega (arith, s .pre .store-le, place (s .args .ri * g .«n_omega» + c .before .loop .i) (slabs g) (per (s .args .b .level)) (per (s .args .b .top)) at (per-mono (s .args .b .level) (s .args .b .top) (s .pre .level-le)))
+
+cast-level : tie.Need-cast-level Inv-loop μ-loop
+cast-level c = let s = c .before .before .before .before .before .before .before .before in omega (arith, s .pre .top-le, s .pre .level-le)
+
+cast-top : tie.Need-cast-top Inv-loop μ-loop
+cast-top c = let s = c .before .before .before .before .before .before .before .before .before in omega (arith, s .pre .top-le)
+
+per-level-requires : tie.Need-per-level-requires Inv-loop μ-loop
+per-level-requires c κs = search needs
+
+mul-base : tie.Need-mul-base Inv-loop μ-loop
+mul-base c = let s = c .before .before .before .before .before .before .before .before .before .before in omega (arith, s .pre .slice-le, s .pre .few)
+
+loop-holds : tie.Need-loop-holds Inv-loop μ-loop
+unfolding ofBits
+loop-holds c = begin _ _ _ _ _ _ _
+
+add-s : tie.Need-add-s Inv-loop μ-loop
+add-s c = let s = c .before .before .before .before .before .before .before .before .before .before .before .before in omega (arith, s .pre .slice-le, s .pre .few)
+
+mul-settle-slab : tie.Need-mul-settle-slab Inv-loop μ-loop
+mul-settle-slab c = rw (c .before .before .per-level .ensures) (omega (arith, inside c))
+
+settle-slab-requires : tie.Need-settle-slab-requires Inv-loop μ-loop
+unfolding per
+settle-slab-requires c κs =
+    let s = c .before .before .before .before .before .before .before .before .before .before .before .before .before .before .before in
+    (omega (arith, s .pre .top-le, s .pre .level-le), rw (c .before .before .before .before .before .per-level .ensures) (inside (c .before .before .before)), s .pre .below)
+
+add-i : tie.Need-add-i Inv-loop μ-loop
+add-i c = omega arith
+
+loop-less : tie.Need-loop-less Inv-loop μ-loop
+loop-less c = omega arith
+
+loop-again : tie.Need-loop-again Inv-loop μ-loop
+loop-again c =
+    let l = c .before .before .before .before .before .before .before .before .before .before .before in
+    let s = l .before .before .before .before .before .before .before .before .before .before .before in
+    let a = s .args in
+    let lent : Lists = record { store = a .store .now; rows = record { kinds = a .kinds .now; levels = a .levels .now; values = a .values .now } } in
+    let now : Rows = record { kinds = l .loop .kinds; levels = l .loop .levels; values = l .loop .values } in
+    let n = a .b .grid .«n_omega» in
+    let base = a .ri * n in
+    let i = l .loop .i in
+    let f = found (a .b .grid .threshold) (a .b .grid .beta) (a .counts .now) (a .neighbours .now) (a .angles .now) (a .b .level) in
+    let z : base + 0 ≡ base = omega arith in
+    let held : fromLevel (a .b .level) (rowAt (a .b .top) lent (base + i)) ≡ true =
+        row-passes (fromLevel (a .b .level)) (a .b .top) lent base n i (c .before .before .before .before .before .before .before .before .before .before .loop-test .taken) (rw z at (s .pre .same-level)) in
+    let row = read-row (a .b .top) (a .b .level) (base + i) _ lent now (l .before .per-level .ensures) (l .loop .inv .same (base + i) (omega arith)) held in
+    let e = c .before .before .before .before .before .before .settle-slab .ensures in
+    again f (a .b .level) (a .b .top) base n lent start i (l .loop .t) _ now _ (l .loop .inv) (c .before .before .before .before .before .before .before .before .before .before .loop-test .taken) (rw row at (e .0)) (rw row at (e .1))
+
+same-length : tie.Need-same-length Inv-loop μ-loop
+same-length c = c .before .loop .inv .kinds-size
+
+same-length-2 : tie.Need-same-length-2 Inv-loop μ-loop
+same-length-2 c = c .before .loop .inv .levels-size
+
+same-length-3 : tie.Need-same-length-3 Inv-loop μ-loop
+same-length-3 c = c .before .loop .inv .values-size
+
+returns : tie.Need-returns Inv-loop μ-loop
+returns c =
+    let l = c .before in
+    let a = l .before .before .before .before .before .before .before .before .before .before .before .args in
+    let z : a .ri * a .b .grid .«n_omega» + 0 ≡ a .ri * a .b .grid .«n_omega» = omega arith in
+    rw z (end _ _ _ _ _ _ _ (l .loop .i) (l .loop .t) _ (l .loop .inv) (omega arith))
+
+pub settle-rows-spec : {M : Type 1} → statement M
+settle-rows-spec =
+    tie.close
+    (tie.spec
+    Inv-loop
+    μ-loop
+    cast-level
+    cast-top
+    per-level-requires
+    mul-base
+    loop-holds
+    add-s
+    mul-settle-slab
+    settle-slab-requires
+    add-i
+    loop-less
+    loop-again
+    same-length
+    same-length-2
+    same-length-3
+    returns)
