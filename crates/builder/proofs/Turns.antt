@@ -133,7 +133,7 @@ module _ (f : Row Float → Verdict) (c top base n : ℕ) (l : Lists) (start : T
       let z : base + (i + 1) ≡ suc (base + i) = omega arith in
       let k = same-size now (base + i) w in
       let step : settledLists c (replacedBy now (base + i) w) (suc (base + i)) (map f (rowsFrom top l (base + (i + 1)) (n - (i + 1)))) ≡ settledLists c (l .rows) base (map f (rowsFrom top l base n)) =
-          rw m at (a .rows) in
+      rw m at (a .rows) in
       record {
         in-slice = omega arith;
         tally = rw p (rw m at (a .tally));

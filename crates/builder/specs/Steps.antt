@@ -1,19 +1,21 @@
 -- Steps of the code. Definitions only.
 use mathlib.Core.Bool.{Bool, true, false, cond, _&&_, _||_}
 use mathlib.Core.List.{List, [], _∷_, _++_, map}
-use Prim.Native.Nat.{ℕ, zero, suc, _+_, _*_, _≤_, _<_}
+use Prim.Native.Nat.{ℕ, zero, suc, _+_, _*_, _-_, _≤_, _<_}
 use mathlib.Core.Path.{_≡_}
 use lib.ListN.{length, getD}
-use lib.Ieee.{Float, nan, binary64, ofBits}
-use Rattle.mesh.specs.Lists.{forEach, every}
-use Rattle.mesh.specs.Levels.{vertexCount, per}
-use Rattle.mesh.specs.Mesh.{Mesh, degree, neighbour}
-use Rattle.rows.specs.Rows.{Rows, Row}
+use lib.Dec.{ltb}
+use lib.Ieee.{Float, nan, binary64, ofBits, lt}
+use Rattle.mesh.specs.Questions.{ask}
+use Rattle.mesh.specs.Lists.{allUpTo, forEach, every}
+use Rattle.mesh.specs.Levels.{vertexCount, per, verticesBelow}
+use Rattle.mesh.specs.Mesh.{Mesh, degree, neighbour, levelPart}
+use Rattle.rows.specs.Rows.{Rows, resolutionAt, Row, rowWith}
 use Rattle.rows.specs.declared.SlabResolution.{SlabResolution}
 use Rattle.rows.specs.declared.SlabResolution.the-variants.{Scalar as toScalar, Mesh as toMesh, Repulsive as toRepulsive}
 use Rattle.builder.specs.Gradient.{weight, alongNeighbours}
 use Rattle.builder.specs.Settling.{verdictOf, newRow, inPlaceOf, steeperOf, settles, notRepulsive, fromLevel}
-use Rattle.builder.specs.Lists.{Lists, slab, slabs, sliceAt, replacedBy, settledLists}
+use Rattle.builder.specs.Lists.{Lists, slab, slabs, sliceAt, replacedBy, settledLists, rowsKnown}
 use Rattle.builder.specs.declared.Builder.{Builder}
 use Rattle.builder.specs.declared.Tally.{Tally}
 use Rattle.builder.specs.declared.Verdict.{Verdict}
@@ -86,6 +88,17 @@ pub record Ready (b : Builder) (m : Mesh) (l : Lists) (ri : ℕ) : Type 0 where
   pub below : Below (vertexCount (b .level)) m
   pub same-level : every (fromLevel (b .level)) (sliceAt b l ri) ≡ true
 
+-- the links of level m's part of several meshes
+abbrev pub partLinks : ℕ → Mesh → Mesh
+partLinks m ms = record { vertices = []; counts = levelPart m ms .counts; neighbours = levelPart m ms .neighbours; angles = levelPart m ms .angles }
+
+-- the same over the meshes of the levels from 0 to the top
+pub record ReadyIn (b : Builder) (ms : Mesh) (l : Lists) (ri : ℕ) : Type 0 where
+  pub ready : Ready b (partLinks (b .level) ms) l ri
+  pub counts-le : verticesBelow (suc (b .level)) ≤ length (ms .counts)
+  pub neighbours-le : 6 * verticesBelow (suc (b .level)) ≤ length (ms .neighbours)
+  pub angles-le : 6 * verticesBelow (suc (b .level)) ≤ length (ms .angles)
+
 -- nothing so far
 abbrev pub start : Tally
 start = record { gradient = ofBits binary64 0; settled = false; clear = true }
@@ -95,3 +108,23 @@ abbrev pub settledRows : Builder → Mesh → Lists → ℕ → Tally → Rows �
 settledRows b m l ri t rows =
     let f = verdictOf (b .grid .threshold) (b .grid .beta) m (vertexCount (b .level)) in
     (t ≡ tallyFrom f (b .level) start (sliceAt b l ri)) × (rows ≡ settledLists (b .level) (l .rows) (slab (b .grid) ri 0) (map f (sliceAt b l ri)))
+
+-- 11, of the rows of a slice, by what the lists say of them
+unfoldable pub rowsFromLevel : ℕ → Rows → ℕ → ℕ → Bool
+rowsFromLevel c r s n = allUpTo n (λ i. fromLevel c (rowWith (resolutionAt r (s + i)) []))
+
+-- 8, 15 and 11 of settle
+unfoldable pub settleQuestion : Builder → Rows → ℕ → ℕ
+settleQuestion b r ri =
+    ask (ltb ri (b .grid .«n_r»)) 8
+    (ask (rowsKnown (b .top) r (slab (b .grid) ri 0) (b .grid .«n_omega»)) 15
+    (ask (rowsFromLevel (b .level) r (slab (b .grid) ri 0) (b .grid .«n_omega»)) 11 0))
+
+-- the builder after a slice
+unfoldable pub droppedBy : Builder → Tally → Builder
+droppedBy b t =
+    record {
+      grid = b .grid;
+      top = b .top;
+      level = cond (t .settled && (t .clear && (lt (t .gradient) (b .grid .threshold) && ltb 0 (b .level)))) (b .level - 1) (b .level);
+    }

@@ -1,6 +1,7 @@
 // The questions that a call puts before it acts. They take the lengths of the lists that are lent.
 ghost use mathlib.Core.Path.{_≡_};
 ghost use mathlib.Core.Bool.{not, _&&_};
+ghost use mathlib.Core.List.{[]};
 ghost use Prim.Native.Nat.{suc, _≤_};
 ghost use lib.Dec.{ltb};
 ghost use lib.Ieee.{isNan};
@@ -8,10 +9,14 @@ ghost use Rattle.mesh.specs.Questions.{ask, first};
 ghost use Rattle.mesh.specs.Lists.{every};
 ghost use Rattle.mesh.specs.Levels.{verticesBelow};
 ghost use Rattle.mesh.specs.Mesh.{meshHeld, meshesKeep};
-ghost use Rattle.builder.specs.Lists.{listRoom};
+ghost use Rattle.rows.specs.Rows.{rowWith};
+ghost use Rattle.builder.specs.Settling.{fromLevel};
+ghost use Rattle.builder.specs.Lists.{listRoom, rowsKnown};
+ghost use Rattle.builder.specs.Steps.{rowsFromLevel, settleQuestion};
 ghost use Rattle.builder.specs.Calls.{builderQuestion, setQuestion};
 use crate::Builder;
 use grid::Grid;
+use rows::SlabResolution;
 
 // Question 6 of store and rows, once 1 to 5 are answered yes.
 pub(crate) fn list_room(g: Grid, top: u64, store: u64, kinds: u64, levels: u64, values: u64) -> bool
@@ -131,6 +136,75 @@ pub(crate) fn meshed_refusal(
     }
     if !mesh::meshes_keep(top as u8, vertices, counts, neighbours, angles) {
         return 7;
+    }
+    0
+}
+
+// The kind and level part of question 15, of the rows of a slice.
+fn rows_known(top: u64, kinds: &[u8], levels: &[u8], s: u64, n: u64) -> bool
+    requires { ⌜ (s ≤ 4294967295) × (n ≤ 65535) ⌝ }
+    ensures { λ r. ⌜ r ≡ rowsKnown top (record { kinds = now (kinds .entry); levels = now (levels .entry); values = [] }) s n ⌝ }
+{
+    let mut i: u64 = 0;
+    while i < n {
+        if !rows::row_known(top, kinds, levels, s + i) {
+            return false;
+        }
+        i += 1;
+    }
+    true
+}
+
+// A row's energies, if it holds any, are from a level.
+fn from_level(level: u64, row: SlabResolution) -> bool
+    ensures { λ r. ⌜ r ≡ fromLevel level (rowWith row []) ⌝ }
+{
+    match row {
+        SlabResolution::Scalar(_) => true,
+        SlabResolution::Repulsive => true,
+        SlabResolution::Mesh(v, _) => v as u64 == level,
+    }
+}
+
+// Question 11.
+fn rows_from_level(level: u64, kinds: &[u8], levels: &[u8], values: &[u32], s: u64, n: u64) -> bool
+    requires { ⌜ (s ≤ 4294967295) × (n ≤ 65535) ⌝ }
+    ensures { λ r. ⌜ r ≡ rowsFromLevel level (record { kinds = now (kinds .entry); levels = now (levels .entry); values = now (values .entry) }) s n ⌝ }
+{
+    let mut i: u64 = 0;
+    while i < n {
+        if !from_level(level, rows::resolution_at(kinds, levels, values, s + i)) {
+            return false;
+        }
+        i += 1;
+    }
+    true
+}
+
+// Questions 8, 15 and 11 of settle.
+pub(crate) fn settle_question(
+    b: Builder,
+    kinds: &[u8],
+    levels: &[u8],
+    values: &[u32],
+    ri: u64,
+) -> u64
+    requires { ⌜ (b .grid .«n_r» ≤ 65535) × (b .grid .«n_omega» ≤ 65535) ⌝ }
+    ensures { λ r. ⌜ r ≡ settleQuestion b (record { kinds = now (kinds .entry); levels = now (levels .entry); values = now (values .entry) }) ri ⌝ }
+{
+    let n_r = b.grid.n_r;
+    let n = b.grid.n_omega;
+    let top = b.top;
+    let level = b.level;
+    if n_r <= ri {
+        return 8;
+    }
+    let s = ri * n;
+    if !rows_known(top, kinds, levels, s, n) {
+        return 15;
+    }
+    if !rows_from_level(level, kinds, levels, values, s, n) {
+        return 11;
     }
     0
 }

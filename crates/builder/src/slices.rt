@@ -5,7 +5,7 @@ ghost use Prim.Native.Nat.{_+_, _*_, _≤_};
 ghost use lib.ListN.{length, take, drop};
 ghost use Rattle.mesh.specs.Levels.{vertexCount};
 ghost use Rattle.rows.specs.Rows.{Rows, resolutionAt, rowWith};
-ghost use Rattle.builder.specs.Steps.{Below, Ready, settledSlab, settledRows};
+ghost use Rattle.builder.specs.Steps.{Below, Ready, ReadyIn, partLinks, settledSlab, settledRows, droppedBy};
 use crate::Builder;
 use crate::Tally;
 use crate::settling;
@@ -101,4 +101,61 @@ pub(crate) fn settle_rows(
         i += 1;
     }
     t
+}
+
+// Settles a slice over the meshes of all levels, of which the current level's part is cut out.
+pub(crate) fn settle_slice(
+    b: Builder,
+    ri: u64,
+    store: &[f64],
+    counts: &[u8],
+    neighbours: &[u16],
+    angles: &[f64],
+    kinds: &mut [u8],
+    levels: &mut [u8],
+    values: &mut [u32],
+) -> Tally
+    requires { ⌜ ReadyIn b (record { vertices = []; counts = now counts; neighbours = now neighbours; angles = now angles })
+        (record { store = now store; rows = record { kinds = now kinds; levels = now levels; values = now values } }) ri ⌝ }
+    ensures { λ r. ⌜ settledRows b (partLinks (b .level) (record { vertices = []; counts = now (counts .entry); neighbours = now (neighbours .entry); angles = now (angles .entry) }))
+        (record { store = now (store .entry); rows = record { kinds = now (kinds .entry); levels = now (levels .entry); values = now (values .entry) } }) ri
+        r (record { kinds = now (kinds .exit); levels = now (levels .exit); values = now (values .exit) }) ⌝ }
+{
+    let level = b.level as u8;
+    let a = mesh::vertices_below(level) as usize;
+    let e = a + mesh::vertex_count(level) as usize;
+    let a6 = 6 * a;
+    let e6 = 6 * e;
+    settle_rows(
+        b,
+        ri,
+        store,
+        &counts[a..e],
+        &neighbours[a6..e6],
+        &angles[a6..e6],
+        kinds,
+        levels,
+        values,
+    )
+}
+
+// The builder after a slice: a level lower where it drops.
+pub(crate) fn dropped(b: Builder, t: Tally) -> Builder
+    ensures { λ r. ⌜ r ≡ droppedBy b t ⌝ }
+{
+    let grid = b.grid;
+    let top = b.top;
+    let level = b.level;
+    let threshold = b.grid.threshold;
+    let gradient = t.gradient;
+    let settled = t.settled;
+    let clear = t.clear;
+    if settled & (clear & ((gradient < threshold) & (0 < level))) {
+        return Builder {
+            grid,
+            top,
+            level: level - 1,
+        };
+    }
+    b
 }

@@ -89,7 +89,7 @@ loop-again c =
     let f = found (a .b .grid .threshold) (a .b .grid .beta) (a .counts .now) (a .neighbours .now) (a .angles .now) (a .b .level) in
     let z : base + 0 ≡ base = omega arith in
     let held : fromLevel (a .b .level) (rowAt (a .b .top) lent (base + i)) ≡ true =
-        row-passes (fromLevel (a .b .level)) (a .b .top) lent base n i (c .before .before .before .before .before .before .before .before .before .before .loop-test .taken) (rw z at (s .pre .same-level)) in
+    row-passes (fromLevel (a .b .level)) (a .b .top) lent base n i (c .before .before .before .before .before .before .before .before .before .before .loop-test .taken) (rw z at (s .pre .same-level)) in
     let row = read-row (a .b .top) (a .b .level) (base + i) _ lent now (l .before .per-level .ensures) (l .loop .inv .same (base + i) (omega arith)) held in
     let e = c .before .before .before .before .before .before .settle-slab .ensures in
     again f (a .b .level) (a .b .top) base n lent start i (l .loop .t) _ now _ (l .loop .inv) (c .before .before .before .before .before .before .before .before .before .before .loop-test .taken) (rw row at (e .0)) (rw row at (e .1))
