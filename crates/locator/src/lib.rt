@@ -1,1 +1,2 @@
-// The locator call. Its definitions stand in specs/; the code comes with the mesh rule.
+// The locator call.
+mod cells;
