@@ -101,8 +101,8 @@ keyed-cell vs n g c keys h hg k =
     let i = c % (g * g) / g in
     let j = c % (g * g) % g in
     filter-eq (λ v. hit (getD keys v 0) i j) (inCell vs g c) n (λ v l.
-      let s = cubeFaceProject (c / (g * g)) (vertexAt vs v) in
-      rw (k .each v l) (hit-key g i j (s .u) (s .w) (s .d) (omega arith) (omega arith)))
+    let s = cubeFaceProject (c / (g * g)) (vertexAt vs v) in
+    rw (k .each v l) (hit-key g i j (s .u) (s .w) (s .d) (omega arith) (omega arith)))
 
 -- a cell that is not the first of its face has the face of the cell before it
 pub same-face : (a c : ℕ) → 0 < a → 0 < (c + 1) % a → (c + 1) / a ≡ c / a
@@ -115,5 +115,5 @@ pub one-more : (f : ℕ → ℕ) (keys : List ℕ) (v x : ℕ) → ((k : ℕ) �
     → (k : ℕ) → k < v + 1 → getD (set keys v x) k 0 ≡ f k
 one-more f keys v x h l e =
     below-more (λ k. getD (set keys v x) k 0 ≡ f k) v
-      (λ k lk. getD-set-other keys v k x 0 (λ z. absurd (omega arith)) ∙ h k lk)
-      (getD-set-same keys v x 0 l ∙ e)
+    (λ k lk. getD-set-other keys v k x 0 (λ z. absurd (omega arith)) ∙ h k lk)
+    (getD-set-same keys v x 0 l ∙ e)

@@ -1,2 +1,6 @@
 -- Laws that belong to no one function.
 pub mod Keys
+pub mod Room
+pub mod Blocks
+pub mod Bound
+pub mod Graphs

@@ -53,3 +53,42 @@ pub record CellsOut : Type 0 where
 unfoldable pub cellsOut : List Float → ℕ → ℕ → ℕ → List ℕ → List ℕ → CellsOut
 cellsOut vs n g m offsets entries =
     record { offsets = put offsets 0 (starts (m + 1) (cell vs n g)); entries = put entries 0 (joined m (cell vs n g)) }
+
+-- ---- faces
+
+-- what the mesh rule says of a mesh's links, as far as reading and writing them needs it
+pub record Graph (n : ℕ) (m : Mesh) : Type 0 where
+  pub few : n ≤ 65535
+  pub six : (v : ℕ) → v < n → degree m v ≤ 6
+  pub inside : (v k : ℕ) → v < n → k < degree m v → neighbour m v k < n
+  pub back : (v w : ℕ) → v < n → lists m v w ≡ true → lists m w v ≡ true
+
+abbrev pub only : {A : Type 0} → Bool → A → List A
+only b x = cond b (x ∷ []) []
+
+-- i, j, k is a face, and v is a vertex of it
+unfoldable pub wanted : Mesh → ℕ → ℕ → ℕ → ℕ → Bool
+wanted m i j k v = isFace m i j k && has v (face i j k)
+
+-- v is i, or one of its neighbours
+unfoldable pub touches : Mesh → ℕ → ℕ → Bool
+touches m i v = eqb i v || lists m i v
+
+-- the faces of v whose least vertex is i
+unfoldable pub block : Mesh → ℕ → ℕ → List Face
+block m v i = filter (has v) (facesFrom m i)
+
+-- r is n, or a vertex from at on; between them none touches v
+pub record Next (m : Mesh) (n v at r : ℕ) : Type 0 where
+  pub from : at ≤ r
+  pub low : r ≤ n
+  pub none : (i : ℕ) → at ≤ i → i < r → touches m i v ≡ false
+
+pub record FacesOut : Type 0 where
+  pub offsets : List ℕ
+  pub entries : List ℕ
+
+-- the faces of each vertex, in the lists that were lent
+unfoldable pub facesOut : Mesh → ℕ → List ℕ → List ℕ → FacesOut
+facesOut m n offsets entries =
+    record { offsets = put offsets 0 (starts (n + 1) (facesOf m n)); entries = put entries 0 (flat (joined n (facesOf m n))) }

@@ -55,9 +55,7 @@ fn kept(c: i64) -> u64
 fn cell_number(g: usize, u: f64, d: f64) -> u64
     ensures { λ r. ⌜ r ≡ kept (cellNumber g u d) ⌝ }
 {
-    kept(float::to_i64(
-        ieee::mul_add(u / d, 0.5, 0.5) * float::of_u64(g as u64),
-    ))
+    kept(float::to_i64(ieee::mul_add(u / d, 0.5, 0.5) * float::of_u64(g as u64)))
 }
 
 // Both cell numbers of a point that a face sees, 0 where it is not in front.

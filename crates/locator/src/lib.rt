@@ -1,2 +1,3 @@
 // The locator call.
 mod cells;
+mod faces;

@@ -73,11 +73,13 @@ loop-less : tie.Need-loop-less Inv-loop μ-loop
 loop-less c = search needs
 
 loop-again : tie.Need-loop-again Inv-loop μ-loop
-loop-again c = let l = c .before .before .before .before in let h = l .loop .inv .1 in
-    (omega arith, ⊎-elim
+loop-again c = let l = c .before .before .before .before in let h = l .loop .inv .1 in (
+  omega arith,
+  ⊎-elim
       (λ w. rw (w .1, w .2) (kept _ (l .loop .v) h (sym (c .before .hit .ensures) ∙ w .0 .taken) (fits (record { before = c .before; if1 = w .0 }))))
       (λ w. rw (w .1, w .2) (passed _ (l .loop .v) h (sym (c .before .hit .ensures) ∙ w .0 .left)))
-      (c .if1 .came))
+      (c .if1 .came),
+)
 
 same-length : tie.Need-same-length Inv-loop μ-loop
 same-length c = search needs

@@ -14,7 +14,7 @@ use Rattle.locator.proofs.cells.put_cells.Statement.{statement}
 use Rattle.locator.proofs.cells.put_cells.Tie as tie
 
 abbrev Inv-loop : tie.InvT-loop
-Inv-loop vertices n g m keys₀ offsets₀ out₀ to₀ c₀ keys offsets out to c = 
+Inv-loop vertices n g m keys₀ offsets₀ out₀ to₀ c₀ keys offsets out to c =
     (c ≤ m) × (length keys ≡ length keys₀) × (drop n keys ≡ drop n keys₀) × (0 < c % (g * g) → Keyed vertices n g (c / (g * g)) keys)
     × Written offsets₀ 0 (starts c (cell vertices n g)) offsets c × Written out₀ 0 (joined c (cell vertices n g)) out to
 
@@ -66,11 +66,14 @@ loop-again c = let t = c .before .before .before .before .before .before .before
     let e = keyed-cell (a .vertices .now) (a .n) (a .g) (l .loop .c) _ (omega arith) (omega arith) (c .before .before .before .before .before .before .before .fresh-keys .ensures .0) in
     let p = c .before .before .put-cell in
     let h = rw e at (p .ensures) in
-    let u : l .loop .to ≡ length (joined k f) = omega (arith, l .loop .inv .5 .next) in
-    (omega arith, c .before .before .before .before .before .before .before .fresh-keys .kept .1 .1 .1 .1 .0 ∙ l .loop .inv .1, c .before .before .before .before .before .before .before .fresh-keys .ensures .1 ∙ l .loop .inv .2,
+    let u : l .loop .to ≡ length (joined k f) = omega (arith, l .loop .inv .5 .next) in (
+      omega arith,
+      c .before .before .before .before .before .before .before .fresh-keys .kept .1 .1 .1 .1 .0 ∙ l .loop .inv .1,
+      c .before .before .before .before .before .before .before .fresh-keys .ensures .1 ∙ l .loop .inv .2,
       (λ z. rw (same-face (a .g * a .g) k (mul-pos {m = a .g} {n = a .g} (omega arith) (omega arith)) z) (c .before .before .before .before .before .before .before .fresh-keys .ensures .0)),
       rw (starts-more k f, ← u) (pushed (l .loop .to) (l .loop .inv .4) (omega arith)),
-      rw (joined-more k f) (chunk (f k) _ (p .result) (l .loop .inv .5) (omega (arith, more t)) (h .0) (h .1)))
+      rw (joined-more k f) (chunk (f k) _ (p .result) (l .loop .inv .5) (omega (arith, more t)) (h .0) (h .1)),
+    )
 
 cast-offsets-2 : tie.Need-cast-offsets-2 Inv-loop μ-loop
 cast-offsets-2 c = omega (arith, so-far (c .before))
