@@ -4,3 +4,4 @@ pub mod Room
 pub mod Blocks
 pub mod Bound
 pub mod Graphs
+pub mod Accepted

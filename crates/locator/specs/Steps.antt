@@ -8,12 +8,15 @@ use lib.Dec.{leb, ltb, eqb}
 use lib.IntN.{ℤ, pos, negsuc}
 use lib.Ieee.{Float, le}
 use Rattle.mesh.specs.Lists.{filter, below, joined, starts, put}
-use Rattle.mesh.specs.Mesh.{Mesh, degree, neighbour, lists}
+use Rattle.mesh.specs.Levels.{vertexCount, gridSize}
+use Rattle.mesh.specs.Mesh.{Mesh, degree, neighbour, lists, keepsRule, meshHeld}
+use Rattle.mesh.specs.Questions.{ask}
 use Rattle.mesh.specs.Faces.{face, isFace, facesFrom, has}
 use Rattle.mesh.specs.declared.Face.{Face}
 use Rattle.search.specs.Geometry.{vertexAt, cubeFaceProject}
 use Rattle.search.specs.Geometry as Geometry
 use Rattle.search.specs.Cells.{cellNumber, cell, facesOf, flat}
+use Rattle.locator.specs.Locator.{locatorRoom}
 
 -- ---- cells
 
@@ -92,3 +95,13 @@ pub record FacesOut : Type 0 where
 unfoldable pub facesOut : Mesh → ℕ → List ℕ → List ℕ → FacesOut
 facesOut m n offsets entries =
     record { offsets = put offsets 0 (starts (n + 1) (facesOf m n)); entries = put entries 0 (flat (joined n (facesOf m n))) }
+
+-- ---- the call
+
+-- its questions, over the lists' lengths
+unfoldable pub refusal : ℕ → Mesh → ℕ → ℕ → ℕ → ℕ → ℕ
+refusal level m cellOffsets cellVertices faceOffsets faces =
+    let n = vertexCount level in
+    ask (leb level 15) 2
+    (ask (meshHeld n m && locatorRoom n (gridSize n) cellOffsets cellVertices faceOffsets faces) 6
+    (ask (keepsRule n m) 7 0))

@@ -5,3 +5,4 @@ pub mod Sums
 pub mod Written
 pub mod Tables
 pub mod Kept
+pub mod Asking

@@ -141,3 +141,14 @@ cells-le m l = let h = mul-le-mul (grid-le m l) (grid-le m l) in (h, omega arith
 pub offsets-le : (m : ℕ) → m ≤ 256 → cellOffsetsBelow m ≤ m * 960001
 unfolding cellOffsetsBelow
 offsets-le m l = omega (arith, sum-le m (λ k. cellCount (gridSize (vertexCount k)) + 1) (λ k. 960001) (λ k h. omega (arith, cells-le k (omega arith) .1)), sum-const m 960001)
+
+pub grid-ge : (n : ℕ) → 2 ≤ gridSize n
+unfolding gridSize
+grid-ge n = by (leb 2 (whole n)) refl
+  where
+    whole : ℕ → ℕ
+    whole n = toUnsigned 64 (ceiled (mul binary64 (root (div binary64 (ofInt binary64 (pos n)) (ofBits binary64 0x4018_0000_0000_0000))) (ofBits binary64 0x3FF3_3333_3333_3333)))
+
+    by : (t : Bool) → leb 2 (whole n) ≡ t → 2 ≤ cond t (whole n) 2
+    by true e = leb-true 2 (whole n) e
+    by false e = omega arith
