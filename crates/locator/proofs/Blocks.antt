@@ -29,7 +29,7 @@ module _ {A : Type 0} where
   joined-none zero f h = refl
   joined-none (suc n) f h = rw (joined-none n f (λ i l. h i (omega arith)), h n (omega arith))
 
-  joined-split : (k b : ℕ) (f : ℕ → List A) → joined (k + b) f ≡ joined k f ++ joined b (λ y. f (k + y))
+  pub joined-split : (k b : ℕ) (f : ℕ → List A) → joined (k + b) f ≡ joined k f ++ joined b (λ y. f (k + y))
   unfolding joined
   joined-split k zero f = rw (add-zero k) (sym (append-nil _))
   joined-split k (suc b) f = rw (add-suc k b, joined-split k b f) (append-assoc (joined k f) (joined b (λ y. f (k + y))) (f (k + b)))

@@ -5,3 +5,5 @@ pub mod Blocks
 pub mod Bound
 pub mod Graphs
 pub mod Accepted
+pub mod Entries
+pub mod Answers
