@@ -8,7 +8,7 @@ use lib.ListN.{length, drop}
 use lib.Seq.{drop-drop}
 use lib.Dec.{leb, eqb}
 use lib.Ieee.{Float, nan}
-use borrow.Author.Tests.{leb-true, leb-false, eq-eqb, ne-eqb}
+use borrow.Author.Tests.{leb-true, le-leb, eq-eqb, ne-eqb, eqb-true, eqb-false}
 use Rattle.mesh.specs.Lists.{put, starts, joined, allUpTo}
 use Rattle.mesh.specs.Levels.{vertexCount, gridSize, cellCount}
 use Rattle.mesh.specs.Mesh.{Mesh, within, lists, vertexKept, verticesFinite, keepsRule, meshHeld}
@@ -23,7 +23,7 @@ use Rattle.mesh.proofs.Asking.{ask-yes}
 use Rattle.mesh.proofs.Written.{length-starts}
 use Rattle.search.specs.Cells.{cell, facesOf}
 use Rattle.search.specs.Search.{Locator}
-use Rattle.locator.specs.Locator.{locatorRoom, locatorRefusal, located, LocatorOut, locatorOut}
+use Rattle.locator.specs.Locator.{locatorRoom, locatorHeld, locatorRefusal, located, LocatorOut, locatorOut}
 use Rattle.locator.specs.Steps.{Graph, CellsOut, cellsOut, FacesOut, facesOut, refusal}
 use Rattle.locator.proofs.Room as Room
 use Rattle.locator.proofs.Bound as Bound
@@ -106,3 +106,22 @@ module _ (level : ℕ) (m : Mesh) (l : Locator) where
       ≡ (let n = vertexCount level in let g = gridSize n in made 0 (cellsOut (m .vertices) n g (cellCount g) (l .cellOffsets) (l .cellVertices)) (facesOut m n (l .faceOffsets) (l .faces)))
   unfolding locatorOut locatorRefusal refusal located cellsOut facesOut made
   answered r e z = rw (← e, eq-eqb r 0 z)
+
+  -- where the call answers 0, nothing was refused and the lists are those of the level
+  pub by-call : locatorOut level m l .number ≡ 0
+      → (refusal level m (length (l .cellOffsets)) (length (l .cellVertices)) (length (l .faceOffsets)) (length (l .faces)) ≡ 0)
+      × (locatorOut level m l .lists ≡ located (vertexCount level) (gridSize (vertexCount level)) m l)
+  unfolding locatorOut locatorRefusal refusal
+  by-call e = by (eqb (locatorRefusal level m l) 0) refl e
+    where
+      by : (t : Bool) → eqb (locatorRefusal level m l) 0 ≡ t
+          → (let o : LocatorOut = cond t (record { number = 0; lists = located (vertexCount level) (gridSize (vertexCount level)) m l }) (record { number = locatorRefusal level m l; lists = l }) in
+          o .number ≡ 0 → (locatorRefusal level m l ≡ 0) × (o .lists ≡ located (vertexCount level) (gridSize (vertexCount level)) m l))
+      by true q h = (eqb-true (locatorRefusal level m l) 0 q, refl)
+      by false q h = absurd (eqb-false (locatorRefusal level m l) 0 q h)
+
+  -- what the questions ask
+  pub not-refused : level ≤ 15 → meshHeld (vertexCount level) m ≡ true → locatorHeld (vertexCount level) (gridSize (vertexCount level)) l ≡ true → keepsRule (vertexCount level) m ≡ true
+      → locatorRefusal level m l ≡ 0
+  unfolding locatorRefusal ask
+  not-refused low a b k = rw (le-leb level 15 low, a, b, k)

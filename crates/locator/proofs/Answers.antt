@@ -1,14 +1,15 @@
--- The search over the lists that the locator call makes is the search over the mesh.
+-- The search over the lists that the locator call makes is the search over the mesh. Other entries may stand behind them, as where levels are lent one after
+-- another and a reading has all of them from the level's first on.
 use mathlib.Core.Path.{_≡_, refl, sym, ap, _∙_}
 use mathlib.Core.Bool.{Bool, true, false, cond, _&&_}
-use mathlib.Core.List.{List, [], _∷_, _++_}
+use mathlib.Core.List.{List, [], _∷_, _++_, append-assoc}
 use Prim.Native.Nat.{ℕ, zero, suc, _+_, _-_, _*_, _/_, _%_, _≤_, _<_}
 use native.Mathlib.Omega.{arith}
-use lib.ListN.{length, getD}
-use lib.Seq.{slice}
+use lib.ListN.{length, getD, drop, length-append, List·getD-append}
+use lib.Seq.{drop-append-le}
 use lib.Dec.{leb, ltb, eqb}
-use lib.Ieee.{Float}
-use borrow.Author.Tests.{lt-ltb, le-leb, ltb-true, eqb-true}
+use lib.Ieee.{Float, nan}
+use borrow.Author.Tests.{lt-ltb, le-leb, ltb-true, leb-true, eqb-true}
 use Rattle.float.specs.Order.{ordered}
 use Rattle.mesh.specs.Lists.{put, below, every, filter, joined, starts}
 use Rattle.mesh.specs.Levels.{cellCount}
@@ -20,7 +21,7 @@ use Rattle.mesh.proofs.Kept.{Held}
 use Rattle.mesh.proofs.Written.{length-put, length-starts, joined-le}
 use Rattle.search.specs.Geometry.{vertexAt, cellIndex}
 use Rattle.search.specs.Cells.{inCell, cell, facesOf, flat, triples}
-use Rattle.search.specs.Search.{Locator, squared, notNearest, nearer, nearestFrom, nearestAmong, nearestOf, locate, bestFace, notLocated, vertexInside, entriesAt, entriesInside, nearestIn, locateIn}
+use Rattle.search.specs.Search.{Locator, squared, notNearest, nearer, nearestFrom, nearestAmong, nearestOf, locate, Fit, noFit, better, fitFrom, bestFace, notLocated, vertexInside, entriesAt, entriesInside, nearestIn, locateIn}
 use Rattle.search.specs.declared.Vector3.{Vector3}
 use Rattle.search.specs.declared.Nearest.{Nearest}
 use Rattle.locator.specs.Locator.{located}
@@ -61,6 +62,12 @@ module _ {A : Type 0} (w K : ℕ) (f : ℕ → List A) (F : ℕ → List ℕ) (d
         le-leb (length (joined (i + 1) F)) (length s) (omega (arith, joined-le (i + 1) K F (omega arith))),
       )
 
+-- what is written before other entries
+put-append : (d s r : List ℕ) → length s ≤ length d → put d 0 s ++ r ≡ put (d ++ r) 0 s
+unfolding put
+put-append d s r h =
+    append-assoc s (drop (0 + length s) d) r ∙ ap (λ (t : List ℕ). s ++ t) (sym (drop-append-le (0 + length s) d r (omega arith)))
+
 -- ---- faces as numbers
 
 flat-joined : (n : ℕ) (f : ℕ → List Face) → flat (joined n f) ≡ joined n (λ i. flat (f i))
@@ -76,7 +83,7 @@ triples-flat (x ∷ l) = ap (λ (r : List Face). x ∷ r) (triples-flat l)
 flat-wide : (f : ℕ → List Face) (i : ℕ) → 3 * length (joined i f) ≡ length (joined i (λ k. flat (f k)))
 flat-wide f i = omega (arith, ap length (flat-joined i f), length-flat (joined i f))
 
-every-flat : (q : ℕ → Bool) (l : List Face) → every (λ f. q (f .a) && (q (f .b) && q (f .c))) l ≡ true → every q (flat l) ≡ true
+every-flat : (q : ℕ → Bool) (l : List Face) → every (λ (f : Face). q (f .a) && (q (f .b) && q (f .c))) l ≡ true → every q (flat l) ≡ true
 unfolding every flat
 every-flat q [] e = refl
 every-flat q (x ∷ l) e =
@@ -84,6 +91,35 @@ every-flat q (x ∷ l) e =
     let a = and-yes (q (x .a)) (q (x .b) && q (x .c)) (h .0) in
     let b = and-yes (q (x .b)) (q (x .c)) (a .1) in
     rw (a .0, b .0, b .1) (every-flat q l (h .1))
+
+-- ---- vertices before other entries
+
+-- a face whose vertices are below n and lent
+abbrev lent : List Float → ℕ → Face → Bool
+lent vs n f = vertexInside vs n (f .a) && (vertexInside vs n (f .b) && vertexInside vs n (f .c))
+
+module _ (vs r : List Float) (p : Vector3) (n : ℕ) where
+  vertex-more : (v : ℕ) → vertexInside vs n v ≡ true → vertexAt (vs ++ r) v ≡ vertexAt vs v
+  unfolding vertexAt vertexInside
+  vertex-more v e =
+      let h = leb-true (3 * v + 3) (length vs) (and-yes (ltb v n) (leb (3 * v + 3) (length vs)) e .1) in
+      rw (List·getD-append vs r nan (3 * v) (omega arith), List·getD-append vs r nan (3 * v + 1) (omega arith), List·getD-append vs r nan (3 * v + 2) (omega arith))
+
+  nearest-more : (best : Nearest) (l : List ℕ) → every (vertexInside vs n) l ≡ true → nearestFrom (vs ++ r) p best l ≡ nearestFrom vs p best l
+  unfolding nearestFrom nearer every
+  nearest-more best [] e = refl
+  nearest-more best (v ∷ l) e =
+      let a = and-yes (vertexInside vs n v) (every (vertexInside vs n) l) e in
+      rw (vertex-more v (a .0)) (nearest-more (nearer vs p best v) l (a .1))
+
+  fit-more : (best : Fit) (l : List Face) → every (lent vs n) l ≡ true → fitFrom (vs ++ r) p best l ≡ fitFrom vs p best l
+  unfolding fitFrom better every
+  fit-more best [] e = refl
+  fit-more best (f ∷ l) e =
+      let h = and-yes (lent vs n f) (every (lent vs n) l) e in
+      let a = and-yes (vertexInside vs n (f .a)) (vertexInside vs n (f .b) && vertexInside vs n (f .c)) (h .0) in
+      let b = and-yes (vertexInside vs n (f .b)) (vertexInside vs n (f .c)) (a .1) in
+      rw (vertex-more (f .a) (a .0), vertex-more (f .b) (b .0), vertex-more (f .c) (b .1)) (fit-more (better vs p best f) l (h .1))
 
 -- ---- the nearest vertex is one of the cell's
 
@@ -105,84 +141,133 @@ module _ (vs : List Float) (p : Vector3) (n : ℕ) where
       let b = and-yes (ltb v n) (leb (3 * v + 3) (length vs)) (a .0) in
       nearest-in-list (nearer vs p best v) l (a .1) (nearer-in best v h (ltb-true v n (b .0)))
 
--- ---- a mesh that keeps the rule, and lists with room
+-- ---- a mesh that keeps the rule, lists with room, and other entries behind them
+
+unfoldable pub ahead : Locator → Locator → Locator
+ahead r behind =
+    record {
+      cellOffsets = r .cellOffsets ++ behind .cellOffsets;
+      cellVertices = r .cellVertices ++ behind .cellVertices;
+      faceOffsets = r .faceOffsets ++ behind .faceOffsets;
+      faces = r .faces ++ behind .faces;
+    }
 
 module _ (n g : ℕ) (m : Mesh) (l : Locator)
-    (ok : Accepted n g m (length (l .cellOffsets)) (length (l .cellVertices)) (length (l .faceOffsets)) (length (l .faces))) where
-  vertex-in : (v : ℕ) → v < n → vertexInside (m .vertices) n v ≡ true
-  unfolding vertexInside
-  vertex-in v h = rw (lt-ltb v n h, le-leb (3 * v + 3) (length (m .vertices)) (omega (arith, ok .held .vertices)))
+    (ok : Accepted n g m (length (l .cellOffsets)) (length (l .cellVertices)) (length (l .faceOffsets)) (length (l .faces))) (after : List Float) (behind : Locator) where
+  -- the vertices and the locator's lists, as a reading has them
+  abbrev vertices : List Float
+  vertices = m .vertices ++ after
 
-  vertices-in : (c : ℕ) → every (vertexInside (m .vertices) n) (cell (m .vertices) n g c) ≡ true
+  abbrev lists : Locator
+  lists = ahead (located n g m l) behind
+
+  vertex-in : (vs : List Float) (v : ℕ) → length (m .vertices) ≤ length vs → v < n → vertexInside vs n v ≡ true
+  unfolding vertexInside
+  vertex-in vs v k h = rw (lt-ltb v n h, le-leb (3 * v + 3) (length vs) (omega (arith, ok .held .vertices)))
+
+  longer : length (m .vertices) ≤ length (m .vertices ++ after)
+  longer = omega (arith, length-append (m .vertices) after)
+
+  vertices-in : (vs : List Float) (c : ℕ) → length (m .vertices) ≤ length vs → every (vertexInside vs n) (cell (m .vertices) n g c) ≡ true
   unfolding cell
-  vertices-in c = every-filter (vertexInside (m .vertices) n) (inCell (m .vertices) g c) (below n) (every-below (vertexInside (m .vertices) n) n vertex-in)
+  vertices-in vs c k = every-filter (vertexInside vs n) (inCell (m .vertices) g c) (below n) (every-below (vertexInside vs n) n (λ v h. vertex-in vs v k h))
 
   -- a face's vertices are vertices
-  piece-in : (t : Bool) (i j k : ℕ) → i < n → j < n → k < n
-      → every (λ (f : Face). vertexInside (m .vertices) n (f .a) && (vertexInside (m .vertices) n (f .b) && vertexInside (m .vertices) n (f .c))) (cond t (face i j k ∷ []) []) ≡ true
+  piece-in : (vs : List Float) (t : Bool) (i j k : ℕ) → length (m .vertices) ≤ length vs → i < n → j < n → k < n → every (lent vs n) (cond t (face i j k ∷ []) []) ≡ true
   unfolding every
-  piece-in true i j k hi hj hk = rw (vertex-in i hi, vertex-in j hj, vertex-in k hk)
-  piece-in false i j k hi hj hk = refl
+  piece-in vs true i j k e hi hj hk = rw (vertex-in vs i e hi, vertex-in vs j e hj, vertex-in vs k e hk)
+  piece-in vs false i j k e hi hj hk = refl
 
-  faces-in : (v : ℕ) → every (vertexInside (m .vertices) n) (flat (facesOf m n v)) ≡ true
+  faces-in : (vs : List Float) (v : ℕ) → length (m .vertices) ≤ length vs → every (lent vs n) (facesOf m n v) ≡ true
   unfolding facesOf extractFaces facesFrom
-  faces-in v =
-      let q = vertexInside (m .vertices) n in
+  faces-in vs v e =
+      let q = lent vs n in
       let r = rule n m (ok .kept) in
-      every-flat q (facesOf m n v)
-      (every-filter (λ (f : Face). q (f .a) && (q (f .b) && q (f .c))) (has v) (extractFaces m n)
-      (every-joined (λ (f : Face). q (f .a) && (q (f .b) && q (f .c))) n (facesFrom m) (λ i hi.
-      every-joined (λ (f : Face). q (f .a) && (q (f .b) && q (f .c))) (degree m i) _ (λ x hx.
-      every-joined (λ (f : Face). q (f .a) && (q (f .b) && q (f .c))) (degree m i) _ (λ y hy.
-      piece-in (isFace m i (neighbour m i x) (neighbour m i y)) i (neighbour m i x) (neighbour m i y) hi (r .inside i x hi hx) (r .inside i y hi hy))))))
+      every-filter q (has v) (extractFaces m n)
+      (every-joined q n (facesFrom m) (λ i hi.
+      every-joined q (degree m i) _ (λ x hx.
+      every-joined q (degree m i) _ (λ y hy.
+      piece-in vs (isFace m i (neighbour m i x) (neighbour m i y)) i (neighbour m i x) (neighbour m i y) e hi (r .inside i x hi hx) (r .inside i y hi hy)))))
 
-  pub cell-inside : (c : ℕ) → c < cellCount g → entriesInside (m .vertices) n 1 (located n g m l .cellOffsets) (located n g m l .cellVertices) c ≡ true
-  unfolding located
+  -- ---- cells
+
+  cells-held : length (joined (cellCount g) (cell (m .vertices) n g)) ≤ length (l .cellVertices)
+  cells-held = omega (arith, ok .r2, cells-fit n m (ok .kept) g (omega (arith, ok .some)) (omega (arith, ok .small)))
+
+  whole-cells : (lists .cellOffsets ≡ put (l .cellOffsets ++ behind .cellOffsets) 0 (starts (cellCount g + 1) (cell (m .vertices) n g)))
+      × (lists .cellVertices ≡ put (l .cellVertices ++ behind .cellVertices) 0 (joined (cellCount g) (cell (m .vertices) n g)))
+  unfolding ahead located
+  whole-cells = (
+    put-append (l .cellOffsets) (starts (cellCount g + 1) (cell (m .vertices) n g)) (behind .cellOffsets) (omega (arith, ok .r1, length-starts (cellCount g + 1) (cell (m .vertices) n g))),
+    put-append (l .cellVertices) (joined (cellCount g) (cell (m .vertices) n g)) (behind .cellVertices) cells-held,
+  )
+
+  pub cell-inside : (c : ℕ) → c < cellCount g → entriesInside vertices n 1 (lists .cellOffsets) (lists .cellVertices) c ≡ true
   cell-inside c h =
-      inside 1 (cellCount g) (cell (m .vertices) n g) (cell (m .vertices) n g) (l .cellOffsets) (l .cellVertices) (λ i. omega arith) (ok .r1)
-      (omega (arith, ok .r2, cells-fit n m (ok .kept) g (omega (arith, ok .some)) (omega (arith, ok .small)))) (m .vertices) n c h (vertices-in c)
+      rw (whole-cells .0, whole-cells .1)
+      (inside 1 (cellCount g) (cell (m .vertices) n g) (cell (m .vertices) n g) (l .cellOffsets ++ behind .cellOffsets) (l .cellVertices ++ behind .cellVertices) (λ i. omega arith)
+      (omega (arith, ok .r1, length-append (l .cellOffsets) (behind .cellOffsets))) (omega (arith, cells-held, length-append (l .cellVertices) (behind .cellVertices)))
+      (m .vertices ++ after) n c h (vertices-in (m .vertices ++ after) c longer))
 
-  pub cell-is : (c : ℕ) → c < cellCount g → entriesAt 1 (located n g m l .cellOffsets) (located n g m l .cellVertices) c ≡ cell (m .vertices) n g c
-  unfolding located
+  pub cell-is : (c : ℕ) → c < cellCount g → entriesAt 1 (lists .cellOffsets) (lists .cellVertices) c ≡ cell (m .vertices) n g c
   cell-is c h =
-      entries-are 1 (cellCount g) (cell (m .vertices) n g) (cell (m .vertices) n g) (l .cellOffsets) (l .cellVertices) (λ i. omega arith) (ok .r1)
-      (omega (arith, ok .r2, cells-fit n m (ok .kept) g (omega (arith, ok .some)) (omega (arith, ok .small)))) c h
+      rw (whole-cells .0, whole-cells .1)
+      (entries-are 1 (cellCount g) (cell (m .vertices) n g) (cell (m .vertices) n g) (l .cellOffsets ++ behind .cellOffsets) (l .cellVertices ++ behind .cellVertices) (λ i. omega arith)
+      (omega (arith, ok .r1, length-append (l .cellOffsets) (behind .cellOffsets))) (omega (arith, cells-held, length-append (l .cellVertices) (behind .cellVertices))) c h)
 
-  pub nearest-in : (p : Vector3) → cellIndex g p < cellCount g → nearestIn (located n g m l) (m .vertices) n g p ≡ nearestOf m n g p
-  unfolding nearestIn nearestOf
-  nearest-in p h = rw (cell-inside (cellIndex g p) h, cell-is (cellIndex g p) h)
+  pub nearest-in : (p : Vector3) → cellIndex g p < cellCount g → nearestIn lists vertices n g p ≡ nearestOf m n g p
+  unfolding nearestIn nearestOf nearestAmong
+  nearest-in p h =
+      let l = cell (m .vertices) n g (cellIndex g p) in
+      rw (cell-inside (cellIndex g p) h, cell-is (cellIndex g p) h)
+      (nearest-more (m .vertices) after p n (notNearest 20) l (vertices-in (m .vertices) (cellIndex g p) (omega arith)))
+
+  -- ---- faces
 
   faces-held : length (joined n (λ v. flat (facesOf m n v))) ≤ length (l .faces)
   faces-held = omega (arith, ok .r4, Bound.room (rule n m (ok .kept)), flat-wide (facesOf m n) n)
 
-  pub face-inside : (v : ℕ) → v < n → entriesInside (m .vertices) n 3 (located n g m l .faceOffsets) (located n g m l .faces) v ≡ true
-  unfolding located
-  face-inside v h =
-      rw (flat-joined n (facesOf m n))
-      (inside 3 n (facesOf m n) (λ v. flat (facesOf m n v)) (l .faceOffsets) (l .faces) (flat-wide (facesOf m n)) (ok .r3) faces-held (m .vertices) n v h (faces-in v))
+  whole-faces : (lists .faceOffsets ≡ put (l .faceOffsets ++ behind .faceOffsets) 0 (starts (n + 1) (facesOf m n)))
+      × (lists .faces ≡ put (l .faces ++ behind .faces) 0 (joined n (λ v. flat (facesOf m n v))))
+  unfolding ahead located
+  whole-faces = (
+    put-append (l .faceOffsets) (starts (n + 1) (facesOf m n)) (behind .faceOffsets) (omega (arith, ok .r3, length-starts (n + 1) (facesOf m n))),
+    rw (flat-joined n (facesOf m n)) (put-append (l .faces) (joined n (λ v. flat (facesOf m n v))) (behind .faces) faces-held),
+  )
 
-  pub faces-are : (v : ℕ) → v < n → triples (entriesAt 3 (located n g m l .faceOffsets) (located n g m l .faces) v) ≡ facesOf m n v
-  unfolding located
+  pub face-inside : (v : ℕ) → v < n → entriesInside vertices n 3 (lists .faceOffsets) (lists .faces) v ≡ true
+  face-inside v h =
+      rw (whole-faces .0, whole-faces .1)
+      (inside 3 n (facesOf m n) (λ v. flat (facesOf m n v)) (l .faceOffsets ++ behind .faceOffsets) (l .faces ++ behind .faces) (flat-wide (facesOf m n))
+      (omega (arith, ok .r3, length-append (l .faceOffsets) (behind .faceOffsets))) (omega (arith, faces-held, length-append (l .faces) (behind .faces)))
+      (m .vertices ++ after) n v h (every-flat (vertexInside (m .vertices ++ after) n) (facesOf m n v) (faces-in (m .vertices ++ after) v longer)))
+
+  pub faces-are : (v : ℕ) → v < n → triples (entriesAt 3 (lists .faceOffsets) (lists .faces) v) ≡ facesOf m n v
   faces-are v h =
-      rw (flat-joined n (facesOf m n))
-      (ap triples (entries-are 3 n (facesOf m n) (λ v. flat (facesOf m n v)) (l .faceOffsets) (l .faces) (flat-wide (facesOf m n)) (ok .r3) faces-held v h) ∙ triples-flat (facesOf m n v))
+      rw (whole-faces .0, whole-faces .1)
+      (ap triples (entries-are 3 n (facesOf m n) (λ v. flat (facesOf m n v)) (l .faceOffsets ++ behind .faceOffsets) (l .faces ++ behind .faces) (flat-wide (facesOf m n))
+      (omega (arith, ok .r3, length-append (l .faceOffsets) (behind .faceOffsets))) (omega (arith, faces-held, length-append (l .faces) (behind .faces))) v h) ∙ triples-flat (facesOf m n v))
 
   nearest-below : (p : Vector3) → nearestOf m n g p .number ≡ 0 → nearestOf m n g p .vertex < n
   unfolding nearestOf nearestAmong
-  nearest-below p = nearest-in-list (m .vertices) p n (notNearest 20) (cell (m .vertices) n g (cellIndex g p)) (vertices-in (cellIndex g p)) (λ e. absurd (omega arith))
+  nearest-below p = nearest-in-list (m .vertices) p n (notNearest 20) (cell (m .vertices) n g (cellIndex g p)) (vertices-in (m .vertices) (cellIndex g p) (omega arith)) (λ e. absurd (omega arith))
 
-  pub locate-in : (p : Vector3) → cellIndex g p < cellCount g → locateIn (located n g m l) (m .vertices) n g p ≡ locate m n g p
+  best-more : (p : Vector3) (v : ℕ) → bestFace vertices p (facesOf m n v) ≡ bestFace (m .vertices) p (facesOf m n v)
+  unfolding bestFace
+  best-more p v = rw (fit-more (m .vertices) after p n noFit (facesOf m n v) (faces-in (m .vertices) v (omega arith)))
+
+  pub locate-in : (p : Vector3) → cellIndex g p < cellCount g → locateIn lists vertices n g p ≡ locate m n g p
   unfolding locateIn locate
   locate-in p h = rw (nearest-in p h) (by (eqb (nearestOf m n g p .number) 0) refl)
     where
       by : (t : Bool) → eqb (nearestOf m n g p .number) 0 ≡ t
           → cond t
-          (cond (entriesInside (m .vertices) n 3 (located n g m l .faceOffsets) (located n g m l .faces) (nearestOf m n g p .vertex))
-          (bestFace (m .vertices) p (triples (entriesAt 3 (located n g m l .faceOffsets) (located n g m l .faces) (nearestOf m n g p .vertex))))
+          (cond (entriesInside vertices n 3 (lists .faceOffsets) (lists .faces) (nearestOf m n g p .vertex))
+          (bestFace vertices p (triples (entriesAt 3 (lists .faceOffsets) (lists .faces) (nearestOf m n g p .vertex))))
           (notLocated 19))
           (notLocated (nearestOf m n g p .number))
           ≡ cond t (bestFace (m .vertices) p (facesOf m n (nearestOf m n g p .vertex))) (notLocated (nearestOf m n g p .number))
       by true e =
           let v = nearest-below p (eqb-true (nearestOf m n g p .number) 0 e) in
-          rw (face-inside (nearestOf m n g p .vertex) v, faces-are (nearestOf m n g p .vertex) v)
+          rw (face-inside (nearestOf m n g p .vertex) v, faces-are (nearestOf m n g p .vertex) v) (best-more p (nearestOf m n g p .vertex))
       by false e = refl
