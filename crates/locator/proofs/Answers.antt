@@ -21,7 +21,7 @@ use Rattle.mesh.proofs.Kept.{Held}
 use Rattle.mesh.proofs.Written.{length-put, length-starts, joined-le}
 use Rattle.search.specs.Geometry.{vertexAt, cellIndex}
 use Rattle.search.specs.Cells.{inCell, cell, facesOf, flat, triples}
-use Rattle.search.specs.Search.{Locator, squared, notNearest, nearer, nearestFrom, nearestAmong, nearestOf, locate, Fit, noFit, better, fitFrom, bestFace, notLocated, vertexInside, entriesAt, entriesInside, nearestIn, locateIn}
+use Rattle.search.specs.Search.{Locator, squared, notNearest, nearer, nearestFrom, nearestAmong, nearestOf, locate, noFit, better, fitFrom, bestFace, notLocated, vertexInside, entriesAt, entriesInside, nearestIn, locateIn}
 use Rattle.search.specs.declared.Vector3.{Vector3}
 use Rattle.search.specs.declared.Nearest.{Nearest}
 use Rattle.locator.specs.Locator.{located}
@@ -94,6 +94,17 @@ every-flat q (x ∷ l) e =
 
 -- ---- vertices before other entries
 
+-- two folds whose steps agree
+folds : {A B : Type 0} (q : A → Bool) (F G : B → List A → B) (f g : B → A → B)
+    → ((b : B) → F b [] ≡ b) → ((b : B) (x : A) (l : List A) → F b (x ∷ l) ≡ F (f b x) l)
+    → ((b : B) → G b [] ≡ b) → ((b : B) (x : A) (l : List A) → G b (x ∷ l) ≡ G (g b x) l)
+    → ((b : B) (x : A) → q x ≡ true → f b x ≡ g b x) → (b : B) (l : List A) → every q l ≡ true → F b l ≡ G b l
+unfolding every
+folds {A} {B} q F G f g fn fc gn gc s b [] e = fn b ∙ sym (gn b)
+folds {A} {B} q F G f g fn fc gn gc s b (x ∷ l) e =
+    let h = and-yes (q x) (every q l) e in
+    fc b x l ∙ ap (λ (t : B). F t l) (s b x (h .0)) ∙ folds q F G f g fn fc gn gc s (g b x) l (h .1) ∙ sym (gc b x l)
+
 -- a face whose vertices are below n and lent
 abbrev lent : List Float → ℕ → Face → Bool
 lent vs n f = vertexInside vs n (f .a) && (vertexInside vs n (f .b) && vertexInside vs n (f .c))
@@ -112,14 +123,18 @@ module _ (vs r : List Float) (p : Vector3) (n : ℕ) where
       let a = and-yes (vertexInside vs n v) (every (vertexInside vs n) l) e in
       rw (vertex-more v (a .0)) (nearest-more (nearer vs p best v) l (a .1))
 
-  fit-more : (best : Fit) (l : List Face) → every (lent vs n) l ≡ true → fitFrom (vs ++ r) p best l ≡ fitFrom vs p best l
-  unfolding fitFrom better every
-  fit-more best [] e = refl
-  fit-more best (f ∷ l) e =
-      let h = and-yes (lent vs n f) (every (lent vs n) l) e in
-      let a = and-yes (vertexInside vs n (f .a)) (vertexInside vs n (f .b) && vertexInside vs n (f .c)) (h .0) in
+  better-more : (f : Face) → lent vs n f ≡ true
+      → (vertexAt (vs ++ r) (f .a) ≡ vertexAt vs (f .a)) × (vertexAt (vs ++ r) (f .b) ≡ vertexAt vs (f .b)) × (vertexAt (vs ++ r) (f .c) ≡ vertexAt vs (f .c))
+  better-more f e =
+      let a = and-yes (vertexInside vs n (f .a)) (vertexInside vs n (f .b) && vertexInside vs n (f .c)) e in
       let b = and-yes (vertexInside vs n (f .b)) (vertexInside vs n (f .c)) (a .1) in
-      rw (vertex-more (f .a) (a .0), vertex-more (f .b) (b .0), vertex-more (f .c) (b .1)) (fit-more (better vs p best f) l (h .1))
+      (vertex-more (f .a) (a .0), vertex-more (f .b) (b .0), vertex-more (f .c) (b .1))
+
+  fit-more : (l : List Face) → every (lent vs n) l ≡ true → fitFrom (vs ++ r) p noFit l ≡ fitFrom vs p noFit l
+  unfolding fitFrom better
+  fit-more l e =
+      folds (lent vs n) (fitFrom (vs ++ r) p) (fitFrom vs p) (better (vs ++ r) p) (better vs p) (λ b. refl) (λ b x l. refl) (λ b. refl) (λ b x l. refl)
+      (λ b x h. let k = better-more x h in rw (k .0, k .1, k .2)) noFit l e
 
 -- ---- the nearest vertex is one of the cell's
 
@@ -254,7 +269,7 @@ module _ (n g : ℕ) (m : Mesh) (l : Locator)
 
   best-more : (p : Vector3) (v : ℕ) → bestFace vertices p (facesOf m n v) ≡ bestFace (m .vertices) p (facesOf m n v)
   unfolding bestFace
-  best-more p v = rw (fit-more (m .vertices) after p n noFit (facesOf m n v) (faces-in (m .vertices) v (omega arith)))
+  best-more p v = rw (fit-more (m .vertices) after p n (facesOf m n v) (faces-in (m .vertices) v (omega arith)))
 
   pub locate-in : (p : Vector3) → cellIndex g p < cellCount g → locateIn lists vertices n g p ≡ locate m n g p
   unfolding locateIn locate
