@@ -1,13 +1,12 @@
 -- What an accepted call may count on, and what it answers.
 use mathlib.Core.Path.{_≡_, refl, sym, ap, _∙_}
 use mathlib.Core.Bool.{Bool, true, false, cond, _&&_}
-use mathlib.Core.List.{List, _++_}
+use mathlib.Core.List.{List}
 use Prim.Native.Nat.{ℕ, _+_, _*_, _≤_, _<_}
 use native.Mathlib.Omega.{arith}
 use lib.ListN.{length, drop}
 use lib.Seq.{drop-drop}
 use lib.Dec.{leb, eqb}
-use lib.Ieee.{Float, nan}
 use borrow.Author.Tests.{leb-true, le-leb, eq-eqb, ne-eqb, eqb-true, eqb-false}
 use Rattle.mesh.specs.Lists.{put, starts, joined, allUpTo}
 use Rattle.mesh.specs.Levels.{vertexCount, gridSize, cellCount}

@@ -3,7 +3,7 @@
 use mathlib.Core.Path.{_≡_, refl, sym, ap, _∙_}
 use mathlib.Core.Bool.{Bool, true, false, cond, _&&_}
 use mathlib.Core.List.{List, [], _∷_, _++_, append-assoc}
-use Prim.Native.Nat.{ℕ, zero, suc, _+_, _-_, _*_, _/_, _%_, _≤_, _<_}
+use Prim.Native.Nat.{ℕ, zero, suc, _+_, _-_, _*_, _≤_, _<_}
 use native.Mathlib.Omega.{arith}
 use lib.ListN.{length, getD, drop, length-append, List·getD-append}
 use lib.Seq.{drop-append-le}
@@ -11,13 +11,12 @@ use lib.Dec.{leb, ltb, eqb}
 use lib.Ieee.{Float, nan}
 use borrow.Author.Tests.{lt-ltb, le-leb, ltb-true, leb-true, eqb-true}
 use Rattle.float.specs.Order.{ordered}
-use Rattle.mesh.specs.Lists.{put, below, every, filter, joined, starts}
+use Rattle.mesh.specs.Lists.{put, below, every, joined, starts}
 use Rattle.mesh.specs.Levels.{cellCount}
-use Rattle.mesh.specs.Mesh.{Mesh, degree, neighbour, keepsRule}
+use Rattle.mesh.specs.Mesh.{Mesh, degree, neighbour}
 use Rattle.mesh.specs.Faces.{face, isFace, facesFrom, extractFaces, has}
 use Rattle.mesh.specs.declared.Face.{Face}
 use Rattle.mesh.proofs.Counting.{and-yes}
-use Rattle.mesh.proofs.Kept.{Held}
 use Rattle.mesh.proofs.Written.{length-put, length-starts, joined-le}
 use Rattle.search.specs.Geometry.{vertexAt, cellIndex}
 use Rattle.search.specs.Cells.{inCell, cell, facesOf, flat, triples}
@@ -26,11 +25,10 @@ use Rattle.search.specs.declared.Vector3.{Vector3}
 use Rattle.search.specs.declared.Nearest.{Nearest}
 use Rattle.locator.specs.Locator.{located}
 use Rattle.locator.proofs.Blocks.{flat-append, length-flat}
-use Rattle.locator.proofs.Bound.{Rule}
 use Rattle.locator.proofs.Graphs.{rule}
 use Rattle.locator.proofs.Accepted.{Accepted, cells-fit}
 use Rattle.locator.proofs.Bound as Bound
-use Rattle.locator.proofs.Entries.{getD-put, getD-starts, part-of, every-append, every-filter, every-joined, every-below}
+use Rattle.locator.proofs.Entries.{getD-put, getD-starts, part-of, every-filter, every-joined, every-below}
 
 -- ---- any lists that are written so: f is what the offsets count, F its entries, w of them for each
 

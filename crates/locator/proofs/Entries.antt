@@ -1,17 +1,16 @@
 -- Lists written one after another, read back by their offsets.
 use mathlib.Core.Path.{_≡_, refl, sym, ap, _∙_}
-use mathlib.Core.Bool.{Bool, true, false, cond, _&&_}
-use mathlib.Core.List.{List, [], _∷_, _++_, append-assoc, append-nil}
+use mathlib.Core.Bool.{Bool, true, false, cond}
+use mathlib.Core.List.{List, [], _∷_, _++_, append-assoc}
 use mathlib.Core.Logic.{⊎-elim}
-use Prim.Native.Nat.{ℕ, zero, suc, _+_, _-_, _*_, _≤_, _<_}
+use Prim.Native.Nat.{ℕ, zero, suc, _+_, _-_, _<_}
 use native.Mathlib.Nat.{eq-or-lt-of-le, le-of-suc-le-suc, not-suc-le-zero}
-use native.Mathlib.Numerals.{add-one}
 use native.Mathlib.Omega.{arith}
-use lib.ListN.{length, take, drop, getD, List·getD-append}
-use lib.Seq.{take-append-le, take-at, drop-at, getD-at, slice}
+use lib.ListN.{length, drop, getD, List·getD-append}
+use lib.Seq.{take-at, drop-at, getD-at, slice}
 use Rattle.mesh.specs.Lists.{put, below, every, filter, joined, starts}
 use Rattle.mesh.proofs.Counting.{and-yes}
-use Rattle.mesh.proofs.Written.{joined-more, joined-le, length-starts}
+use Rattle.mesh.proofs.Written.{joined-more, length-starts}
 use Rattle.locator.proofs.Blocks.{joined-split}
 
 -- what is written from the first place on is read there

@@ -1,6 +1,6 @@
 -- A vertex whose coordinates are numbers is in at most 27 cells: it is in front of at most 3 faces of the cube, and near at most 9 cells of each.
-use mathlib.Core.Path.{_≡_, refl, sym, _∙_}
-use mathlib.Core.Bool.{Bool, true, false, cond, not, _&&_, _||_}
+use mathlib.Core.Path.{_≡_, refl}
+use mathlib.Core.Bool.{Bool, true, false, not, _&&_, _||_}
 use mathlib.Core.List.{List}
 use Prim.Native.Nat.{ℕ, zero, suc, _+_, _-_, _*_, _/_, _%_, _≤_, _<_}
 use native.Mathlib.Nat.{zero-mul, mul-pos}
@@ -8,10 +8,10 @@ use native.Mathlib.Omega.{arith}
 use lib.ListN.{length, getD}
 use lib.IntN.{ℤ}
 use lib.Dec.{leb, ltb, eqb}
-use lib.Ieee.{Float, nan, inf, fin, ofBits, lt, eq, le, neg, isNan, up, down}
+use lib.Ieee.{Float, nan, inf, fin, ofBits, lt, eq, le, neg, up, down}
 use lib.Ieee.Scale.{finite}
 use borrow.Author.Tests.{leb-true, ltb-false, eq-eqb}
-use Rattle.mesh.specs.Lists.{allUpTo, joined, sum}
+use Rattle.mesh.specs.Lists.{joined, sum}
 use Rattle.mesh.specs.Levels.{cellCount}
 use Rattle.mesh.specs.Mesh.{verticesFinite}
 use Rattle.mesh.proofs.Counting.{all-at}

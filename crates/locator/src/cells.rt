@@ -1,7 +1,7 @@
 // The cells of a locator: each lists, ascending, the vertices that lie in it or beside it. A face of the cube is looked at once: both cell numbers of each
 // vertex are kept in a list that something else is written to later, and each cell is a scan of that list.
 ghost use mathlib.Core.Path.{_≡_};
-ghost use Prim.Native.Nat.{ℕ, _+_, _*_, _<_, _≤_, _/_, _%_};
+ghost use Prim.Native.Nat.{_+_, _*_, _<_, _≤_, _/_, _%_};
 ghost use lib.ListN.{length, drop};
 ghost use Rattle.mesh.specs.Lists.{put, joined};
 ghost use Rattle.search.specs.Geometry.{cubeFaceProject};

@@ -1,7 +1,6 @@
 -- `cube_face_project` meets its contract. Assumes nothing.
 use mathlib.Core.Path.{refl}
 use borrow.Author.Tests.{eq-eqb, ne-eqb}
-use borrow.Author.Needs.{needs}
 use Rattle.search.specs.Geometry.{cubeFaceProject}
 use Rattle.locator.proofs.cells.cube_face_project.Statement.{statement}
 use Rattle.locator.proofs.cells.cube_face_project.Tie as tie

@@ -1,12 +1,12 @@
 -- `fresh_keys` meets its contract. Assumes nothing.
 use mathlib.Core.Path.{_≡_, refl, _∙_}
-use Prim.Native.Nat.{ℕ, _+_, _-_, _*_, _/_, _%_, _≤_, _<_}
+use Prim.Native.Nat.{ℕ, _-_, _≤_, _<_}
 use native.Mathlib.Nat.{mul-le-mul, mul-pos}
 use native.Mathlib.Omega.{arith}
 use lib.ListN.{length, getD, drop, length-set}
 use lib.Seq.{drop-set-lt}
 use borrow.Author.Needs.{needs}
-use Rattle.locator.specs.Steps.{vertexKey, Keyed}
+use Rattle.locator.specs.Steps.{vertexKey}
 use Rattle.locator.proofs.Keys.{one-more}
 use Rattle.locator.proofs.cells.fresh_keys.Statement.{statement}
 use Rattle.locator.proofs.cells.fresh_keys.Tie as tie

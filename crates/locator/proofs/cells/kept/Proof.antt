@@ -1,5 +1,4 @@
 -- `kept` meets its contract. Assumes nothing.
-use mathlib.Core.Path.{_≡_}
 use mathlib.Core.Bool.{true, false}
 use lib.Signed.{mag}
 use borrow.Author.Tests.{lt-ltb, le-ltb}
