@@ -6,3 +6,4 @@ pub mod Sums
 pub mod Written
 pub mod Tables
 pub mod Kept
+pub mod Asking

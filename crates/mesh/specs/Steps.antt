@@ -1,5 +1,4 @@
 -- Steps of the code. Definitions only.
-use mathlib.Core.Bool.{Bool, _&&_}
 use mathlib.Core.List.{List, []}
 use Prim.Native.Nat.{ℕ}
 use Rattle.mesh.specs.Mesh.{Mesh}

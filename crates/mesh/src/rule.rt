@@ -3,7 +3,7 @@ ghost use mathlib.Core.Path.{_≡_};
 ghost use mathlib.Core.Bool.{_&&_};
 ghost use mathlib.Core.List.{[]};
 ghost use Prim.Native.Nat.{_+_, _*_};
-ghost use lib.ListN.{length, getD};
+ghost use lib.ListN.{getD};
 ghost use lib.Ieee.{nan};
 ghost use Rattle.mesh.specs.Levels.{vertexCount};
 ghost use Rattle.mesh.specs.Mesh.{within, lists, angleKept, neighbourKept, vertexKept, verticesFinite, keepsRule, meshRoom, meshHeld};

@@ -1,9 +1,6 @@
 -- `grid_formula` meets its contract. Assumes nothing.
-use mathlib.Core.Path.{_≡_, sym, _∙_}
 use borrow.Author.Needs.{needs}
 use borrow.Author.Tests.{le-leb, lt-leb}
-use lib.Ieee.{Float, binary64, ofBits, mul, div, toUnsigned}
-use Rattle.float.specs.Whole.{ceiled}
 use Rattle.mesh.specs.Levels.{gridSize}
 use Rattle.mesh.proofs.levels.grid_formula.Statement.{statement}
 use Rattle.mesh.proofs.levels.grid_formula.Tie as tie

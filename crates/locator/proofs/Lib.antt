@@ -1,0 +1,9 @@
+-- Laws that belong to no one function.
+pub mod Keys
+pub mod Room
+pub mod Blocks
+pub mod Bound
+pub mod Graphs
+pub mod Accepted
+pub mod Entries
+pub mod Answers
