@@ -1,0 +1,53 @@
+-- `grid_size` meets its contract. Assumes nothing.
+use mathlib.Core.Path.{_≡_, sym, ap, _∙_}
+use Prim.Native.Nat.{ℕ}
+use lib.IntN.{pos}
+use lib.Ieee.{binary64, ofBits, ofInt, mul, div, toUnsigned}
+use borrow.Author.Needs.{needs}
+use borrow.Author.Tests.{le-leb, lt-leb}
+use Rattle.ieee.specs.Root.{root}
+use Rattle.float.specs.Whole.{ceiled}
+use Rattle.mesh.specs.Levels.{vertexCount, gridSize}
+use Rattle.mesh.proofs.grid_size.Statement.{statement}
+use Rattle.mesh.proofs.grid_size.Tie as tie
+
+vertex-count-requires : tie.Need-vertex-count-requires
+vertex-count-requires c κs = search needs
+
+of-u64-requires : tie.Need-of-u64-requires
+of-u64-requires c κs = search needs
+
+root-requires : tie.Need-root-requires
+root-requires c κs = search needs
+
+ceiling-requires : tie.Need-ceiling-requires
+ceiling-requires c κs = search needs
+
+to-u64-requires : tie.Need-to-u64-requires
+to-u64-requires c κs = search needs
+
+returns : tie.Need-returns
+unfolding gridSize
+returns c =
+    let g = c .before in
+    let r = g .before .before in
+    rw (← r .before .before .vertex-count .ensures, ← r .before .of-u64 .ensures, ← r .root .ensures, ← g .before .ceiling .ensures, ← g .to-u64 .ensures, le-leb _ _ (c .if1 .taken))
+
+returns-2 : tie.Need-returns-2
+unfolding gridSize
+returns-2 c =
+    let g = c .before in
+    let r = g .before .before in
+    rw (← r .before .before .vertex-count .ensures, ← r .before .of-u64 .ensures, ← r .root .ensures, ← g .before .ceiling .ensures, ← g .to-u64 .ensures, lt-leb _ _ (c .if1 .left))
+
+pub grid-size-spec : {M : Type 1} → statement M
+grid-size-spec =
+    tie.close
+    (tie.spec
+    vertex-count-requires
+    of-u64-requires
+    root-requires
+    ceiling-requires
+    to-u64-requires
+    returns
+    returns-2)
