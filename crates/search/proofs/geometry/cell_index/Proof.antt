@@ -1,51 +1,72 @@
+-- `cell_index` meets its contract. Assumes nothing.
+use mathlib.Core.Path.{_≡_, ap, _∙_}
+use Prim.Native.Nat.{ℕ, _*_, _≤_, _<_}
+use native.Mathlib.Nat.{mul-le-mul}
+use native.Mathlib.Omega.{arith}
+use Rattle.mesh.specs.Levels.{vertexCount}
+use Rattle.search.specs.Geometry.{cubeFace, cubeProject, cellIndex}
+use Rattle.search.specs.declared.Projected.{Projected}
+use Rattle.search.proofs.Bounds.{grid-le, grid-ge, coordinate-lt, face-le}
 use borrow.Author.Needs.{needs}
 use Rattle.search.proofs.geometry.cell_index.Statement.{statement}
 use Rattle.search.proofs.geometry.cell_index.Tie as tie
-use Rattle.search.proofs.geometry.cell_index.Reads as reads
-use Rattle.search.proofs.geometry.cell_index.Lts as lts
-use Rattle.mesh.proofs.grid_size.Reads as grid-size-reads
-use Rattle.search.proofs.geometry.cell_coordinate.Reads as cell-coordinate-reads
-use Rattle.search.proofs.geometry.cube_project.Reads as cube-project-reads
 
--- src/geometry.rt:125:9
+-- the grid's size, the face and the coordinates
+size-le : (c : tie.After-grid-size) → (2 ≤ c .grid-size .result) × (c .grid-size .result ≤ 399)
+size-le c = rw (c .grid-size .ensures) (grid-ge (vertexCount (c .before .args .level)), grid-le (c .before .args .level) (omega arith))
+
+face-is : (c : tie.After-cube-project) → c .cube-project .result .face ≡ cubeFace (c .before .before .args .v)
+unfolding cubeProject
+face-is c = ap (λ (p : Projected). p .face) (c .cube-project .ensures)
+
+small : (c : tie.After-cell-coordinate2)
+    → (let p = c .before .before in let g = p .before .grid-size .result in
+    (g * g ≤ 399 * 399) × (p .cube-project .result .face * (g * g) ≤ 5 * (399 * 399)) × (c .before .cell-coordinate .result * g ≤ 399 * 399) × (c .cell-coordinate2 .result ≤ 399))
+small c =
+    let p = c .before .before in
+    let s = p .before in
+    let g = s .grid-size .result in
+    let v = s .before .args .v in
+    let f = face-le v in
+    let e = face-is p in
+    let h = size-le s in
+    let i : c .before .cell-coordinate .result < g = rw (c .before .cell-coordinate .ensures) (coordinate-lt g (p .cube-project .result .u) (omega arith) (omega arith)) in
+    let j : c .cell-coordinate2 .result < g = rw (c .cell-coordinate2 .ensures) (coordinate-lt g (p .cube-project .result .w) (omega arith) (omega arith)) in
+    let q : g * g ≤ 399 * 399 = mul-le-mul (h .1) (h .1) in
+    (q, mul-le-mul {n₂ = 5} (omega arith) q, mul-le-mul {n₂ = 399} (omega arith) (h .1), omega arith)
+
 grid-size-requires : tie.Need-grid-size-requires
 grid-size-requires c κs = search needs
 
--- src/geometry.rt:126:9
 cube-project-requires : tie.Need-cube-project-requires
 cube-project-requires c κs = search needs
 
--- src/geometry.rt:128:9
 cell-coordinate-requires : tie.Need-cell-coordinate-requires
 cell-coordinate-requires c κs = search needs
 
--- src/geometry.rt:129:9
 cell-coordinate-requires-2 : tie.Need-cell-coordinate-requires-2
 cell-coordinate-requires-2 c κs = search needs
 
--- src/geometry.rt:130:13
 mul-result : tie.Need-mul-result
-mul-result c = ?
+mul-result c = omega (arith, small c)
 
--- src/geometry.rt:130:5
 mul-result-2 : tie.Need-mul-result-2
-mul-result-2 c = ?
+mul-result-2 c = omega (arith, small c)
 
--- src/geometry.rt:130:22
 mul-result-3 : tie.Need-mul-result-3
-mul-result-3 c = ?
+mul-result-3 c = omega (arith, small c)
 
--- src/geometry.rt:130:5
 add-result : tie.Need-add-result
-add-result c = ?
+add-result c = omega (arith, small c)
 
--- src/geometry.rt:130:5
 add-result-2 : tie.Need-add-result-2
-add-result-2 c = ?
+add-result-2 c = omega (arith, small c)
 
--- src/geometry.rt:122:1
 returns : tie.Need-returns
-returns c = ?
+unfolding cellIndex
+returns c =
+    let p = c .before .before in
+    rw (c .cell-coordinate2 .ensures, c .before .cell-coordinate .ensures, p .cube-project .ensures, p .before .grid-size .ensures)
 
 pub cell-index-spec : {M : Type 1} → statement M
 cell-index-spec =
