@@ -1,9 +1,13 @@
 // The search for a direction's nearest vertex and face.
 use mesh::Face;
 
+mod cells;
+mod faces;
 mod geometry;
 mod triangle;
 
+pub use cells::find_nearest_vertex;
+pub use faces::locate;
 pub use geometry::cell_index;
 pub use geometry::cube_face_project;
 pub use geometry::cube_project;
