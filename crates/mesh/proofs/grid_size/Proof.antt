@@ -3,7 +3,6 @@ use mathlib.Core.Path.{_≡_, sym, ap, _∙_}
 use Prim.Native.Nat.{ℕ}
 use lib.IntN.{pos}
 use lib.Ieee.{binary64, ofBits, ofInt, mul, div, toUnsigned}
-use borrow.Author.Needs.{needs}
 use borrow.Author.Tests.{le-leb, lt-leb}
 use Rattle.ieee.specs.Root.{root}
 use Rattle.float.specs.Whole.{ceiled}
@@ -12,19 +11,19 @@ use Rattle.mesh.proofs.grid_size.Statement.{statement}
 use Rattle.mesh.proofs.grid_size.Tie as tie
 
 vertex-count-requires : tie.Need-vertex-count-requires
-vertex-count-requires c κs = search needs
+vertex-count-requires c κs = tt
 
 of-u64-requires : tie.Need-of-u64-requires
-of-u64-requires c κs = search needs
+of-u64-requires c κs = tt
 
 root-requires : tie.Need-root-requires
-root-requires c κs = search needs
+root-requires c κs = tt
 
 ceiling-requires : tie.Need-ceiling-requires
-ceiling-requires c κs = search needs
+ceiling-requires c κs = tt
 
 to-u64-requires : tie.Need-to-u64-requires
-to-u64-requires c κs = search needs
+to-u64-requires c κs = tt
 
 returns : tie.Need-returns
 unfolding gridSize

@@ -20,13 +20,13 @@ kept c =
     held (a .vertices .now) (vertexCount (a .level)) 1 (a .cell-offsets .now) (a .cell-vertices .now) (s .before .cell-index .result) (s .span-of .result) (s .span-of .ensures) (not-false _ (c .before .if1 .left))
 
 cell-index-requires : tie.Need-cell-index-requires
-cell-index-requires c κs = search needs
+cell-index-requires c κs = tt
 
 span-of-requires : tie.Need-span-of-requires
 span-of-requires c κs = search needs
 
 not-nearest-requires : tie.Need-not-nearest-requires
-not-nearest-requires c κs = search needs
+not-nearest-requires c κs = tt
 
 returns : tie.Need-returns
 returns c =
@@ -36,7 +36,7 @@ returns c =
     ∙ sym (cell-not-held (a .cell-offsets .now) (a .cell-vertices .now) (a .vertices .now) (vertexCount (a .level)) (gridSize (vertexCount (a .level))) (a .p) (s .span-of .result) (rw (← s .before .cell-index .ensures) (s .span-of .ensures)) (not-true _ (c .before .if1 .taken)))
 
 vertex-count-requires : tie.Need-vertex-count-requires
-vertex-count-requires c κs = search needs
+vertex-count-requires c κs = tt
 
 mul-nearest-in-cell : tie.Need-mul-nearest-in-cell
 mul-nearest-in-cell c = omega (arith, kept c)
@@ -51,7 +51,7 @@ part-nearest-in-cell-end : tie.Need-part-nearest-in-cell-end
 part-nearest-in-cell-end c = kept c .room
 
 nearest-in-cell-requires : tie.Need-nearest-in-cell-requires
-nearest-in-cell-requires c κs = search needs
+nearest-in-cell-requires c κs = tt
 
 returns-2 : tie.Need-returns-2
 returns-2 c =

@@ -8,13 +8,13 @@ vertex-at-requires : tie.Need-vertex-at-requires
 vertex-at-requires c κs = search needs
 
 difference-requires : tie.Need-difference-requires
-difference-requires c κs = search needs
+difference-requires c κs = tt
 
 dot-requires : tie.Need-dot-requires
-dot-requires c κs = search needs
+dot-requires c κs = tt
 
 total-order-requires : tie.Need-total-order-requires
-total-order-requires c κs = search needs
+total-order-requires c κs = tt
 
 returns : tie.Need-returns
 unfolding nearer squared

@@ -27,7 +27,7 @@ start : (l : tie.At-loop Inv-loop μ-loop)
 start l = rw (l .before .not-nearest .ensures)
 
 not-nearest-requires : tie.Need-not-nearest-requires Inv-loop μ-loop
-not-nearest-requires c κs = search needs
+not-nearest-requires c κs = tt
 
 loop-holds : tie.Need-loop-holds Inv-loop μ-loop
 loop-holds c = (omega arith, refl)
@@ -39,13 +39,13 @@ shared-slice-read-wide16 : tie.Need-shared-slice-read-wide16 Inv-loop μ-loop
 shared-slice-read-wide16 c = search needs
 
 wide16-requires : tie.Need-wide16-requires Inv-loop μ-loop
-wide16-requires c κs = search needs
+wide16-requires c κs = tt
 
 inside-requires : tie.Need-inside-requires Inv-loop μ-loop
 inside-requires c κs = omega (arith, c .wide16 .ensures, c .before .shared-slice-known3 .given (c .before .before .before .loop .i))
 
 not-nearest-requires-2 : tie.Need-not-nearest-requires-2 Inv-loop μ-loop
-not-nearest-requires-2 c κs = search needs
+not-nearest-requires-2 c κs = tt
 
 returns : tie.Need-returns Inv-loop μ-loop
 returns c =

@@ -39,7 +39,7 @@ room : (vs : List Float) (n v : ℕ) → inside vs n v ≡ true → 3 * v + 3 �
 room vs n v h = leb-true _ _ (both-true (ltb v n) (leb (3 * v + 3) (length vs)) h .1)
 
 no-fit-requires : tie.Need-no-fit-requires Inv-loop μ-loop
-no-fit-requires c κs = search needs
+no-fit-requires c κs = tt
 
 loop-holds : tie.Need-loop-holds Inv-loop μ-loop
 loop-holds c = (omega arith, omega arith, refl)
@@ -51,7 +51,7 @@ shared-slice-read-wide16 : tie.Need-shared-slice-read-wide16 Inv-loop μ-loop
 shared-slice-read-wide16 c = search needs
 
 wide16-requires : tie.Need-wide16-requires Inv-loop μ-loop
-wide16-requires c κs = search needs
+wide16-requires c κs = tt
 
 add-wide16 : tie.Need-add-wide16 Inv-loop μ-loop
 add-wide16 c = search needs
@@ -63,7 +63,7 @@ shared-slice-read-wide16-2 : tie.Need-shared-slice-read-wide16-2 Inv-loop μ-loo
 shared-slice-read-wide16-2 c = omega arith
 
 wide16-requires-2 : tie.Need-wide16-requires-2 Inv-loop μ-loop
-wide16-requires-2 c κs = search needs
+wide16-requires-2 c κs = tt
 
 add-wide16-2 : tie.Need-add-wide16-2 Inv-loop μ-loop
 add-wide16-2 c = search needs
@@ -75,7 +75,7 @@ shared-slice-read-wide16-3 : tie.Need-shared-slice-read-wide16-3 Inv-loop μ-loo
 shared-slice-read-wide16-3 c = omega arith
 
 wide16-requires-3 : tie.Need-wide16-requires-3 Inv-loop μ-loop
-wide16-requires-3 c κs = search needs
+wide16-requires-3 c κs = tt
 
 inside-requires : tie.Need-inside-requires Inv-loop μ-loop
 inside-requires c κs =
@@ -93,7 +93,7 @@ inside-requires-3 c κs =
     omega (arith, d .wide163 .ensures, d .before .shared-slice-known5 .given (d .before .before .before .before .before .before .before .loop .i + 2))
 
 not-located-requires : tie.Need-not-located-requires Inv-loop μ-loop
-not-located-requires c κs = search needs
+not-located-requires c κs = tt
 
 returns : tie.Need-returns Inv-loop μ-loop
 returns c =
@@ -141,7 +141,7 @@ loop-again c =
     )
 
 fitted-requires : tie.Need-fitted-requires Inv-loop μ-loop
-fitted-requires c κs = search needs
+fitted-requires c κs = tt
 
 returns-2 : tie.Need-returns-2 Inv-loop μ-loop
 returns-2 c =

@@ -8,13 +8,13 @@ weights-of-requires : tie.Need-weights-of-requires
 weights-of-requires c κs = search needs
 
 min-requires : tie.Need-min-requires
-min-requires c κs = search needs
+min-requires c κs = tt
 
 min-requires-2 : tie.Need-min-requires-2
-min-requires-2 c κs = search needs
+min-requires-2 c κs = tt
 
 face-of-requires : tie.Need-face-of-requires
-face-of-requires c κs = search needs
+face-of-requires c κs = tt
 
 returns : tie.Need-returns
 unfolding better

@@ -25,10 +25,10 @@ kept c =
     held (a .vertices .now) (vertexCount (a .level)) 3 (a .face-offsets .now) (a .faces .now) (v .find-nearest-vertex .result .vertex) (s .span-of .result) (s .span-of .ensures) (not-false _ (c .before .if2 .left))
 
 find-nearest-vertex-requires : tie.Need-find-nearest-vertex-requires
-find-nearest-vertex-requires c κs = search needs
+find-nearest-vertex-requires c κs = tt
 
 not-located-requires : tie.Need-not-located-requires
-not-located-requires c κs = search needs
+not-located-requires c κs = tt
 
 returns : tie.Need-returns
 returns c =
@@ -41,7 +41,7 @@ span-of-requires : tie.Need-span-of-requires
 span-of-requires c κs = search needs
 
 not-located-requires-2 : tie.Need-not-located-requires-2
-not-located-requires-2 c κs = search needs
+not-located-requires-2 c κs = tt
 
 returns-2 : tie.Need-returns-2
 returns-2 c =
@@ -53,7 +53,7 @@ returns-2 c =
     (s .before .if1 .left) (s .span-of .result) (s .span-of .ensures) (not-true _ (c .before .if2 .taken)))
 
 vertex-count-requires : tie.Need-vertex-count-requires
-vertex-count-requires c κs = search needs
+vertex-count-requires c κs = tt
 
 mul-best-face : tie.Need-mul-best-face
 mul-best-face c = omega (arith, kept c)

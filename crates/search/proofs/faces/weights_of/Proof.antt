@@ -13,7 +13,7 @@ vertex-at-requires-3 : tie.Need-vertex-at-requires-3
 vertex-at-requires-3 c κs = search needs
 
 projected-barycentric-requires : tie.Need-projected-barycentric-requires
-projected-barycentric-requires c κs = search needs
+projected-barycentric-requires c κs = tt
 
 returns : tie.Need-returns
 returns c = rw (c .projected-barycentric .ensures, c .before .vertex-at3 .ensures, c .before .before .vertex-at2 .ensures, c .before .before .before .vertex-at .ensures)

@@ -1,20 +1,19 @@
 -- `cell_coordinate` meets its contract. Assumes nothing.
 use Rattle.search.specs.Geometry.{cellCoordinate}
-use borrow.Author.Needs.{needs}
 use Rattle.search.proofs.geometry.cell_coordinate.Statement.{statement}
 use Rattle.search.proofs.geometry.cell_coordinate.Tie as tie
 
 of-u64-requires : tie.Need-of-u64-requires
-of-u64-requires c κs = search needs
+of-u64-requires c κs = tt
 
 in-cells-requires : tie.Need-in-cells-requires
-in-cells-requires c κs = search needs
+in-cells-requires c κs = tt
 
 clamp-requires : tie.Need-clamp-requires
-clamp-requires c κs = search needs
+clamp-requires c κs = tt
 
 to-u64-requires : tie.Need-to-u64-requires
-to-u64-requires c κs = search needs
+to-u64-requires c κs = tt
 
 returns : tie.Need-returns
 unfolding cellCoordinate

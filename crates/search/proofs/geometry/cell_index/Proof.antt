@@ -7,7 +7,6 @@ use Rattle.mesh.specs.Levels.{vertexCount}
 use Rattle.search.specs.Geometry.{cubeFace, cubeProject, cellIndex}
 use Rattle.search.specs.declared.Projected.{Projected}
 use Rattle.search.proofs.Bounds.{grid-le, grid-ge, coordinate-lt, face-le}
-use borrow.Author.Needs.{needs}
 use Rattle.search.proofs.geometry.cell_index.Statement.{statement}
 use Rattle.search.proofs.geometry.cell_index.Tie as tie
 
@@ -36,16 +35,16 @@ small c =
     (q, mul-le-mul {n₂ = 5} (omega arith) q, mul-le-mul {n₂ = 399} (omega arith) (h .1), omega arith)
 
 grid-size-requires : tie.Need-grid-size-requires
-grid-size-requires c κs = search needs
+grid-size-requires c κs = tt
 
 cube-project-requires : tie.Need-cube-project-requires
-cube-project-requires c κs = search needs
+cube-project-requires c κs = tt
 
 cell-coordinate-requires : tie.Need-cell-coordinate-requires
-cell-coordinate-requires c κs = search needs
+cell-coordinate-requires c κs = tt
 
 cell-coordinate-requires-2 : tie.Need-cell-coordinate-requires-2
-cell-coordinate-requires-2 c κs = search needs
+cell-coordinate-requires-2 c κs = tt
 
 mul-result : tie.Need-mul-result
 mul-result c = omega (arith, small c)

@@ -1,14 +1,13 @@
 -- `in_cells` meets its contract. Assumes nothing.
 use Rattle.search.specs.Geometry.{inCells}
-use borrow.Author.Needs.{needs}
 use Rattle.search.proofs.geometry.in_cells.Statement.{statement}
 use Rattle.search.proofs.geometry.in_cells.Tie as tie
 
 mul-add-requires : tie.Need-mul-add-requires
-mul-add-requires c κs = search needs
+mul-add-requires c κs = tt
 
 of-u64-requires : tie.Need-of-u64-requires
-of-u64-requires c κs = search needs
+of-u64-requires c κs = tt
 
 returns : tie.Need-returns
 unfolding inCells

@@ -1,14 +1,13 @@
 -- `norm` meets its contract. Assumes nothing.
 use Rattle.search.specs.Geometry.{norm}
-use borrow.Author.Needs.{needs}
 use Rattle.search.proofs.geometry.norm.Statement.{statement}
 use Rattle.search.proofs.geometry.norm.Tie as tie
 
 dot-requires : tie.Need-dot-requires
-dot-requires c κs = search needs
+dot-requires c κs = tt
 
 root-requires : tie.Need-root-requires
-root-requires c κs = search needs
+root-requires c κs = tt
 
 returns : tie.Need-returns
 unfolding norm

@@ -1,11 +1,10 @@
 -- `unit` meets its contract. Assumes nothing.
 use Rattle.search.specs.Geometry.{unit}
-use borrow.Author.Needs.{needs}
 use Rattle.search.proofs.geometry.unit.Statement.{statement}
 use Rattle.search.proofs.geometry.unit.Tie as tie
 
 norm-requires : tie.Need-norm-requires
-norm-requires c κs = search needs
+norm-requires c κs = tt
 
 returns : tie.Need-returns
 unfolding unit

@@ -1,26 +1,25 @@
 -- `projected_barycentric` meets its contract. Assumes nothing.
 use Rattle.search.specs.Geometry.{projectedBarycentric}
-use borrow.Author.Needs.{needs}
 use Rattle.search.proofs.triangle.projected_barycentric.Statement.{statement}
 use Rattle.search.proofs.triangle.projected_barycentric.Tie as tie
 
 difference-requires : tie.Need-difference-requires
-difference-requires c κs = search needs
+difference-requires c κs = tt
 
 difference-requires-2 : tie.Need-difference-requires-2
-difference-requires-2 c κs = search needs
+difference-requires-2 c κs = tt
 
 difference-requires-3 : tie.Need-difference-requires-3
-difference-requires-3 c κs = search needs
+difference-requires-3 c κs = tt
 
 dot-requires : tie.Need-dot-requires
-dot-requires c κs = search needs
+dot-requires c κs = tt
 
 dot-requires-2 : tie.Need-dot-requires-2
-dot-requires-2 c κs = search needs
+dot-requires-2 c κs = tt
 
 weighed-requires : tie.Need-weighed-requires
-weighed-requires c κs = search needs
+weighed-requires c κs = tt
 
 returns : tie.Need-returns
 unfolding projectedBarycentric
@@ -29,16 +28,16 @@ returns c =
     rw (c .weighed .ensures, ← s .before .before .before .before .before .difference .ensures, ← s .before .before .before .before .difference2 .ensures, ← s .before .before .before .difference3 .ensures, ← s .before .before .dot .ensures, ← s .before .dot2 .ensures, s .if1 .taken)
 
 difference-requires-4 : tie.Need-difference-requires-4
-difference-requires-4 c κs = search needs
+difference-requires-4 c κs = tt
 
 dot-requires-3 : tie.Need-dot-requires-3
-dot-requires-3 c κs = search needs
+dot-requires-3 c κs = tt
 
 dot-requires-4 : tie.Need-dot-requires-4
-dot-requires-4 c κs = search needs
+dot-requires-4 c κs = tt
 
 weighed-requires-2 : tie.Need-weighed-requires-2
-weighed-requires-2 c κs = search needs
+weighed-requires-2 c κs = tt
 
 returns-2 : tie.Need-returns-2
 unfolding projectedBarycentric
@@ -47,10 +46,10 @@ returns-2 c =
     rw (c .weighed2 .ensures, ← s .before .before .before .before .before .before .before .before .before .difference .ensures, ← s .before .before .before .before .before .before .before .before .difference2 .ensures, ← s .before .before .before .before .before .before .before .difference3 .ensures, ← s .before .before .before .before .before .before .dot .ensures, ← s .before .before .before .before .before .dot2 .ensures, ← s .before .before .before .difference4 .ensures, ← s .before .before .dot3 .ensures, ← s .before .dot4 .ensures, s .before .before .before .before .if1 .left, s .if2 .taken)
 
 mul-add-requires : tie.Need-mul-add-requires
-mul-add-requires c κs = search needs
+mul-add-requires c κs = tt
 
 weighed-requires-3 : tie.Need-weighed-requires-3
-weighed-requires-3 c κs = search needs
+weighed-requires-3 c κs = tt
 
 returns-3 : tie.Need-returns-3
 unfolding projectedBarycentric
@@ -59,16 +58,16 @@ returns-3 c =
     rw (c .weighed3 .ensures, ← s .before .before .before .before .before .before .before .before .before .before .before .difference .ensures, ← s .before .before .before .before .before .before .before .before .before .before .difference2 .ensures, ← s .before .before .before .before .before .before .before .before .before .difference3 .ensures, ← s .before .before .before .before .before .before .before .before .dot .ensures, ← s .before .before .before .before .before .before .before .dot2 .ensures, ← s .before .before .before .before .before .difference4 .ensures, ← s .before .before .before .before .dot3 .ensures, ← s .before .before .before .dot4 .ensures, ← s .before .mul-add .ensures, s .before .before .before .before .before .before .if1 .left, s .before .before .if2 .left, s .if3 .taken)
 
 difference-requires-5 : tie.Need-difference-requires-5
-difference-requires-5 c κs = search needs
+difference-requires-5 c κs = tt
 
 dot-requires-5 : tie.Need-dot-requires-5
-dot-requires-5 c κs = search needs
+dot-requires-5 c κs = tt
 
 dot-requires-6 : tie.Need-dot-requires-6
-dot-requires-6 c κs = search needs
+dot-requires-6 c κs = tt
 
 weighed-requires-4 : tie.Need-weighed-requires-4
-weighed-requires-4 c κs = search needs
+weighed-requires-4 c κs = tt
 
 returns-4 : tie.Need-returns-4
 unfolding projectedBarycentric
@@ -77,10 +76,10 @@ returns-4 c =
     rw (c .weighed4 .ensures, ← s .before .before .before .before .before .before .before .before .before .before .before .before .before .before .before .difference .ensures, ← s .before .before .before .before .before .before .before .before .before .before .before .before .before .before .difference2 .ensures, ← s .before .before .before .before .before .before .before .before .before .before .before .before .before .difference3 .ensures, ← s .before .before .before .before .before .before .before .before .before .before .before .before .dot .ensures, ← s .before .before .before .before .before .before .before .before .before .before .before .dot2 .ensures, ← s .before .before .before .before .before .before .before .before .before .difference4 .ensures, ← s .before .before .before .before .before .before .before .before .dot3 .ensures, ← s .before .before .before .before .before .before .before .dot4 .ensures, ← s .before .before .before .before .before .mul-add .ensures, ← s .before .before .before .difference5 .ensures, ← s .before .before .dot5 .ensures, ← s .before .dot6 .ensures, s .before .before .before .before .before .before .before .before .before .before .if1 .left, s .before .before .before .before .before .before .if2 .left, s .before .before .before .before .if3 .left, s .if4 .taken)
 
 mul-add-requires-2 : tie.Need-mul-add-requires-2
-mul-add-requires-2 c κs = search needs
+mul-add-requires-2 c κs = tt
 
 weighed-requires-5 : tie.Need-weighed-requires-5
-weighed-requires-5 c κs = search needs
+weighed-requires-5 c κs = tt
 
 returns-5 : tie.Need-returns-5
 unfolding projectedBarycentric
@@ -89,10 +88,10 @@ returns-5 c =
     rw (c .weighed5 .ensures, ← s .before .before .before .before .before .before .before .before .before .before .before .before .before .before .before .before .before .difference .ensures, ← s .before .before .before .before .before .before .before .before .before .before .before .before .before .before .before .before .difference2 .ensures, ← s .before .before .before .before .before .before .before .before .before .before .before .before .before .before .before .difference3 .ensures, ← s .before .before .before .before .before .before .before .before .before .before .before .before .before .before .dot .ensures, ← s .before .before .before .before .before .before .before .before .before .before .before .before .before .dot2 .ensures, ← s .before .before .before .before .before .before .before .before .before .before .before .difference4 .ensures, ← s .before .before .before .before .before .before .before .before .before .before .dot3 .ensures, ← s .before .before .before .before .before .before .before .before .before .dot4 .ensures, ← s .before .before .before .before .before .before .before .mul-add .ensures, ← s .before .before .before .before .before .difference5 .ensures, ← s .before .before .before .before .dot5 .ensures, ← s .before .before .before .dot6 .ensures, ← s .before .mul-add2 .ensures, s .before .before .before .before .before .before .before .before .before .before .before .before .if1 .left, s .before .before .before .before .before .before .before .before .if2 .left, s .before .before .before .before .before .before .if3 .left, s .before .before .if4 .left, s .if5 .taken)
 
 mul-add-requires-3 : tie.Need-mul-add-requires-3
-mul-add-requires-3 c κs = search needs
+mul-add-requires-3 c κs = tt
 
 weighed-requires-6 : tie.Need-weighed-requires-6
-weighed-requires-6 c κs = search needs
+weighed-requires-6 c κs = tt
 
 returns-6 : tie.Need-returns-6
 unfolding projectedBarycentric
@@ -101,7 +100,7 @@ returns-6 c =
     rw (c .weighed6 .ensures, ← s .before .before .before .before .before .before .before .before .before .before .before .before .before .before .before .before .before .before .before .difference .ensures, ← s .before .before .before .before .before .before .before .before .before .before .before .before .before .before .before .before .before .before .difference2 .ensures, ← s .before .before .before .before .before .before .before .before .before .before .before .before .before .before .before .before .before .difference3 .ensures, ← s .before .before .before .before .before .before .before .before .before .before .before .before .before .before .before .before .dot .ensures, ← s .before .before .before .before .before .before .before .before .before .before .before .before .before .before .before .dot2 .ensures, ← s .before .before .before .before .before .before .before .before .before .before .before .before .before .difference4 .ensures, ← s .before .before .before .before .before .before .before .before .before .before .before .before .dot3 .ensures, ← s .before .before .before .before .before .before .before .before .before .before .before .dot4 .ensures, ← s .before .before .before .before .before .before .before .before .before .mul-add .ensures, ← s .before .before .before .before .before .before .before .difference5 .ensures, ← s .before .before .before .before .before .before .dot5 .ensures, ← s .before .before .before .before .before .dot6 .ensures, ← s .before .before .before .mul-add2 .ensures, ← s .before .mul-add3 .ensures, s .before .before .before .before .before .before .before .before .before .before .before .before .before .before .if1 .left, s .before .before .before .before .before .before .before .before .before .before .if2 .left, s .before .before .before .before .before .before .before .before .if3 .left, s .before .before .before .before .if4 .left, s .before .before .if5 .left, s .if6 .taken)
 
 in-face-requires : tie.Need-in-face-requires
-in-face-requires c κs = search needs
+in-face-requires c κs = tt
 
 returns-7 : tie.Need-returns-7
 unfolding projectedBarycentric
