@@ -2,7 +2,8 @@
 use mathlib.Core.Path.{_≡_, refl, sym, ap, _∙_}
 use mathlib.Core.Bool.{Bool, true, false, not, _&&_, _||_, cond, true≢false}
 use Prim.Native.Nat.{ℕ, zero, suc, _+_, _-_, _*_, _/_, _^_, _≤_, _<_, _%_, min, compare, zero-le}
-use native.Mathlib.Nat.{le-trans, le-of-eq, add-mul, mul-comm, div-le-of-le-mul, mul-one, one-mul, mul-assoc, mul-right-comm, mul-pos, mul-le-mul, mul-le-mul-right, le-of-mul-le-mul-right, suc-ne-zero, zero-mul, min-le-right}
+use native.Mathlib.Nat.{le-trans, le-of-eq, add-mul, mul-comm, div-le-of-le-mul, mul-one, one-mul, mul-assoc, mul-right-comm, mul-pos, mul-le-mul, mul-le-mul-right, le-of-mul-le-mul-right, suc-ne-zero, zero-mul, min-le-right, eq-or-lt-of-le}
+use mathlib.Core.Logic.{inl, inr}
 use native.Mathlib.Omega.{arith}
 use lib.Dec.{T, leb, ltb, eqb, le→leb}
 use lib.IntN.{ℤ, pos, negsuc}
@@ -15,10 +16,12 @@ use lib.Ieee.Order.{round-mono}
 use lib.Ieee.Nearest.{div-mono}
 use lib.Ieee.Scale.{round-same}
 use borrow.Author.Tests.{ne-eqb, le-ltb, leb-true, ltb-true, ltb-false, eqb-true}
-use Rattle.ieee.specs.Root.{isqrt, rootOf, root}
+use Rattle.ieee.specs.Root.{rootIn, isqrt, rootOf, root}
+use Rattle.ieee.proofs.Fields.{both-true}
 use Rattle.ieee.proofs.Meaning.{root-rounds}
 use Rattle.float.specs.Order.{magnitude}
 use Rattle.float.specs.Whole.{integral, steps}
+use Rattle.mesh.specs.Lists.{allUpTo}
 use Rattle.mesh.specs.Levels.{vertexCount, gridSize, cellCount}
 use Rattle.search.specs.Geometry as geometry
 use Rattle.search.specs.Geometry.{minus, one, cubeFace, cubeProject, inCells, clamp, cellCoordinate, cellIndex}
@@ -264,3 +267,21 @@ cell-index-lt g v l h =
         let b : (i + 1) * g ≤ g * g = mul-le-mul-right g k in
         let c = add-mul i 1 g in
         omega arith
+
+-- ---- the size of a grid as a whole number, at the levels that a table may have
+below : (k n : ℕ) → k < suc n → k ≤ n
+below k n h = omega arith
+
+all-at : (n : ℕ) (p : ℕ → Bool) → allUpTo n p ≡ true → (k : ℕ) → k < n → p k ≡ true
+unfolding allUpTo
+all-at zero p h k l = absurd (let z : ⊥ = omega arith in z)
+all-at (suc n) p h k l =
+    let b = both-true (allUpTo n p) (p n) h in
+    elim (eq-or-lt-of-le (below k n l)) [ inl e ↦ rw e (b .1) | inr m ↦ all-at n p (b .0) k m ]
+
+same-sizes : allUpTo 16 (λ m. eqb ((31 * m + 50) / 20) (gridSize (vertexCount m))) ≡ true
+unfolding allUpTo vertexCount gridSize toUnsigned integral steps root rootOf isqrt rootIn mul div ofInt ofBits
+same-sizes = refl
+
+pub grid-whole : (m : ℕ) → m < 16 → (31 * m + 50) / 20 ≡ gridSize (vertexCount m)
+grid-whole m h = eqb-true _ _ (all-at 16 (λ k. eqb ((31 * k + 50) / 20) (gridSize (vertexCount k))) same-sizes m h)

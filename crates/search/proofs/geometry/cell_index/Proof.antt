@@ -11,20 +11,20 @@ use Rattle.search.proofs.geometry.cell_index.Statement.{statement}
 use Rattle.search.proofs.geometry.cell_index.Tie as tie
 
 -- the grid's size, the face and the coordinates
-size-le : (c : tie.After-grid-size) → (2 ≤ c .grid-size .result) × (c .grid-size .result ≤ 399)
-size-le c = rw (c .grid-size .ensures) (grid-ge (vertexCount (c .before .args .level)), grid-le (c .before .args .level) (omega arith))
+size-le : (c : tie.After-grid-of) → (2 ≤ c .grid-of .result) × (c .grid-of .result ≤ 399)
+size-le c = rw (c .grid-of .ensures) (grid-ge (vertexCount (c .before .args .level)), grid-le (c .before .args .level) (omega arith))
 
 face-is : (c : tie.After-cube-project) → c .cube-project .result .face ≡ cubeFace (c .before .before .args .v)
 unfolding cubeProject
 face-is c = ap (λ (p : Projected). p .face) (c .cube-project .ensures)
 
 small : (c : tie.After-cell-coordinate2)
-    → (let p = c .before .before in let g = p .before .grid-size .result in
+    → (let p = c .before .before in let g = p .before .grid-of .result in
     (g * g ≤ 399 * 399) × (p .cube-project .result .face * (g * g) ≤ 5 * (399 * 399)) × (c .before .cell-coordinate .result * g ≤ 399 * 399) × (c .cell-coordinate2 .result ≤ 399))
 small c =
     let p = c .before .before in
     let s = p .before in
-    let g = s .grid-size .result in
+    let g = s .grid-of .result in
     let v = s .before .args .v in
     let f = face-le v in
     let e = face-is p in
@@ -34,8 +34,8 @@ small c =
     let q : g * g ≤ 399 * 399 = mul-le-mul (h .1) (h .1) in
     (q, mul-le-mul {n₂ = 5} (omega arith) q, mul-le-mul {n₂ = 399} (omega arith) (h .1), omega arith)
 
-grid-size-requires : tie.Need-grid-size-requires
-grid-size-requires c κs = tt
+grid-of-requires : tie.Need-grid-of-requires
+grid-of-requires c κs = tt
 
 cube-project-requires : tie.Need-cube-project-requires
 cube-project-requires c κs = tt
@@ -65,13 +65,13 @@ returns : tie.Need-returns
 unfolding cellIndex
 returns c =
     let p = c .before .before in
-    rw (c .cell-coordinate2 .ensures, c .before .cell-coordinate .ensures, p .cube-project .ensures, p .before .grid-size .ensures)
+    rw (c .cell-coordinate2 .ensures, c .before .cell-coordinate .ensures, p .cube-project .ensures, p .before .grid-of .ensures)
 
 pub cell-index-spec : {M : Type 1} → statement M
 cell-index-spec =
     tie.close
     (tie.spec
-    grid-size-requires
+    grid-of-requires
     cube-project-requires
     cell-coordinate-requires
     cell-coordinate-requires-2
