@@ -1,8 +1,8 @@
 -- The grid of a level is small: its size, and the cell numbers in it.
 use mathlib.Core.Path.{_≡_, refl, sym, ap, _∙_}
 use mathlib.Core.Bool.{Bool, true, false, not, _&&_, _||_, cond, true≢false}
-use Prim.Native.Nat.{ℕ, zero, suc, _+_, _-_, _*_, _/_, _^_, _≤_, _<_, _%_, min, compare, zero-le}
-use native.Mathlib.Nat.{le-trans, le-of-eq, add-mul, mul-comm, div-le-of-le-mul, mul-one, one-mul, mul-assoc, mul-right-comm, mul-pos, mul-le-mul, mul-le-mul-right, le-of-mul-le-mul-right, suc-ne-zero, zero-mul, min-le-right, eq-or-lt-of-le}
+use Prim.Native.Nat.{ℕ, zero, suc, _+_, _-_, _*_, _/_, _^_, _≤_, _<_, _%_, compare, zero-le}
+use native.Mathlib.Nat.{le-trans, le-of-eq, add-mul, mul-comm, div-le-of-le-mul, mul-one, one-mul, mul-assoc, mul-right-comm, mul-pos, mul-le-mul-right, le-of-mul-le-mul-right, suc-ne-zero, zero-mul, min-le-right, eq-or-lt-of-le}
 use mathlib.Core.Logic.{inl, inr}
 use native.Mathlib.Omega.{arith}
 use lib.Dec.{T, leb, ltb, eqb, le→leb}

@@ -1,12 +1,7 @@
 -- `grid_size` meets its contract. Assumes nothing.
-use mathlib.Core.Path.{_≡_, sym, ap, _∙_}
-use Prim.Native.Nat.{ℕ}
-use lib.IntN.{pos}
-use lib.Ieee.{binary64, ofBits, ofInt, mul, div, toUnsigned}
 use borrow.Author.Tests.{le-leb, lt-leb}
 use Rattle.ieee.specs.Root.{root}
-use Rattle.float.specs.Whole.{ceiled}
-use Rattle.mesh.specs.Levels.{vertexCount, gridSize}
+use Rattle.mesh.specs.Levels.{gridSize}
 use Rattle.mesh.proofs.grid_size.Statement.{statement}
 use Rattle.mesh.proofs.grid_size.Tie as tie
 
