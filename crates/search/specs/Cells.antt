@@ -9,7 +9,8 @@ use Rattle.mesh.specs.Lists.{below, filter}
 use Rattle.mesh.specs.Mesh.{Mesh}
 use Rattle.mesh.specs.Faces.{face, extractFaces, has}
 use Rattle.mesh.specs.declared.Face.{Face}
-use Rattle.search.specs.Geometry.{over, zero, vertexAt, Seen, cubeFaceProject, inCells}
+use Rattle.search.specs.Geometry.{over, zero, vertexAt, cubeFaceProject, inCells}
+use Rattle.search.specs.declared.Seen.{Seen}
 
 -- a cell number is i, or next to it: "each vertex with its margin of one cell". Over whole numbers, so that
 -- "where a cell number saturates, its neighbour beyond the end is outside the grid"

@@ -11,6 +11,8 @@ use Rattle.ieee.specs.Fused.{fused}
 use Rattle.float.specs.Order.{magnitude}
 use Rattle.search.specs.declared.Vector3.{Vector3}
 use Rattle.search.specs.declared.Weights.{Weights}
+use Rattle.search.specs.declared.Seen.{Seen}
+use Rattle.search.specs.declared.Projected.{Projected}
 
 abbrev pub plus : Float → Float → Float
 plus = add binary64
@@ -54,12 +56,6 @@ vertexAt vs v = record { x = getD vs (3 * v) nan; y = getD vs (3 * v + 1) nan; z
 
 -- ---- the cube
 
--- a point as a face of the cube sees it: two coordinates, and how far in front of the face's middle plane it is
-pub record Seen : Type 0 where
-  pub u : Float
-  pub w : Float
-  pub d : Float
-
 -- `cube_face_project`
 unfoldable pub cubeFaceProject : ℕ → Vector3 → Seen
 cubeFaceProject f v =
@@ -70,13 +66,7 @@ cubeFaceProject f v =
     (cond (eqb f 4) (record { u = v .x; w = v .y; d = v .z })
     (record { u = neg (v .x); w = v .y; d = neg (v .z) })))))
 
--- the face that a point is in front of, by its largest coordinate, and the point on it
-pub record Projected : Type 0 where
-  pub face : ℕ
-  pub u : Float
-  pub w : Float
-
--- the face: `ax >= ay && ax >= az`, `ay >= az`, and the sign
+-- the face that a point is in front of, by its largest coordinate: `ax >= ay && ax >= az`, `ay >= az`, and the sign
 unfoldable pub cubeFace : Vector3 → ℕ
 cubeFace v =
     let ax = magnitude (v .x) in
@@ -105,11 +95,11 @@ cellIndex g v = let p = cubeProject v in p .face * (g * g) + cellCoordinate g (p
 
 -- ---- the triangle
 
-abbrev weights : Float → Float → Float → Weights
+abbrev pub weights : Float → Float → Float → Weights
 weights a b c = record { a = a; b = b; c = c }
 
--- the last three regions of `projected_barycentric`
-inFace : Float → Float → Float → Weights
+-- the last region of `projected_barycentric`
+unfoldable pub inFace : Float → Float → Float → Weights
 inFace va vb vc =
     let denom = over one (plus (plus va vb) vc) in
     let v = times vb denom in

@@ -1,3 +1,4 @@
 pub mod Geometry
 pub mod Cells
 pub mod Search
+pub mod Steps

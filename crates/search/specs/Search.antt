@@ -18,6 +18,7 @@ use Rattle.search.specs.declared.Vector3.{Vector3}
 use Rattle.search.specs.declared.Weights.{Weights}
 use Rattle.search.specs.declared.Nearest.{Nearest}
 use Rattle.search.specs.declared.Located.{Located}
+use Rattle.search.specs.declared.faces.Fit.{Fit}
 
 -- ---- the nearest vertex (`nearest_in_cell`)
 
@@ -49,12 +50,6 @@ noWeights = record { a = zero; b = zero; c = zero }
 
 abbrev pub notLocated : ℕ → Located
 notLocated number = record { number = number; face = face 0 0 0; weights = noWeights }
-
--- the face that fits best so far, and the least of its weights
-pub record Fit : Type 0 where
-  pub face : Face
-  pub weights : Weights
-  pub least : Float
 
 abbrev pub noFit : Fit
 noFit = record { face = face 0 0 0; weights = noWeights; least = inf true }
@@ -122,12 +117,15 @@ entriesInside vs n w offsets entries i =
     && (leb (w * getD offsets (i + 1) 0) (length entries)
     && every (vertexInside vs n) (entriesAt w offsets entries i)))
 
-unfoldable pub nearestIn : Locator → List Float → ℕ → ℕ → Vector3 → Nearest
-nearestIn l vs n g p =
+-- `find_nearest_vertex`, over the two lists that it reads
+unfoldable pub nearestInCells : List ℕ → List ℕ → List Float → ℕ → ℕ → Vector3 → Nearest
+nearestInCells offsets entries vs n g p =
     let c = cellIndex g p in
-    cond (entriesInside vs n 1 (l .cellOffsets) (l .cellVertices) c)
-    (nearestAmong vs p (entriesAt 1 (l .cellOffsets) (l .cellVertices) c))
-    (notNearest 19)
+    cond (entriesInside vs n 1 offsets entries c) (nearestAmong vs p (entriesAt 1 offsets entries c)) (notNearest 19)
+
+unfoldable pub nearestIn : Locator → List Float → ℕ → ℕ → Vector3 → Nearest
+unfolding nearestInCells
+nearestIn l = nearestInCells (l .cellOffsets) (l .cellVertices)
 
 unfoldable pub locateIn : Locator → List Float → ℕ → ℕ → Vector3 → Located
 locateIn l vs n g p =

@@ -1,11 +1,42 @@
 // The search for a direction's nearest vertex and face.
 use mesh::Face;
 
+mod cells;
+mod faces;
+mod geometry;
+mod triangle;
+
+pub use cells::find_nearest_vertex;
+pub use faces::locate;
+pub use geometry::cell_index;
+pub use geometry::cube_face_project;
+pub use geometry::cube_project;
+pub use geometry::difference;
+pub use geometry::dot;
+pub use geometry::in_cells;
+pub use geometry::norm;
+pub use geometry::unit;
+pub use triangle::projected_barycentric;
+
 // A point, or a direction. (The Rust takes nalgebra's vector of this name.)
 pub struct Vector3 {
     pub x: f64,
     pub y: f64,
     pub z: f64,
+}
+
+// A point as a face of the cube sees it: two coordinates, and how far in front of the cube's middle it is.
+pub struct Seen {
+    pub u: f64,
+    pub w: f64,
+    pub d: f64,
+}
+
+// The face that a point is in front of, and the point on it.
+pub struct Projected {
+    pub face: u64,
+    pub u: f64,
+    pub w: f64,
 }
 
 // Barycentric weights of a face's vertices.

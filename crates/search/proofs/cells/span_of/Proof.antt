@@ -1,0 +1,103 @@
+-- `span_of` meets its contract. Assumes nothing.
+use mathlib.Core.Path.{sym, _∙_}
+use Prim.Native.Nat.{_+_, _≤_}
+use mathlib.Core.Bool.{true, false}
+use native.Mathlib.Omega.{arith}
+use native.Mathlib.Nat.{mul-le-mul}
+use Rattle.search.proofs.Laws.{span-past, span-by}
+use borrow.Author.Needs.{needs}
+use Rattle.search.proofs.cells.span_of.Statement.{statement}
+use Rattle.search.proofs.cells.span_of.Tie as tie
+
+no-span-requires : tie.Need-no-span-requires
+no-span-requires c κs = tt
+
+returns : tie.Need-returns
+returns c =
+    let a = c .before .before .before .args in
+    c .no-span .ensures ∙ sym (span-past (a .offsets .now) (a .w) (a .places) (a .i) (omega arith))
+
+add-if2 : tie.Need-add-if2
+add-if2 c = search needs
+
+no-span-requires-2 : tie.Need-no-span-requires-2
+no-span-requires-2 c κs = tt
+
+returns-2 : tie.Need-returns-2
+returns-2 c =
+    let a = c .before .before .before .before .args in
+    c .no-span2 .ensures ∙ sym (span-past (a .offsets .now) (a .w) (a .places) (a .i) (omega arith))
+
+mul-wide32 : tie.Need-mul-wide32
+mul-wide32 c = search needs
+
+shared-slice-read-wide32 : tie.Need-shared-slice-read-wide32
+shared-slice-read-wide32 c = search needs
+
+wide32-requires : tie.Need-wide32-requires
+wide32-requires c κs = tt
+
+add-wide32 : tie.Need-add-wide32
+add-wide32 c = search needs
+
+mul-wide32-2 : tie.Need-mul-wide32-2
+mul-wide32-2 c = search needs
+
+shared-slice-read-wide32-2 : tie.Need-shared-slice-read-wide32-2
+shared-slice-read-wide32-2 c = search needs
+
+wide32-requires-2 : tie.Need-wide32-requires-2
+wide32-requires-2 c κs = tt
+
+mul-from : tie.Need-mul-from
+mul-from c =
+    let a = c .before .before in
+    let s = a .before .before .before .before .before in
+    let h : a .wide32 .result ≤ 4294967295 = omega (arith, a .wide32 .ensures, a .before .shared-slice-known2 .given (s .args .i)) in
+    omega (arith, mul-le-mul (s .pre) h)
+
+mul-to : tie.Need-mul-to
+mul-to c =
+    let a = c .before .before in
+    let s = a .before .before .before .before .before in
+    let h : c .wide322 .result ≤ 4294967295 = omega (arith, c .wide322 .ensures, c .before .shared-slice-known3 .given (s .args .i + 1)) in
+    omega (arith, mul-le-mul (s .pre) h)
+
+returns-3 : tie.Need-returns-3
+returns-3 c =
+    let b = c .before in
+    let a = b .before .before in
+    let s = a .before .before .before .before .before .args in
+    sym (span-by (s .offsets .now) (s .w) (s .places) (s .i) (a .wide32 .result) (b .wide322 .result) true (a .wide32 .ensures) (b .wide322 .ensures) (omega arith) (c .if3 .taken))
+
+no-span-requires-3 : tie.Need-no-span-requires-3
+no-span-requires-3 c κs = tt
+
+returns-4 : tie.Need-returns-4
+returns-4 c =
+    let b = c .before .before in
+    let a = b .before .before in
+    let s = a .before .before .before .before .before .args in
+    c .no-span3 .ensures ∙ sym (span-by (s .offsets .now) (s .w) (s .places) (s .i) (a .wide32 .result) (b .wide322 .result) false (a .wide32 .ensures) (b .wide322 .ensures) (omega arith) (c .before .if3 .left))
+
+pub span-of-spec : {M : Type 1} → statement M
+span-of-spec =
+    tie.close
+    (tie.spec
+    no-span-requires
+    returns
+    add-if2
+    no-span-requires-2
+    returns-2
+    mul-wide32
+    shared-slice-read-wide32
+    wide32-requires
+    add-wide32
+    mul-wide32-2
+    shared-slice-read-wide32-2
+    wide32-requires-2
+    mul-from
+    mul-to
+    returns-3
+    no-span-requires-3
+    returns-4)

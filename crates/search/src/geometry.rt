@@ -1,0 +1,142 @@
+// Directions, and their projection to the cube and its cells.
+ghost use mathlib.Core.Path.{_≡_};
+ghost use Rattle.mesh.specs.Levels.{vertexCount, gridSize};
+ghost use Rattle.search.specs.Geometry.{over, dot, norm, unit, difference, cubeFaceProject, cubeProject, inCells, clamp, cellCoordinate, cellIndex};
+use crate::Projected;
+use crate::Seen;
+use crate::Vector3;
+
+pub fn dot(a: Vector3, b: Vector3) -> f64
+    ensures { λ r. ⌜ r ≡ dot a b ⌝ }
+{
+    a.x * b.x + a.y * b.y + a.z * b.z
+}
+
+pub fn norm(a: Vector3) -> f64
+    ensures { λ r. ⌜ r ≡ norm a ⌝ }
+{
+    ieee::root(dot(a, a))
+}
+
+// A direction divided by its length.
+pub fn unit(a: Vector3) -> Vector3
+    ensures { λ r. ⌜ r ≡ unit a ⌝ }
+{
+    let l = norm(a);
+    Vector3 {
+        x: a.x / l,
+        y: a.y / l,
+        z: a.z / l,
+    }
+}
+
+pub fn difference(a: Vector3, b: Vector3) -> Vector3
+    ensures { λ r. ⌜ r ≡ difference a b ⌝ }
+{
+    Vector3 {
+        x: a.x - b.x,
+        y: a.y - b.y,
+        z: a.z - b.z,
+    }
+}
+
+// A point as the face of a number sees it; 5 and every number beyond it are the last face.
+pub fn cube_face_project(face: u64, v: Vector3) -> Seen
+    ensures { λ r. ⌜ r ≡ cubeFaceProject face v ⌝ }
+{
+    let x = v.x;
+    let y = v.y;
+    let z = v.z;
+    match face {
+        0 => Seen { u: y, w: z, d: x },
+        1 => Seen { u: -y, w: z, d: -x },
+        2 => Seen { u: x, w: z, d: y },
+        3 => Seen { u: -x, w: z, d: -y },
+        4 => Seen { u: x, w: y, d: z },
+        _ => Seen { u: -x, w: y, d: -z },
+    }
+}
+
+fn projected(face: u64, u: f64, w: f64, d: f64) -> Projected
+    ensures { λ r. ⌜ r ≡ record { face = face; u = over u d; w = over w d } ⌝ }
+{
+    Projected {
+        face,
+        u: u / d,
+        w: w / d,
+    }
+}
+
+// The face by the largest coordinate, and the point on it.
+pub fn cube_project(v: Vector3) -> Projected
+    ensures { λ r. ⌜ r ≡ cubeProject v ⌝ }
+{
+    let x = v.x;
+    let y = v.y;
+    let z = v.z;
+    let ax = float::abs(x);
+    let ay = float::abs(y);
+    let az = float::abs(z);
+    if (ax >= ay) & (ax >= az) {
+        if x > 0.0 {
+            return projected(0, y, z, x);
+        }
+        return projected(1, -y, z, -x);
+    }
+    if ay >= az {
+        if y > 0.0 {
+            return projected(2, x, z, y);
+        }
+        return projected(3, -x, z, -y);
+    }
+    if z > 0.0 {
+        return projected(4, x, y, z);
+    }
+    projected(5, -x, y, -z)
+}
+
+// A coordinate of a face, counted in cells.
+pub fn in_cells(g: u64, u: f64) -> f64
+    ensures { λ r. ⌜ r ≡ inCells g u ⌝ }
+{
+    ieee::mul_add(u, 0.5, 0.5) * float::of_u64(g)
+}
+
+fn clamp(low: f64, high: f64, x: f64) -> f64
+    ensures { λ r. ⌜ r ≡ clamp low high x ⌝ }
+{
+    if x < low {
+        return low;
+    }
+    if high < x { high } else { x }
+}
+
+// The cell that a coordinate is in, held to the grid.
+fn cell_coordinate(g: u64, u: f64) -> u64
+    ensures { λ r. ⌜ r ≡ cellCoordinate g u ⌝ }
+{
+    float::to_u64(clamp(0.0, float::of_u64(g) - 1.0, in_cells(g, u)))
+}
+
+// Cells along an edge of a level's cube. At the levels that a table may have, this whole number is the same; the root of the
+// other form took a fifth of the time of a search for the nearest vertex.
+fn grid_of(level: u8) -> u64
+    ensures { λ r. ⌜ r ≡ gridSize (vertexCount level) ⌝ }
+{
+    if level < 16 {
+        return (31 * (level as u64) + 50) / 20;
+    }
+    mesh::grid_size(level)
+}
+
+// The cell that a direction is in, at a level's grid.
+pub fn cell_index(level: u8, v: Vector3) -> u64
+    ensures { λ r. ⌜ r ≡ cellIndex (gridSize (vertexCount level)) v ⌝ }
+{
+    let g = grid_of(level);
+    let p = cube_project(v);
+    let face = p.face;
+    let i = cell_coordinate(g, p.u);
+    let j = cell_coordinate(g, p.w);
+    face * (g * g) + i * g + j
+}
