@@ -23,6 +23,7 @@ use Rattle.search.specs.Cells.{inCell, cell, facesOf, flat, triples}
 use Rattle.search.specs.Search.{Locator, squared, notNearest, nearer, nearestFrom, nearestAmong, nearestOf, locate, noFit, better, fitFrom, bestFace, notLocated, vertexInside, entriesAt, entriesInside, nearestIn, locateIn}
 use Rattle.search.specs.declared.Vector3.{Vector3}
 use Rattle.search.specs.declared.Nearest.{Nearest}
+use Rattle.search.proofs.Bounds.{cell-index-lt}
 use Rattle.locator.specs.Locator.{located}
 use Rattle.locator.proofs.Blocks.{flat-append, length-flat}
 use Rattle.locator.proofs.Graphs.{rule}
@@ -228,11 +229,15 @@ module _ (n g : ℕ) (m : Mesh) (l : Locator)
       (entries-are 1 (cellCount g) (cell (m .vertices) n g) (cell (m .vertices) n g) (l .cellOffsets ++ behind .cellOffsets) (l .cellVertices ++ behind .cellVertices) (λ i. omega arith)
       (omega (arith, ok .r1, length-append (l .cellOffsets) (behind .cellOffsets))) (omega (arith, cells-held, length-append (l .cellVertices) (behind .cellVertices))) c h)
 
-  pub nearest-in : (p : Vector3) → cellIndex g p < cellCount g → nearestIn lists vertices n g p ≡ nearestOf m n g p
+  -- a direction's cell is one of the grid's
+  in-grid : (p : Vector3) → cellIndex g p < cellCount g
+  in-grid p = cell-index-lt g p (omega (arith, ok .some)) (omega (arith, ok .small))
+
+  pub nearest-in : (p : Vector3) → nearestIn lists vertices n g p ≡ nearestOf m n g p
   unfolding nearestIn nearestOf nearestAmong
-  nearest-in p h =
+  nearest-in p =
       let l = cell (m .vertices) n g (cellIndex g p) in
-      rw (cell-inside (cellIndex g p) h, cell-is (cellIndex g p) h)
+      rw (cell-inside (cellIndex g p) (in-grid p), cell-is (cellIndex g p) (in-grid p))
       (nearest-more (m .vertices) after p n (notNearest 20) l (vertices-in (m .vertices) (cellIndex g p) (omega arith)))
 
   -- ---- faces
@@ -269,9 +274,9 @@ module _ (n g : ℕ) (m : Mesh) (l : Locator)
   unfolding bestFace
   best-more p v = rw (fit-more (m .vertices) after p n (facesOf m n v) (faces-in (m .vertices) v (omega arith)))
 
-  pub locate-in : (p : Vector3) → cellIndex g p < cellCount g → locateIn lists vertices n g p ≡ locate m n g p
+  pub locate-in : (p : Vector3) → locateIn lists vertices n g p ≡ locate m n g p
   unfolding locateIn locate
-  locate-in p h = rw (nearest-in p h) (by (eqb (nearestOf m n g p .number) 0) refl)
+  locate-in p = rw (nearest-in p) (by (eqb (nearestOf m n g p .number) 0) refl)
     where
       by : (t : Bool) → eqb (nearestOf m n g p .number) 0 ≡ t
           → cond t

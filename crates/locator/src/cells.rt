@@ -4,38 +4,9 @@ ghost use mathlib.Core.Path.{_≡_};
 ghost use Prim.Native.Nat.{_+_, _*_, _<_, _≤_, _/_, _%_};
 ghost use lib.ListN.{length, drop};
 ghost use Rattle.mesh.specs.Lists.{put, joined};
-ghost use Rattle.search.specs.Geometry.{cubeFaceProject};
 ghost use Rattle.search.specs.Cells.{cellNumber, cell};
 ghost use Rattle.locator.specs.Steps.{kept, keyOf, vertexKey, hit, Keyed, keyCell, CellsOut, cellsOut};
-
-// A point as a face of the cube sees it.
-struct Spot {
-    u: f64,
-    w: f64,
-    d: f64,
-}
-
-fn cube_face_project(face: usize, x: f64, y: f64, z: f64) -> Spot
-    ensures { λ r. ⌜ (r .u ≡ cubeFaceProject face (record { x = x; y = y; z = z }) .u) × (r .w ≡ cubeFaceProject face (record { x = x; y = y; z = z }) .w)
-        × (r .d ≡ cubeFaceProject face (record { x = x; y = y; z = z }) .d) ⌝ }
-{
-    if face == 0 {
-        return Spot { u: y, w: z, d: x };
-    }
-    if face == 1 {
-        return Spot { u: -y, w: z, d: -x };
-    }
-    if face == 2 {
-        return Spot { u: x, w: z, d: y };
-    }
-    if face == 3 {
-        return Spot { u: -x, w: z, d: -y };
-    }
-    if face == 4 {
-        return Spot { u: x, w: y, d: z };
-    }
-    Spot { u: -x, w: y, d: -z }
-}
+use search::Vector3;
 
 // A cell number as a natural number. No cell of a grid is near one that is left out.
 fn kept(c: i64) -> u64
@@ -55,7 +26,7 @@ fn kept(c: i64) -> u64
 fn cell_number(g: usize, u: f64, d: f64) -> u64
     ensures { λ r. ⌜ r ≡ kept (cellNumber g u d) ⌝ }
 {
-    kept(float::to_i64(ieee::mul_add(u / d, 0.5, 0.5) * float::of_u64(g as u64)))
+    kept(float::to_i64(search::in_cells(g as u64, u / d)))
 }
 
 // Both cell numbers of a point that a face sees, 0 where it is not in front.
@@ -74,7 +45,10 @@ fn vertex_key(vertices: &[f64], g: usize, face: usize, v: usize) -> u32
     ensures { λ r. ⌜ r ≡ vertexKey (now (vertices .entry)) g face v ⌝ }
 {
     let at = 3 * v;
-    let s = cube_face_project(face, vertices[at], vertices[at + 1], vertices[at + 2]);
+    let x = vertices[at];
+    let y = vertices[at + 1];
+    let z = vertices[at + 2];
+    let s = search::cube_face_project(face as u64, Vector3 { x, y, z });
     let u = s.u;
     let w = s.w;
     let d = s.d;

@@ -8,11 +8,8 @@ use Rattle.search.specs.Cells.{cellNumber}
 use Rattle.locator.proofs.cells.cell_number.Statement.{statement}
 use Rattle.locator.proofs.cells.cell_number.Tie as tie
 
-mul-add-requires : tie.Need-mul-add-requires
-mul-add-requires c κs = search needs
-
-of-u64-requires : tie.Need-of-u64-requires
-of-u64-requires c κs = search needs
+in-cells-requires : tie.Need-in-cells-requires
+in-cells-requires c κs = search needs
 
 to-i64-requires : tie.Need-to-i64-requires
 to-i64-requires c κs = search needs
@@ -21,12 +18,10 @@ kept-requires : tie.Need-kept-requires
 kept-requires c κs = search needs
 
 returns : tie.Need-returns
-unfolding cellNumber inCells
-returns c =
-    let a = c .before .before .before .before .args in
+unfolding cellNumber
+returns c = let a = c .before .before .before .args in
     let x = inCells (a .g) (over (a .u) (a .d)) in
-    rw (c .kept .ensures, c .before .to-i64 .ensures, c .before .before .of-u64 .ensures, c .before .before .before .mul-add .ensures, read (toSigned 63 x) (record { sfits = toSigned-in 63 x }))
+    rw (c .kept .ensures, c .before .to-i64 .ensures, c .before .before .in-cells .ensures, read (toSigned 63 x) (record { sfits = toSigned-in 63 x }))
 
 pub cell-number-spec : {M : Type 1} → statement M
-cell-number-spec =
-    tie.close (tie.spec mul-add-requires of-u64-requires to-i64-requires kept-requires returns)
+cell-number-spec = tie.close (tie.spec in-cells-requires to-i64-requires kept-requires returns)
