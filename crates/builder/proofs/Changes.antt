@@ -1,15 +1,14 @@
 -- What a verdict makes of a row, and a slice of slabs added up. Assumes nothing.
-use mathlib.Core.Path.{_≡_, refl, sym, ap, _∙_}
-use mathlib.Core.Bool.{Bool, true, false, cond, _&&_, _||_}
+use mathlib.Core.Path.{_≡_, refl, sym, _∙_}
+use mathlib.Core.Bool.{Bool, true, false, _&&_, _||_}
 use mathlib.Core.List.{List, [], _∷_, map}
 use Prim.Native.Nat.{ℕ}
-use native.Mathlib.Omega.{arith}
 use lib.Ieee.{Float}
 use Rattle.mesh.specs.Lists.{every}
 use Rattle.rows.specs.declared.SlabResolution.{SlabResolution}
 use Rattle.rows.specs.declared.SlabResolution.the-variants.{Scalar, Mesh, Repulsive}
 use Rattle.rows.specs.Rows.{Rows, replaced, Row, rowWith}
-use Rattle.builder.specs.Settling.{newRow, inPlaceOf, steeperOf, settles, someSettle, largestFrom, settledRows, notRepulsive}
+use Rattle.builder.specs.Settling.{newRow, inPlaceOf, settles, someSettle, largestFrom, settledRows, notRepulsive}
 use Rattle.builder.specs.Lists.{replacedBy}
 use Rattle.builder.specs.Steps.{stays, becomes, leftRow, isClear, tallied, tallyFrom}
 use Rattle.builder.specs.declared.Tally.{Tally}

@@ -1,13 +1,13 @@
 -- The largest of numbers that are not below +0 does not depend on their order. Assumes nothing.
 use mathlib.Core.Path.{_≡_, refl, sym, ap, subst, _∙_}
 use mathlib.Core.Logic.{_⊎_, inl, inr}
-use mathlib.Core.Bool.{Bool, true, false, cond, not, _||_}
+use mathlib.Core.Bool.{Bool, true, false, cond, not}
 use Prim.Native.Nat.{ℕ, _+_, _*_, _%_, _/_, _^_, _-_, _≤_, _<_}
 use native.Mathlib.Nat.{mul-assoc, mul-comm, mul-left-comm, mul-pos, eq-of-mul-eq-mul-right}
 use native.Mathlib.Omega.{arith}
-use lib.Dec.{T, ltb, leb}
-use lib.Ieee.{Float, nan, inf, fin, Format, binary64, up, down, hid, ones, top, low, lt, isNan, fits, toBits, ofFields}
-use lib.Ieee.Fits.{up-pos, down-pos}
+use lib.Dec.{T}
+use lib.Ieee.{Float, nan, inf, fin, binary64, up, down, hid, ones, top, low, lt, isNan, fits, toBits, ofFields}
+use lib.Ieee.Fits.{down-pos}
 use lib.Ieee.Exact.{HasValue}
 use lib.Ieee.Positive.{through, first-pos}
 use lib.Ieee.Scale.{finite}

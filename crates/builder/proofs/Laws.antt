@@ -1,22 +1,20 @@
 -- What questions that were answered yes say of the numbers. Assumes nothing.
-use mathlib.Core.Path.{_≡_, refl, sym, ap, _∙_}
+use mathlib.Core.Path.{_≡_, refl}
 use mathlib.Core.Bool.{Bool, true, false, cond, not, _&&_}
 use mathlib.Core.List.{List}
-use Prim.Native.Nat.{ℕ, suc, _+_, _*_, _^_, _≤_, _<_}
-use native.Mathlib.Nat.{mul-le-mul, mul-le-mul-right, add-mul, one-mul}
+use Prim.Native.Nat.{ℕ, suc, _+_, _*_, _≤_, _<_}
+use native.Mathlib.Nat.{mul-le-mul-right, add-mul, one-mul}
 use native.Mathlib.Omega.{arith}
 use lib.Dec.{leb, ltb, eqb, lit<}
-use lib.Ieee.{Float, isNan}
+use lib.Ieee.{Float}
 use lib.ListN.{length}
 use borrow.Author.Tests.{leb-true, ltb-true, eqb-true, eqb-false}
 use Rattle.ieee.proofs.Fields.{both-true}
 use Rattle.mesh.specs.Questions.{ask, first}
-use Rattle.mesh.specs.Lists.{every}
 use Rattle.mesh.specs.Levels.{per, verticesBelow}
 use Rattle.mesh.specs.Mesh.{Mesh, meshHeld, meshesKeep}
-use Rattle.mesh.proofs.Laws.{per-le}
 use Rattle.mesh.proofs.Sizes.{per-mono}
-use Rattle.grid.specs.Settings.{question, inRange, levelsHeld, countsHeld, ownCount, slabsHeld}
+use Rattle.grid.specs.Settings.{question, levelsHeld, slabsHeld}
 use Rattle.grid.specs.declared.Grid.{Grid}
 use Rattle.grid.proofs.Laws.{yes, no, counts-le}
 use Rattle.rows.specs.Rows.{rowRoom}

@@ -2,19 +2,19 @@
 use mathlib.Core.Path.{_≡_, refl, sym, ap, subst, _∙_}
 use mathlib.Core.Bool.{Bool, true, false, cond, not, _&&_}
 use mathlib.Core.List.{List, [], _∷_, map}
-use Prim.Native.Nat.{ℕ, zero as none, suc, _+_, _*_, _^_, _≤_, _<_}
+use Prim.Native.Nat.{ℕ, zero as none, suc, _+_, _*_, _^_, _<_}
 use native.Mathlib.Nat.{mul-comm, one-mul, add-comm}
 use native.Mathlib.Omega.{arith}
 use lib.Dec.{T, leb, ltb, eqb}
 use lib.ListN.{length, getD}
-use lib.Ieee.{Float, nan, inf, fin, binary64, Format, prec, emax, low, up, down, units, odd, round, ofBits, sub, div, lt, fits}
+use lib.Ieee.{Float, nan, inf, fin, binary64, Format, prec, emax, low, up, down, units, odd, round, ofBits, sub, div, lt}
 use lib.Ieee.Fits.{round-is, div-fits}
 use lib.Ieee.Exact.{HasValue, odd-sign}
-use borrow.Author.Tests.{ltb-true, leb-true}
+use borrow.Author.Tests.{ltb-true}
 use Rattle.ieee.proofs.Fields.{both-true}
-use Rattle.float.specs.Order.{magnitude, larger}
+use Rattle.float.specs.Order.{magnitude}
 use Rattle.mesh.specs.Lists.{allUpTo, forEach}
-use Rattle.mesh.specs.Mesh.{Mesh, degree, neighbour, angleTo, within, lists, angleKept, neighbourKept, vertexKept, verticesFinite, keepsRule}
+use Rattle.mesh.specs.Mesh.{Mesh, degree, neighbour, angleTo, neighbourKept, vertexKept, verticesFinite, keepsRule}
 use Rattle.mesh.proofs.Counting.{all-at}
 use Rattle.builder.specs.Gradient.{zero, weight, steeper, alongNeighbours, gradientOf, gradient}
 use Rattle.builder.specs.Steps.{lineWeights, lineGradient, linesGradient, Below}

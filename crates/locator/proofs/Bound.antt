@@ -1,9 +1,9 @@
 -- A vertex of a mesh is in at most 15 faces: the two other vertices of each are neighbours of it, and there are at most 15 pairs of these.
 use mathlib.Core.Path.{_≡_, refl, sym, ap, _∙_}
-use mathlib.Core.Bool.{Bool, true, false, cond, not, _&&_, _||_}
+use mathlib.Core.Bool.{Bool, true, false, cond, _&&_, _||_}
 use mathlib.Core.List.{[], _∷_}
 use mathlib.Core.Logic.{⊎-elim}
-use Prim.Native.Nat.{ℕ, zero, suc, _+_, _-_, _*_, _/_, _%_, _≤_, _<_}
+use Prim.Native.Nat.{ℕ, zero, suc, _+_, _*_, _/_, _%_, _≤_, _<_}
 use native.Mathlib.Nat.{mul-le-mul-right, eq-or-lt-of-le, le-of-suc-le-suc, not-suc-le-zero}
 use native.Mathlib.Omega.{arith}
 use lib.ListN.{length}
@@ -17,8 +17,8 @@ use Rattle.mesh.proofs.Counting.{and-yes}
 use Rattle.mesh.proofs.Sums.{one, count, sum-eq, sum-le, sum-add, sum-const, sum-grid, sum-mul, sum-none}
 use Rattle.mesh.proofs.Written.{length-joined}
 use Rattle.search.specs.Cells.{facesOf}
-use Rattle.locator.specs.Steps.{only, wanted, touches, block}
-use Rattle.locator.proofs.Blocks.{piece, block-is, faces-of-is, pair}
+use Rattle.locator.specs.Steps.{wanted, touches, block}
+use Rattle.locator.proofs.Blocks.{piece, block-is, faces-of-is}
 
 -- what the mesh rule says of the lists
 pub record Rule (n : ℕ) (l : Mesh) : Type 0 where

@@ -4,7 +4,7 @@ ghost use mathlib.Core.Bool.{_&&_, true};
 ghost use Prim.Native.Nat.{suc, _+_, _*_, _≤_};
 ghost use lib.ListN.{length};
 ghost use Rattle.mesh.specs.Levels.{vertexCount, verticesBelow};
-ghost use Rattle.mesh.specs.Mesh.{keepsRule, levelPart, meshHeld, meshesKeep};
+ghost use Rattle.mesh.specs.Mesh.{keepsRule, levelPart, meshRoom, meshHeld, meshesKeep};
 use crate::levels::vertex_count;
 use crate::levels::vertices_below;
 use crate::rule::keeps_rule;

@@ -118,22 +118,11 @@ fn cell_coordinate(g: u64, u: f64) -> u64
     float::to_u64(clamp(0.0, float::of_u64(g) - 1.0, in_cells(g, u)))
 }
 
-// Cells along an edge of a level's cube. At the levels that a table may have, this whole number is the same; the root of the
-// other form took a fifth of the time of a search for the nearest vertex.
-fn grid_of(level: u8) -> u64
-    ensures { λ r. ⌜ r ≡ gridSize (vertexCount level) ⌝ }
-{
-    if level < 16 {
-        return (31 * (level as u64) + 50) / 20;
-    }
-    mesh::grid_size(level)
-}
-
 // The cell that a direction is in, at a level's grid.
 pub fn cell_index(level: u8, v: Vector3) -> u64
     ensures { λ r. ⌜ r ≡ cellIndex (gridSize (vertexCount level)) v ⌝ }
 {
-    let g = grid_of(level);
+    let g = mesh::grid_size(level);
     let p = cube_project(v);
     let face = p.face;
     let i = cell_coordinate(g, p.u);

@@ -1,10 +1,10 @@
 -- `fresh` meets its contract. Assumes nothing.
-use mathlib.Core.Path.{_≡_, sym, _∙_}
+use mathlib.Core.Path.{sym, _∙_}
 use native.Mathlib.Omega.{arith}
 use lib.ListN.{length}
 use borrow.Author.Needs.{needs}
 use borrow.Author.Tests.{eq-eqb, ne-eqb}
-use Rattle.builder.specs.Calls.{freshOut, meshedRefusal, freshBuilder, filled}
+use Rattle.builder.specs.Calls.{freshOut, meshedRefusal, filled}
 use Rattle.builder.proofs.Laws.{Meshed, meshed}
 use Rattle.builder.proofs.fresh.Statement.{statement}
 use Rattle.builder.proofs.fresh.Tie as tie

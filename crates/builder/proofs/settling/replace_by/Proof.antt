@@ -1,6 +1,5 @@
 -- `replace_by` meets its contract. Assumes nothing.
 use mathlib.Core.Path.{sym, _∙_}
-use Rattle.rows.specs.Rows.{Rows, replaced}
 use Rattle.builder.proofs.Changes.{row-stays, row-becomes}
 use borrow.Author.Needs.{needs}
 use Rattle.builder.proofs.settling.replace_by.Statement.{statement}

@@ -1,7 +1,7 @@
 -- `meshes_keep` meets its contract. Assumes nothing.
 use mathlib.Core.Path.{_≡_, refl, sym}
 use mathlib.Core.Bool.{true}
-use Prim.Native.Nat.{suc, _-_, _+_, _≤_}
+use Prim.Native.Nat.{suc, _-_, _≤_}
 use native.Mathlib.Omega.{arith}
 use borrow.Author.Needs.{needs}
 use Rattle.mesh.specs.Lists.{allUpTo}
