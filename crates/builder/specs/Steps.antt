@@ -120,11 +120,10 @@ settleQuestion b r ri =
     (ask (rowsKnown (b .top) r (slab (b .grid) ri 0) (b .grid .«n_omega»)) 15
     (ask (rowsFromLevel (b .level) r (slab (b .grid) ri 0) (b .grid .«n_omega»)) 11 0))
 
--- the builder after a slice
+-- the level drops after a slice
+unfoldable pub dropsBy : Tally → Float → ℕ → Bool
+dropsBy t threshold level = t .settled && (t .clear && (lt (t .gradient) threshold && ltb 0 level))
+
+-- the builder after it
 unfoldable pub droppedBy : Builder → Tally → Builder
-droppedBy b t =
-    record {
-      grid = b .grid;
-      top = b .top;
-      level = cond (t .settled && (t .clear && (lt (t .gradient) (b .grid .threshold) && ltb 0 (b .level)))) (b .level - 1) (b .level);
-    }
+droppedBy b t = record { grid = b .grid; top = b .top; level = cond (dropsBy t (b .grid .threshold) (b .level)) (b .level - 1) (b .level) }

@@ -5,7 +5,7 @@ ghost use Prim.Native.Nat.{_+_, _*_, _≤_};
 ghost use lib.ListN.{length, take, drop};
 ghost use Rattle.mesh.specs.Levels.{vertexCount};
 ghost use Rattle.rows.specs.Rows.{Rows, resolutionAt, rowWith};
-ghost use Rattle.builder.specs.Steps.{Below, Ready, ReadyIn, partLinks, settledSlab, settledRows, droppedBy};
+ghost use Rattle.builder.specs.Steps.{Below, Ready, ReadyIn, partLinks, settledSlab, settledRows, dropsBy, droppedBy};
 use crate::Builder;
 use crate::Tally;
 use crate::settling;
@@ -139,18 +139,25 @@ pub(crate) fn settle_slice(
     )
 }
 
-// The builder after a slice: a level lower where it drops.
+// The level drops after a slice.
+fn drops(t: Tally, threshold: f64, level: u64) -> bool
+    ensures { λ r. ⌜ r ≡ dropsBy t threshold level ⌝ }
+{
+    let gradient = t.gradient;
+    let settled = t.settled;
+    let clear = t.clear;
+    settled & (clear & ((gradient < threshold) & (0 < level)))
+}
+
+// The builder after a slice.
 pub(crate) fn dropped(b: Builder, t: Tally) -> Builder
     ensures { λ r. ⌜ r ≡ droppedBy b t ⌝ }
 {
     let grid = b.grid;
+    let threshold = grid.threshold;
     let top = b.top;
     let level = b.level;
-    let threshold = b.grid.threshold;
-    let gradient = t.gradient;
-    let settled = t.settled;
-    let clear = t.clear;
-    if settled & (clear & ((gradient < threshold) & (0 < level))) {
+    if drops(t, threshold, level) {
         return Builder {
             grid,
             top,

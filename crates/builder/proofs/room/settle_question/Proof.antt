@@ -1,37 +1,58 @@
+-- `settle_question` meets its contract. Assumes nothing.
+use mathlib.Core.Path.{_≡_}
+use Prim.Native.Nat.{_+_, _*_, _≤_}
+use native.Mathlib.Nat.{mul-le-mul}
+use native.Mathlib.Omega.{arith}
+use borrow.Author.Tests.{lt-ltb, le-ltb}
+use Rattle.mesh.specs.Questions.{ask}
+use Rattle.mesh.proofs.Counting.{yes, no}
+use Rattle.builder.specs.Lists.{rowsKnown}
+use Rattle.builder.specs.Steps.{settleQuestion}
 use Rattle.builder.proofs.room.settle_question.Statement.{statement}
 use Rattle.builder.proofs.room.settle_question.Tie as tie
-use Rattle.builder.proofs.room.settle_question.Reads as reads
-use Rattle.builder.proofs.room.settle_question.Lts as lts
-use Rattle.builder.proofs.room.rows_from_level.Reads as rows-from-level-reads
-use Rattle.builder.proofs.room.rows_known.Reads as rows-known-reads
 
--- src/room.rt:200:9
+-- where the slice begins
+small : (c : tie.Else1) → c .before .before .before .before .args .ri * c .before .before .before .before .args .b .grid .«n_omega» ≤ 65535 * 65535
+small c =
+    let s = c .before .before .before .before in
+    let h : s .args .ri ≤ 65535 = omega (arith, s .pre .0) in
+    mul-le-mul h (s .pre .1)
+
+flat : (c : tie.Else1) → let a = c .before .before .before .before .args in a .ri * a .b .grid .«n_omega» + 0 ≡ a .ri * a .b .grid .«n_omega»
+flat c = omega arith
+
 returns : tie.Need-returns
-returns c = ?
+unfolding settleQuestion ask rowsKnown
+returns c = rw (le-ltb _ _ (c .if1 .taken))
 
--- src/room.rt:202:13
 mul-s : tie.Need-mul-s
-mul-s c = ?
+mul-s c = omega (arith, small c)
 
--- src/room.rt:203:9
 rows-known-requires : tie.Need-rows-known-requires
-rows-known-requires c κs = ?
+rows-known-requires c κs = (omega (arith, small c), c .before .before .before .before .pre .1)
 
--- src/room.rt:204:9
 returns-2 : tie.Need-returns-2
-returns-2 c = ?
+unfolding settleQuestion ask rowsKnown
+returns-2 c = 
+    let d = c .before .before in
+    rw (lt-ltb _ _ (d .if1 .left), flat d, no (c .before .rows-known .ensures) (c .if2 .taken))
 
--- src/room.rt:206:9
 rows-from-level-requires : tie.Need-rows-from-level-requires
-rows-from-level-requires c κs = ?
+rows-from-level-requires c κs = (omega (arith, small (c .before .before)), c .before .before .before .before .before .before .pre .1)
 
--- src/room.rt:207:9
 returns-3 : tie.Need-returns-3
-returns-3 c = ?
+unfolding settleQuestion ask rowsKnown
+returns-3 c = 
+    let e = c .before .before in
+    let d = e .before .before in
+    rw (lt-ltb _ _ (d .if1 .left), flat d, yes (e .before .rows-known .ensures) (e .if2 .left), no (c .before .rows-from-level .ensures) (c .if3 .taken))
 
--- src/room.rt:185:1
 returns-4 : tie.Need-returns-4
-returns-4 c = ?
+unfolding settleQuestion ask rowsKnown
+returns-4 c = 
+    let e = c .before .before in
+    let d = e .before .before in
+    rw (lt-ltb _ _ (d .if1 .left), flat d, yes (e .before .rows-known .ensures) (e .if2 .left), yes (c .before .rows-from-level .ensures) (c .if3 .left))
 
 pub settle-question-spec : {M : Type 1} → statement M
 settle-question-spec =

@@ -1,15 +1,25 @@
 -- `dropped` meets its contract. Assumes nothing.
+use mathlib.Core.Path.{sym, _∙_}
+use native.Mathlib.Omega.{arith}
+use Rattle.builder.specs.Steps.{droppedBy}
+use Rattle.builder.proofs.Laws.{drops-above}
+use borrow.Author.Needs.{needs}
 use Rattle.builder.proofs.slices.dropped.Statement.{statement}
 use Rattle.builder.proofs.slices.dropped.Tie as tie
 
-sub-t15 : tie.Need-sub-t15
-sub-t15 c = ?
+drops-requires : tie.Need-drops-requires
+drops-requires c κs = search needs
+
+sub-t8 : tie.Need-sub-t8
+sub-t8 c = let a = c .before .before .before .args in omega (arith, drops-above (a .t) (a .b .grid .threshold) (a .b .level) (sym (c .before .drops .ensures) ∙ c .if1 .taken))
 
 returns : tie.Need-returns
-returns c = ?
+unfolding droppedBy
+returns c = rw (← c .before .drops .ensures, c .if1 .taken)
 
 returns-2 : tie.Need-returns-2
-returns-2 c = ?
+unfolding droppedBy
+returns-2 c = rw (← c .before .drops .ensures, c .if1 .left)
 
 pub dropped-spec : {M : Type 1} → statement M
-dropped-spec = tie.close (tie.spec sub-t15 returns returns-2)
+dropped-spec = tie.close (tie.spec drops-requires sub-t8 returns returns-2)

@@ -1,99 +1,112 @@
+-- `settle_slice` meets its contract. Assumes nothing.
+use mathlib.Core.Path.{_≡_, refl, sym, subst, _∙_}
+use mathlib.Core.List.{[]}
+use Prim.Native.Nat.{ℕ, suc, _+_, _*_, _-_, _≤_}
+use native.Mathlib.Omega.{arith}
+use lib.ListN.{length, take, drop}
+use Rattle.mesh.specs.Levels.{verticesBelow}
+use Rattle.mesh.specs.Mesh.{Mesh, levelPart}
+use Rattle.mesh.proofs.Laws.{below-more, below-few}
+use Rattle.mesh.proofs.Written.{part}
+use Rattle.builder.specs.Lists.{Lists}
+use Rattle.builder.specs.Steps.{Ready, partLinks, settledRows}
 use borrow.Author.Needs.{needs}
 use Rattle.builder.proofs.slices.settle_slice.Statement.{statement}
 use Rattle.builder.proofs.slices.settle_slice.Tie as tie
-use Rattle.builder.proofs.slices.settle_slice.Reads as reads
-use Rattle.builder.proofs.slices.settle_slice.Lts as lts
-use Rattle.builder.proofs.slices.settle_rows.Reads as settle-rows-reads
-use Rattle.mesh.proofs.vertex_count.Reads as vertex-count-reads
-use Rattle.mesh.proofs.vertices_below.Reads as vertices-below-reads
 
--- src/slices.rt:124:17
+-- where the level's part ends
+total : (c : tie.After-vertex-count) → c .before .vertices-below .result + c .vertex-count .result ≡ verticesBelow (suc (c .before .before .before .before .before .before .before .before .before .before .args .b .level))
+total c = omega (arith, below-more (c .before .before .before .before .before .before .before .before .before .before .args .b .level))
+
+few : (c : tie.After-vertex-count) → verticesBelow (suc (c .before .before .before .before .before .before .before .before .before .before .args .b .level)) ≤ 56252672
+few c = let s = c .before .before .before .before .before .before .before .before .before .before in below-few (suc (s .args .b .level)) (omega (arith, s .pre .ready .top-le, s .pre .ready .level-le))
+
+-- the parts that are cut out are the level's
+cut : (c : tie.After-vertex-count) → let a = c .before .before .before .before .before .before .before .before .before .before .args in
+    let from = c .before .vertices-below .result in
+    let to = from + c .vertex-count .result in
+    _≡_ {A = Mesh}
+    (record { vertices = []; counts = take (to - from) (drop from (a .counts .now)); neighbours = take (6 * to - 6 * from) (drop (6 * from) (a .neighbours .now)); angles = take (6 * to - 6 * from) (drop (6 * from) (a .angles .now)) })
+    (partLinks (a .b .level) (record { vertices = []; counts = a .counts .now; neighbours = a .neighbours .now; angles = a .angles .now }))
+unfolding levelPart
+cut c =
+    let s = c .before .before .before .before .before .before .before .before .before .before in
+    let a = s .args in
+    let from = c .before .vertices-below .result in
+    let to = from + c .vertex-count .result in
+    let e = total c in
+    rw (part from to (a .counts .now) (omega arith) (omega (arith, e, s .pre .counts-le)), part (6 * from) (6 * to) (a .neighbours .now) (omega arith) (omega (arith, e, s .pre .neighbours-le)),
+        part (6 * from) (6 * to) (a .angles .now) (omega arith) (omega (arith, e, s .pre .angles-le)), e, c .before .vertices-below .ensures) refl
+
 cast-level : tie.Need-cast-level
-cast-level c = search needs
+cast-level c = let s = c .before .before .before .before .before .before .before .before in omega (arith, s .pre .ready .top-le, s .pre .ready .level-le)
 
--- src/slices.rt:125:13
 vertices-below-requires : tie.Need-vertices-below-requires
 vertices-below-requires c κs = search needs
 
--- src/slices.rt:126:17
 vertex-count-requires : tie.Need-vertex-count-requires
 vertex-count-requires c κs = search needs
 
--- src/slices.rt:126:13
 add-e : tie.Need-add-e
-add-e c = ?
+add-e c = omega (arith, total c, few c)
 
--- src/slices.rt:127:14
 mul-a6 : tie.Need-mul-a6
-mul-a6 c = ?
+mul-a6 c = omega (arith, total c, few c)
 
--- src/slices.rt:128:14
 mul-e6 : tie.Need-mul-e6
-mul-e6 c = ?
+mul-e6 c = omega (arith, total c, few c)
 
--- src/slices.rt:133:9
 sub-settle-rows : tie.Need-sub-settle-rows
 sub-settle-rows c = search needs
 
--- src/slices.rt:133:9
 part-settle-rows-start : tie.Need-part-settle-rows-start
 part-settle-rows-start c = search needs
 
--- src/slices.rt:133:9
 part-settle-rows-end : tie.Need-part-settle-rows-end
-part-settle-rows-end c = ?
+part-settle-rows-end c = omega (arith, total c, few c, c .before .before .before .before .before .before .before .before .before .before .pre .counts-le)
 
--- src/slices.rt:134:9
 mul-settle-rows : tie.Need-mul-settle-rows
-mul-settle-rows c = ?
+mul-settle-rows c = omega (arith, total (c .before), few (c .before))
 
--- src/slices.rt:134:9
 sub-settle-rows-2 : tie.Need-sub-settle-rows-2
 sub-settle-rows-2 c = search needs
 
--- src/slices.rt:134:9
 part-settle-rows-start-2 : tie.Need-part-settle-rows-start-2
 part-settle-rows-start-2 c = search needs
 
--- src/slices.rt:134:9
 part-settle-rows-end-2 : tie.Need-part-settle-rows-end-2
-part-settle-rows-end-2 c = ?
+part-settle-rows-end-2 c = omega (arith, total (c .before), few (c .before), c .before .before .before .before .before .before .before .before .before .before .before .pre .neighbours-le)
 
--- src/slices.rt:135:9
 mul-settle-rows-2 : tie.Need-mul-settle-rows-2
-mul-settle-rows-2 c = ?
+mul-settle-rows-2 c = omega (arith, total (c .before .before), few (c .before .before))
 
--- src/slices.rt:135:9
 sub-settle-rows-3 : tie.Need-sub-settle-rows-3
 sub-settle-rows-3 c = search needs
 
--- src/slices.rt:135:9
 part-settle-rows-start-3 : tie.Need-part-settle-rows-start-3
 part-settle-rows-start-3 c = search needs
 
--- src/slices.rt:135:9
 part-settle-rows-end-3 : tie.Need-part-settle-rows-end-3
-part-settle-rows-end-3 c = ?
+part-settle-rows-end-3 c = omega (arith, total (c .before .before), few (c .before .before), c .before .before .before .before .before .before .before .before .before .before .before .before .pre .angles-le)
 
--- src/slices.rt:129:5
 settle-rows-requires : tie.Need-settle-rows-requires
-settle-rows-requires c κs = ?
+settle-rows-requires c κs = 
+    let s = c .before .before .before .before .before .before .before .before .before .before .before .before .before .before .before .before in
+    let a = s .args in
+    let l : Lists = record { store = a .store .now; rows = record { kinds = a .kinds .now; levels = a .levels .now; values = a .values .now } } in
+    subst (λ (m : Mesh). Ready (a .b) m l (a .ri)) (sym (cut (c .before .before .before .before .before .before))) (s .pre .ready)
 
--- src/slices.rt:107:1
 same-length : tie.Need-same-length
 same-length c = search needs
 
--- src/slices.rt:107:1
 same-length-2 : tie.Need-same-length-2
 same-length-2 c = search needs
 
--- src/slices.rt:107:1
 same-length-3 : tie.Need-same-length-3
 same-length-3 c = search needs
 
--- src/slices.rt:107:1
 returns : tie.Need-returns
-returns c = ?
+returns c = rw (cut (c .before .before .before .before .before .before .before .before .before .before .before .before .before)) at (c .before .before .before .before .before .before .settle-rows .ensures)
 
 pub settle-slice-spec : {M : Type 1} → statement M
 settle-slice-spec =
