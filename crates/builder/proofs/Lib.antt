@@ -6,3 +6,4 @@ pub mod Largest
 pub mod Slopes
 pub mod Changes
 pub mod Turns
+pub mod Accepted

@@ -3,7 +3,7 @@ ghost use mathlib.Core.Path.{_≡_};
 ghost use lib.ListN.{length};
 ghost use Rattle.rows.specs.Rows.{Rows};
 ghost use Rattle.builder.specs.Lists.{Lists};
-ghost use Rattle.builder.specs.Calls.{BuiltOut, freshBuilder, freshOut, setOut};
+ghost use Rattle.builder.specs.Calls.{BuiltOut, SettleOut, freshBuilder, freshOut, setOut, settleOut};
 use grid::Grid;
 use rows::SlabResolution;
 
@@ -141,4 +141,54 @@ pub fn set(
         SlabResolution::Mesh(level as u8, true),
     );
     Built::Accepted(b)
+}
+
+// Settles a slice: each of its slabs that holds energies, and then the level.
+pub fn settle(
+    b: Builder,
+    store: &[f64],
+    kinds: &mut [u8],
+    levels: &mut [u8],
+    values: &mut [u32],
+    vertices: &[f64],
+    counts: &[u8],
+    neighbours: &[u16],
+    angles: &[f64],
+    ri: u64,
+) -> Settled
+    ensures { λ r. ⌜ _≡_ {A = SettleOut}
+        (record { answer = r; lists = record { store = now (store .entry); rows = record { kinds = now (kinds .exit); levels = now (levels .exit); values = now (values .exit) } } })
+        (settleOut b (record { vertices = now (vertices .entry); counts = now (counts .entry); neighbours = now (neighbours .entry); angles = now (angles .entry) })
+        (record { store = now (store .entry); rows = record { kinds = now (kinds .entry); levels = now (levels .entry); values = now (values .entry) } }) ri) ⌝ }
+{
+    let no = room::meshed_refusal(
+        b,
+        store.len() as u64,
+        kinds.len() as u64,
+        levels.len() as u64,
+        values.len() as u64,
+        vertices,
+        counts,
+        neighbours,
+        angles,
+    );
+    if no != 0 {
+        return Settled::Refused(no);
+    }
+    let asked = room::settle_question(b, kinds, levels, values, ri);
+    if asked != 0 {
+        return Settled::Refused(asked);
+    }
+    let t = slices::settle_slice(
+        b,
+        ri,
+        store,
+        counts,
+        neighbours,
+        angles,
+        kinds,
+        levels,
+        values,
+    );
+    Settled::Accepted(slices::dropped(b, t), t.gradient)
 }

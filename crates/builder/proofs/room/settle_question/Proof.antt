@@ -33,7 +33,7 @@ rows-known-requires c κs = (omega (arith, small c), c .before .before .before .
 
 returns-2 : tie.Need-returns-2
 unfolding settleQuestion ask rowsKnown
-returns-2 c = 
+returns-2 c =
     let d = c .before .before in
     rw (lt-ltb _ _ (d .if1 .left), flat d, no (c .before .rows-known .ensures) (c .if2 .taken))
 
@@ -42,14 +42,14 @@ rows-from-level-requires c κs = (omega (arith, small (c .before .before)), c .b
 
 returns-3 : tie.Need-returns-3
 unfolding settleQuestion ask rowsKnown
-returns-3 c = 
+returns-3 c =
     let e = c .before .before in
     let d = e .before .before in
     rw (lt-ltb _ _ (d .if1 .left), flat d, yes (e .before .rows-known .ensures) (e .if2 .left), no (c .before .rows-from-level .ensures) (c .if3 .taken))
 
 returns-4 : tie.Need-returns-4
 unfolding settleQuestion ask rowsKnown
-returns-4 c = 
+returns-4 c =
     let e = c .before .before in
     let d = e .before .before in
     rw (lt-ltb _ _ (d .if1 .left), flat d, yes (e .before .rows-known .ensures) (e .if2 .left), yes (c .before .rows-from-level .ensures) (c .if3 .left))

@@ -35,8 +35,13 @@ cut c =
     let from = c .before .vertices-below .result in
     let to = from + c .vertex-count .result in
     let e = total c in
-    rw (part from to (a .counts .now) (omega arith) (omega (arith, e, s .pre .counts-le)), part (6 * from) (6 * to) (a .neighbours .now) (omega arith) (omega (arith, e, s .pre .neighbours-le)),
-        part (6 * from) (6 * to) (a .angles .now) (omega arith) (omega (arith, e, s .pre .angles-le)), e, c .before .vertices-below .ensures) refl
+    rw (
+      part from to (a .counts .now) (omega arith) (omega (arith, e, s .pre .counts-le)),
+      part (6 * from) (6 * to) (a .neighbours .now) (omega arith) (omega (arith, e, s .pre .neighbours-le)),
+      part (6 * from) (6 * to) (a .angles .now) (omega arith) (omega (arith, e, s .pre .angles-le)),
+      e,
+      c .before .vertices-below .ensures,
+    ) refl
 
 cast-level : tie.Need-cast-level
 cast-level c = let s = c .before .before .before .before .before .before .before .before in omega (arith, s .pre .ready .top-le, s .pre .ready .level-le)
@@ -90,7 +95,7 @@ part-settle-rows-end-3 : tie.Need-part-settle-rows-end-3
 part-settle-rows-end-3 c = omega (arith, total (c .before .before), few (c .before .before), c .before .before .before .before .before .before .before .before .before .before .before .before .pre .angles-le)
 
 settle-rows-requires : tie.Need-settle-rows-requires
-settle-rows-requires c κs = 
+settle-rows-requires c κs =
     let s = c .before .before .before .before .before .before .before .before .before .before .before .before .before .before .before .before in
     let a = s .args in
     let l : Lists = record { store = a .store .now; rows = record { kinds = a .kinds .now; levels = a .levels .now; values = a .values .now } } in
