@@ -1,36 +1,34 @@
 -- Settle: its questions as the code puts them, what an accepted one may count on, and what it gives. Assumes nothing.
 use mathlib.Core.Path.{_≡_, refl, sym, ap, _∙_}
-use mathlib.Core.Bool.{Bool, true, false, cond, _&&_, _||_}
+use mathlib.Core.Bool.{Bool, true, false, cond, _&&_}
 use mathlib.Core.List.{List, [], _∷_, map}
-use Prim.Native.Nat.{ℕ, zero, suc, _+_, _*_, _≤_, _<_}
+use Prim.Native.Nat.{ℕ, zero, suc, _+_, _≤_}
 use native.Mathlib.Nat.{mul-le-mul}
 use native.Mathlib.Omega.{arith}
-use lib.Dec.{leb, ltb, lit<}
+use lib.Dec.{lit<}
 use lib.ListN.{length, getD, take, drop}
-use lib.Ieee.{Float, lt}
+use lib.Ieee.{Float}
 use borrow.Author.Tests.{ltb-true}
-use Rattle.ieee.proofs.Fields.{both-true}
-use Rattle.mesh.specs.Questions.{ask, first}
+use Rattle.mesh.specs.Questions.{first}
 use Rattle.mesh.specs.Lists.{allUpTo, every}
 use Rattle.mesh.specs.Levels.{vertexCount, per, verticesBelow}
-use Rattle.mesh.specs.Mesh.{Mesh, keepsRule, levelPart, meshHeld, meshesKeep}
+use Rattle.mesh.specs.Mesh.{Mesh, keepsRule, levelPart, meshesKeep}
 use Rattle.mesh.proofs.Laws.{below-le}
 use Rattle.mesh.proofs.Counting.{all-at}
 use Rattle.mesh.proofs.Kept.{held}
-use Rattle.grid.specs.declared.Grid.{Grid}
 use Rattle.rows.specs.declared.SlabResolution.{SlabResolution}
 use Rattle.rows.specs.declared.SlabResolution.the-variants.{Scalar, Mesh as MeshRow, Repulsive}
 use Rattle.rows.specs.Rows.{Rows, resolutionAt, Row, scalar, repulsive, mesh, rowWith}
 use Rattle.builder.specs.Gradient.{allRepulsive, gradient}
-use Rattle.builder.specs.Settling.{byGradient, verdict, verdictOf, verdicts, someSettle, largestFrom, notRepulsive, drops, settledSlice, fromLevel}
-use Rattle.builder.specs.Lists.{Lists, slab, slabs, storePlace, rowAt, rowsFrom, sliceAt, settledLists, rowsKnown}
-use Rattle.builder.specs.Calls.{SettleOut, builderQuestion, meshedRefusal, settleRefusal, settleAccepted}
-use Rattle.builder.specs.Steps.{Below, Ready, ReadyIn, partLinks, tallyFrom, start, rowsFromLevel, settleQuestion, dropsBy, droppedBy}
+use Rattle.builder.specs.Settling.{byGradient, verdict, verdictOf, verdicts, drops, settledSlice, fromLevel}
+use Rattle.builder.specs.Lists.{Lists, slab, storePlace, rowAt, rowsFrom, sliceAt, settledLists}
+use Rattle.builder.specs.Calls.{SettleOut, meshedRefusal, settleRefusal, settleAccepted}
+use Rattle.builder.specs.Steps.{Below, ReadyIn, partLinks, tallyFrom, start, rowsFromLevel, settleQuestion, dropsBy, droppedBy}
 use Rattle.builder.specs.declared.Builder.{Builder}
 use Rattle.builder.specs.declared.Settled.the-variants.{Accepted as Settles}
 use Rattle.builder.specs.declared.Tally.{Tally}
 use Rattle.builder.specs.declared.Verdict.the-variants.{Blocked}
-use Rattle.builder.proofs.Laws.{place, ask-yes, Asked, Roomy, Meshed}
+use Rattle.builder.proofs.Laws.{place, ask-yes, Meshed}
 use Rattle.builder.proofs.Slopes.{kept-below, gradient-links}
 use Rattle.builder.proofs.Changes.{tally-gradient, tally-settled, tally-clear}
 
@@ -72,6 +70,7 @@ by-lists c top l s (suc n) =
   where
     at-row : (s : ℕ) → fromLevel c (rowAt top l s) ≡ fromLevel c (rowWith (resolutionAt (l .rows) s) [])
     at-row s = any-energies c (resolutionAt (l .rows) s) (take (per (getD (l .rows .levels) s 0)) (drop (storePlace top s) (l .store)))
+
     moved : (i : ℕ) → fromLevel c (rowWith (resolutionAt (l .rows) (suc s + i)) []) ≡ fromLevel c (rowWith (resolutionAt (l .rows) (s + suc i)) [])
     moved i = let e : suc s + i ≡ s + suc i = omega arith in rw e refl
 
@@ -133,7 +132,7 @@ map-same f g (x ∷ l) h = rw (h x, map-same f g l h)
 
 pub given : (b : Builder) (ms : Mesh) (l : Lists) (ri : ℕ) (t : Tally) (rows : Rows)
     → (let f = verdictOf (b .grid .threshold) (b .grid .beta) (partLinks (b .level) (linksOf ms)) (vertexCount (b .level)) in
-      (t ≡ tallyFrom f (b .level) start (sliceAt b l ri)) × (rows ≡ settledLists (b .level) (l .rows) (slab (b .grid) ri 0) (map f (sliceAt b l ri))))
+    (t ≡ tallyFrom f (b .level) start (sliceAt b l ri)) × (rows ≡ settledLists (b .level) (l .rows) (slab (b .grid) ri 0) (map f (sliceAt b l ri))))
     → _≡_ {A = SettleOut} (record { answer = Settles (droppedBy b t) (t .gradient); lists = record { store = l .store; rows = rows } }) (settleAccepted b ms l ri)
 unfolding settleAccepted settledSlice droppedBy dropsBy drops verdicts
 given b ms l ri t rows h =

@@ -1,6 +1,5 @@
 -- `settle` meets its contract. Assumes nothing.
-use mathlib.Core.Path.{_≡_, sym, _∙_}
-use native.Mathlib.Omega.{arith}
+use mathlib.Core.Path.{sym, _∙_}
 use lib.ListN.{length}
 use borrow.Author.Tests.{eq-eqb, ne-eqb}
 use Rattle.mesh.specs.Questions.{first}
@@ -16,7 +15,7 @@ use Rattle.builder.proofs.settle.Tie as tie
 -- 1 to 7 were answered yes
 facts : (c : tie.Else1) → let a = c .before .before .before .before .before .before .before .before .before .before .args in
     Meshed (a .b) (record { vertices = a .vertices .now; counts = a .counts .now; neighbours = a .neighbours .now; angles = a .angles .now })
-      (length (a .store .now)) (length (a .kinds .now)) (length (a .levels .now)) (length (a .values .now))
+    (length (a .store .now)) (length (a .kinds .now)) (length (a .levels .now)) (length (a .values .now))
 facts c = meshed _ _ _ _ _ _ (sym (c .before .meshed-refusal .ensures) ∙ c .if1 .left)
 
 meshed-refusal-requires : tie.Need-meshed-refusal-requires
@@ -24,7 +23,7 @@ meshed-refusal-requires c κs = search needs
 
 returns : tie.Need-returns
 unfolding settleOut first meshedRefusal
-returns c = 
+returns c =
     let a = c .before .before .before .before .before .before .before .before .before .before .args in
     let m : Mesh = record { vertices = a .vertices .now; counts = a .counts .now; neighbours = a .neighbours .now; angles = a .angles .now } in
     let l : Lists = record { store = a .store .now; rows = record { kinds = a .kinds .now; levels = a .levels .now; values = a .values .now } } in
@@ -44,7 +43,7 @@ same-length-3 c = search needs
 
 returns-2 : tie.Need-returns-2
 unfolding settleOut first meshedRefusal
-returns-2 c = 
+returns-2 c =
     let a = c .before .before .before .before .before .before .before .before .before .before .before .before .before .before .before .args in
     let m : Mesh = record { vertices = a .vertices .now; counts = a .counts .now; neighbours = a .neighbours .now; angles = a .angles .now } in
     let l : Lists = record { store = a .store .now; rows = record { kinds = a .kinds .now; levels = a .levels .now; values = a .values .now } } in
@@ -52,7 +51,7 @@ returns-2 c =
     rw (← asked-as (a .b) m l (a .ri), ← d .before .meshed-refusal .ensures, eq-eqb _ _ (d .if1 .left), ← c .before .settle-question .ensures, ne-eqb _ _ (c .if2 .taken))
 
 settle-slice-requires : tie.Need-settle-slice-requires
-settle-slice-requires c κs = 
+settle-slice-requires c κs =
     let a = c .before .before .before .before .before .before .before .before .before .before .before .before .before .before .before .before .before .before .args in
     let m : Mesh = record { vertices = a .vertices .now; counts = a .counts .now; neighbours = a .neighbours .now; angles = a .angles .now } in
     let l : Lists = record { store = a .store .now; rows = record { kinds = a .kinds .now; levels = a .levels .now; values = a .values .now } } in
@@ -73,7 +72,7 @@ same-length-6 c = search needs
 
 returns-3 : tie.Need-returns-3
 unfolding settleOut first meshedRefusal
-returns-3 c = 
+returns-3 c =
     let a = c .before .before .before .before .before .before .before .before .before .before .before .before .before .before .before .before .before .before .before .before .before .before .before .before .before .before .args in
     let m : Mesh = record { vertices = a .vertices .now; counts = a .counts .now; neighbours = a .neighbours .now; angles = a .angles .now } in
     let l : Lists = record { store = a .store .now; rows = record { kinds = a .kinds .now; levels = a .levels .now; values = a .values .now } } in

@@ -1,15 +1,15 @@
 -- `settle_slice` meets its contract. Assumes nothing.
-use mathlib.Core.Path.{_≡_, refl, sym, subst, _∙_}
+use mathlib.Core.Path.{_≡_, refl, sym, subst}
 use mathlib.Core.List.{[]}
-use Prim.Native.Nat.{ℕ, suc, _+_, _*_, _-_, _≤_}
+use Prim.Native.Nat.{suc, _+_, _*_, _-_, _≤_}
 use native.Mathlib.Omega.{arith}
-use lib.ListN.{length, take, drop}
+use lib.ListN.{take, drop}
 use Rattle.mesh.specs.Levels.{verticesBelow}
 use Rattle.mesh.specs.Mesh.{Mesh, levelPart}
 use Rattle.mesh.proofs.Laws.{below-more, below-few}
 use Rattle.mesh.proofs.Written.{part}
 use Rattle.builder.specs.Lists.{Lists}
-use Rattle.builder.specs.Steps.{Ready, partLinks, settledRows}
+use Rattle.builder.specs.Steps.{Ready, partLinks}
 use borrow.Author.Needs.{needs}
 use Rattle.builder.proofs.slices.settle_slice.Statement.{statement}
 use Rattle.builder.proofs.slices.settle_slice.Tie as tie
