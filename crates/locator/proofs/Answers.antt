@@ -253,6 +253,17 @@ module _ (n g : ℕ) (m : Mesh) (l : Locator)
     rw (flat-joined n (facesOf m n)) (put-append (l .faces) (joined n (λ v. flat (facesOf m n v))) (behind .faces) faces-held),
   )
 
+  -- each list stays as long as it was
+  pub kept-sizes : (length (located n g m l .cellOffsets) ≡ length (l .cellOffsets)) × (length (located n g m l .cellVertices) ≡ length (l .cellVertices))
+      × (length (located n g m l .faceOffsets) ≡ length (l .faceOffsets)) × (length (located n g m l .faces) ≡ length (l .faces))
+  unfolding located
+  kept-sizes = (
+    length-put (l .cellOffsets) 0 (starts (cellCount g + 1) (cell (m .vertices) n g)) (omega (arith, ok .r1, length-starts (cellCount g + 1) (cell (m .vertices) n g))),
+    length-put (l .cellVertices) 0 (joined (cellCount g) (cell (m .vertices) n g)) (omega (arith, cells-held)),
+    length-put (l .faceOffsets) 0 (starts (n + 1) (facesOf m n)) (omega (arith, ok .r3, length-starts (n + 1) (facesOf m n))),
+    rw (flat-joined n (facesOf m n)) (length-put (l .faces) 0 (joined n (λ v. flat (facesOf m n v))) (omega (arith, faces-held))),
+  )
+
   pub face-inside : (v : ℕ) → v < n → entriesInside vertices n 3 (lists .faceOffsets) (lists .faces) v ≡ true
   face-inside v h =
       rw (whole-faces .0, whole-faces .1)

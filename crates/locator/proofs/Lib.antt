@@ -7,3 +7,4 @@ pub mod Graphs
 pub mod Accepted
 pub mod Entries
 pub mod Answers
+pub mod Laid
