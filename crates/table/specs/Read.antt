@@ -1,19 +1,19 @@
 -- Read, in stages over one walk of the sections: layout (13), grid (14), rows (15), tiling (16), energies (17). Definitions only.
 use mathlib.Core.Bool.{Bool, true, not, cond, _&&_}
 use mathlib.Core.List.{List, [], _∷_}
-use Prim.Native.Nat.{ℕ, _+_, _*_, _-_}
+use Prim.Native.Nat.{ℕ, _+_, _*_}
 use lib.ListN.{length}
 use lib.Dec.{leb, ltb, eqb}
 use lib.Ieee.{Float, binary32, binary64, ofBits, nanBits}
-use lib.Ieee.Scale.{finite}
 use Rattle.mesh.specs.Questions.{ask}
 use Rattle.mesh.specs.Lists.{allUpTo, every}
 use Rattle.mesh.specs.Levels.{vertexCount, per}
-use Rattle.grid.specs.Bins.{dihedralCount, tableRmax}
-use Rattle.grid.specs.Settings.{above, binsInRange, ownCount, slabsHeld}
+use Rattle.grid.specs.Bins.{tableRmax}
+use Rattle.grid.specs.Settings.{gridHeld}
 use Rattle.grid.specs.declared.Grid.{Grid}
 use Rattle.table.specs.Bytes.{numberOf, numberAt, items}
 use Rattle.table.specs.File.{Entry, entryOf}
+use Rattle.table.specs.declared.Layout.{Layout}
 use Rattle.table.specs.declared.Table.{Table}
 use Rattle.table.specs.declared.Read.{Read}
 use Rattle.table.specs.declared.Read.the-variants.{Accepted as Reads, Refused as NotRead}
@@ -35,14 +35,6 @@ readTable (Reads t) = t
 readTable (NotRead n) = noTable
 
 -- ---- 13, the layout
-
--- where each section begins, with its count, and where the last one ends
-pub record Layout : Type 0 where
-  pub bins : ℕ
-  pub levels : ℕ
-  pub rows : ℕ
-  pub energies : ℕ
-  pub end : ℕ
 
 -- the count of the section at a byte, and the byte after the section, its items w bytes each
 abbrev pub countAt : List ℕ → ℕ → ℕ
@@ -107,13 +99,8 @@ energyItems file t = items numberOf 4 file (t .«energies_start») (t .energies)
 
 -- ---- 14, grid and levels
 
--- "the range parts of 1 (rmin, dr, step), then 2 to 5, with 1 to 16 levels, the dihedral count the one that the step gives"
-unfoldable pub gridHeld : Grid → ℕ → Bool
-gridHeld g levels =
-    finite (g .rmin) && (above (g .dr) && (above (g .«omega_step»)
-    && (leb 1 levels && (leb levels 16
-    && (binsInRange (g .«n_r») (g .«n_omega») && (eqb (g .«n_omega») (dihedralCount (g .«omega_step»))
-    && (ownCount (g .«n_r») (g .dr) (g .rmin) && slabsHeld (g .«n_r») (g .«n_omega») (levels - 1))))))))
+-- the grid's part, and the levels'
+unfoldable pub use Rattle.grid.specs.Settings.{gridHeld}
 
 -- "the row count the product of the bin counts, and each vertex count its level's"
 unfoldable pub tableHeld : List ℕ → Table → Bool
