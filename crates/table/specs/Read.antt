@@ -9,17 +9,17 @@ use Rattle.mesh.specs.Questions.{ask}
 use Rattle.mesh.specs.Lists.{allUpTo, every}
 use Rattle.mesh.specs.Levels.{vertexCount, per}
 use Rattle.grid.specs.Bins.{tableRmax}
-use Rattle.grid.specs.Settings.{gridHeld}
+unfoldable pub use Rattle.grid.specs.Settings.{gridHeld}
 use Rattle.grid.specs.declared.Grid.{Grid}
 use Rattle.table.specs.Bytes.{numberOf, numberAt, items}
 use Rattle.table.specs.File.{Entry, entryOf}
 use Rattle.table.specs.declared.Layout.{Layout}
 use Rattle.table.specs.declared.Table.{Table}
-use Rattle.table.specs.declared.Read.{Read}
-use Rattle.table.specs.declared.Read.the-variants.{Accepted as Reads, Refused as NotRead}
+use Rattle.table.specs.declared.ReadAnswer.{ReadAnswer}
+use Rattle.table.specs.declared.ReadAnswer.the-variants.{Accepted as Reads, Refused as NotRead}
 
 -- 01's number and values for each case; the fields of a refused answer are 0
-abbrev pub readNumber : Read → ℕ
+abbrev pub readNumber : ReadAnswer → ℕ
 readNumber (Reads t) = 0
 readNumber (NotRead n) = n
 
@@ -30,7 +30,7 @@ abbrev noTable : Table
 noTable =
     record { grid = noGrid; levels = 0; rows = 0; energies = 0; «grid_start» = 0; «bins_start» = 0; «levels_start» = 0; «rows_start» = 0; «energies_start» = 0 }
 
-abbrev pub readTable : Read → Table
+abbrev pub readTable : ReadAnswer → Table
 readTable (Reads t) = t
 readTable (NotRead n) = noTable
 
@@ -99,9 +99,6 @@ energyItems file t = items numberOf 4 file (t .«energies_start») (t .energies)
 
 -- ---- 14, grid and levels
 
--- the grid's part, and the levels'
-unfoldable pub use Rattle.grid.specs.Settings.{gridHeld}
-
 -- "the row count the product of the bin counts, and each vertex count its level's"
 unfoldable pub tableHeld : List ℕ → Table → Bool
 tableHeld file t =
@@ -140,7 +137,7 @@ readRefusal file p t =
     (ask (tiled 0 (t .energies) (rowItems file t)) 16
     (ask (every (λ x. not (nanBits binary32 x)) (energyItems file t)) 17 0))))
 
-unfoldable pub readOut : List ℕ → Read
+unfoldable pub readOut : List ℕ → ReadAnswer
 readOut file =
     let p = layout file in
     let t = tableOf file p in

@@ -1,13 +1,15 @@
 -- Steps of the code. Definitions only.
 use mathlib.Core.Path.{_≡_}
-use mathlib.Core.Bool.{Bool, cond, _||_}
+use mathlib.Core.Bool.{Bool, not, cond, _||_}
 use mathlib.Core.List.{List}
 use Prim.Native.Nat.{ℕ, _+_, _*_, _≤_}
 use lib.ListN.{length}
 use lib.Dec.{leb, eqb}
+use lib.Ieee.{binary32, nanBits}
 use Rattle.mesh.specs.Questions.{ask}
+use Rattle.mesh.specs.Lists.{every}
 use Rattle.mesh.specs.Levels.{per}
-use Rattle.table.specs.Read.{countAt}
+use Rattle.table.specs.Read.{countAt, rowItems, energyItems, tableHeld, entryHeld, tiled}
 use Rattle.table.specs.declared.Layout.{Layout}
 use Rattle.table.specs.declared.Table.{Table}
 
@@ -25,9 +27,17 @@ pub record Inside (file : List ℕ) (t : Table) : Type 0 where
   pub rows : t .«rows_start» + t .rows * 10 ≤ length file
   pub energies : t .«energies_start» + t .energies * 4 ≤ length file
 
--- a row of a kind with an offset is at place o; and the place of the next such row
+-- 14 to 17, of a table whose sections are inside the file
+abbrev pub tableQuestion : List ℕ → Table → ℕ
+tableQuestion file t =
+    ask (tableHeld file t) 14
+    (ask (every (entryHeld (t .levels)) (rowItems file t)) 15
+    (ask (tiled 0 (t .energies) (rowItems file t)) 16
+    (ask (every (λ x. not (nanBits binary32 x)) (energyItems file t)) 17 0)))
+
+-- a row has no energies, or they start at place o; and where those of the next row start
 abbrev pub placedAt : ℕ → ℕ → ℕ → Bool
 placedAt kind offset o = leb kind 1 || eqb offset o
 
-abbrev pub nextPlace : ℕ → ℕ → ℕ → ℕ
-nextPlace kind level o = cond (leb kind 1) o (o + per level)
+abbrev pub nextPlace : ℕ → ℕ → ℕ → ℕ → ℕ
+nextPlace kind level offset o = cond (leb kind 1) o (offset + per level)

@@ -1,17 +1,13 @@
 // The table file.
-ghost use mathlib.Core.Path.{_≡_};
-ghost use Rattle.table.specs.Read.{readOut};
 use grid::Grid;
-use layout::laid_out;
-use layout::sections;
-use layout::table_of;
-use questions::table_question;
 
 mod bytes;
-mod layout;
 mod questions;
+mod reader;
+mod walk;
 
 pub use bytes::u32_at;
+pub use reader::read;
 
 // What write answers: the length of the file.
 pub enum Written {
@@ -42,23 +38,7 @@ pub struct Table {
 }
 
 // What read answers.
-pub enum Read {
+pub enum ReadAnswer {
     Accepted(Table),
     Refused(u64),
-}
-
-// Reads a file: the questions 13 to 17, each put to the whole file before the next.
-pub fn read(file: &[u8]) -> Read
-    ensures { λ r. ⌜ r ≡ readOut (now (file .entry)) ⌝ }
-{
-    let p = sections(file);
-    if !laid_out(file, p) {
-        return Read::Refused(13);
-    }
-    let t = table_of(file, p);
-    let no = table_question(file, t);
-    if no != 0 {
-        return Read::Refused(no);
-    }
-    Read::Accepted(t)
 }
