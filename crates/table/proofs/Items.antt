@@ -79,7 +79,6 @@ module _ (n : ℕ) (rs : List Entry) (f o : ℕ) (v : ℕ) where
   goes false false h e = absurd (let z : _≡_ {A = ℕ} 0 1 = ap (λ (t : Bool). cond t 1 0) e in omega arith)
 
 module _ (file : List ℕ) (e o at n : ℕ) (l : 0 < n) where
-
   pub tiled-stop : placedAt (getD file at 0) (numberAt 4 file (at + 2)) o ≡ false → tiled o e (items entryOf 10 file at n) ≡ false
   unfolding tiled
   tiled-stop h = rw (items-cons entryOf 10 file at n l, entry-at file at) (stops (leb (getD file at 0) 1) (eqb (numberAt 4 file (at + 2)) o) _ _ h)

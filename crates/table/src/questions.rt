@@ -11,8 +11,8 @@ ghost use Rattle.table.specs.Bytes.{numberOf, numberAt, items};
 ghost use Rattle.table.specs.File.{entryOf};
 ghost use Rattle.table.specs.Read.{tableHeld, scalarHeld, entryHeld, tiled};
 ghost use Rattle.table.specs.Steps.{Inside, tableQuestion, placedAt, nextPlace};
-use crate::bytes::u32_in;
 use crate::Table;
+use crate::bytes::u32_in;
 
 // Each vertex count is its level's.
 fn levels_held(file: &[u8], start: u64, levels: u64) -> bool

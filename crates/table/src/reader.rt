@@ -1,11 +1,11 @@
 // Read: the walk, then its questions in their order.
 ghost use mathlib.Core.Path.{_≡_};
 ghost use Rattle.table.specs.Read.{readOut};
+use crate::ReadAnswer;
 use crate::questions::table_question;
 use crate::walk::laid_out;
 use crate::walk::sections;
 use crate::walk::table_of;
-use crate::ReadAnswer;
 
 // Reads a file: the questions 13 to 17, each put to the whole file before the next.
 pub fn read(file: &[u8]) -> ReadAnswer

@@ -4,11 +4,11 @@ ghost use Prim.Native.Nat.{_+_, _*_, _≤_};
 ghost use lib.ListN.{length};
 ghost use Rattle.table.specs.Read.{past, layout, laidOut, f64At, gridOf, tableOf};
 ghost use Rattle.table.specs.Steps.{Placed};
+use crate::Layout;
+use crate::Table;
 use crate::bytes::u32_at;
 use crate::bytes::u32_in;
 use crate::bytes::u64_in;
-use crate::Layout;
-use crate::Table;
 use grid::Grid;
 
 // The byte after the section at a byte, its items w bytes each.

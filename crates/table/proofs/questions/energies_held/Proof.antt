@@ -1,51 +1,60 @@
+-- `energies_held` meets its contract. Assumes nothing.
+use borrow.Author.Needs.{needs}
+use Rattle.table.proofs.Items.{every-stop, every-next, every-end}
+use Rattle.table.specs.Bytes.{numberOf, numberAt, items}
+use Rattle.mesh.specs.Lists.{every}
+use lib.Ieee.{binary32, nanBits}
+use lib.ListN.{length}
+use Prim.Native.Nat.{_+_, _*_, _≤_}
+use mathlib.Core.Bool.{not}
+use mathlib.Core.Path.{_≡_, refl, sym, ap, _∙_}
+use native.Mathlib.Omega.{arith}
 use Rattle.table.proofs.questions.energies_held.Statement.{statement}
 use Rattle.table.proofs.questions.energies_held.Tie as tie
-use Rattle.table.proofs.questions.energies_held.Reads as reads
-use Rattle.table.proofs.questions.energies_held.Lts as lts
-use Rattle.table.proofs.bytes.u32_in.Reads as u32-in-reads
-use Rattle.table.proofs.questions.nan_bits.Reads as nan-bits-reads
 
 abbrev Inv-loop : tie.InvT-loop
-Inv-loop file start energies at₀ left₀ at left = ?
+Inv-loop file start energies at₀ left₀ at left = (at + left * 4 ≤ length file) × (every (λ x. not (nanBits binary32 x)) (items numberOf 4 file at left) ≡ every (λ x. not (nanBits binary32 x)) (items numberOf 4 file start energies))
 
 abbrev μ-loop : tie.MeasureT-loop
-μ-loop file start energies at₀ left₀ at left = ?
+μ-loop file start energies at₀ left₀ at left = left
 
--- src/questions.rt:159:5
 loop-holds : tie.Need-loop-holds Inv-loop μ-loop
-loop-holds c = ?
+loop-holds c = (c .before .pre, refl)
 
--- src/questions.rt:160:21
 u32-in-requires : tie.Need-u32-in-requires Inv-loop μ-loop
-u32-in-requires c κs = ?
+u32-in-requires c κs = omega arith
 
--- src/questions.rt:160:12
 nan-bits-requires : tie.Need-nan-bits-requires Inv-loop μ-loop
-nan-bits-requires c κs = ?
+nan-bits-requires c κs = search needs
 
--- src/questions.rt:161:13
 returns : tie.Need-returns Inv-loop μ-loop
-returns c = ?
+unfolding numberAt
+returns c =
+    let l = c .before .before .before .before in
+    let a = l .before .before .args in
+    sym (every-stop numberOf 4 (a .file .now) (λ x. not (nanBits binary32 x)) (l .loop .at) (l .loop .left) (omega arith) (ap not (sym (c .before .nan-bits .ensures ∙ ap (nanBits binary32) (c .before .before .u32-in .ensures)) ∙ c .if1 .taken))) ∙ l .loop .inv .1
 
--- src/questions.rt:163:9
 add-at : tie.Need-add-at Inv-loop μ-loop
-add-at c = ?
+add-at c = omega arith
 
--- src/questions.rt:164:9
 sub-left : tie.Need-sub-left Inv-loop μ-loop
-sub-left c = ?
+sub-left c = omega arith
 
--- src/questions.rt:159:5
 loop-less : tie.Need-loop-less Inv-loop μ-loop
-loop-less c = ?
+loop-less c = omega arith
 
--- src/questions.rt:159:5
 loop-again : tie.Need-loop-again Inv-loop μ-loop
-loop-again c = ?
+unfolding numberAt
+loop-again c =
+    let l = c .before .before .before .before in
+    let a = l .before .before .args in
+    (omega arith, sym (every-next numberOf 4 (a .file .now) (λ x. not (nanBits binary32 x)) (l .loop .at) (l .loop .left) (omega arith) (ap not (sym (c .before .nan-bits .ensures ∙ ap (nanBits binary32) (c .before .before .u32-in .ensures)) ∙ c .if1 .left))) ∙ l .loop .inv .1)
 
--- src/questions.rt:153:1
 returns-2 : tie.Need-returns-2 Inv-loop μ-loop
-returns-2 c = ?
+returns-2 c =
+    let l = c .before in
+    let a = l .before .before .args in
+    sym (every-end numberOf 4 (a .file .now) (λ x. not (nanBits binary32 x)) (l .loop .at) (l .loop .left) (omega arith)) ∙ l .loop .inv .1
 
 pub energies-held-spec : {M : Type 1} → statement M
 energies-held-spec =

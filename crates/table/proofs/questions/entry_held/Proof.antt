@@ -1,25 +1,24 @@
+-- `entry_held` meets its contract. Assumes nothing.
+use Rattle.table.specs.Read.{entryHeld}
+use borrow.Author.Tests.{eq-eqb, ne-eqb}
 use borrow.Author.Needs.{needs}
 use Rattle.table.proofs.questions.entry_held.Statement.{statement}
 use Rattle.table.proofs.questions.entry_held.Tie as tie
-use Rattle.table.proofs.questions.entry_held.Reads as reads
-use Rattle.table.proofs.questions.entry_held.Lts as lts
-use Rattle.table.proofs.questions.scalar_held.Reads as scalar-held-reads
 
--- src/questions.rt:73:58
 scalar-held-requires : tie.Need-scalar-held-requires
 scalar-held-requires c κs = search needs
 
--- src/questions.rt:73:9
 returns : tie.Need-returns
-returns c = ?
+unfolding entryHeld
+returns c = rw (eq-eqb _ _ (c .before .if1 .taken), c .scalar-held .ensures)
 
--- src/questions.rt:76:9
 returns-2 : tie.Need-returns-2
-returns-2 c = ?
+unfolding entryHeld
+returns-2 c = rw (ne-eqb _ _ (c .before .if1 .left), eq-eqb _ _ (c .if2 .taken))
 
--- src/questions.rt:69:1
 returns-3 : tie.Need-returns-3
-returns-3 c = ?
+unfolding entryHeld
+returns-3 c = rw (ne-eqb _ _ (c .before .if1 .left), ne-eqb _ _ (c .if2 .left))
 
 pub entry-held-spec : {M : Type 1} → statement M
 entry-held-spec = tie.close (tie.spec scalar-held-requires returns returns-2 returns-3)

@@ -1,63 +1,69 @@
+-- `levels_held` meets its contract. Assumes nothing.
+use borrow.Author.Needs.{needs}
+use Rattle.table.specs.Bytes.{numberAt}
+use Rattle.mesh.proofs.Counting.{all-turn, all-fails}
+use Rattle.mesh.specs.Levels.{vertexCount}
+use Rattle.mesh.specs.Lists.{allUpTo}
+use borrow.Author.Tests.{eq-eqb, ne-eqb}
+use lib.Dec.{eqb}
+use lib.ListN.{length}
+use Prim.Native.Nat.{_+_, _-_, _*_, _≤_}
+use mathlib.Core.Bool.{true}
+use mathlib.Core.Path.{_≡_, refl, sym, _∙_}
+use native.Mathlib.Omega.{arith}
 use Rattle.table.proofs.questions.levels_held.Statement.{statement}
 use Rattle.table.proofs.questions.levels_held.Tie as tie
-use Rattle.table.proofs.questions.levels_held.Reads as reads
-use Rattle.table.proofs.questions.levels_held.Lts as lts
-use Rattle.mesh.proofs.vertex_count.Reads as vertex-count-reads
-use Rattle.table.proofs.bytes.u32_in.Reads as u32-in-reads
 
 abbrev Inv-loop : tie.InvT-loop
-Inv-loop file start levels m₀ m = ?
+Inv-loop file start levels m₀ m = (m ≤ levels) × (allUpTo m (λ k. eqb (numberAt 4 file (start + 4 * k)) (vertexCount k)) ≡ true)
 
 abbrev μ-loop : tie.MeasureT-loop
-μ-loop file start levels m₀ m = ?
+μ-loop file start levels m₀ m = levels - m
 
--- src/questions.rt:23:5
 loop-holds : tie.Need-loop-holds Inv-loop μ-loop
-loop-holds c = ?
+unfolding allUpTo
+loop-holds c = (omega arith, refl)
 
--- src/questions.rt:24:33
 mul-u32-in : tie.Need-mul-u32-in Inv-loop μ-loop
-mul-u32-in c = ?
+mul-u32-in c = omega arith
 
--- src/questions.rt:24:25
 add-u32-in : tie.Need-add-u32-in Inv-loop μ-loop
-add-u32-in c = ?
+add-u32-in c = omega arith
 
--- src/questions.rt:24:12
 u32-in-requires : tie.Need-u32-in-requires Inv-loop μ-loop
-u32-in-requires c κs = ?
+u32-in-requires c κs = omega arith
 
--- src/questions.rt:24:12
 cast-if1 : tie.Need-cast-if1 Inv-loop μ-loop
-cast-if1 c = ?
+cast-if1 c = search needs
 
--- src/questions.rt:24:69
 cast-vertex-count : tie.Need-cast-vertex-count Inv-loop μ-loop
-cast-vertex-count c = ?
+cast-vertex-count c = omega arith
 
--- src/questions.rt:24:50
 vertex-count-requires : tie.Need-vertex-count-requires Inv-loop μ-loop
-vertex-count-requires c κs = ?
+vertex-count-requires c κs = search needs
 
--- src/questions.rt:25:13
 returns : tie.Need-returns Inv-loop μ-loop
-returns c = ?
+returns c =
+    let l = c .before .before .before .before in
+    let a = l .before .before .args in
+    sym (all-fails (λ k. eqb (numberAt 4 (a .file .now) (a .start + 4 * k)) (vertexCount k)) (l .loop .m) (a .levels) (omega arith) (ne-eqb _ _ (λ e. c .if1 .taken (c .before .before .u32-in .ensures ∙ e ∙ sym (c .before .vertex-count .ensures)))))
 
--- src/questions.rt:27:9
 add-m : tie.Need-add-m Inv-loop μ-loop
-add-m c = ?
+add-m c = omega arith
 
--- src/questions.rt:23:5
 loop-less : tie.Need-loop-less Inv-loop μ-loop
-loop-less c = ?
+loop-less c = omega arith
 
--- src/questions.rt:23:5
 loop-again : tie.Need-loop-again Inv-loop μ-loop
-loop-again c = ?
+loop-again c =
+    let l = c .before .before .before .before in
+    let a = l .before .before .args in
+    (omega arith, all-turn (λ k. eqb (numberAt 4 (a .file .now) (a .start + 4 * k)) (vertexCount k)) (l .loop .m) (l .loop .inv .1) (eq-eqb _ _ (sym (c .before .before .u32-in .ensures) ∙ c .if1 .left ∙ c .before .vertex-count .ensures)))
 
--- src/questions.rt:18:1
 returns-2 : tie.Need-returns-2 Inv-loop μ-loop
-returns-2 c = ?
+returns-2 c =
+    let l = c .before in
+    let full : l .loop .m ≡ l .before .before .args .levels = omega arith in sym (rw full at (l .loop .inv .1))
 
 pub levels-held-spec : {M : Type 1} → statement M
 levels-held-spec =

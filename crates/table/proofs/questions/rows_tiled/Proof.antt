@@ -1,72 +1,74 @@
+-- `rows_tiled` meets its contract. Assumes nothing.
+use borrow.Author.Needs.{needs}
+use Rattle.table.proofs.Items.{tiled-stop, tiled-next, tiled-end}
+use Rattle.table.specs.Read.{tiled}
+use Rattle.table.specs.File.{entryOf}
+use Rattle.table.specs.Bytes.{items}
+use Rattle.mesh.proofs.Counting.{yes, no}
+use lib.ListN.{length}
+use Prim.Native.Nat.{_+_, _*_, _≤_}
+use mathlib.Core.Path.{_≡_, refl, sym, _∙_}
+use native.Mathlib.Omega.{arith}
 use Rattle.table.proofs.questions.rows_tiled.Statement.{statement}
 use Rattle.table.proofs.questions.rows_tiled.Tie as tie
-use Rattle.table.proofs.questions.rows_tiled.Reads as reads
-use Rattle.table.proofs.questions.rows_tiled.Lts as lts
-use Rattle.table.proofs.bytes.u32_in.Reads as u32-in-reads
-use Rattle.table.proofs.questions.next_place.Reads as next-place-reads
-use Rattle.table.proofs.questions.placed.Reads as placed-reads
 
 abbrev Inv-loop : tie.InvT-loop
-Inv-loop file start rows energies at₀ left₀ o₀ at left o = ?
+Inv-loop file start rows energies at₀ left₀ o₀ at left o = (at + left * 10 ≤ length file) × (o ≤ 433794318339) × (tiled o energies (items entryOf 10 file at left) ≡ tiled 0 energies (items entryOf 10 file start rows))
 
 abbrev μ-loop : tie.MeasureT-loop
-μ-loop file start rows energies at₀ left₀ o₀ at left o = ?
+μ-loop file start rows energies at₀ left₀ o₀ at left o = left
 
--- src/questions.rt:137:5
 loop-holds : tie.Need-loop-holds Inv-loop μ-loop
-loop-holds c = ?
+loop-holds c = (c .before .pre, omega arith, refl)
 
--- src/questions.rt:139:20
 shared-slice-read-kind : tie.Need-shared-slice-read-kind Inv-loop μ-loop
-shared-slice-read-kind c = ?
+shared-slice-read-kind c = omega arith
 
--- src/questions.rt:140:26
 add-level : tie.Need-add-level Inv-loop μ-loop
-add-level c = ?
+add-level c = omega arith
 
--- src/questions.rt:140:21
 shared-slice-read-level : tie.Need-shared-slice-read-level Inv-loop μ-loop
-shared-slice-read-level c = ?
+shared-slice-read-level c = omega arith
 
--- src/questions.rt:141:35
 add-u32-in : tie.Need-add-u32-in Inv-loop μ-loop
-add-u32-in c = ?
+add-u32-in c = omega arith
 
--- src/questions.rt:141:13
 u32-in-requires : tie.Need-u32-in-requires Inv-loop μ-loop
-u32-in-requires c κs = ?
+u32-in-requires c κs = omega arith
 
--- src/questions.rt:142:13
 placed-requires : tie.Need-placed-requires Inv-loop μ-loop
-placed-requires c κs = ?
+placed-requires c κs = search needs
 
--- src/questions.rt:143:13
 returns : tie.Need-returns Inv-loop μ-loop
-returns c = ?
+returns c =
+    let l = c .before .before .before .before .before .before in
+    let a = l .before .before .args in
+    sym (tiled-stop (a .file .now) (a .energies) (l .loop .o) (l .loop .at) (l .loop .left) (omega arith) (no (c .before .placed .ensures ∙ rw (c .before .before .u32-in .ensures)) (c .if1 .taken))) ∙ l .loop .inv .2
 
--- src/questions.rt:145:9
 next-place-requires : tie.Need-next-place-requires Inv-loop μ-loop
-next-place-requires c κs = ?
+next-place-requires c κs = c .before .before .before .before .before .before .loop .inv .1
 
--- src/questions.rt:146:9
 add-at : tie.Need-add-at Inv-loop μ-loop
-add-at c = ?
+add-at c = omega arith
 
--- src/questions.rt:147:9
 sub-left : tie.Need-sub-left Inv-loop μ-loop
-sub-left c = ?
+sub-left c = omega arith
 
--- src/questions.rt:137:5
 loop-less : tie.Need-loop-less Inv-loop μ-loop
-loop-less c = ?
+loop-less c = omega arith
 
--- src/questions.rt:137:5
 loop-again : tie.Need-loop-again Inv-loop μ-loop
-loop-again c = ?
+loop-again c =
+    let l = c .before .before .before .before .before .before .before in
+    let a = l .before .before .args in
+    let e = c .before .before .before .u32-in .ensures in
+    (omega arith, c .next-place .ensures .1, rw (c .next-place .ensures .0, e) (sym (tiled-next (a .file .now) (a .energies) (l .loop .o) (l .loop .at) (l .loop .left) (omega arith) (yes (c .before .before .placed .ensures ∙ rw e) (c .before .if1 .left))) ∙ l .loop .inv .2))
 
--- src/questions.rt:130:1
 returns-2 : tie.Need-returns-2 Inv-loop μ-loop
-returns-2 c = ?
+returns-2 c =
+    let l = c .before in
+    let a = l .before .before .args in
+    sym (tiled-end (a .file .now) (a .energies) (l .loop .o) (l .loop .at) (l .loop .left) (omega arith)) ∙ l .loop .inv .2
 
 pub rows-tiled-spec : {M : Type 1} → statement M
 rows-tiled-spec =
