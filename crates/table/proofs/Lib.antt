@@ -2,3 +2,4 @@
 pub mod Numbers
 pub mod Items
 pub mod Accepted
+pub mod Puts

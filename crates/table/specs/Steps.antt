@@ -1,14 +1,18 @@
 -- Steps of the code. Definitions only.
 use mathlib.Core.Path.{_≡_}
 use mathlib.Core.Bool.{Bool, not, cond, _||_}
-use mathlib.Core.List.{List}
-use Prim.Native.Nat.{ℕ, _+_, _*_, _≤_}
-use lib.ListN.{length}
+use mathlib.Core.List.{List, [], _∷_, _++_, map}
+use Prim.Native.Nat.{ℕ, zero, suc, _+_, _*_, _≤_}
+use lib.ListN.{length, take, drop}
 use lib.Dec.{leb, eqb}
-use lib.Ieee.{binary32, nanBits}
+use lib.Ieee.{Float, binary32, nanBits}
 use Rattle.mesh.specs.Questions.{ask}
 use Rattle.mesh.specs.Lists.{every}
 use Rattle.mesh.specs.Levels.{per}
+use Rattle.rows.specs.declared.SlabResolution.{SlabResolution}
+use Rattle.rows.specs.declared.SlabResolution.the-variants.{Scalar, Mesh, Repulsive}
+use Rattle.rows.specs.Rows.{Rows, kindOf, levelOf, valueOf, resolutionAt, narrowBits}
+use Rattle.table.specs.File.{Entry}
 use Rattle.table.specs.Read.{countAt, rowItems, energyItems, tableHeld, entryHeld, tiled}
 use Rattle.table.specs.declared.Layout.{Layout}
 use Rattle.table.specs.declared.Table.{Table}
@@ -41,3 +45,42 @@ placedAt kind offset o = leb kind 1 || eqb offset o
 
 abbrev pub nextPlace : ℕ → ℕ → ℕ → ℕ → ℕ
 nextPlace kind level offset o = cond (leb kind 1) o (offset + per level)
+
+-- ---- write: rows as the code reads them, without their energies
+
+-- how many energies a row holds, and its row in the file, its energies being at place o
+abbrev pub heldBy : SlabResolution → ℕ
+heldBy (Scalar x) = 0
+heldBy (Mesh v b) = per v
+heldBy Repulsive = 0
+
+abbrev pub offsetOf : ℕ → SlabResolution → ℕ
+offsetOf o (Scalar x) = 0xFFFF_FFFF
+offsetOf o (Mesh v b) = o
+offsetOf o Repulsive = 0xFFFF_FFFF
+
+abbrev pub entryFor : ℕ → SlabResolution → Entry
+entryFor o x = record { kind = kindOf x; level = levelOf x; offset = offsetOf o x; scalar = valueOf x }
+
+-- n rows from slab s on
+unfoldable pub resolutions : Rows → ℕ → ℕ → List SlabResolution
+resolutions r s zero = []
+resolutions r s (suc n) = resolutionAt r s ∷ resolutions r (suc s) n
+
+unfoldable pub entriesFor : ℕ → List SlabResolution → List Entry
+entriesFor o [] = []
+entriesFor o (x ∷ xs) = entryFor o x ∷ entriesFor (o + heldBy x) xs
+
+unfoldable pub total : List SlabResolution → ℕ
+total [] = 0
+total (x ∷ xs) = heldBy x + total xs
+
+-- the energies of rows whose slabs are z places apart in the store, from place p on
+unfoldable pub energiesFor : ℕ → List Float → ℕ → List SlabResolution → List ℕ
+energiesFor z store p [] = []
+energiesFor z store p (x ∷ xs) = map narrowBits (take (heldBy x) (drop p store)) ++ energiesFor z store (p + z) xs
+
+-- no row holds more than z energies
+pub Bounded : ℕ → List SlabResolution → Type 0
+Bounded z [] = Unit
+Bounded z (x ∷ xs) = (heldBy x ≤ z) × Bounded z xs

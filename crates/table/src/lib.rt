@@ -4,7 +4,9 @@ use grid::Grid;
 mod bytes;
 mod questions;
 mod reader;
+mod sections;
 mod walk;
+mod writer;
 
 pub use bytes::u32_at;
 pub use reader::read;

@@ -1,0 +1,1 @@
+// Write: its questions, then the file.
