@@ -3,3 +3,4 @@ pub mod Numbers
 pub mod Items
 pub mod Accepted
 pub mod Puts
+pub mod Filed

@@ -81,6 +81,6 @@ energiesFor z store p [] = []
 energiesFor z store p (x ∷ xs) = map narrowBits (take (heldBy x) (drop p store)) ++ energiesFor z store (p + z) xs
 
 -- no row holds more than z energies
-pub Bounded : ℕ → List SlabResolution → Type 0
+unfoldable pub Bounded : ℕ → List SlabResolution → Type 0
 Bounded z [] = Unit
 Bounded z (x ∷ xs) = (heldBy x ≤ z) × Bounded z xs

@@ -1,30 +1,37 @@
+-- `put_levels` meets its contract. Assumes nothing.
+use Rattle.table.proofs.Filed.{below-length}
+use Rattle.table.proofs.Puts.{puts, bytes-length}
+use Rattle.table.specs.Bytes.{bytesOf, packed, section}
+use Rattle.mesh.specs.Levels.{vertexCount}
+use Rattle.mesh.specs.Lists.{below}
+use lib.ListN.{length, length-map}
+use mathlib.Core.List.{map}
+use mathlib.Core.Path.{_≡_, _∙_}
+use native.Mathlib.Omega.{arith}
 use borrow.Author.Needs.{needs}
 use Rattle.table.proofs.sections.put_levels.Statement.{statement}
 use Rattle.table.proofs.sections.put_levels.Tie as tie
-use Rattle.table.proofs.sections.put_levels.Reads as reads
-use Rattle.table.proofs.sections.put_levels.Lts as lts
-use Rattle.table.proofs.bytes.put_u32.Reads as put-u32-reads
-use Rattle.table.proofs.sections.put_vertex_counts.Reads as put-vertex-counts-reads
 
--- src/sections.rt:51:22
 cast-put-u32 : tie.Need-cast-put-u32
 cast-put-u32 c = search needs
 
--- src/sections.rt:51:5
 put-u32-requires : tie.Need-put-u32-requires
 put-u32-requires c κs = search needs
 
--- src/sections.rt:52:5
 put-vertex-counts-requires : tie.Need-put-vertex-counts-requires
 put-vertex-counts-requires c κs = search needs
 
--- src/sections.rt:47:1
 same-length : tie.Need-same-length
 same-length c = search needs
 
--- src/sections.rt:47:1
 returns : tie.Need-returns
-returns c = ?
+unfolding section
+returns c =
+    let s = c .before .before .before .before .before .before .before .before .before in
+    let n = s .args .levels in
+    let e : length (map vertexCount (below n)) ≡ n = length-map (below n) vertexCount ∙ below-length n in
+    rw (c .before .before .put-vertex-counts .ensures, c .before .before .before .before .before .before .put-u32 .ensures, e)
+    (puts (s .args .out .now) 40 (bytesOf 4 n) (packed (bytesOf 4) (map vertexCount (below n))) 44 (omega (arith, bytes-length 4 n)) (omega arith))
 
 pub put-levels-spec : {M : Type 1} → statement M
 put-levels-spec =
