@@ -13,6 +13,8 @@ mod room;
 mod settling;
 mod slices;
 
+pub use room::meshed_refusal;
+
 // The settings, the top level and the current one.
 pub struct Builder {
     pub grid: Grid,

@@ -100,7 +100,7 @@ pub(crate) fn set_refusal(
 }
 
 // Questions 1 to 7 of a call that the meshes are lent to.
-pub(crate) fn meshed_refusal(
+pub fn meshed_refusal(
     b: Builder,
     store: u64,
     kinds: u64,

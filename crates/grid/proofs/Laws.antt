@@ -5,12 +5,13 @@ use Prim.Native.Nat.{ℕ, _+_, _*_, _≤_, _<_}
 use native.Mathlib.Nat.{mul-le-mul}
 use native.Mathlib.Omega.{arith}
 use lib.Dec.{leb, eqb}
+use lib.Ieee.Scale.{finite}
 use borrow.Author.Tests.{leb-true, not-true, not-false}
 use Rattle.ieee.proofs.Fields.{both-true}
 use Rattle.mesh.specs.Levels.{per}
 use Rattle.mesh.proofs.Laws.{per-le}
 use Rattle.grid.specs.Bins.{distanceCount, dihedralCount}
-use Rattle.grid.specs.Settings.{levelsHeld, binsInRange, countsHeld}
+use Rattle.grid.specs.Settings.{above, levelsHeld, binsInRange, countsHeld, ownCount, gridRange}
 use Rattle.grid.specs.declared.Grid.{Grid}
 
 -- a question was asked, with the answer r, and the branch on `!r` was passed by; or taken
@@ -38,3 +39,20 @@ top-le top level h = leb-true top 15 (both-true (leb top 15) (leb level top) h .
 -- the energies that slabs hold at the top level
 pub energies-le : (n m top : ℕ) → n ≤ 65535 → m ≤ 65535 → top ≤ 15 → n * m * per top ≤ 65535 * 65535 * (2562 * 2562)
 energies-le n m top h k l = mul-le-mul (mul-le-mul h k) (per-le top 16 (omega arith))
+
+-- what the sizes of a table are, once 14 is answered yes but for the slabs
+pub record Ranged (g : Grid) (levels : ℕ) : Type 0 where
+  pub some : 1 ≤ levels
+  pub few : levels ≤ 16
+  pub distances : g .«n_r» ≤ 65535
+  pub dihedrals : g .«n_omega» ≤ 65535
+
+pub ranged : (g : Grid) (levels : ℕ) → gridRange g levels ≡ true → Ranged g levels
+ranged g levels h =
+    let a = both-true (finite (g .rmin)) _ h .1 in
+    let b = both-true (above (g .dr)) _ a .1 in
+    let d = both-true (above (g .«omega_step»)) _ b .1 in
+    let e = both-true (leb 1 levels) _ d in
+    let f = both-true (leb levels 16) _ (e .1) in
+    let n = bins-le (g .«n_r») (g .«n_omega») (both-true (binsInRange (g .«n_r») (g .«n_omega»)) _ (f .1) .0) in
+    record { some = leb-true 1 levels (e .0); few = leb-true levels 16 (f .0); distances = n .0; dihedrals = n .1 }

@@ -1,5 +1,5 @@
 -- The questions 1 to 5 of document 01, each as a test of the settings, and in their order. Definitions only.
-use Prim.Native.Nat.{ℕ, _*_}
+use Prim.Native.Nat.{ℕ, _*_, _-_}
 use mathlib.Core.Bool.{Bool, not, _&&_}
 use lib.Dec.{leb, eqb}
 use lib.Ieee.{Float, binary64, ofBits, lt}
@@ -68,3 +68,13 @@ counted g = record {
 unfoldable pub freshQuestion : Grid → ℕ → ℕ
 unfolding question counted
 freshQuestion g top = question (counted g) top top
+
+-- 14, of a table's grid and level count: "the range parts of 1 (rmin, dr, step), then 2 to 5, with 1 to 16 levels, the dihedral count the one that the step gives"; before 5, and with it
+abbrev pub gridRange : Grid → ℕ → Bool
+gridRange g levels =
+    finite (g .rmin) && (above (g .dr) && (above (g .«omega_step»)
+    && (leb 1 levels && (leb levels 16
+    && (binsInRange (g .«n_r») (g .«n_omega») && (eqb (g .«n_omega») (dihedralCount (g .«omega_step»)) && ownCount (g .«n_r») (g .dr) (g .rmin)))))))
+
+unfoldable pub gridHeld : Grid → ℕ → Bool
+gridHeld g levels = gridRange g levels && slabsHeld (g .«n_r») (g .«n_omega») (levels - 1)

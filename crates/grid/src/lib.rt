@@ -2,7 +2,7 @@
 ghost use mathlib.Core.Path.{_≡_};
 ghost use Prim.Native.Nat.{_≤_};
 ghost use Rattle.grid.specs.Bins.{nearestBin, distanceCount, dihedralCount, tableRmax, distanceBin, dihedralBin};
-ghost use Rattle.grid.specs.Settings.{above, inRange, levelsHeld, binsInRange, countsHeld, ownCount, slabsHeld, question, counted, freshQuestion};
+ghost use Rattle.grid.specs.Settings.{above, inRange, levelsHeld, binsInRange, countsHeld, ownCount, slabsHeld, question, counted, freshQuestion, gridRange, gridHeld};
 
 // The settings beside the bin counts that they give. In a table that was read, rmax is the table's own.
 pub struct Grid {
@@ -184,4 +184,34 @@ pub fn fresh_question(g: Grid, top: u64) -> u64
     ensures { λ r. ⌜ r ≡ freshQuestion g top ⌝ }
 {
     question(counted(g), top, top)
+}
+
+// Question 14 of a table's grid and level count, but for the slabs.
+fn grid_range(g: Grid, levels: u64) -> bool
+    ensures { λ r. ⌜ r ≡ gridRange g levels ⌝ }
+{
+    let rmin = g.rmin;
+    let dr = g.dr;
+    let step = g.omega_step;
+    let n_r = g.n_r;
+    let n_omega = g.n_omega;
+    ieee::is_finite(rmin)
+        & (positive(dr)
+            & (positive(step)
+                & ((1 <= levels)
+                    & ((levels <= 16)
+                        & (bins_in_range(n_r, n_omega)
+                            & ((n_omega == dihedral_count(step)) & own_count(n_r, dr, rmin)))))))
+}
+
+// Question 14 of a table's grid and level count.
+pub fn grid_held(g: Grid, levels: u64) -> bool
+    ensures { λ r. ⌜ r ≡ gridHeld g levels ⌝ }
+{
+    let n_r = g.n_r;
+    let n_omega = g.n_omega;
+    if !grid_range(g, levels) {
+        return false;
+    }
+    slabs_held(n_r, n_omega, levels - 1)
 }

@@ -1,25 +1,25 @@
 -- Read, in stages over one walk of the sections: layout (13), grid (14), rows (15), tiling (16), energies (17). Definitions only.
 use mathlib.Core.Bool.{Bool, true, not, cond, _&&_}
 use mathlib.Core.List.{List, [], _∷_}
-use Prim.Native.Nat.{ℕ, _+_, _*_, _-_}
+use Prim.Native.Nat.{ℕ, _+_, _*_}
 use lib.ListN.{length}
 use lib.Dec.{leb, ltb, eqb}
 use lib.Ieee.{Float, binary32, binary64, ofBits, nanBits}
-use lib.Ieee.Scale.{finite}
 use Rattle.mesh.specs.Questions.{ask}
 use Rattle.mesh.specs.Lists.{allUpTo, every}
 use Rattle.mesh.specs.Levels.{vertexCount, per}
-use Rattle.grid.specs.Bins.{dihedralCount, tableRmax}
-use Rattle.grid.specs.Settings.{above, binsInRange, ownCount, slabsHeld}
+use Rattle.grid.specs.Bins.{tableRmax}
+unfoldable pub use Rattle.grid.specs.Settings.{gridHeld}
 use Rattle.grid.specs.declared.Grid.{Grid}
 use Rattle.table.specs.Bytes.{numberOf, numberAt, items}
 use Rattle.table.specs.File.{Entry, entryOf}
+use Rattle.table.specs.declared.Layout.{Layout}
 use Rattle.table.specs.declared.Table.{Table}
-use Rattle.table.specs.declared.Read.{Read}
-use Rattle.table.specs.declared.Read.the-variants.{Accepted as Reads, Refused as NotRead}
+use Rattle.table.specs.declared.ReadAnswer.{ReadAnswer}
+use Rattle.table.specs.declared.ReadAnswer.the-variants.{Accepted as Reads, Refused as NotRead}
 
 -- 01's number and values for each case; the fields of a refused answer are 0
-abbrev pub readNumber : Read → ℕ
+abbrev pub readNumber : ReadAnswer → ℕ
 readNumber (Reads t) = 0
 readNumber (NotRead n) = n
 
@@ -30,19 +30,11 @@ abbrev noTable : Table
 noTable =
     record { grid = noGrid; levels = 0; rows = 0; energies = 0; «grid_start» = 0; «bins_start» = 0; «levels_start» = 0; «rows_start» = 0; «energies_start» = 0 }
 
-abbrev pub readTable : Read → Table
+abbrev pub readTable : ReadAnswer → Table
 readTable (Reads t) = t
 readTable (NotRead n) = noTable
 
 -- ---- 13, the layout
-
--- where each section begins, with its count, and where the last one ends
-pub record Layout : Type 0 where
-  pub bins : ℕ
-  pub levels : ℕ
-  pub rows : ℕ
-  pub energies : ℕ
-  pub end : ℕ
 
 -- the count of the section at a byte, and the byte after the section, its items w bytes each
 abbrev pub countAt : List ℕ → ℕ → ℕ
@@ -107,14 +99,6 @@ energyItems file t = items numberOf 4 file (t .«energies_start») (t .energies)
 
 -- ---- 14, grid and levels
 
--- "the range parts of 1 (rmin, dr, step), then 2 to 5, with 1 to 16 levels, the dihedral count the one that the step gives"
-unfoldable pub gridHeld : Grid → ℕ → Bool
-gridHeld g levels =
-    finite (g .rmin) && (above (g .dr) && (above (g .«omega_step»)
-    && (leb 1 levels && (leb levels 16
-    && (binsInRange (g .«n_r») (g .«n_omega») && (eqb (g .«n_omega») (dihedralCount (g .«omega_step»))
-    && (ownCount (g .«n_r») (g .dr) (g .rmin) && slabsHeld (g .«n_r») (g .«n_omega») (levels - 1))))))))
-
 -- "the row count the product of the bin counts, and each vertex count its level's"
 unfoldable pub tableHeld : List ℕ → Table → Bool
 tableHeld file t =
@@ -153,7 +137,7 @@ readRefusal file p t =
     (ask (tiled 0 (t .energies) (rowItems file t)) 16
     (ask (every (λ x. not (nanBits binary32 x)) (energyItems file t)) 17 0))))
 
-unfoldable pub readOut : List ℕ → Read
+unfoldable pub readOut : List ℕ → ReadAnswer
 readOut file =
     let p = layout file in
     let t = tableOf file p in

@@ -1,10 +1,30 @@
 // The table file.
 use grid::Grid;
 
+mod bytes;
+mod questions;
+mod reader;
+mod sections;
+mod walk;
+mod writer;
+
+pub use bytes::u32_at;
+pub use reader::read;
+pub use writer::write;
+
 // What write answers: the length of the file.
 pub enum Written {
     Accepted(u64),
     Refused(u64),
+}
+
+// Where each section after the first begins, with its count, and where the last one ends.
+pub struct Layout {
+    pub bins: u64,
+    pub levels: u64,
+    pub rows: u64,
+    pub energies: u64,
+    pub end: u64,
 }
 
 // What a file holds: its grid, the counts of levels, rows and energies, and where each section starts, at the byte after its count.
@@ -21,7 +41,7 @@ pub struct Table {
 }
 
 // What read answers.
-pub enum Read {
+pub enum ReadAnswer {
     Accepted(Table),
     Refused(u64),
 }

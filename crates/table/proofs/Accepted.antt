@@ -1,0 +1,64 @@
+-- What the questions of read, answered yes, say of the file; and read's outcome by the answers. Assumes nothing.
+use mathlib.Core.Path.{_≡_, sym, _∙_}
+use mathlib.Core.Bool.{Bool, true, false, _&&_}
+use mathlib.Core.List.{List}
+use Prim.Native.Nat.{ℕ, _+_, _*_, _-_, _≤_}
+use native.Mathlib.Omega.{arith}
+use lib.ListN.{length}
+use lib.Dec.{eqb}
+use borrow.Author.Tests.{eqb-true, eq-eqb, ne-eqb}
+use Rattle.ieee.proofs.Fields.{both-true}
+use Rattle.mesh.specs.Questions.{ask}
+use Rattle.grid.specs.Settings.{gridRange, gridHeld, slabsHeld}
+use Rattle.grid.specs.declared.Grid.{Grid}
+use Rattle.grid.proofs.Laws.{Ranged, ranged}
+use Rattle.table.specs.Read.{countAt, layout, laidOut, tableOf, readRefusal, readOut}
+use Rattle.table.specs.Steps.{Placed, Inside, tableQuestion}
+use Rattle.table.specs.declared.Layout.{Layout}
+use Rattle.table.specs.declared.ReadAnswer.the-variants.{Accepted as Reads, Refused as NotRead}
+
+by-layout : (file : List ℕ) → laidOut file (layout file) ≡ true → Placed file (layout file)
+unfolding laidOut layout
+by-layout file h =
+    let p = layout file in
+    let a = both-true (eqb (countAt file 0) 3) _ h in
+    let b = both-true (eqb (countAt file (p .bins)) 2) _ (a .1) in
+    let three = eqb-true (countAt file 0) 3 (a .0) in
+    let two = eqb-true (countAt file (p .bins)) 2 (b .0) in
+    let last = eqb-true (p .end) (length file) (b .1) in
+    record { bins = omega (arith, three); levels = omega (arith, three, two); rows = omega arith; energies = omega arith; end = sym last }
+
+pub laid : (file : List ℕ) (p : Layout) → p ≡ layout file → laidOut file p ≡ true → Placed file p
+laid file p e h = rw e (by-layout file (rw e at h))
+
+pub inside : (file : List ℕ) (p : Layout) → Placed file p → Inside file (tableOf file p)
+unfolding tableOf
+inside file p h = record {
+  levels = omega (arith, h .rows, h .energies, h .end);
+  rows = omega (arith, h .energies, h .end);
+  energies = omega (arith, h .end);
+}
+
+pub held-ranged : (g : Grid) (levels : ℕ) → gridHeld g levels ≡ true → Ranged g levels
+unfolding gridHeld
+held-ranged g levels h = ranged g levels (both-true (gridRange g levels) (slabsHeld (g .«n_r») (g .«n_omega») (levels - 1)) h .0)
+
+-- ---- the outcome
+
+module _ (file : List ℕ) where
+  pub read-unlaid : laidOut file (layout file) ≡ false → readOut file ≡ NotRead 13
+  unfolding readOut readRefusal ask
+  read-unlaid h = rw h
+
+  module _ (h : laidOut file (layout file) ≡ true) (n : ℕ) (e : n ≡ tableQuestion file (tableOf file (layout file))) where
+    asked : readRefusal file (layout file) (tableOf file (layout file)) ≡ n
+    unfolding readRefusal ask
+    asked = rw h (sym e)
+
+    pub read-refused : (n ≡ 0 → ⊥) → readOut file ≡ NotRead n
+    unfolding readOut
+    read-refused z = rw (asked, ne-eqb n 0 z)
+
+    pub read-accepted : n ≡ 0 → readOut file ≡ Reads (tableOf file (layout file))
+    unfolding readOut
+    read-accepted z = rw (asked, eq-eqb n 0 z)

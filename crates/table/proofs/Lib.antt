@@ -1,0 +1,8 @@
+-- Laws that belong to no one function.
+pub mod Numbers
+pub mod Items
+pub mod Accepted
+pub mod Puts
+pub mod Filed
+pub mod Whole
+pub mod Outcome

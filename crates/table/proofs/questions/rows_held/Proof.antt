@@ -1,0 +1,67 @@
+-- `rows_held` meets its contract. Assumes nothing.
+use Rattle.table.proofs.Items.{every-stop, every-next, every-end}
+use Rattle.table.specs.Read.{entryHeld}
+use Rattle.table.specs.File.{entryOf}
+use Rattle.table.specs.Bytes.{items}
+use Rattle.mesh.proofs.Counting.{yes, no}
+use Rattle.mesh.specs.Lists.{every}
+use lib.ListN.{length}
+use Prim.Native.Nat.{_+_, _*_, _≤_}
+use mathlib.Core.Path.{_≡_, refl, sym, _∙_}
+use native.Mathlib.Omega.{arith}
+use Rattle.table.proofs.questions.rows_held.Statement.{statement}
+use Rattle.table.proofs.questions.rows_held.Tie as tie
+
+abbrev Inv-loop : tie.InvT-loop
+Inv-loop file start rows levels at₀ left₀ at left = (at + left * 10 ≤ length file) × (every (entryHeld levels) (items entryOf 10 file at left) ≡ every (entryHeld levels) (items entryOf 10 file start rows))
+
+abbrev μ-loop : tie.MeasureT-loop
+μ-loop file start rows levels at₀ left₀ at left = left
+
+loop-holds : tie.Need-loop-holds Inv-loop μ-loop
+loop-holds c = (c .before .pre, refl)
+
+row-held-requires : tie.Need-row-held-requires Inv-loop μ-loop
+row-held-requires c κs = omega arith
+
+returns : tie.Need-returns Inv-loop μ-loop
+returns c =
+    let l = c .before .before .before in
+    let a = l .before .before .args in
+    sym (every-stop entryOf 10 (a .file .now) (entryHeld (a .levels)) (l .loop .at) (l .loop .left) (omega arith) (no (c .before .row-held .ensures) (c .if1 .taken))) ∙ l .loop .inv .1
+
+add-at : tie.Need-add-at Inv-loop μ-loop
+add-at c = omega arith
+
+sub-left : tie.Need-sub-left Inv-loop μ-loop
+sub-left c = omega arith
+
+loop-less : tie.Need-loop-less Inv-loop μ-loop
+loop-less c = omega arith
+
+loop-again : tie.Need-loop-again Inv-loop μ-loop
+loop-again c =
+    let l = c .before .before .before in
+    let a = l .before .before .args in
+    (omega arith, sym (every-next entryOf 10 (a .file .now) (entryHeld (a .levels)) (l .loop .at) (l .loop .left) (omega arith) (yes (c .before .row-held .ensures) (c .if1 .left))) ∙ l .loop .inv .1)
+
+returns-2 : tie.Need-returns-2 Inv-loop μ-loop
+returns-2 c =
+    let l = c .before in
+    let a = l .before .before .args in
+    sym (every-end entryOf 10 (a .file .now) (entryHeld (a .levels)) (l .loop .at) (l .loop .left) (omega arith)) ∙ l .loop .inv .1
+
+pub rows-held-spec : {M : Type 1} → statement M
+rows-held-spec =
+    tie.close
+    (tie.spec
+    Inv-loop
+    μ-loop
+    loop-holds
+    row-held-requires
+    returns
+    add-at
+    sub-left
+    loop-less
+    loop-again
+    returns-2)

@@ -1,0 +1,58 @@
+-- `read` meets its contract. Assumes nothing.
+use Rattle.table.proofs.Accepted.{laid, inside, read-unlaid, read-refused, read-accepted}
+use Rattle.table.specs.Steps.{Placed, tableQuestion}
+use Rattle.table.specs.Read.{layout, laidOut, tableOf}
+use Rattle.mesh.proofs.Counting.{yes, no}
+use mathlib.Core.Bool.{true}
+use mathlib.Core.Path.{_≡_, sym}
+use borrow.Author.Needs.{needs}
+use Rattle.table.proofs.reader.read.Statement.{statement}
+use Rattle.table.proofs.reader.read.Tie as tie
+
+answered : (c : tie.Else1) → laidOut (c .before .before .before .before .args .file .now) (layout (c .before .before .before .before .args .file .now)) ≡ true
+answered c = rw (← c .before .before .sections .ensures) (yes (c .before .laid-out .ensures) (c .if1 .left))
+
+placed : (c : tie.Else1) → Placed (c .before .before .before .before .args .file .now) (c .before .before .sections .result)
+placed c = laid _ _ (c .before .before .sections .ensures) (yes (c .before .laid-out .ensures) (c .if1 .left))
+
+asked : (c : tie.After-table-question) → c .table-question .result ≡ tableQuestion (c .before .before .before .before .before .before .args .file .now) (tableOf (c .before .before .before .before .before .before .args .file .now) (layout (c .before .before .before .before .before .before .args .file .now)))
+asked c = rw (← c .before .before .before .before .sections .ensures, ← c .before .table-of .ensures) (c .table-question .ensures)
+
+sections-requires : tie.Need-sections-requires
+sections-requires c κs = search needs
+
+laid-out-requires : tie.Need-laid-out-requires
+laid-out-requires c κs = search needs
+
+returns : tie.Need-returns
+returns c =
+    let f = c .before .before .before .before .args .file .now in
+    sym (read-unlaid f (rw (← c .before .before .sections .ensures) (no (c .before .laid-out .ensures) (c .if1 .taken))))
+
+table-of-requires : tie.Need-table-of-requires
+table-of-requires c κs = placed c
+
+table-question-requires : tie.Need-table-question-requires
+table-question-requires c κs = rw (c .table-of .ensures) (inside _ _ (placed (c .before)))
+
+returns-2 : tie.Need-returns-2
+returns-2 c =
+    let f = c .before .before .before .before .before .before .before .args .file .now in
+    sym (read-refused f (answered (c .before .before .before)) (c .before .table-question .result) (asked (c .before)) (c .if2 .taken))
+
+returns-3 : tie.Need-returns-3
+returns-3 c =
+    let f = c .before .before .before .before .before .before .before .args .file .now in
+    rw (c .before .before .table-of .ensures, c .before .before .before .before .before .sections .ensures) (sym (read-accepted f (answered (c .before .before .before)) (c .before .table-question .result) (asked (c .before)) (c .if2 .left)))
+
+pub read-spec : {M : Type 1} → statement M
+read-spec =
+    tie.close
+    (tie.spec
+    sections-requires
+    laid-out-requires
+    returns
+    table-of-requires
+    table-question-requires
+    returns-2
+    returns-3)

@@ -1,0 +1,92 @@
+// Little-endian numbers in a file.
+ghost use mathlib.Core.Path.{_≡_};
+ghost use Prim.Native.Nat.{_+_, _≤_, _<_};
+ghost use lib.ListN.{length};
+ghost use lib.Ieee.{binary64, toBits};
+ghost use Rattle.mesh.specs.Lists.{put};
+ghost use Rattle.table.specs.Bytes.{bytesOf, numberAt};
+
+// Four bytes that are inside the file: no place is questioned.
+pub(crate) fn u32_in(file: &[u8], at: u64) -> u32
+    requires { ⌜ at + 4 ≤ length (now file) ⌝ }
+    ensures { λ r. ⌜ r ≡ numberAt 4 (now (file .entry)) at ⌝ }
+{
+    let i = at as usize;
+    let a = file[i] as u32;
+    let b = file[i + 1] as u32;
+    let c = file[i + 2] as u32;
+    let d = file[i + 3] as u32;
+    ((d * 256 + c) * 256 + b) * 256 + a
+}
+
+// Eight bytes that are inside the file.
+pub(crate) fn u64_in(file: &[u8], at: u64) -> u64
+    requires { ⌜ at + 8 ≤ length (now file) ⌝ }
+    ensures { λ r. ⌜ r ≡ numberAt 8 (now (file .entry)) at ⌝ }
+{
+    let low = u32_in(file, at) as u64;
+    let high = u32_in(file, at + 4) as u64;
+    high * 4294967296 + low
+}
+
+// The last bytes of the file, fewer than four.
+fn u32_rest(file: &[u8], at: u64) -> u32
+    requires { ⌜ (at < length (now file)) × (length (now file) < at + 4) ⌝ }
+    ensures { λ r. ⌜ r ≡ numberAt 4 (now (file .entry)) at ⌝ }
+{
+    let i = at as usize;
+    let left = file.len() - i;
+    let a = file[i] as u32;
+    if left == 1 {
+        return a;
+    }
+    let b = file[i + 1] as u32;
+    if left == 2 {
+        return b * 256 + a;
+    }
+    let c = file[i + 2] as u32;
+    (c * 256 + b) * 256 + a
+}
+
+// Four bytes of any place; those beyond the end count as 0.
+pub fn u32_at(file: &[u8], at: u64) -> u32
+    ensures { λ r. ⌜ r ≡ numberAt 4 (now (file .entry)) at ⌝ }
+{
+    let n = file.len() as u64;
+    if n <= at {
+        return 0;
+    }
+    if 4 <= n - at {
+        return u32_in(file, at);
+    }
+    u32_rest(file, at)
+}
+
+pub(crate) fn put_u32(out: &mut [u8], at: u64, x: u32)
+    requires { ⌜ at + 4 ≤ length (now out) ⌝ }
+    ensures { λ _. ⌜ now (out .exit) ≡ put (now (out .entry)) at (bytesOf 4 x) ⌝ }
+{
+    let i = at as usize;
+    let a = x / 256;
+    let b = a / 256;
+    let c = b / 256;
+    out[i] = (x % 256) as u8;
+    out[i + 1] = (a % 256) as u8;
+    out[i + 2] = (b % 256) as u8;
+    out[i + 3] = (c % 256) as u8;
+}
+
+fn put_u64(out: &mut [u8], at: u64, x: u64)
+    requires { ⌜ at + 8 ≤ length (now out) ⌝ }
+    ensures { λ _. ⌜ now (out .exit) ≡ put (now (out .entry)) at (bytesOf 8 x) ⌝ }
+{
+    put_u32(out, at, (x % 4294967296) as u32);
+    put_u32(out, at + 4, (x / 4294967296) as u32);
+}
+
+pub(crate) fn put_f64(out: &mut [u8], at: u64, x: f64)
+    requires { ⌜ at + 8 ≤ length (now out) ⌝ }
+    ensures { λ _. ⌜ now (out .exit) ≡ put (now (out .entry)) at (bytesOf 8 (toBits binary64 x)) ⌝ }
+{
+    put_u64(out, at, bits::bits64(x));
+}

@@ -1,0 +1,192 @@
+// The questions 14 to 17 that read puts to a file, each one loop over a section.
+ghost use mathlib.Core.Path.{_≡_};
+ghost use mathlib.Core.Bool.{not};
+ghost use Prim.Native.Nat.{_+_, _*_, _≤_};
+ghost use lib.ListN.{length, take, drop};
+ghost use lib.Dec.{eqb};
+ghost use lib.Ieee.{binary32, nanBits};
+ghost use Rattle.mesh.specs.Lists.{allUpTo, every};
+ghost use Rattle.mesh.specs.Levels.{vertexCount};
+ghost use Rattle.table.specs.Bytes.{numberOf, numberAt, items};
+ghost use Rattle.table.specs.File.{entryOf};
+ghost use Rattle.table.specs.Read.{tableHeld, scalarHeld, entryHeld, tiled};
+ghost use Rattle.table.specs.Steps.{Inside, tableQuestion, placedAt, nextPlace};
+use crate::Table;
+use crate::bytes::u32_in;
+
+// Each vertex count is its level's.
+fn levels_held(file: &[u8], start: u64, levels: u64) -> bool
+    requires { ⌜ (start + levels * 4 ≤ length (now file)) × (levels ≤ 16) ⌝ }
+    ensures { λ r. ⌜ r ≡ allUpTo levels (λ m. eqb (numberAt 4 (now (file .entry)) (start + 4 * m)) (vertexCount m)) ⌝ }
+{
+    let mut m: u64 = 0;
+    while m < levels {
+        if u32_in(file, start + 4 * m) as u64 != mesh::vertex_count(m as u8) {
+            return false;
+        }
+        m += 1;
+    }
+    true
+}
+
+// Question 14.
+fn table_held(file: &[u8], t: Table) -> bool
+    requires { ⌜ t .«levels_start» + t .levels * 4 ≤ length (now file) ⌝ }
+    ensures { λ r. ⌜ r ≡ tableHeld (now (file .entry)) t ⌝ }
+{
+    let g = t.grid;
+    let n_r = t.grid.n_r;
+    let n_omega = t.grid.n_omega;
+    let levels = t.levels;
+    let rows = t.rows;
+    let start = t.levels_start;
+    if !grid::grid_held(g, levels) {
+        return false;
+    }
+    if rows != n_r * n_omega {
+        return false;
+    }
+    levels_held(file, start, levels)
+}
+
+// The bits of a NaN: above those of infinity, apart from the sign.
+fn nan_bits(x: u32) -> bool
+    ensures { λ r. ⌜ r ≡ nanBits binary32 x ⌝ }
+{
+    x % 0x8000_0000 > 0x7f80_0000
+}
+
+fn scalar_held(x: u32) -> bool
+    ensures { λ r. ⌜ r ≡ scalarHeld x ⌝ }
+{
+    if nan_bits(x) {
+        return x == 0x7fc0_0000;
+    }
+    true
+}
+
+// Question 15, of the four numbers of a row.
+fn entry_held(n: u64, kind: u8, level: u8, offset: u32, scalar: u32) -> bool
+    ensures { λ r. ⌜ r ≡ entryHeld n (record { kind = kind; level = level; offset = offset; scalar = scalar }) ⌝ }
+{
+    if kind == 0 {
+        return (level == 0) & ((offset == 0xffff_ffff) & scalar_held(scalar));
+    }
+    if kind == 1 {
+        return (level == 0) & ((offset == 0xffff_ffff) & (scalar == 0));
+    }
+    (kind <= 3) & (((level as u64) < n) & (scalar == 0))
+}
+
+// Question 15, of the row at a byte.
+fn row_held(file: &[u8], at: u64, n: u64) -> bool
+    requires { ⌜ at + 10 ≤ length (now file) ⌝ }
+    ensures { λ r. ⌜ r ≡ entryHeld n (entryOf (take 10 (drop at (now (file .entry))))) ⌝ }
+{
+    let i = at as usize;
+    let kind = file[i];
+    let level = file[i + 1];
+    let offset = u32_in(file, at + 2);
+    let scalar = u32_in(file, at + 6);
+    entry_held(n, kind, level, offset, scalar)
+}
+
+// Question 15.
+fn rows_held(file: &[u8], start: u64, rows: u64, levels: u64) -> bool
+    requires { ⌜ start + rows * 10 ≤ length (now file) ⌝ }
+    ensures { λ r. ⌜ r ≡ every (entryHeld levels) (items entryOf 10 (now (file .entry)) start rows) ⌝ }
+{
+    let mut at = start;
+    let mut left = rows;
+    while 0 < left {
+        if !row_held(file, at, levels) {
+            return false;
+        }
+        at += 10;
+        left -= 1;
+    }
+    true
+}
+
+// A row has no energies, or they start at place o.
+fn placed(kind: u8, offset: u32, o: u64) -> bool
+    ensures { λ r. ⌜ r ≡ placedAt kind offset o ⌝ }
+{
+    (kind <= 1) | (offset as u64 == o)
+}
+
+// Where the energies of the next row start. From the offset, which is the place, since an offset is known to be small.
+fn next_place(kind: u8, level: u8, offset: u32, o: u64) -> u64
+    requires { ⌜ o ≤ 433794318339 ⌝ }
+    ensures { λ r. ⌜ (r ≡ nextPlace kind level offset o) × (r ≤ 433794318339) ⌝ }
+{
+    if kind <= 1 {
+        return o;
+    }
+    offset as u64 + mesh::per_level(level)
+}
+
+// Question 16.
+fn rows_tiled(file: &[u8], start: u64, rows: u64, energies: u64) -> bool
+    requires { ⌜ start + rows * 10 ≤ length (now file) ⌝ }
+    ensures { λ r. ⌜ r ≡ tiled 0 energies (items entryOf 10 (now (file .entry)) start rows) ⌝ }
+{
+    let mut at = start;
+    let mut left = rows;
+    let mut o: u64 = 0;
+    while 0 < left {
+        let i = at as usize;
+        let kind = file[i];
+        let level = file[i + 1];
+        let offset = u32_in(file, at + 2);
+        if !placed(kind, offset, o) {
+            return false;
+        }
+        o = next_place(kind, level, offset, o);
+        at += 10;
+        left -= 1;
+    }
+    o == energies
+}
+
+// Question 17.
+fn energies_held(file: &[u8], start: u64, energies: u64) -> bool
+    requires { ⌜ start + energies * 4 ≤ length (now file) ⌝ }
+    ensures { λ r. ⌜ r ≡ every (λ x. not (nanBits binary32 x)) (items numberOf 4 (now (file .entry)) start energies) ⌝ }
+{
+    let mut at = start;
+    let mut left = energies;
+    while 0 < left {
+        if nan_bits(u32_in(file, at)) {
+            return false;
+        }
+        at += 4;
+        left -= 1;
+    }
+    true
+}
+
+// Questions 14 to 17: the number of the first one that is answered no, or 0.
+pub(crate) fn table_question(file: &[u8], t: Table) -> u64
+    requires { ⌜ Inside (now file) t ⌝ }
+    ensures { λ r. ⌜ r ≡ tableQuestion (now (file .entry)) t ⌝ }
+{
+    let rows = t.rows;
+    let levels = t.levels;
+    let energies = t.energies;
+    let rows_start = t.rows_start;
+    let energies_start = t.energies_start;
+    if !table_held(file, t) {
+        return 14;
+    }
+    if !rows_held(file, rows_start, rows, levels) {
+        return 15;
+    }
+    if !rows_tiled(file, rows_start, rows, energies) {
+        return 16;
+    }
+    if !energies_held(file, energies_start, energies) {
+        return 17;
+    }
+    0
+}

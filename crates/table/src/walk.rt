@@ -1,0 +1,96 @@
+// The walk over the sections of a file, and question 13.
+ghost use mathlib.Core.Path.{_≡_};
+ghost use Prim.Native.Nat.{_+_, _*_, _≤_};
+ghost use lib.ListN.{length};
+ghost use Rattle.table.specs.Read.{past, layout, laidOut, f64At, gridOf, tableOf};
+ghost use Rattle.table.specs.Steps.{Placed};
+use crate::Layout;
+use crate::Table;
+use crate::bytes::u32_at;
+use crate::bytes::u32_in;
+use crate::bytes::u64_in;
+use grid::Grid;
+
+// The byte after the section at a byte, its items w bytes each.
+fn past(file: &[u8], at: u64, w: u64) -> u64
+    requires { ⌜ (at ≤ 1099511627776) × (w ≤ 10) ⌝ }
+    ensures { λ r. ⌜ (r ≡ past (now (file .entry)) at w) × (r ≤ at + 4 + 42949672950) ⌝ }
+{
+    let n = u32_at(file, at) as u64;
+    at + 4 + n * w
+}
+
+pub(crate) fn sections(file: &[u8]) -> Layout
+    ensures { λ r. ⌜ r ≡ layout (now (file .entry)) ⌝ }
+{
+    let bins = past(file, 0, 8);
+    let levels = past(file, bins, 4);
+    let rows = past(file, levels, 4);
+    let energies = past(file, rows, 10);
+    Layout {
+        bins,
+        levels,
+        rows,
+        energies,
+        end: past(file, energies, 4),
+    }
+}
+
+// Question 13.
+pub(crate) fn laid_out(file: &[u8], p: Layout) -> bool
+    ensures { λ r. ⌜ r ≡ laidOut (now (file .entry)) p ⌝ }
+{
+    let bins = p.bins;
+    let end = p.end;
+    (u32_at(file, 0) == 3) & ((u32_at(file, bins) == 2) & (end == file.len() as u64))
+}
+
+fn f64_in(file: &[u8], at: u64) -> f64
+    requires { ⌜ at + 8 ≤ length (now file) ⌝ }
+    ensures { λ r. ⌜ r ≡ f64At (now (file .entry)) at ⌝ }
+{
+    bits::float64(u64_in(file, at))
+}
+
+// The grid that a file holds. It has neither threshold nor beta.
+fn grid_of(file: &[u8], p: Layout) -> Grid
+    requires { ⌜ Placed (now file) p ⌝ }
+    ensures { λ r. ⌜ r ≡ gridOf (now (file .entry)) p ⌝ }
+{
+    let bins = p.bins;
+    let rmin = f64_in(file, 4);
+    let dr = f64_in(file, 12);
+    let n_r = u32_in(file, bins + 4) as u64;
+    Grid {
+        rmin,
+        rmax: grid::table_rmax(n_r, dr, rmin),
+        dr,
+        omega_step: f64_in(file, 20),
+        threshold: 0.0,
+        beta: 0.0,
+        n_r,
+        n_omega: u32_in(file, bins + 8) as u64,
+    }
+}
+
+pub(crate) fn table_of(file: &[u8], p: Layout) -> Table
+    requires { ⌜ Placed (now file) p ⌝ }
+    ensures { λ r. ⌜ r ≡ tableOf (now (file .entry)) p ⌝ }
+{
+    let bins = p.bins;
+    let levels = p.levels;
+    let rows = p.rows;
+    let energies = p.energies;
+    let grid = grid_of(file, p);
+    Table {
+        grid,
+        levels: u32_in(file, levels) as u64,
+        rows: u32_in(file, rows) as u64,
+        energies: u32_in(file, energies) as u64,
+        grid_start: 4,
+        bins_start: bins + 4,
+        levels_start: levels + 4,
+        rows_start: rows + 4,
+        energies_start: energies + 4,
+    }
+}
