@@ -18,6 +18,7 @@ pub use several::meshes_keep;
 pub use several::meshes_room;
 
 // The vertices of a face, ascending.
+#[repr(C)]
 pub struct Face {
     pub a: u64,
     pub b: u64,

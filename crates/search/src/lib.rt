@@ -19,6 +19,7 @@ pub use geometry::unit;
 pub use triangle::projected_barycentric;
 
 // A point, or a direction. (The Rust takes nalgebra's vector of this name.)
+#[repr(C)]
 pub struct Vector3 {
     pub x: f64,
     pub y: f64,
@@ -40,6 +41,7 @@ pub struct Projected {
 }
 
 // Barycentric weights of a face's vertices.
+#[repr(C)]
 pub struct Weights {
     pub a: f64,
     pub b: f64,
@@ -47,6 +49,7 @@ pub struct Weights {
 }
 
 // The nearest vertex of a cell and the square of its distance: number 0; or 19 or 20, and then nothing else counts.
+#[repr(C)]
 pub struct Nearest {
     pub number: u64,
     pub vertex: u64,
@@ -54,6 +57,7 @@ pub struct Nearest {
 }
 
 // The face that fits a direction best, and the direction's weights in it: number 0; or 19 or 20.
+#[repr(C)]
 pub struct Located {
     pub number: u64,
     pub face: Face,

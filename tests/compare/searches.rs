@@ -1,0 +1,371 @@
+// Compares the search and the locator call of the static library with those of the Rust, on one input after another, and
+// ends at the first difference with its input. Any NaN is equal to any other. The Rust panics where a cell is empty; there the answer is to be 20.
+mod meshes;
+#[allow(dead_code, clippy::all)]
+mod oracle {
+    include!(concat!(env!("COMPARE"), "/oracle.rs"));
+}
+mod ours;
+
+use meshes::{icosphere, normal, scaled, sevens, vertex_count, without_faces, Lent, Mesh, Random};
+use oracle::{FaceGrid, Vector3};
+use ours::{Lists, Located, Nearest};
+use std::process::exit;
+
+#[derive(Default)]
+struct Tally {
+    meshes: usize,
+    entries: usize,
+    refusals: usize,
+    saturated: usize,
+    directions: Vec<(&'static str, usize)>,
+    empty: usize,
+    unfit: usize,
+    strange: usize,
+    tied: usize,
+}
+
+impl Tally {
+    fn direction(&mut self, kind: &'static str) {
+        match self.directions.iter_mut().find(|d| d.0 == kind) {
+            Some(d) => d.1 += 1,
+            None => self.directions.push((kind, 1)),
+        }
+    }
+}
+
+fn bits(x: f64) -> u64 {
+    if x.is_nan() {
+        0x7ff8 << 48
+    } else {
+        x.to_bits()
+    }
+}
+
+fn words(xs: &[f64]) -> String {
+    xs.iter().map(|&x| format!("{:016X} ({x:e})", x.to_bits())).collect::<Vec<_>>().join(" ")
+}
+
+fn nearest_words(a: &Nearest) -> String {
+    format!("number {}, vertex {}, distance {}", a.number, a.vertex, words(&[a.distance]))
+}
+
+fn located_words(a: &Located) -> String {
+    format!("number {}, face {:?}, weights {}", a.number, a.face, words(&a.weights))
+}
+
+fn differ(mesh: &Mesh, what: &str, input: &str, ours: &str, theirs: &str) -> ! {
+    println!("DIFFERENCE in {what}, on {}", mesh.name);
+    println!("  input  {input}\n  ours   {ours}\n  Rust's {theirs}");
+    if mesh.vertices.len() <= 42 {
+        for (v, list) in mesh.vertices.iter().zip(&mesh.neighbours) {
+            println!("  vertex {} neighbours {list:?}", words(v));
+        }
+    }
+    exit(1)
+}
+
+fn grid_size(level: usize) -> usize {
+    let n = vertex_count(level) as f64;
+    2.max(((n / 6.0).sqrt() * 1.2).ceil() as usize)
+}
+
+// Lists with `more` entries beyond the needed ones, each entry a canary.
+fn canaries(level: usize, more: usize, random: &mut Random) -> Lists {
+    let [a, b, c, d] = ours::needed(level, grid_size(level)).map(|n| n + more);
+    Lists {
+        cell_offsets: (0..a).map(|_| random.bits() as u32).collect(),
+        cell_vertices: (0..b).map(|_| random.bits() as u16).collect(),
+        face_offsets: (0..c).map(|_| random.bits() as u32).collect(),
+        faces: (0..d).map(|_| random.bits() as u16).collect(),
+    }
+}
+
+fn same_list<T: PartialEq + std::fmt::Debug>(mesh: &Mesh, what: &str, theirs: &[T], before: &[T], ours: &[T]) {
+    for i in 0..ours.len() {
+        let want = if i < theirs.len() { &theirs[i] } else { &before[i] };
+        if &ours[i] != want {
+            let kind = if i < theirs.len() { "entry" } else { "entry behind the Rust's list, which is to stay," };
+            differ(mesh, what, &format!("{kind} {i}"), &format!("{:?}", ours[i]), &format!("{want:?}"));
+        }
+    }
+}
+
+// The locator call against `FaceGrid::new`, entry by entry.
+fn locators(mesh: &Mesh, lent: &Lent, grid: &FaceGrid, random: &mut Random, tally: &mut Tally) -> Lists {
+    let more = random.below(4);
+    let before = canaries(mesh.level, more, random);
+    let mut lists = before.clone();
+    let number = ours::locator(mesh.level as u64, lent, &mut lists);
+    if number != 0 {
+        differ(mesh, "the locator call", "the mesh", &format!("refused with {number}"), "accepted");
+    }
+    let faces: Vec<u16> = grid.adj_faces.iter().flat_map(|f| f.face.map(|v| v as u16)).collect();
+    same_list(mesh, "cell offsets", &grid.vtx_offsets, &before.cell_offsets, &lists.cell_offsets);
+    same_list(mesh, "cell vertices", &grid.vertex_ids, &before.cell_vertices, &lists.cell_vertices);
+    same_list(mesh, "face offsets", &grid.adj_offsets, &before.face_offsets, &lists.face_offsets);
+    same_list(mesh, "faces", &faces, &before.faces, &lists.faces);
+    tally.meshes += 1;
+    tally.entries += lists.cell_offsets.len() + lists.cell_vertices.len() + lists.face_offsets.len() + lists.faces.len();
+    let ratio = |v: &[f64; 3], a: usize, b: usize| v[b] != 0.0 && (v[a] / v[b]).abs() > 1e19;
+    tally.saturated += mesh.vertices.iter().filter(|v| (0..3).any(|a| (0..3).any(|b| ratio(v, a, b)))).count();
+    lists
+}
+
+// Both searches of one direction.
+fn search(mesh: &Mesh, lent: &Lent, lists: &Lists, grid: &FaceGrid, kind: &'static str, d: [f64; 3], tally: &mut Tally) {
+    let dir = Vector3::from(d);
+    let p = dir.normalize();
+    let cell = grid.cell_index(&p);
+    let listed = &grid.vertex_ids[grid.vtx_offsets[cell] as usize..grid.vtx_offsets[cell + 1] as usize];
+    let distance = |v: usize| {
+        let v = Vector3::from(mesh.vertices[v]);
+        let e = Vector3 { x: p.x - v.x, y: p.y - v.y, z: p.z - v.z };
+        e.x * e.x + e.y * e.y + e.z * e.z
+    };
+    let mut nearest = Nearest { number: 20, vertex: 0, distance: 0.0 };
+    let mut located = Located { number: 20, face: [0; 3], weights: [0.0; 3] };
+    if !listed.is_empty() {
+        let v = grid.find_nearest_vertex(&dir);
+        nearest = Nearest { number: 0, vertex: v as u64, distance: distance(v) };
+        let (face, weights) = grid.locate(&dir);
+        located = Located { number: 0, face: face.map(|v| v as u64), weights };
+        let tied = listed.iter().filter(|&&w| bits(distance(w as usize)) == bits(nearest.distance)).count() > 1;
+        tally.tied += tied as usize;
+        tally.unfit += (face == [0; 3]) as usize;
+        tally.strange += weights.iter().any(|w| !w.is_finite()) as usize;
+    } else {
+        tally.empty += 1;
+    }
+    let got = ours::find_nearest_vertex(mesh.level, lists, &lent.vertices, d);
+    if (got.number, got.vertex, bits(got.distance)) != (nearest.number, nearest.vertex, bits(nearest.distance)) {
+        differ(mesh, "find_nearest_vertex", &words(&d), &nearest_words(&got), &nearest_words(&nearest));
+    }
+    let got = ours::locate(mesh.level, lists, &lent.vertices, d);
+    if (got.number, got.face, got.weights.map(bits)) != (located.number, located.face, located.weights.map(bits)) {
+        differ(mesh, "locate", &words(&d), &located_words(&got), &located_words(&located));
+    }
+    let l = p.dot(&p);
+    tally.direction(if l.is_finite() && l > 0.0 { kind } else { "with no length, or an infinite one, or a NaN" });
+}
+
+// Axes and diagonals, with zeros of both signs.
+fn corners() -> Vec<[f64; 3]> {
+    let mut list = Vec::new();
+    for x in [-1.0, -0.0, 0.0, 1.0] {
+        for y in [-1.0, -0.0, 0.0, 1.0] {
+            for z in [-1.0, -0.0, 0.0, 1.0] {
+                list.push([x, y, z]);
+            }
+        }
+    }
+    list
+}
+
+// A direction to the border of two cells, or one float beside it.
+fn border(g: usize, random: &mut Random) -> [f64; 3] {
+    let mut coordinate = || {
+        let u = 2.0 * random.below(g + 1) as f64 / g as f64 - 1.0;
+        match random.below(3) {
+            0 => u,
+            1 => f64::from_bits(u.to_bits() + 1),
+            _ => f64::from_bits(u.to_bits().saturating_sub(1)),
+        }
+    };
+    let (u, w) = (coordinate(), coordinate());
+    let s = if random.below(2) == 0 { 1.0 } else { -1.0 };
+    let mut d = [s, u, w];
+    d.rotate_right(random.below(3));
+    scaled(d, [1.0, 0.25, 3.0][random.below(3)])
+}
+
+fn directions(mesh: &Mesh, g: usize, many: usize, random: &mut Random) -> Vec<(&'static str, [f64; 3])> {
+    let mut list: Vec<(&'static str, [f64; 3])> = Vec::new();
+    list.extend(corners().into_iter().map(|d| ("axes and diagonals", d)));
+    let some = |random: &mut Random| random.below(mesh.vertices.len());
+    for _ in 0..many {
+        let i = some(random);
+        let a = mesh.vertices[i];
+        let b = mesh.vertices[mesh.neighbours[i][random.below(5)] as usize];
+        let c = mesh.vertices[mesh.neighbours[i][random.below(5)] as usize];
+        list.push(("to a vertex", a));
+        list.push(("away from a vertex", scaled(a, -1.0)));
+        list.push(("to the middle of an edge", [a[0] + b[0], a[1] + b[1], a[2] + b[2]]));
+        list.push(("to the centre of a face", [a[0] + b[0] + c[0], a[1] + b[1] + c[1], a[2] + b[2] + c[2]]));
+        list.push(("to the border of cells", border(g, random)));
+        list.push(("whole numbers", [random.whole(3), random.whole(3), random.whole(3)]));
+        list.push(("random", random.direction()));
+        list.push(("random", random.direction()));
+        list.push(("random", random.direction()));
+        let down = 10f64.powi(-150 - random.below(13) as i32);
+        list.push(("tiny", scaled(random.direction(), down)));
+        let up = 10f64.powi(140 + random.below(15) as i32);
+        list.push(("huge", scaled(random.direction(), up)));
+        let mut flat = random.direction();
+        flat[random.below(3)] *= 10f64.powi(-(random.below(330) as i32));
+        list.push(("near a plane of two axes", flat));
+        list.push(("any finite numbers", [random.finite(), random.finite(), random.finite()]));
+    }
+    for x in [f64::NAN, f64::INFINITY, f64::NEG_INFINITY, 1e200, 1e-200, 5e-324] {
+        list.extend([("special", [x, 1.0, -2.0]), ("special", [0.0, x, x]), ("special", [x, -x, x])]);
+    }
+    list
+}
+
+fn compare(mesh: &Mesh, many: usize, random: &mut Random, tally: &mut Tally) {
+    let lent = mesh.lent();
+    let grid = FaceGrid::new(&mesh.vertices, &mesh.neighbours);
+    assert_eq!(grid.grid_size, grid_size(mesh.level));
+    let lists = locators(mesh, &lent, &grid, random, tally);
+    for (kind, d) in directions(mesh, grid.grid_size, many, random) {
+        search(mesh, &lent, &lists, &grid, kind, d, tally);
+    }
+}
+
+// The questions 2, 6 and 7 of document 01; a call that is refused leaves the lists alone.
+fn refused(mesh: &Mesh, random: &mut Random, tally: &mut Tally) {
+    let mut expect = |what: &str, number: u64, level: u64, lent: &Lent, lists: &Lists| {
+        let mut after = lists.clone();
+        let got = ours::locator(level, lent, &mut after);
+        if got != number || &after != lists {
+            let stayed = if &after == lists { "lists as they were" } else { "lists changed" };
+            differ(mesh, "a refused locator call", what, &format!("{got}, {stayed}"), &format!("(document 01) {number}, lists as they were"));
+        }
+        tally.refusals += 1;
+    };
+    let level = mesh.level as u64;
+    let n = mesh.vertices.len();
+    let lists = canaries(mesh.level, 0, random);
+    let good = mesh.lent();
+    for beyond in [16, 17, 255, 256, 1 << 32, u64::MAX] {
+        expect("level beyond 15", 2, beyond, &good, &lists);
+    }
+    for list in 0..8 {
+        let (mut lent, mut short) = (mesh.lent(), lists.clone());
+        match list {
+            0 => drop(lent.vertices.pop()),
+            1 => drop(lent.counts.pop()),
+            2 => drop(lent.neighbours.pop()),
+            3 => drop(lent.angles.pop()),
+            4 => drop(short.cell_offsets.pop()),
+            5 => drop(short.cell_vertices.pop()),
+            6 => drop(short.face_offsets.pop()),
+            _ => drop(short.faces.pop()),
+        }
+        expect("a list one short", 6, level, &lent, &short);
+        lent.counts[0] = 9;
+        expect("a list one short, and a mesh against the rule", 6, level, &lent, &short);
+    }
+    for x in [f64::NAN, f64::INFINITY, f64::NEG_INFINITY] {
+        let mut lent = mesh.lent();
+        lent.vertices[3 * n - 1] = x;
+        expect("a vertex that is not finite", 7, level, &lent, &lists);
+    }
+    for x in [f64::NAN, f64::INFINITY, -1.0, -5e-324] {
+        let mut lent = mesh.lent();
+        lent.angles[6 * n - 2] = x;
+        expect("an angle against the rule", 7, level, &lent, &lists);
+    }
+    for count in [0, 4, 7, 255] {
+        let mut lent = mesh.lent();
+        lent.counts[n - 1] = count;
+        expect("a count against the rule", 7, level, &lent, &lists);
+    }
+    let other = good.neighbours[1];
+    let stranger = (0..n as u16).find(|w| *w != 0 && !mesh.neighbours[0].contains(w));
+    for w in [0, n as u16, u16::MAX, other].into_iter().chain(stranger) {
+        let mut lent = mesh.lent();
+        lent.neighbours[0] = w;
+        expect("a neighbour against the rule", 7, level, &lent, &lists);
+    }
+}
+
+// Every function once, with answers worked out by hand, so that no argument stands in another's place.
+fn signatures() {
+    let mut lists = Lists {
+        cell_offsets: (0..25).map(|cell| (cell > 3) as u32).collect(),
+        cell_vertices: vec![7],
+        face_offsets: (0..13).map(|v| (v > 7) as u32).collect(),
+        faces: vec![2, 5, 7],
+    };
+    let mut lent = icosphere(0).lent();
+    lent.vertices = vec![0.0; 36];
+    lent.vertices[3 * 2] = 1.0;
+    lent.vertices[3 * 5 + 1] = 1.0;
+    lent.vertices[3 * 7] = 3.0;
+    let a = ours::find_nearest_vertex(0, &lists, &lent.vertices, [2.0, 0.0, 0.0]);
+    assert!((a.number, a.vertex, a.distance) == (0, 7, 4.0), "{}", nearest_words(&a));
+    let a = ours::find_nearest_vertex(0, &lists, &lent.vertices, [-2.0, 0.0, 0.0]);
+    assert!((a.number, a.vertex, a.distance) == (20, 0, 0.0), "{}", nearest_words(&a));
+    let a = ours::locate(0, &lists, &lent.vertices, [2.0, 0.0, 0.0]);
+    assert!((a.number, a.face, a.weights) == (0, [2, 5, 7], [1.0, 0.0, 0.0]), "{}", located_words(&a));
+    let a = ours::locate(0, &lists, &lent.vertices[..24], [2.0, 0.0, 0.0]);
+    assert!((a.number, a.face, a.weights) == (0, [2, 5, 7], [1.0, 0.0, 0.0]), "{}", located_words(&a));
+    let a = ours::locate(0, &lists, &lent.vertices[..23], [2.0, 0.0, 0.0]);
+    assert!((a.number, a.face, a.weights) == (19, [0; 3], [0.0; 3]), "{}", located_words(&a));
+    assert_eq!(ours::locator(16, &lent, &mut lists), 2);
+    println!("signatures: find_nearest_vertex, locate and locator answer as worked out by hand");
+}
+
+// Graphs over points of many kinds.
+fn strange_points(base: &Mesh, kind: usize, random: &mut Random) -> Mesh {
+    let at = base.vertices.clone();
+    match kind {
+        0 => base.over("every coordinate any finite number", |_| [random.finite(), random.finite(), random.finite()]),
+        1 => base.over("whole numbers from -1 to 1", |_| [random.whole(1), random.whole(1), random.whole(1)]),
+        2 => base.over("distorted to whole numbers", |i| normal(at[i]).map(|x| (x * 1000.0).round() + random.whole(200))),
+        3 => base.over("lengths from 1e-300 to 1e300", |i| scaled(at[i], 10f64.powi(random.below(601) as i32 - 300))),
+        4 => base.over("a coordinate in three made tiny", |i| at[i].map(|x| if random.below(3) == 0 { x * 1e-300 } else { x })),
+        5 => base.over("near the largest", |i| at[i].map(|x| if random.below(2) == 0 { x * f64::MAX } else { x })),
+        6 => base.over("subnormal", |_| [random.whole(4) * 5e-324, random.whole(4) * 5e-324, random.whole(4) * 5e-324]),
+        7 => base.over("all in one octant", |_| random.direction().map(|x| x.abs())),
+        8 => base.over("on one line", |_| scaled([1.0, 2.0, -3.0], random.unit())),
+        9 => base.over("on a plane through the middle", |_| [random.unit(), random.unit(), 0.0]),
+        10 => base.over("large and small in turn", |_| [0, 1, 2].map(|_| random.unit() * [1e-170, 1.0, 1e170][random.below(3)])),
+        _ => base.over("random directions", |_| normal(random.direction())),
+    }
+}
+
+fn main() {
+    let rounds: usize = std::env::args().nth(1).map_or(1, |n| n.parse().expect("a number of rounds"));
+    let mut random = Random(0x9e3779b97f4a7c15);
+    let mut tally = Tally::default();
+    signatures();
+    let spheres: Vec<Mesh> = (0..16).map(icosphere).collect();
+    for mesh in &spheres {
+        compare(mesh, 2000 * rounds, &mut random, &mut tally);
+        for _ in 0..2 * rounds {
+            compare(&mesh.shuffled(&mut random), 1000, &mut random, &mut tally);
+        }
+    }
+    let zeros = |m: &Mesh| m.over("all vertices 0", |_| [0.0, -0.0, 0.0]);
+    let graphs = [icosphere(0), without_faces(), icosphere(1), sevens()];
+    for mesh in &graphs {
+        compare(mesh, 1000, &mut random, &mut tally);
+        compare(&zeros(mesh), 50, &mut random, &mut tally);
+        refused(mesh, &mut random, &mut tally);
+        for _ in 0..60 * rounds {
+            for kind in 0..12 {
+                let base = mesh.shuffled(&mut random);
+                compare(&strange_points(&base, kind, &mut random), 20, &mut random, &mut tally);
+            }
+        }
+    }
+    for mesh in [&spheres[2], &spheres[3], &spheres[5], &spheres[15]] {
+        refused(mesh, &mut random, &mut tally);
+        for kind in 0..12 {
+            let base = mesh.shuffled(&mut random);
+            compare(&strange_points(&base, kind, &mut random), 200, &mut random, &mut tally);
+        }
+    }
+    println!("locator: {} meshes, {} list entries, {} refused calls", tally.meshes, tally.entries, tally.refusals);
+    println!("  of vertices whose cell number saturates: {}", tally.saturated);
+    let all: usize = tally.directions.iter().map(|d| d.1).sum();
+    println!("find_nearest_vertex and locate: {all} directions");
+    for (kind, count) in &tally.directions {
+        println!("  {count} {kind}");
+    }
+    println!("  of these {} with an empty cell (20), {} with several nearest vertices,", tally.empty, tally.tied);
+    println!("  {} where no face fits, {} with a weight that is infinite or a NaN", tally.unfit, tally.strange);
+    println!("compare: all equal");
+}
