@@ -16,10 +16,26 @@ use words::word;
 
 const BLOCK: usize = 64142;
 
-const DIRECTIONS: usize = 200;
+// Where each part of a block begins.
+const VERTICES: usize = 17;
 
-// Where a block's directions begin.
+const COUNTS: usize = 2159;
+
+const NEIGHBOURS: usize = 2285;
+
+const NUMBER: usize = 3545;
+
+const CELL_OFFSETS: usize = 3562;
+
+const CELL_VERTICES: usize = 4435;
+
+const FACE_OFFSETS: usize = 10105;
+
+const FACES: usize = 10492;
+
 const FIRST: usize = 19942;
+
+const DIRECTIONS: usize = 200;
 
 // A line of a direction: its coordinates; number, vertex and distance; number, face and weights.
 const LINE: usize = 221;
@@ -97,23 +113,48 @@ fn counted(text: &[u8], at: usize, t: Tally, nearest: bool, located: bool) -> Ta
     tally::with_direction(t, nearest, located, &text[at..at + 220])
 }
 
+// The direction at `at`.
+fn judge_direction(
+    text: &[u8],
+    at: usize,
+    level: u8,
+    cell_offsets: &[u32; 97],
+    cell_vertices: &[u16; 1134],
+    face_offsets: &[u32; 43],
+    faces: &[u16; 1890],
+    vertices: &[f64; 126],
+    t: Tally,
+) -> Tally {
+    let a = nearest_agrees(text, at, level, cell_offsets, cell_vertices, vertices);
+    let b = located_agrees(
+        text,
+        at,
+        level,
+        cell_offsets,
+        cell_vertices,
+        face_offsets,
+        faces,
+        vertices,
+    );
+    counted(text, at, t, a, b)
+}
+
 // Every direction of a block.
 fn judge_directions(
     text: &[u8],
     level: u8,
-    cell_offsets: &[u32],
-    cell_vertices: &[u16],
-    face_offsets: &[u32],
-    faces: &[u16],
-    vertices: &[f64],
+    cell_offsets: &[u32; 97],
+    cell_vertices: &[u16; 1134],
+    face_offsets: &[u32; 43],
+    faces: &[u16; 1890],
+    vertices: &[f64; 126],
     before: Tally,
 ) -> Tally {
     let mut t = before;
     let mut at = FIRST;
     let mut left = DIRECTIONS;
     while left > 0 {
-        let a = nearest_agrees(text, at, level, cell_offsets, cell_vertices, vertices);
-        let b = located_agrees(
+        t = judge_direction(
             text,
             at,
             level,
@@ -122,8 +163,8 @@ fn judge_directions(
             face_offsets,
             faces,
             vertices,
+            t,
         );
-        t = counted(text, at, t, a, b);
         at = more(at, LINE);
         left -= 1;
     }
@@ -163,45 +204,22 @@ fn entries(
     face_offsets: &[u32; 43],
     faces: &[u16; 1890],
 ) -> Count {
-    let a = lists::agree32(text, 3562, cell_offsets);
-    let b = lists::agree16(text, 4435, cell_vertices);
-    let c = lists::agree32(text, 10105, face_offsets);
-    let d = lists::agree16(text, 10492, faces);
+    let a = lists::agree32(text, CELL_OFFSETS, cell_offsets);
+    let b = lists::agree16(text, CELL_VERTICES, cell_vertices);
+    let c = lists::agree32(text, FACE_OFFSETS, face_offsets);
+    let d = lists::agree16(text, FACES, faces);
     tally::joined(tally::joined(a, b), tally::joined(c, d))
 }
 
-// The directions, over whole lists.
-fn searches(
-    text: &[u8],
-    level: u8,
-    cell_offsets: &[u32; 97],
-    cell_vertices: &[u16; 1134],
-    face_offsets: &[u32; 43],
-    faces: &[u16; 1890],
-    vertices: &[f64; 126],
-    before: Tally,
-) -> Tally {
-    judge_directions(
-        text,
-        level,
-        cell_offsets,
-        cell_vertices,
-        face_offsets,
-        faces,
-        vertices,
-        before,
-    )
-}
-
-// A block.
+// A block. The lists are lent as arrays, whose lengths need no proof.
 fn judge_mesh(text: &[u8], before: Tally) -> Tally {
     let level = word(text, 0, 16);
     let mut vertices: [f64; 126] = [0.0; 126];
-    lists::fill_vertices(text, 17, &mut vertices);
+    lists::fill_vertices(text, VERTICES, &mut vertices);
     let mut counts: [u8; 42] = [0; 42];
-    lists::fill_counts(text, 2159, &mut counts);
+    lists::fill_counts(text, COUNTS, &mut counts);
     let mut neighbours: [u16; 252] = [0; 252];
-    lists::fill_neighbours(text, 2285, &mut neighbours);
+    lists::fill_neighbours(text, NEIGHBOURS, &mut neighbours);
     let mut cell_offsets: [u32; 97] = [0xABAB_ABAB; 97];
     let mut cell_vertices: [u16; 1134] = [0xABAB; 1134];
     let mut face_offsets: [u32; 43] = [0xABAB_ABAB; 43];
@@ -217,8 +235,8 @@ fn judge_mesh(text: &[u8], before: Tally) -> Tally {
         &mut faces,
     );
     let found = entries(text, &cell_offsets, &cell_vertices, &face_offsets, &faces);
-    let t = tally::with_call(before, same(text, 3545, number), found);
-    searches(
+    let t = tally::with_call(before, same(text, NUMBER, number), found);
+    judge_directions(
         text,
         (level % 256) as u8,
         &cell_offsets,
