@@ -113,6 +113,32 @@ fn counted(text: &[u8], at: usize, t: Tally, nearest: bool, located: bool) -> Ta
     tally::with_direction(t, nearest, located, &text[at..at + 220])
 }
 
+// The direction at `at`.
+fn judge_direction(
+    text: &[u8],
+    at: usize,
+    level: u8,
+    cell_offsets: &[u32; 97],
+    cell_vertices: &[u16; 1134],
+    face_offsets: &[u32; 43],
+    faces: &[u16; 1890],
+    vertices: &[f64; 126],
+    t: Tally,
+) -> Tally {
+    let a = nearest_agrees(text, at, level, cell_offsets, cell_vertices, vertices);
+    let b = located_agrees(
+        text,
+        at,
+        level,
+        cell_offsets,
+        cell_vertices,
+        face_offsets,
+        faces,
+        vertices,
+    );
+    counted(text, at, t, a, b)
+}
+
 // Every direction of a block.
 fn judge_directions(
     text: &[u8],
@@ -128,8 +154,7 @@ fn judge_directions(
     let mut at = FIRST;
     let mut left = DIRECTIONS;
     while left > 0 {
-        let a = nearest_agrees(text, at, level, cell_offsets, cell_vertices, vertices);
-        let b = located_agrees(
+        t = judge_direction(
             text,
             at,
             level,
@@ -138,8 +163,8 @@ fn judge_directions(
             face_offsets,
             faces,
             vertices,
+            t,
         );
-        t = counted(text, at, t, a, b);
         at = more(at, LINE);
         left -= 1;
     }

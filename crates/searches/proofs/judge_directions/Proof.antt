@@ -13,14 +13,8 @@ abbrev μ-loop : tie.MeasureT-loop
 loop-holds : tie.Need-loop-holds Inv-loop μ-loop
 loop-holds c = search needs
 
-nearest-agrees-requires : tie.Need-nearest-agrees-requires Inv-loop μ-loop
-nearest-agrees-requires c κs = search needs
-
-located-agrees-requires : tie.Need-located-agrees-requires Inv-loop μ-loop
-located-agrees-requires c κs = search needs
-
-counted-requires : tie.Need-counted-requires Inv-loop μ-loop
-counted-requires c κs = search needs
+judge-direction-requires : tie.Need-judge-direction-requires Inv-loop μ-loop
+judge-direction-requires c κs = search needs
 
 more-requires : tie.Need-more-requires Inv-loop μ-loop
 more-requires c κs = search needs
@@ -44,9 +38,7 @@ judge-directions-spec =
     Inv-loop
     μ-loop
     loop-holds
-    nearest-agrees-requires
-    located-agrees-requires
-    counted-requires
+    judge-direction-requires
     more-requires
     sub-left
     loop-less
