@@ -4,3 +4,4 @@ pub mod Items
 pub mod Accepted
 pub mod Puts
 pub mod Filed
+pub mod Whole

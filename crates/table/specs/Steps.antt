@@ -5,13 +5,17 @@ use mathlib.Core.List.{List, [], _∷_, _++_, map}
 use Prim.Native.Nat.{ℕ, zero, suc, _+_, _*_, _≤_}
 use lib.ListN.{length, take, drop}
 use lib.Dec.{leb, eqb}
-use lib.Ieee.{Float, binary32, nanBits}
+use lib.Ieee.{Float, binary32, binary64, toBits, nanBits}
 use Rattle.mesh.specs.Questions.{ask}
-use Rattle.mesh.specs.Lists.{every}
-use Rattle.mesh.specs.Levels.{per}
+use Rattle.mesh.specs.Lists.{every, below}
+use Rattle.mesh.specs.Levels.{vertexCount, per}
+use Rattle.grid.specs.declared.Grid.{Grid}
 use Rattle.rows.specs.declared.SlabResolution.{SlabResolution}
 use Rattle.rows.specs.declared.SlabResolution.the-variants.{Scalar, Mesh, Repulsive}
 use Rattle.rows.specs.Rows.{Rows, kindOf, levelOf, valueOf, resolutionAt, narrowBits}
+use Rattle.builder.specs.Lists.{Lists, slabs}
+use Rattle.builder.specs.declared.Builder.{Builder}
+use Rattle.table.specs.Bytes.{bytesOf, section}
 use Rattle.table.specs.File.{Entry}
 use Rattle.table.specs.Read.{countAt, rowItems, energyItems, tableHeld, entryHeld, tiled}
 use Rattle.table.specs.declared.Layout.{Layout}
@@ -84,3 +88,20 @@ energiesFor z store p (x ∷ xs) = map narrowBits (take (heldBy x) (drop p store
 unfoldable pub Bounded : ℕ → List SlabResolution → Type 0
 Bounded z [] = Unit
 Bounded z (x ∷ xs) = (heldBy x ≤ z) × Bounded z xs
+
+-- the sections before the rows
+abbrev pub headBytes : Grid → ℕ → List ℕ
+headBytes g levels =
+    section (bytesOf 8) (toBits binary64 (g .rmin) ∷ toBits binary64 (g .dr) ∷ toBits binary64 (g .«omega_step») ∷ [])
+    ++ (section (bytesOf 4) (g .«n_r» ∷ g .«n_omega» ∷ []) ++ section (bytesOf 4) (map vertexCount (below levels)))
+
+-- a builder and its lists that every question of write was answered yes for; their rows hold e energies together
+pub record Ready (b : Builder) (l : Lists) (e room : ℕ) : Type 0 where
+  pub top-le : b .top ≤ 15
+  pub rs : b .grid .«n_r» ≤ 65535
+  pub omegas : b .grid .«n_omega» ≤ 65535
+  pub store : slabs (b .grid) * per (b .top) ≤ length (l .store)
+  pub bounded : Bounded (per (b .top)) (resolutions (l .rows) 0 (slabs (b .grid)))
+  pub energies : e ≡ total (resolutions (l .rows) 0 (slabs (b .grid)))
+  pub few : e ≤ 4294967295
+  pub fits : 56 + 4 * b .top + 10 * slabs (b .grid) + 4 * e ≤ room

@@ -10,6 +10,7 @@ mod writer;
 
 pub use bytes::u32_at;
 pub use reader::read;
+pub use writer::write;
 
 // What write answers: the length of the file.
 pub enum Written {

@@ -181,3 +181,34 @@ fn put_slabs(
         left -= 1;
     }
 }
+
+// The section of rows.
+pub(crate) fn put_rows(out: &mut [u8], at: u64, kinds: &[u8], levels: &[u8], values: &[u32], n: u64)
+    requires { ⌜ (at + 4 + n * 10 ≤ length (now out)) × (n ≤ 4294967295)
+        × (total (resolutions (record { kinds = now kinds; levels = now levels; values = now values }) 0 n) ≤ 4294967295) ⌝ }
+    ensures { λ _. ⌜ now (out .exit) ≡ put (now (out .entry)) at (section entryBytes (entriesFor 0 (resolutions (record { kinds = now (kinds .entry); levels = now (levels .entry); values = now (values .entry) }) 0 n))) ⌝ }
+{
+    put_u32(out, at, n as u32);
+    put_entries(out, at + 4, kinds, levels, values, n);
+}
+
+// The section of energies, of which there are e.
+pub(crate) fn put_tail(
+    out: &mut [u8],
+    at: u64,
+    e: u64,
+    z: u64,
+    store: &[f64],
+    kinds: &[u8],
+    levels: &[u8],
+    values: &[u32],
+    n: u64,
+)
+    requires { ⌜ (at + 4 + e * 4 ≤ length (now out)) × (e ≤ 4294967295)
+        × (e ≡ total (resolutions (record { kinds = now kinds; levels = now levels; values = now values }) 0 n))
+        × (n * z ≤ length (now store)) × (Bounded z (resolutions (record { kinds = now kinds; levels = now levels; values = now values }) 0 n)) ⌝ }
+    ensures { λ _. ⌜ now (out .exit) ≡ put (now (out .entry)) at (section (bytesOf 4) (energiesFor z (now (store .entry)) 0 (resolutions (record { kinds = now (kinds .entry); levels = now (levels .entry); values = now (values .entry) }) 0 n))) ⌝ }
+{
+    put_u32(out, at, e as u32);
+    put_slabs(out, at + 4, z, store, kinds, levels, values, n);
+}
