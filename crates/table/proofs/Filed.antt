@@ -118,7 +118,7 @@ module _ (r : Rows) where
   unfolding energiesFor packed resolutions
   energies-end z store p s n h = let e : n ≡ 0 = omega arith in rw e
 
-entriesFor-length : (o : ℕ) (xs : List SlabResolution) → length (entriesFor o xs) ≡ length xs
+pub entriesFor-length : (o : ℕ) (xs : List SlabResolution) → length (entriesFor o xs) ≡ length xs
 unfolding entriesFor
 entriesFor-length o [] = refl
 entriesFor-length o (x ∷ xs) = ap suc (entriesFor-length (o + heldBy x) xs)

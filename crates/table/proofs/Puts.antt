@@ -57,6 +57,10 @@ module _ {A : Type 0} (enc : A → List ℕ) (w : ℕ) (len : (x : A) → length
   packed-length [] = sym (zero-mul w)
   packed-length (x ∷ xs) = length-append (enc x) (packed enc xs) ∙ rw (len x, packed-length xs, suc-mul) (omega arith)
 
+  pub section-length : (xs : List A) → length (section enc xs) ≡ 4 + length xs * w
+  unfolding section
+  section-length xs = length-append (bytesOf 4 (length xs)) (packed enc xs) ∙ rw (bytes-length 4 (length xs), packed-length xs)
+
 -- d with whole written from place start on is what is made of out by writing rest from place at on
 pub record Left (d : List ℕ) (start : ℕ) (whole out : List ℕ) (at : ℕ) (rest : List ℕ) : Type 0 where
   pub size : length out ≡ length d

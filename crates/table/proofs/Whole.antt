@@ -4,22 +4,29 @@ use mathlib.Core.Bool.{Bool, true, false, cond, _&&_, _||_}
 use mathlib.Core.List.{List, [], _∷_, _++_, map, append-assoc}
 use Prim.Native.Nat.{ℕ, zero, suc, _+_, _*_, _≤_, _<_}
 use native.Mathlib.Nat.{suc-mul, zero-mul, zero-add, add-zero, add-suc, suc-add}
+use native.Mathlib.Numerals.{add-one}
 use native.Mathlib.Omega.{arith}
-use lib.ListN.{length, getD, take, drop, length-append}
+use lib.ListN.{length, getD, take, drop, length-append, length-map}
 use lib.Dec.{leb, eqb}
-use lib.Ieee.{Float, binary32, ofBits}
+use lib.Ieee.{Float, binary32, binary64, ofBits, toBits}
 use borrow.Author.Tests.{leb-true, eqb-false, lt-leb}
 use Rattle.ieee.proofs.Fields.{both-true}
-use Rattle.mesh.specs.Lists.{allUpTo}
-use Rattle.mesh.specs.Levels.{per}
+use Rattle.mesh.specs.Lists.{below, put}
+use Rattle.mesh.specs.Levels.{vertexCount, per}
 use Rattle.mesh.proofs.Counting.{all-at}
 use Rattle.mesh.proofs.Sizes.{per-mono}
+use Rattle.grid.specs.declared.Grid.{Grid}
 use Rattle.rows.specs.declared.SlabResolution.{SlabResolution}
 use Rattle.rows.specs.declared.SlabResolution.the-variants.{Scalar, Mesh, Repulsive}
 use Rattle.rows.specs.Rows.{Rows, resolutionOf, resolutionAt, known, rowWith, compared, narrowBits}
-use Rattle.builder.specs.Lists.{Lists, rowAt, rowsFrom, rowsKnown}
-use Rattle.table.specs.File.{entry, energyCount, energiesIn, entries, energiesOf}
-use Rattle.table.specs.Steps.{heldBy, entryFor, resolutions, entriesFor, total, energiesFor, Bounded}
+use Rattle.builder.specs.Lists.{Lists, slabs, rowAt, rowsFrom, rowsKnown}
+use Rattle.builder.specs.declared.Builder.{Builder}
+use Rattle.table.specs.Bytes.{bytesOf, section}
+use Rattle.table.specs.File.{entryBytes, entry, energyCount, energiesIn, entries, energiesOf, fileOf}
+use Rattle.table.specs.Write.{fileFrom}
+use Rattle.table.specs.Steps.{heldBy, entryFor, resolutions, entriesFor, total, energiesFor, Bounded, headBytes, Ready}
+use Rattle.table.proofs.Puts.{bytes-length, section-length, puts-three}
+use Rattle.table.proofs.Filed.{below-length, entry-length, entriesFor-length, res-length, energies-length}
 
 -- ---- a row with its energies, and without
 
@@ -93,3 +100,87 @@ pub total-le : (z : ℕ) (xs : List SlabResolution) → Bounded z xs → total x
 unfolding total Bounded
 total-le z [] b = omega arith
 total-le z (x ∷ xs) b = rw suc-mul (omega (arith, b .0, total-le z xs (b .1)))
+
+-- ---- the file
+
+bins-bytes : (n m : ℕ) → length (section (bytesOf 4) (n ∷ m ∷ [])) ≡ 12
+bins-bytes n m = section-length (bytesOf 4) 4 (bytes-length 4) (n ∷ m ∷ [])
+
+grid-bytes : (x y z : ℕ) → length (section (bytesOf 8) (x ∷ y ∷ z ∷ [])) ≡ 28
+grid-bytes x y z = section-length (bytesOf 8) 8 (bytes-length 8) (x ∷ y ∷ z ∷ [])
+
+levels-bytes : (n : ℕ) → length (section (bytesOf 4) (map vertexCount (below n))) ≡ 4 + n * 4
+levels-bytes n = section-length (bytesOf 4) 4 (bytes-length 4) (map vertexCount (below n)) ∙ rw (length-map (below n) vertexCount, below-length n)
+
+pub head-put : (d : List ℕ) (g : Grid) (levels : ℕ) → 44 + 4 * levels ≤ length d
+    → put (put (put d 0 (section (bytesOf 8) (toBits binary64 (g .rmin) ∷ toBits binary64 (g .dr) ∷ toBits binary64 (g .«omega_step») ∷ []))) 28
+    (section (bytesOf 4) (g .«n_r» ∷ g .«n_omega» ∷ []))) 40 (section (bytesOf 4) (map vertexCount (below levels)))
+    ≡ put d 0 (headBytes g levels)
+head-put d g levels h =
+    puts-three d 0 _ _ _ 28 40
+    (omega (arith, grid-bytes (toBits binary64 (g .rmin)) (toBits binary64 (g .dr)) (toBits binary64 (g .«omega_step»))))
+    (omega (arith, bins-bytes (g .«n_r») (g .«n_omega»))) (omega arith)
+
+head-bytes : (g : Grid) (levels : ℕ) → length (headBytes g levels) ≡ 44 + levels * 4
+head-bytes g levels =
+    let a = section (bytesOf 8) (toBits binary64 (g .rmin) ∷ toBits binary64 (g .dr) ∷ toBits binary64 (g .«omega_step») ∷ []) in
+    let b = section (bytesOf 4) (g .«n_r» ∷ g .«n_omega» ∷ []) in
+    let d = section (bytesOf 4) (map vertexCount (below levels)) in
+    length-append a (b ++ d)
+    ∙ omega (
+      arith,
+      length-append b d,
+      grid-bytes (toBits binary64 (g .rmin)) (toBits binary64 (g .dr)) (toBits binary64 (g .«omega_step»)),
+      bins-bytes (g .«n_r») (g .«n_omega»),
+      levels-bytes levels,
+    )
+
+module _ (b : Builder) (l : Lists) where
+  rows : List SlabResolution
+  rows = resolutions (l .rows) 0 (slabs (b .grid))
+
+  rowBytes : List ℕ
+  rowBytes = section entryBytes (entriesFor 0 rows)
+
+  energyBytes : List ℕ
+  energyBytes = section (bytesOf 4) (energiesFor (per (b .top)) (l .store) 0 rows)
+
+  file-is : fileFrom b l ≡ headBytes (b .grid) (suc (b .top)) ++ (rowBytes ++ energyBytes)
+  unfolding fileFrom fileOf rowBytes energyBytes rows
+  file-is =
+      let n = slabs (b .grid) in
+      rw (entries-are (b .top) l 0 0 n, energies-are (b .top) l 0 n, zero-mul) (simp append-assoc)
+
+  row-bytes : length rowBytes ≡ 4 + slabs (b .grid) * 10
+  unfolding rowBytes rows
+  row-bytes =
+      section-length entryBytes 10 entry-length (entriesFor 0 rows)
+      ∙ rw (entriesFor-length 0 rows, res-length (l .rows) 0 (slabs (b .grid)))
+
+  module _ (e : ℕ) (store-le : slabs (b .grid) * per (b .top) ≤ length (l .store)) (bound : Bounded (per (b .top)) (resolutions (l .rows) 0 (slabs (b .grid))))
+      (same : e ≡ total (resolutions (l .rows) 0 (slabs (b .grid)))) where
+    energy-count : length (energiesFor (per (b .top)) (l .store) 0 (resolutions (l .rows) 0 (slabs (b .grid)))) ≡ e
+    energy-count =
+        energies-length (per (b .top)) (l .store) 0 (resolutions (l .rows) 0 (slabs (b .grid))) bound (rw (res-length (l .rows) 0 (slabs (b .grid))) (omega (arith, store-le)))
+        ∙ sym same
+
+    energy-bytes : length energyBytes ≡ 4 + e * 4
+    unfolding energyBytes rows
+    energy-bytes = section-length (bytesOf 4) 4 (bytes-length 4) (energiesFor (per (b .top)) (l .store) 0 rows) ∙ rw energy-count
+
+    pub file-length : length (fileFrom b l) ≡ 56 + 4 * b .top + 10 * slabs (b .grid) + 4 * e
+    file-length =
+        ap length file-is
+        ∙ length-append (headBytes (b .grid) (suc (b .top))) (rowBytes ++ energyBytes)
+        ∙ omega (arith, head-bytes (b .grid) (suc (b .top)), length-append rowBytes energyBytes, row-bytes, energy-bytes)
+
+  pub file-put : (d : List ℕ) (e : ℕ) → Ready b l e (length d)
+      → put (put (put d 0 (headBytes (b .grid) (b .top + 1))) (48 + 4 * b .top) (section entryBytes (entriesFor 0 (resolutions (l .rows) 0 (slabs (b .grid))))))
+      (52 + 4 * b .top + 10 * slabs (b .grid)) (section (bytesOf 4) (energiesFor (per (b .top)) (l .store) 0 (resolutions (l .rows) 0 (slabs (b .grid)))))
+      ≡ put d 0 (fileFrom b l)
+  unfolding rowBytes energyBytes rows
+  file-put d e h =
+      rw add-one
+      (puts-three d 0 (headBytes (b .grid) (suc (b .top))) rowBytes energyBytes (48 + 4 * b .top) (52 + 4 * b .top + 10 * slabs (b .grid))
+      (omega (arith, head-bytes (b .grid) (suc (b .top)))) (omega (arith, row-bytes)) (omega (arith, h .fits))
+      ∙ ap (λ (f : List ℕ). put d 0 f) (sym file-is))

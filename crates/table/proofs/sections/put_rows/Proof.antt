@@ -1,34 +1,43 @@
+-- `put_rows` meets its contract. Assumes nothing.
+use Rattle.table.proofs.Filed.{entriesFor-length, res-length}
+use Rattle.table.proofs.Puts.{puts, bytes-length}
+use Rattle.table.specs.Steps.{resolutions, entriesFor}
+use Rattle.table.specs.File.{entryBytes}
+use Rattle.table.specs.Bytes.{bytesOf, packed, section}
+use Rattle.rows.specs.Rows.{Rows}
+use lib.ListN.{length}
+use Prim.Native.Nat.{_+_}
+use mathlib.Core.Path.{_≡_, _∙_}
+use native.Mathlib.Omega.{arith}
 use borrow.Author.Needs.{needs}
 use Rattle.table.proofs.sections.put_rows.Statement.{statement}
 use Rattle.table.proofs.sections.put_rows.Tie as tie
-use Rattle.table.proofs.sections.put_rows.Reads as reads
-use Rattle.table.proofs.sections.put_rows.Lts as lts
-use Rattle.table.proofs.bytes.put_u32.Reads as put-u32-reads
-use Rattle.table.proofs.sections.put_entries.Reads as put-entries-reads
 
--- src/sections.rt:191:22
 cast-put-u32 : tie.Need-cast-put-u32
 cast-put-u32 c = search needs
 
--- src/sections.rt:191:5
 put-u32-requires : tie.Need-put-u32-requires
 put-u32-requires c κs = search needs
 
--- src/sections.rt:192:22
 add-put-entries : tie.Need-add-put-entries
 add-put-entries c = search needs
 
--- src/sections.rt:192:5
 put-entries-requires : tie.Need-put-entries-requires
 put-entries-requires c κs = search needs
 
--- src/sections.rt:186:1
 same-length : tie.Need-same-length
 same-length c = search needs
 
--- src/sections.rt:186:1
 returns : tie.Need-returns
-returns c = ?
+unfolding section
+returns c =
+    let s = c .before .before .before .before .before .before .before .before .before .before .before .before in
+    let a = s .args in
+    let r : Rows = record { kinds = a .kinds .now; levels = a .levels .now; values = a .values .now } in
+    let xs = resolutions r 0 (a .n) in
+    let len : length (entriesFor 0 xs) ≡ a .n = entriesFor-length 0 xs ∙ res-length r 0 (a .n) in
+    rw (c .before .before .put-entries .ensures, c .before .before .before .before .before .before .put-u32 .ensures, len)
+    (puts (a .out .now) (a .at) (bytesOf 4 (a .n)) (packed entryBytes (entriesFor 0 xs)) (a .at + 4) (omega (arith, bytes-length 4 (a .n))) (omega (arith, s .pre .0)))
 
 pub put-rows-spec : {M : Type 1} → statement M
 put-rows-spec =

@@ -1,72 +1,63 @@
+-- `put_file` meets its contract. Assumes nothing.
+use Rattle.table.proofs.Whole.{file-put}
+use native.Mathlib.Nat.{mul-le-mul}
+use native.Mathlib.Omega.{arith}
 use borrow.Author.Needs.{needs}
 use Rattle.table.proofs.writer.put_file.Statement.{statement}
 use Rattle.table.proofs.writer.put_file.Tie as tie
-use Rattle.table.proofs.writer.put_file.Reads as reads
-use Rattle.table.proofs.writer.put_file.Lts as lts
-use Rattle.mesh.proofs.per_level.Reads as per-level-reads
-use Rattle.table.proofs.sections.put_rows.Reads as put-rows-reads
-use Rattle.table.proofs.sections.put_tail.Reads as put-tail-reads
-use Rattle.table.proofs.writer.put_head.Reads as put-head-reads
 
--- src/writer.rt:104:13
 mul-n : tie.Need-mul-n
 mul-n c = search needs
 
--- src/writer.rt:105:29
 cast-per-level : tie.Need-cast-per-level
 cast-per-level c = search needs
 
--- src/writer.rt:105:9
 per-level-requires : tie.Need-per-level-requires
 per-level-requires c κs = search needs
 
--- src/writer.rt:106:22
 add-put-head : tie.Need-add-put-head
 add-put-head c = search needs
 
--- src/writer.rt:106:5
 put-head-requires : tie.Need-put-head-requires
 put-head-requires c κs = search needs
 
--- src/writer.rt:107:24
 mul-put-rows : tie.Need-mul-put-rows
 mul-put-rows c = search needs
 
--- src/writer.rt:107:19
 add-put-rows : tie.Need-add-put-rows
 add-put-rows c = search needs
 
--- src/writer.rt:107:5
 put-rows-requires : tie.Need-put-rows-requires
-put-rows-requires c κs = ?
+put-rows-requires c κs =
+    let p = c .before .before .before .before .before .before .before .before .before .before .before .before .pre in
+    (omega (arith, p .fits), omega (arith, mul-le-mul (p .rs) (p .omegas)), rw (← p .energies) (p .few))
 
--- src/writer.rt:108:24
 mul-put-tail : tie.Need-mul-put-tail
 mul-put-tail c = search needs
 
--- src/writer.rt:108:19
 add-put-tail : tie.Need-add-put-tail
 add-put-tail c = search needs
 
--- src/writer.rt:108:34
 mul-put-tail-2 : tie.Need-mul-put-tail-2
 mul-put-tail-2 c = search needs
 
--- src/writer.rt:108:19
 add-put-tail-2 : tie.Need-add-put-tail-2
 add-put-tail-2 c = search needs
 
--- src/writer.rt:108:5
 put-tail-requires : tie.Need-put-tail-requires
-put-tail-requires c κs = ?
+put-tail-requires c κs =
+    let p = c .before .before .before .before .before .before .before .before .before .before .before .before .before .before .before .before .pre in
+    (omega (arith, p .fits), p .few, p .energies, rw (c .before .before .before .before .before .before .before .before .before .per-level .ensures) (p .store), rw (c .before .before .before .before .before .before .before .before .before .per-level .ensures) (p .bounded))
 
--- src/writer.rt:96:1
 same-length : tie.Need-same-length
 same-length c = search needs
 
--- src/writer.rt:96:1
 returns : tie.Need-returns
-returns c = ?
+returns c =
+    let s = c .before .before .before .before .before .before .before .before .before .before .before .before .before .before .before .before .before .before .before in
+    let a = s .args in
+    rw (c .before .before .put-tail .ensures, c .before .before .before .before .before .before .put-rows .ensures, c .before .before .before .before .before .before .before .before .before .before .put-head .ensures, c .before .before .before .before .before .before .before .before .before .before .before .before .per-level .ensures)
+    (file-put (a .b) (record { store = a .store .now; rows = record { kinds = a .kinds .now; levels = a .levels .now; values = a .values .now } }) (a .out .now) (a .e) (s .pre))
 
 pub put-file-spec : {M : Type 1} → statement M
 put-file-spec =

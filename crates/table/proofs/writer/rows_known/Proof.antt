@@ -1,42 +1,56 @@
+-- `rows_known` meets its contract. Assumes nothing.
+use Rattle.builder.specs.Lists.{rowsKnown}
+use Rattle.rows.specs.Rows.{known}
+use Rattle.mesh.proofs.Counting.{all-turn, all-fails, yes, no}
+use Rattle.mesh.specs.Lists.{allUpTo}
+use lib.ListN.{getD}
+use native.Mathlib.Nat.{zero-add}
+use Prim.Native.Nat.{_+_, _-_, _≤_}
+use mathlib.Core.List.{[]}
+use mathlib.Core.Bool.{true}
+use mathlib.Core.Path.{_≡_, refl, sym, _∙_}
+use native.Mathlib.Omega.{arith}
+use borrow.Author.Needs.{needs}
 use Rattle.table.proofs.writer.rows_known.Statement.{statement}
 use Rattle.table.proofs.writer.rows_known.Tie as tie
-use Rattle.table.proofs.writer.rows_known.Reads as reads
-use Rattle.table.proofs.writer.rows_known.Lts as lts
-use Rattle.rows.proofs.row_known.Reads as row-known-reads
 
 abbrev Inv-loop : tie.InvT-loop
-Inv-loop top kinds levels n s₀ s = ?
+Inv-loop top kinds levels n s₀ s = (s ≤ n) × (rowsKnown top (record { kinds = kinds; levels = levels; values = [] }) 0 s ≡ true)
 
 abbrev μ-loop : tie.MeasureT-loop
-μ-loop top kinds levels n s₀ s = ?
+μ-loop top kinds levels n s₀ s = n - s
 
--- src/writer.rt:31:5
 loop-holds : tie.Need-loop-holds Inv-loop μ-loop
-loop-holds c = ?
+unfolding rowsKnown allUpTo
+loop-holds c = (omega arith, refl)
 
--- src/writer.rt:32:13
 row-known-requires : tie.Need-row-known-requires Inv-loop μ-loop
-row-known-requires c κs = ?
+row-known-requires c κs = search needs
 
--- src/writer.rt:33:13
 returns : tie.Need-returns Inv-loop μ-loop
-returns c = ?
+unfolding rowsKnown
+returns c =
+    let l = c .before .before .before in
+    let a = l .before .before .before .args in
+    sym (all-fails (λ i. known (a .top) (getD (a .kinds .now) (0 + i) 0) (getD (a .levels .now) (0 + i) 0)) (l .loop .s) (a .n) (omega arith) (no (c .before .row-known .ensures ∙ rw (zero-add (l .loop .s))) (c .if1 .taken)))
 
--- src/writer.rt:35:9
 add-s : tie.Need-add-s Inv-loop μ-loop
-add-s c = ?
+add-s c = omega arith
 
--- src/writer.rt:31:5
 loop-less : tie.Need-loop-less Inv-loop μ-loop
-loop-less c = ?
+loop-less c = omega arith
 
--- src/writer.rt:31:5
 loop-again : tie.Need-loop-again Inv-loop μ-loop
-loop-again c = ?
+unfolding rowsKnown
+loop-again c =
+    let l = c .before .before .before in
+    let a = l .before .before .before .args in
+    (omega arith, all-turn (λ i. known (a .top) (getD (a .kinds .now) (0 + i) 0) (getD (a .levels .now) (0 + i) 0)) (l .loop .s) (l .loop .inv .1) (yes (c .before .row-known .ensures ∙ rw (zero-add (l .loop .s))) (c .if1 .left)))
 
--- src/writer.rt:27:1
 returns-2 : tie.Need-returns-2 Inv-loop μ-loop
-returns-2 c = ?
+returns-2 c =
+    let l = c .before in
+    let full : l .loop .s ≡ l .before .before .before .args .n = omega arith in sym (rw full at (l .loop .inv .1))
 
 pub rows-known-spec : {M : Type 1} → statement M
 rows-known-spec =
