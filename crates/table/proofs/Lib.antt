@@ -5,3 +5,4 @@ pub mod Accepted
 pub mod Puts
 pub mod Filed
 pub mod Whole
+pub mod Outcome

@@ -88,9 +88,10 @@ bounded-from : (top : ℕ) (r : Rows) (s n : ℕ) → ((i : ℕ) → i < n → k
 unfolding resolutions Bounded resolutionAt
 bounded-from top r s zero h = tt
 bounded-from top r s (suc n) h =
-    let z : s + 0 ≡ s = add-zero s in
-    (held-le top (getD (r .kinds) s 0) (getD (r .levels) s 0) (getD (r .values) s 0) (rw z at (h 0 (omega arith))),
-      bounded-from top r (suc s) n (λ i l. let e : suc s + i ≡ s + suc i = omega arith in rw e (h (suc i) (omega arith))))
+    let z : s + 0 ≡ s = add-zero s in (
+      held-le top (getD (r .kinds) s 0) (getD (r .levels) s 0) (getD (r .values) s 0) (rw z at (h 0 (omega arith))),
+      bounded-from top r (suc s) n (λ i l. let e : suc s + i ≡ s + suc i = omega arith in rw e (h (suc i) (omega arith))),
+    )
 
 pub bounded : (top : ℕ) (r : Rows) (n : ℕ) → rowsKnown top r 0 n ≡ true → Bounded (per top) (resolutions r 0 n)
 unfolding rowsKnown

@@ -6,14 +6,16 @@ use Prim.Native.Nat.{ℕ, zero, suc, _+_, _*_, _≤_}
 use lib.ListN.{length, take, drop}
 use lib.Dec.{leb, eqb}
 use lib.Ieee.{Float, binary32, binary64, toBits, nanBits}
-use Rattle.mesh.specs.Questions.{ask}
+use Rattle.mesh.specs.Questions.{ask, first}
 use Rattle.mesh.specs.Lists.{every, below}
 use Rattle.mesh.specs.Levels.{vertexCount, per}
+use Rattle.mesh.specs.Mesh.{Mesh}
 use Rattle.grid.specs.declared.Grid.{Grid}
 use Rattle.rows.specs.declared.SlabResolution.{SlabResolution}
-use Rattle.rows.specs.declared.SlabResolution.the-variants.{Scalar, Mesh, Repulsive}
+use Rattle.rows.specs.declared.SlabResolution.the-variants.{Scalar, Mesh as OnMesh, Repulsive}
 use Rattle.rows.specs.Rows.{Rows, kindOf, levelOf, valueOf, resolutionAt, narrowBits}
-use Rattle.builder.specs.Lists.{Lists, slabs}
+use Rattle.builder.specs.Lists.{Lists, slabs, rowsKnown}
+use Rattle.builder.specs.Calls.{meshedRefusal}
 use Rattle.builder.specs.declared.Builder.{Builder}
 use Rattle.table.specs.Bytes.{bytesOf, section}
 use Rattle.table.specs.File.{Entry}
@@ -55,12 +57,12 @@ nextPlace kind level offset o = cond (leb kind 1) o (offset + per level)
 -- how many energies a row holds, and its row in the file, its energies being at place o
 abbrev pub heldBy : SlabResolution → ℕ
 heldBy (Scalar x) = 0
-heldBy (Mesh v b) = per v
+heldBy (OnMesh v b) = per v
 heldBy Repulsive = 0
 
 abbrev pub offsetOf : ℕ → SlabResolution → ℕ
 offsetOf o (Scalar x) = 0xFFFF_FFFF
-offsetOf o (Mesh v b) = o
+offsetOf o (OnMesh v b) = o
 offsetOf o Repulsive = 0xFFFF_FFFF
 
 abbrev pub entryFor : ℕ → SlabResolution → Entry
@@ -105,3 +107,7 @@ pub record Ready (b : Builder) (l : Lists) (e room : ℕ) : Type 0 where
   pub energies : e ≡ total (resolutions (l .rows) 0 (slabs (b .grid)))
   pub few : e ≤ 4294967295
   pub fits : 56 + 4 * b .top + 10 * slabs (b .grid) + 4 * e ≤ room
+
+-- 1 to 7, then 15 of every row
+abbrev pub writeQuestion : Builder → Mesh → Lists → ℕ
+writeQuestion b m l = first (meshedRefusal b m l) (ask (rowsKnown (b .top) (l .rows) 0 (slabs (b .grid))) 15 0)

@@ -13,13 +13,13 @@ ghost use Rattle.builder.specs.Lists.{slabs, listRoom, rowsKnown};
 ghost use Rattle.builder.specs.Calls.{builderQuestion};
 ghost use Rattle.table.specs.Write.{WriteOut, fileFrom, writeOut};
 ghost use Rattle.table.specs.Steps.{headBytes, Ready};
+use crate::Written;
 use crate::sections::energy_total;
 use crate::sections::put_bins;
 use crate::sections::put_grid;
 use crate::sections::put_levels;
 use crate::sections::put_rows;
 use crate::sections::put_tail;
-use crate::Written;
 use builder::Builder;
 use grid::Grid;
 
@@ -93,7 +93,15 @@ fn put_head(out: &mut [u8], g: Grid, levels: u64)
 }
 
 // The file, whose rows hold e energies together.
-fn put_file(b: Builder, store: &[f64], kinds: &[u8], levels: &[u8], values: &[u32], e: u64, out: &mut [u8])
+fn put_file(
+    b: Builder,
+    store: &[f64],
+    kinds: &[u8],
+    levels: &[u8],
+    values: &[u32],
+    e: u64,
+    out: &mut [u8],
+)
     requires { ⌜ Ready b (record { store = now store; rows = record { kinds = now kinds; levels = now levels; values = now values } }) e (length (now out)) ⌝ }
     ensures { λ _. ⌜ now (out .exit) ≡ put (now (out .entry)) 0 (fileFrom b (record { store = now (store .entry); rows = record { kinds = now (kinds .entry); levels = now (levels .entry); values = now (values .entry) } })) ⌝ }
 {
@@ -105,7 +113,17 @@ fn put_file(b: Builder, store: &[f64], kinds: &[u8], levels: &[u8], values: &[u3
     let z = mesh::per_level(top as u8);
     put_head(out, g, top + 1);
     put_rows(out, 48 + 4 * top, kinds, levels, values, n);
-    put_tail(out, 52 + 4 * top + 10 * n, e, z, store, kinds, levels, values, n);
+    put_tail(
+        out,
+        52 + 4 * top + 10 * n,
+        e,
+        z,
+        store,
+        kinds,
+        levels,
+        values,
+        n,
+    );
 }
 
 // Writes the table file of a builder.

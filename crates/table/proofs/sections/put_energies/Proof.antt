@@ -56,12 +56,11 @@ loop-again : tie.Need-loop-again Inv-loop μ-loop
 loop-again c =
     let l = c .before .before .before .before .before .before .before .before in
     let store = l .before .before .before .args .store .now in
-    let x = narrowBits (getD store (l .loop .p) nan) in
-    (
+    let x = narrowBits (getD store (l .loop .p) nan) in (
       omega arith,
       omega arith,
       step (l .loop .inv .2) (bytesOf 4 x) _ _ _ (taken-turn store (l .loop .p) (l .loop .left) (omega arith) (omega arith))
-      (c .before .before .put-u32 .ensures ∙ rw (c .before .before .before .bits32 .ensures, c .before .before .before .before .narrow .ensures)) (omega (arith, bytes-length 4 x)),
+          (c .before .before .put-u32 .ensures ∙ rw (c .before .before .before .bits32 .ensures, c .before .before .before .before .narrow .ensures)) (omega (arith, bytes-length 4 x)),
     )
 
 same-length : tie.Need-same-length Inv-loop μ-loop

@@ -78,15 +78,14 @@ loop-again c =
     let r : Rows = record { kinds = a .kinds .now; levels = a .levels .now; values = a .values .now } in
     let x = resolutionAt r (l .loop .s) in
     let t = total-turn r (l .loop .s) (l .loop .left) (omega arith) in
-    let e : c .energy-count .result ≡ heldBy x = c .energy-count .ensures ∙ ap heldBy (c .before .before .before .before .before .before .before .before .before .resolution-at .ensures) in
-    (
+    let e : c .energy-count .result ≡ heldBy x = c .energy-count .ensures ∙ ap heldBy (c .before .before .before .before .before .before .before .before .before .resolution-at .ensures) in (
       omega arith,
       omega arith,
       omega (arith, t, e, l .loop .inv .2),
       rw e
-      (step (l .loop .inv .3) (entryBytes (entryFor (l .loop .o) x)) _ _ _ (entries-turn r (l .loop .s) (l .loop .left) (l .loop .o) (omega arith))
-      (c .before .before .before .put-row .ensures ∙ rw (c .before .before .before .before .before .before .kind-of .ensures, c .before .before .before .before .before .level-of .ensures, c .before .before .before .before .value-of .ensures, c .before .before .before .before .before .before .before .before .offset-of .ensures, c .before .before .before .before .before .before .before .before .before .resolution-at .ensures))
-      (omega (arith, entry-length (entryFor (l .loop .o) x)))),
+          (step (l .loop .inv .3) (entryBytes (entryFor (l .loop .o) x)) _ _ _ (entries-turn r (l .loop .s) (l .loop .left) (l .loop .o) (omega arith))
+          (c .before .before .before .put-row .ensures ∙ rw (c .before .before .before .before .before .before .kind-of .ensures, c .before .before .before .before .before .level-of .ensures, c .before .before .before .before .value-of .ensures, c .before .before .before .before .before .before .before .before .offset-of .ensures, c .before .before .before .before .before .before .before .before .before .resolution-at .ensures))
+          (omega (arith, entry-length (entryFor (l .loop .o) x)))),
     )
 
 same-length : tie.Need-same-length Inv-loop μ-loop

@@ -23,8 +23,7 @@ loop-holds : tie.Need-loop-holds Inv-loop μ-loop
 loop-holds c =
     let s = c .before .before .before .before .before in
     let a = s .args in
-    let r : Rows = record { kinds = a .kinds .now; levels = a .levels .now; values = a .values .now } in
-    (
+    let r : Rows = record { kinds = a .kinds .now; levels = a .levels .now; values = a .values .now } in (
       omega arith,
       s .pre .0,
       omega (arith, s .pre .1),
@@ -104,16 +103,15 @@ loop-again c =
     let t = total-turn r (l .loop .s) (l .loop .left) (omega arith) in
     let h = bounded-turn r (a .z) (l .loop .s) (l .loop .left) (omega arith) (l .loop .inv .3) in
     let m = one-less (l .loop .left) (a .z) (omega arith) in
-    let e : c .before .before .before .before .energy-count .result ≡ heldBy x = c .before .before .before .before .energy-count .ensures ∙ ap heldBy (c .before .before .before .before .before .resolution-at .ensures) in
-    (
+    let e : c .before .before .before .before .energy-count .result ≡ heldBy x = c .before .before .before .before .energy-count .ensures ∙ ap heldBy (c .before .before .before .before .before .resolution-at .ensures) in (
       omega arith,
       omega (arith, t, e, l .loop .inv .1),
       omega (arith, m, l .loop .inv .2),
       h .1,
       step (l .loop .inv .4) (packed (bytesOf 4) (map narrowBits (take (heldBy x) (drop (l .loop .p) (a .store .now))))) _ _ _
-      (energies-turn r (a .z) (a .store .now) (l .loop .p) (l .loop .s) (l .loop .left) (omega arith))
-      (c .before .before .put-energies .ensures ∙ rw e)
-      (omega (arith, e, taken-bytes (a .store .now) (l .loop .p) (heldBy x) (omega (arith, h .0, m, l .loop .inv .2)))),
+          (energies-turn r (a .z) (a .store .now) (l .loop .p) (l .loop .s) (l .loop .left) (omega arith))
+          (c .before .before .put-energies .ensures ∙ rw e)
+          (omega (arith, e, taken-bytes (a .store .now) (l .loop .p) (heldBy x) (omega (arith, h .0, m, l .loop .inv .2)))),
     )
 
 same-length : tie.Need-same-length Inv-loop μ-loop

@@ -1,67 +1,107 @@
+-- `write` meets its contract. Assumes nothing.
+use lib.ListN.{length}
+use Rattle.table.specs.Write.{fileFrom}
+use borrow.Author.Tests.{lt-leb, le-leb}
+use Rattle.table.proofs.Whole.{file-length}
+use Rattle.table.proofs.Outcome.{Sure, sure, ready, write-refused, write-short, write-done}
+use Rattle.table.specs.Steps.{writeQuestion}
+use Rattle.mesh.specs.Mesh.{Mesh}
+use Rattle.builder.specs.Calls.{meshedRefusal}
+use Rattle.builder.specs.Lists.{Lists, rowsKnown}
+use native.Mathlib.Nat.{mul-le-mul}
+use mathlib.Core.Path.{_≡_, sym, _∙_}
+use native.Mathlib.Omega.{arith}
 use borrow.Author.Needs.{needs}
 use Rattle.table.proofs.writer.write.Statement.{statement}
 use Rattle.table.proofs.writer.write.Tie as tie
-use Rattle.table.proofs.writer.write.Reads as reads
-use Rattle.table.proofs.writer.write.Lts as lts
-use Rattle.table.proofs.sections.energy_total.Reads as energy-total-reads
-use Rattle.table.proofs.writer.put_file.Reads as put-file-reads
-use Rattle.table.proofs.writer.write_question.Reads as write-question-reads
 
--- src/writer.rt:132:9
+-- the lists and the meshes that were lent
+abbrev lists : tie.Start → Lists
+lists s = record { store = s .args .store .now; rows = record { kinds = s .args .kinds .now; levels = s .args .levels .now; values = s .args .values .now } }
+
+abbrev meshes : tie.Start → Mesh
+meshes s = record { vertices = s .args .vertices .now; counts = s .args .counts .now; neighbours = s .args .neighbours .now; angles = s .args .angles .now }
+
+-- the first questions' answer; and what it says where it is 0
+answer : (c : tie.After-write-question) → let s = c .before .before .before .before .before .before .before .before .before .before in
+    c .write-question .result ≡ writeQuestion (s .args .b) (meshes s) (lists s)
+unfolding meshedRefusal rowsKnown
+answer c = c .write-question .ensures
+
+certain : (c : tie.Else1) → let s = c .before .before .before .before .before .before .before .before .before .before .before in Sure (s .args .b) (lists s)
+certain c =
+    let s = c .before .before .before .before .before .before .before .before .before .before .before in
+    sure (s .args .b) (meshes s) (lists s) (sym (answer (c .before)) ∙ c .if1 .left)
+
 write-question-requires : tie.Need-write-question-requires
 write-question-requires c κs = search needs
 
--- src/writer.rt:144:9
 returns : tie.Need-returns
-returns c = ?
+returns c =
+    let s = c .before .before .before .before .before .before .before .before .before .before .before in
+    sym (write-refused (s .args .b) (meshes s) (lists s) (s .args .output .now) (c .before .write-question .result) (answer (c .before)) (c .if1 .taken))
 
--- src/writer.rt:146:13
 mul-n : tie.Need-mul-n
-mul-n c = ?
+mul-n c = let f = certain c in omega (arith, mul-le-mul (f .rs) (f .omegas))
 
--- src/writer.rt:147:9
 energy-total-requires : tie.Need-energy-total-requires
-energy-total-requires c κs = ?
+energy-total-requires c κs = certain c .few
 
--- src/writer.rt:148:21
 mul-size : tie.Need-mul-size
-mul-size c = ?
+mul-size c =
+    let f = certain (c .before) in
+    omega (arith, mul-le-mul (f .rs) (f .omegas), f .top-le, f .few, c .energy-total .ensures)
 
--- src/writer.rt:148:16
 add-size : tie.Need-add-size
-add-size c = ?
+add-size c =
+    let f = certain (c .before) in
+    omega (arith, mul-le-mul (f .rs) (f .omegas), f .top-le, f .few, c .energy-total .ensures)
 
--- src/writer.rt:148:31
 mul-size-2 : tie.Need-mul-size-2
-mul-size-2 c = ?
+mul-size-2 c =
+    let f = certain (c .before) in
+    omega (arith, mul-le-mul (f .rs) (f .omegas), f .top-le, f .few, c .energy-total .ensures)
 
--- src/writer.rt:148:16
 add-size-2 : tie.Need-add-size-2
-add-size-2 c = ?
+add-size-2 c =
+    let f = certain (c .before) in
+    omega (arith, mul-le-mul (f .rs) (f .omegas), f .top-le, f .few, c .energy-total .ensures)
 
--- src/writer.rt:148:40
 mul-size-3 : tie.Need-mul-size-3
-mul-size-3 c = ?
+mul-size-3 c =
+    let f = certain (c .before) in
+    omega (arith, mul-le-mul (f .rs) (f .omegas), f .top-le, f .few, c .energy-total .ensures)
 
--- src/writer.rt:148:16
 add-size-3 : tie.Need-add-size-3
-add-size-3 c = ?
+add-size-3 c =
+    let f = certain (c .before) in
+    omega (arith, mul-le-mul (f .rs) (f .omegas), f .top-le, f .few, c .energy-total .ensures)
 
--- src/writer.rt:150:9
 returns-2 : tie.Need-returns-2
-returns-2 c = ?
+returns-2 c =
+    let s = c .before .before .before .before .before .before .before .before .before .before .before .before .before in
+    let zero = sym (answer (c .before .before .before)) ∙ c .before .before .if1 .left in
+    let f = certain (c .before .before) in
+    let e = c .before .energy-total .result in
+    let len = file-length (s .args .b) (lists s) e (f .store) (f .bounded) (c .before .energy-total .ensures) in
+    sym (write-short (s .args .b) (meshes s) (lists s) (s .args .output .now) zero (lt-leb (length (fileFrom (s .args .b) (lists s))) (length (s .args .output .now)) (omega (arith, len, c .if2 .taken))))
 
--- src/writer.rt:152:5
 put-file-requires : tie.Need-put-file-requires
-put-file-requires c κs = ?
+put-file-requires c κs =
+    let s = c .before .before .before .before .before .before .before .before .before .before .before .before .before .before in
+    ready (s .args .b) (lists s) (c .before .before .energy-total .result) _ (certain (c .before .before .before)) (c .before .before .energy-total .ensures) (omega (arith, c .before .if2 .left))
 
--- src/writer.rt:112:1
 same-length : tie.Need-same-length
 same-length c = search needs
 
--- src/writer.rt:112:1
 returns-3 : tie.Need-returns-3
-returns-3 c = ?
+returns-3 c =
+    let s = c .before .before .before .before .before .before .before .before .before .before .before .before .before .before .before .before .before in
+    let zero = sym (answer (c .before .before .before .before .before .before .before)) ∙ c .before .before .before .before .before .before .if1 .left in
+    let f = certain (c .before .before .before .before .before .before) in
+    let e = c .before .before .before .before .before .energy-total .result in
+    let len = file-length (s .args .b) (lists s) e (f .store) (f .bounded) (c .before .before .before .before .before .energy-total .ensures) in
+    rw (c .before .before .put-file .ensures, write-done (s .args .b) (meshes s) (lists s) (s .args .output .now) zero (le-leb (length (fileFrom (s .args .b) (lists s))) (length (s .args .output .now)) (omega (arith, len, c .before .before .before .before .if2 .left))), len)
 
 pub write-spec : {M : Type 1} → statement M
 write-spec =

@@ -1,34 +1,39 @@
+-- `write_question` meets its contract. Assumes nothing.
+use Rattle.builder.proofs.Laws.{asked, first-yes}
+use Rattle.builder.specs.Calls.{builderQuestion}
+use Rattle.table.proofs.Outcome.{first-no, first-zero}
+use Rattle.mesh.proofs.Counting.{yes, no}
+use Rattle.mesh.specs.Questions.{ask}
+use native.Mathlib.Nat.{mul-le-mul}
+use mathlib.Core.Path.{_≡_, sym, _∙_}
+use native.Mathlib.Omega.{arith}
 use borrow.Author.Needs.{needs}
 use Rattle.table.proofs.writer.write_question.Statement.{statement}
 use Rattle.table.proofs.writer.write_question.Tie as tie
-use Rattle.table.proofs.writer.write_question.Reads as reads
-use Rattle.table.proofs.writer.write_question.Lts as lts
-use Rattle.builder.proofs.meshed_refusal.Reads as meshed-refusal-reads
-use Rattle.table.proofs.writer.rows_known.Reads as rows-known-reads
 
--- src/writer.rt:60:9
 meshed-refusal-requires : tie.Need-meshed-refusal-requires
 meshed-refusal-requires c κs = search needs
 
--- src/writer.rt:72:9
 returns : tie.Need-returns
-returns c = ?
+returns c = c .before .meshed-refusal .ensures ∙ sym (first-no _ _ (λ z. c .if1 .taken (c .before .meshed-refusal .ensures ∙ z)))
 
--- src/writer.rt:74:40
 mul-rows-known : tie.Need-mul-rows-known
-mul-rows-known c = ?
+mul-rows-known c =
+    let b = c .before .before .before .before .before .before .before .before .args .b in
+    let q : builderQuestion b ≡ 0 = first-yes (sym (c .before .meshed-refusal .ensures) ∙ c .if1 .left) .0 in
+    let f = asked (b .grid) (b .top) (b .level) q in
+    omega (arith, mul-le-mul (f .rs) (f .omegas))
 
--- src/writer.rt:74:9
 rows-known-requires : tie.Need-rows-known-requires
 rows-known-requires c κs = search needs
 
--- src/writer.rt:75:9
 returns-2 : tie.Need-returns-2
-returns-2 c = ?
+unfolding ask
+returns-2 c = sym (first-zero _ _ (sym (c .before .before .before .meshed-refusal .ensures) ∙ c .before .before .if1 .left) ∙ rw (no (c .before .rows-known .ensures) (c .if2 .taken)))
 
--- src/writer.rt:41:1
 returns-3 : tie.Need-returns-3
-returns-3 c = ?
+unfolding ask
+returns-3 c = sym (first-zero _ _ (sym (c .before .before .before .meshed-refusal .ensures) ∙ c .before .before .if1 .left) ∙ rw (yes (c .before .rows-known .ensures) (c .if2 .left)))
 
 pub write-question-spec : {M : Type 1} → statement M
 write-question-spec =
