@@ -1,15 +1,15 @@
 -- `put_slabs` meets its contract. Assumes nothing.
-use Rattle.table.proofs.Filed.{one-less, res-length, total-turn, bounded-turn, energies-turn, energies-end, energies-bytes, taken-bytes}
-use Rattle.table.proofs.Puts.{Left, begun, step, ended}
-use Rattle.table.specs.Steps.{heldBy, resolutions, total, energiesFor, Bounded}
-use Rattle.table.specs.Bytes.{bytesOf, packed}
-use Rattle.rows.specs.Rows.{Rows, resolutionAt, narrowBits}
-use lib.ListN.{length, take, drop}
+use mathlib.Core.Path.{_≡_, ap, _∙_}
 use mathlib.Core.List.{map}
 use Prim.Native.Nat.{_+_, _*_, _≤_}
-use mathlib.Core.Path.{_≡_, ap, _∙_}
 use native.Mathlib.Omega.{arith}
+use lib.ListN.{length, take, drop}
 use borrow.Author.Needs.{needs}
+use Rattle.rows.specs.Rows.{Rows, resolutionAt, narrowBits}
+use Rattle.table.specs.Bytes.{bytesOf, packed}
+use Rattle.table.specs.Steps.{heldBy, resolutions, total, energiesFor, Bounded}
+use Rattle.table.proofs.Puts.{Left, begun, step, ended}
+use Rattle.table.proofs.Filed.{one-less, res-length, total-turn, bounded-turn, energies-turn, energies-end, energies-bytes, taken-bytes}
 use Rattle.table.proofs.sections.put_slabs.Statement.{statement}
 use Rattle.table.proofs.sections.put_slabs.Tie as tie
 
