@@ -7,3 +7,4 @@ pub mod Filed
 pub mod Whole
 pub mod Outcome
 pub mod Back
+pub mod Parsed
