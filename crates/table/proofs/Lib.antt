@@ -8,3 +8,4 @@ pub mod Whole
 pub mod Outcome
 pub mod Back
 pub mod Parsed
+pub mod Sound

@@ -4,16 +4,18 @@ use mathlib.Core.Bool.{true}
 use mathlib.Core.List.{List, [], _∷_, _++_, append-assoc, append-nil}
 use Prim.Native.Nat.{ℕ, _+_, _*_, _^_, _<_}
 use native.Mathlib.Omega.{arith}
-use lib.ListN.{length, length-append}
+use lib.ListN.{length, getD, length-append}
 use lib.Dec.{lit<}
+use lib.Ieee.{binary64, ofBits}
 use borrow.Author.Tests.{eq-eqb}
-use Rattle.table.specs.Bytes.{bytesOf, numberOf, section, items}
+use Rattle.grid.specs.Bins.{tableRmax}
+use Rattle.table.specs.Bytes.{bytesOf, numberOf, numberAt, section, items}
 use Rattle.table.specs.File.{Entry, entryBytes, entryOf}
-use Rattle.table.specs.Read.{countAt, layout, laidOut}
+use Rattle.table.specs.Read.{countAt, layout, laidOut, gridOf}
 use Rattle.table.specs.declared.Layout.{Layout}
 use Rattle.table.proofs.Puts.{bytes-length, section-length}
 use Rattle.table.proofs.Filed.{entry-length}
-use Rattle.table.proofs.Back.{All, Fitting, number-back, entry-back, count-is, items-are}
+use Rattle.table.proofs.Back.{All, Fitting, number-back, entry-back, count-is, items-are, item-at}
 
 -- a file of five sections, with three and two numbers in the first ones
 module _ (x y z n m : ℕ) (ls : List ℕ) (rs : List Entry) (es : List ℕ)
@@ -104,3 +106,34 @@ module _ (x y z n m : ℕ) (ls : List ℕ) (rs : List Entry) (es : List ℕ)
   pub levels-back : All (λ k. k < 256 ^ 4) ls → items numberOf 4 sections (40 + 4) (length ls) ≡ ls
   levels-back h =
       items-are (bytesOf 4) 4 (bytes-length 4) numberOf (λ k. k < 256 ^ 4) (number-back 4) sections (a ++ b) ls (r ++ e) 40 (sym (append-assoc a b (d ++ (r ++ e)))) ab h
+
+  -- the numbers of the first two sections
+  module _ (hx : x < 256 ^ 8) (hy : y < 256 ^ 8) (hz : z < 256 ^ 8) (hn : n < 256 ^ 4) (hm : m < 256 ^ 4) where
+    settings-back : items numberOf 8 sections 4 3 ≡ x ∷ y ∷ z ∷ []
+    settings-back =
+        items-are (bytesOf 8) 8 (bytes-length 8) numberOf (λ k. k < 256 ^ 8) (number-back 8) sections [] (x ∷ y ∷ z ∷ []) (b ++ (d ++ (r ++ e))) 0 refl refl (hx, (hy, (hz, tt)))
+
+    bins-back : items numberOf 4 sections 32 2 ≡ n ∷ m ∷ []
+    bins-back =
+        items-are (bytesOf 4) 4 (bytes-length 4) numberOf (λ k. k < 256 ^ 4) (number-back 4) sections a (n ∷ m ∷ []) (d ++ (r ++ e)) 28 refl la (hn, (hm, tt))
+
+    setting : (i : ℕ) → i < 3 → numberAt 8 sections (4 + i * 8) ≡ getD (x ∷ y ∷ z ∷ []) i 0
+    unfolding numberAt
+    setting i l = sym (item-at numberOf 8 sections 0 4 3 i l) ∙ ap (λ (k : List ℕ). getD k i 0) settings-back
+
+    bin : (i : ℕ) → i < 2 → numberAt 4 sections (32 + i * 4) ≡ getD (n ∷ m ∷ []) i 0
+    unfolding numberAt
+    bin i l = sym (item-at numberOf 4 sections 0 32 2 i l) ∙ ap (λ (k : List ℕ). getD k i 0) bins-back
+
+    pub grid-back : gridOf sections (layout sections) ≡ record {
+      rmin = ofBits binary64 x;
+      rmax = tableRmax n (ofBits binary64 y) (ofBits binary64 x);
+      dr = ofBits binary64 y;
+      «omega_step» = ofBits binary64 z;
+      threshold = ofBits binary64 0;
+      beta = ofBits binary64 0;
+      «n_r» = n;
+      «n_omega» = m;
+    }
+    unfolding gridOf
+    grid-back = rw (laid, setting 0 (lit< tt), setting 1 (lit< tt), setting 2 (lit< tt), bin 0 (lit< tt), bin 1 (lit< tt))
