@@ -9,3 +9,4 @@ pub mod Outcome
 pub mod Back
 pub mod Parsed
 pub mod Sound
+pub mod Accepts

@@ -12,7 +12,6 @@ use Rattle.grid.specs.Bins.{tableRmax}
 use Rattle.table.specs.Bytes.{bytesOf, numberOf, numberAt, section, items}
 use Rattle.table.specs.File.{Entry, entryBytes, entryOf}
 use Rattle.table.specs.Read.{countAt, layout, laidOut, gridOf}
-use Rattle.table.specs.declared.Layout.{Layout}
 use Rattle.table.proofs.Puts.{bytes-length, section-length}
 use Rattle.table.proofs.Filed.{entry-length}
 use Rattle.table.proofs.Back.{All, Fitting, number-back, entry-back, count-is, items-are, item-at}
@@ -22,12 +21,16 @@ module _ (x y z n m : ℕ) (ls : List ℕ) (rs : List Entry) (es : List ℕ)
     (fewLevels : length ls < 256 ^ 4) (fewRows : length rs < 256 ^ 4) (fewEnergies : length es < 256 ^ 4) where
   abbrev a : List ℕ
   a = section (bytesOf 8) (x ∷ y ∷ z ∷ [])
+
   abbrev b : List ℕ
   b = section (bytesOf 4) (n ∷ m ∷ [])
+
   abbrev d : List ℕ
   d = section (bytesOf 4) ls
+
   abbrev r : List ℕ
   r = section entryBytes rs
+
   abbrev e : List ℕ
   e = section (bytesOf 4) es
 
