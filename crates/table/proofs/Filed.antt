@@ -1,8 +1,8 @@
 -- The sections of a file, row by row and energy by energy. Assumes nothing.
 use mathlib.Core.Path.{_≡_, refl, sym, ap, _∙_}
 use mathlib.Core.List.{List, [], _∷_, _++_, map, append-assoc, append-nil, map-append}
-use Prim.Native.Nat.{ℕ, zero, suc, _+_, _-_, _*_, _/_, _%_, _≤_, _<_}
-use native.Mathlib.Nat.{zero-mul, suc-mul, mod-eq-of-lt}
+use Prim.Native.Nat.{ℕ, zero, suc, _+_, _-_, _*_, _≤_, _<_}
+use native.Mathlib.Nat.{suc-mul, mod-eq-of-lt}
 use native.Mathlib.Numerals.{add-one}
 use native.Mathlib.Omega.{arith}
 use lib.ListN.{length, getD, take, drop, length-append, length-map, length-drop}
@@ -162,3 +162,25 @@ energies-length z store p (x ∷ xs) b h =
 pub energies-bytes : (z : ℕ) (store : List Float) (p : ℕ) (xs : List SlabResolution) → Bounded z xs → p + length xs * z ≤ length store
     → length (packed (bytesOf 4) (energiesFor z store p xs)) ≡ total xs * 4
 energies-bytes z store p xs b h = packed-length (bytesOf 4) 4 (bytes-length 4) (energiesFor z store p xs) ∙ ap (λ (n : ℕ). n * 4) (energies-length z store p xs b h)
+
+-- a turn of the loop over slabs: the k energies of row s fit, and so do those of the rows behind it
+pub record Slab (r : Rows) (z s n to p k room held : ℕ) : Type 0 where
+  pub fits : to + k * 4 ≤ room
+  pub inside : p + k ≤ held
+  pub rest : to + 4 * k + total (resolutions r (s + 1) (n - 1)) * 4 ≤ room
+  pub next : p + z + (n - 1) * z ≤ held
+  pub bounded : Bounded z (resolutions r (s + 1) (n - 1))
+
+pub slab-turn : (r : Rows) (z s n to p k room held : ℕ) → 0 < n → k ≡ heldBy (resolutionAt r s) → to + total (resolutions r s n) * 4 ≤ room → p + n * z ≤ held
+    → Bounded z (resolutions r s n) → Slab r z s n to p k room held
+slab-turn r z s n to p k room held h e fits inside b =
+    let t = total-turn r s n h in
+    let m = one-less n z h in
+    let d = bounded-turn r z s n h b in
+    record {
+      fits = omega (arith, t, e, fits);
+      inside = omega (arith, e, d .0, m, inside);
+      rest = omega (arith, t, e, fits);
+      next = omega (arith, m, inside);
+      bounded = d .1;
+    }

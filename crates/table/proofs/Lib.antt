@@ -6,3 +6,7 @@ pub mod Puts
 pub mod Filed
 pub mod Whole
 pub mod Outcome
+pub mod Back
+pub mod Parsed
+pub mod Sound
+pub mod Accepts

@@ -1,11 +1,11 @@
 -- The number in some bytes of a file, byte by byte. Assumes nothing.
-use mathlib.Core.Path.{_≡_, refl, sym, ap, _∙_}
-use mathlib.Core.List.{List, [], _∷_}
+use mathlib.Core.Path.{_≡_, refl, _∙_}
+use mathlib.Core.List.{List, []}
 use mathlib.Core.Logic.{⊎-elim}
-use Prim.Native.Nat.{ℕ, zero, suc, _+_, _*_, _≤_, _<_}
+use Prim.Native.Nat.{ℕ, suc, _+_, _*_, _≤_}
 use native.Mathlib.Numerals.{add-one}
 use native.Mathlib.Omega.{arith}
-use lib.ListN.{length, getD, take, drop, List·getD-eq-default, drop-of-length-le}
+use lib.ListN.{length, getD, List·getD-eq-default, drop-of-length-le}
 use lib.Seq.{drop-cons, take-all}
 use Rattle.ieee.proofs.Pack.{le-or-lt}
 use Rattle.table.specs.Bytes.{numberOf, numberAt}

@@ -1,5 +1,5 @@
 -- Write's outcome by the answers to its questions, and what they say of builder and lists. Assumes nothing.
-use mathlib.Core.Path.{_≡_, refl, sym, ap, _∙_}
+use mathlib.Core.Path.{_≡_, refl, sym, _∙_}
 use mathlib.Core.Bool.{Bool, true, false, cond}
 use mathlib.Core.List.{List}
 use Prim.Native.Nat.{ℕ, _+_, _*_, _≤_}
@@ -14,8 +14,8 @@ use Rattle.mesh.specs.Mesh.{Mesh}
 use Rattle.builder.specs.Lists.{Lists, slabs, rowsKnown}
 use Rattle.builder.specs.Calls.{meshedRefusal}
 use Rattle.builder.specs.declared.Builder.{Builder}
-use Rattle.builder.proofs.Laws.{ask-yes, first-yes, Meshed, meshed}
-use Rattle.table.specs.Write.{WriteOut, fileFrom, writeRefusal, writeOut}
+use Rattle.builder.proofs.Laws.{ask-yes, first-yes, meshed}
+use Rattle.table.specs.Write.{fileFrom, writeRefusal, writeOut}
 use Rattle.table.specs.Steps.{resolutions, total, Bounded, Ready, writeQuestion}
 use Rattle.table.specs.declared.Written.the-variants.{Accepted as Writes, Refused as NotWritten}
 use Rattle.table.proofs.Filed.{res-length}

@@ -1,9 +1,9 @@
 -- `put_u32` meets its contract. Assumes nothing.
+use native.Mathlib.Omega.{arith}
+use lib.ListN.{length-set}
+use borrow.Author.Needs.{needs}
 use Rattle.table.specs.Bytes.{bytesOf}
 use Rattle.table.proofs.Puts.{set-four}
-use lib.ListN.{length-set}
-use native.Mathlib.Omega.{arith}
-use borrow.Author.Needs.{needs}
 use Rattle.table.proofs.bytes.put_u32.Statement.{statement}
 use Rattle.table.proofs.bytes.put_u32.Tie as tie
 

@@ -1,11 +1,11 @@
 -- `put_u64` meets its contract. Assumes nothing.
-use Rattle.table.proofs.Puts.{puts, bytes-length, halves}
-use Rattle.table.specs.Bytes.{bytesOf}
-use lib.ListN.{length}
-use Prim.Native.Nat.{_+_, _/_, _%_}
 use mathlib.Core.Path.{_≡_, _∙_}
+use Prim.Native.Nat.{_+_, _/_, _%_}
 use native.Mathlib.Omega.{arith}
+use lib.ListN.{length}
 use borrow.Author.Needs.{needs}
+use Rattle.table.specs.Bytes.{bytesOf}
+use Rattle.table.proofs.Puts.{puts, bytes-length, halves}
 use Rattle.table.proofs.bytes.put_u64.Statement.{statement}
 use Rattle.table.proofs.bytes.put_u64.Tie as tie
 

@@ -1,9 +1,9 @@
 -- `u32_in` meets its contract. Assumes nothing.
-use Prim.Native.Nat.{_+_}
 use mathlib.Core.Path.{sym}
-use Rattle.table.proofs.Numbers.{four}
+use Prim.Native.Nat.{_+_}
 use native.Mathlib.Omega.{arith}
 use borrow.Author.Needs.{needs}
+use Rattle.table.proofs.Numbers.{four}
 use Rattle.table.proofs.bytes.u32_in.Statement.{statement}
 use Rattle.table.proofs.bytes.u32_in.Tie as tie
 

@@ -1,8 +1,8 @@
 -- `u32_rest` meets its contract. Assumes nothing.
 use Prim.Native.Nat.{_+_}
-use Rattle.table.proofs.Numbers.{four, beyond}
 use native.Mathlib.Omega.{arith}
 use borrow.Author.Needs.{needs}
+use Rattle.table.proofs.Numbers.{four, beyond}
 use Rattle.table.proofs.bytes.u32_rest.Statement.{statement}
 use Rattle.table.proofs.bytes.u32_rest.Tie as tie
 

@@ -1,7 +1,7 @@
 -- `u64_in` meets its contract. Assumes nothing.
-use Rattle.table.proofs.Numbers.{eight}
 use native.Mathlib.Omega.{arith}
 use borrow.Author.Needs.{needs}
+use Rattle.table.proofs.Numbers.{eight}
 use Rattle.table.proofs.bytes.u64_in.Statement.{statement}
 use Rattle.table.proofs.bytes.u64_in.Tie as tie
 

@@ -1,14 +1,14 @@
 -- `energies_held` meets its contract. Assumes nothing.
-use borrow.Author.Needs.{needs}
-use Rattle.table.proofs.Items.{every-stop, every-next, every-end}
-use Rattle.table.specs.Bytes.{numberOf, numberAt, items}
-use Rattle.mesh.specs.Lists.{every}
-use lib.Ieee.{binary32, nanBits}
-use lib.ListN.{length}
-use Prim.Native.Nat.{_+_, _*_, _≤_}
-use mathlib.Core.Bool.{not}
 use mathlib.Core.Path.{_≡_, refl, sym, ap, _∙_}
+use mathlib.Core.Bool.{not}
+use Prim.Native.Nat.{_+_, _*_, _≤_}
 use native.Mathlib.Omega.{arith}
+use lib.ListN.{length}
+use lib.Ieee.{binary32, nanBits}
+use borrow.Author.Needs.{needs}
+use Rattle.mesh.specs.Lists.{every}
+use Rattle.table.specs.Bytes.{numberOf, numberAt, items}
+use Rattle.table.proofs.Items.{every-stop, every-next, every-end}
 use Rattle.table.proofs.questions.energies_held.Statement.{statement}
 use Rattle.table.proofs.questions.energies_held.Tie as tie
 

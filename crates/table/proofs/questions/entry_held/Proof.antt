@@ -1,7 +1,7 @@
 -- `entry_held` meets its contract. Assumes nothing.
-use Rattle.table.specs.Read.{entryHeld}
 use borrow.Author.Tests.{eq-eqb, ne-eqb}
 use borrow.Author.Needs.{needs}
+use Rattle.table.specs.Read.{entryHeld}
 use Rattle.table.proofs.questions.entry_held.Statement.{statement}
 use Rattle.table.proofs.questions.entry_held.Tie as tie
 

@@ -1,16 +1,15 @@
 -- `levels_held` meets its contract. Assumes nothing.
+use mathlib.Core.Path.{_≡_, refl, sym, _∙_}
+use mathlib.Core.Bool.{true}
+use Prim.Native.Nat.{_+_, _-_, _*_, _≤_}
+use native.Mathlib.Omega.{arith}
+use lib.Dec.{eqb}
 use borrow.Author.Needs.{needs}
-use Rattle.table.specs.Bytes.{numberAt}
-use Rattle.mesh.proofs.Counting.{all-turn, all-fails}
+use borrow.Author.Tests.{eq-eqb, ne-eqb}
 use Rattle.mesh.specs.Levels.{vertexCount}
 use Rattle.mesh.specs.Lists.{allUpTo}
-use borrow.Author.Tests.{eq-eqb, ne-eqb}
-use lib.Dec.{eqb}
-use lib.ListN.{length}
-use Prim.Native.Nat.{_+_, _-_, _*_, _≤_}
-use mathlib.Core.Bool.{true}
-use mathlib.Core.Path.{_≡_, refl, sym, _∙_}
-use native.Mathlib.Omega.{arith}
+use Rattle.mesh.proofs.Counting.{all-turn, all-fails}
+use Rattle.table.specs.Bytes.{numberAt}
 use Rattle.table.proofs.questions.levels_held.Statement.{statement}
 use Rattle.table.proofs.questions.levels_held.Tie as tie
 

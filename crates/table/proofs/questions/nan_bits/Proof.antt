@@ -1,7 +1,7 @@
 -- `nan_bits` meets its contract. Assumes nothing.
+use mathlib.Core.Path.{sym}
 use lib.Ieee.Bits.{nanBits-above}
 use lib.Ieee.{binary32}
-use mathlib.Core.Path.{sym}
 use Rattle.table.proofs.questions.nan_bits.Statement.{statement}
 use Rattle.table.proofs.questions.nan_bits.Tie as tie
 

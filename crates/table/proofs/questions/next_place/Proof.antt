@@ -1,8 +1,8 @@
 -- `next_place` meets its contract. Assumes nothing.
-use Rattle.mesh.proofs.Laws.{per-le}
-use borrow.Author.Tests.{le-leb, lt-leb}
 use native.Mathlib.Omega.{arith}
+use borrow.Author.Tests.{le-leb, lt-leb}
 use borrow.Author.Needs.{needs}
+use Rattle.mesh.proofs.Laws.{per-le}
 use Rattle.table.proofs.questions.next_place.Statement.{statement}
 use Rattle.table.proofs.questions.next_place.Tie as tie
 

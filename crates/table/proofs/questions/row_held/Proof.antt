@@ -1,6 +1,6 @@
 -- `row_held` meets its contract. Assumes nothing.
-use Rattle.table.proofs.Items.{entry-at}
 use borrow.Author.Needs.{needs}
+use Rattle.table.proofs.Items.{entry-at}
 use Rattle.table.proofs.questions.row_held.Statement.{statement}
 use Rattle.table.proofs.questions.row_held.Tie as tie
 

@@ -1,14 +1,14 @@
 -- `rows_held` meets its contract. Assumes nothing.
-use Rattle.table.proofs.Items.{every-stop, every-next, every-end}
-use Rattle.table.specs.Read.{entryHeld}
-use Rattle.table.specs.File.{entryOf}
-use Rattle.table.specs.Bytes.{items}
-use Rattle.mesh.proofs.Counting.{yes, no}
-use Rattle.mesh.specs.Lists.{every}
-use lib.ListN.{length}
-use Prim.Native.Nat.{_+_, _*_, _≤_}
 use mathlib.Core.Path.{_≡_, refl, sym, _∙_}
+use Prim.Native.Nat.{_+_, _*_, _≤_}
 use native.Mathlib.Omega.{arith}
+use lib.ListN.{length}
+use Rattle.mesh.specs.Lists.{every}
+use Rattle.mesh.proofs.Counting.{yes, no}
+use Rattle.table.specs.Bytes.{items}
+use Rattle.table.specs.File.{entryOf}
+use Rattle.table.specs.Read.{entryHeld}
+use Rattle.table.proofs.Items.{every-stop, every-next, every-end}
 use Rattle.table.proofs.questions.rows_held.Statement.{statement}
 use Rattle.table.proofs.questions.rows_held.Tie as tie
 

@@ -1,14 +1,14 @@
 -- `rows_tiled` meets its contract. Assumes nothing.
-use borrow.Author.Needs.{needs}
-use Rattle.table.proofs.Items.{tiled-stop, tiled-next, tiled-end}
-use Rattle.table.specs.Read.{tiled}
-use Rattle.table.specs.File.{entryOf}
-use Rattle.table.specs.Bytes.{items}
-use Rattle.mesh.proofs.Counting.{yes, no}
-use lib.ListN.{length}
-use Prim.Native.Nat.{_+_, _*_, _≤_}
 use mathlib.Core.Path.{_≡_, refl, sym, _∙_}
+use Prim.Native.Nat.{_+_, _*_, _≤_}
 use native.Mathlib.Omega.{arith}
+use lib.ListN.{length}
+use borrow.Author.Needs.{needs}
+use Rattle.mesh.proofs.Counting.{yes, no}
+use Rattle.table.specs.Bytes.{items}
+use Rattle.table.specs.File.{entryOf}
+use Rattle.table.specs.Read.{tiled}
+use Rattle.table.proofs.Items.{tiled-stop, tiled-next, tiled-end}
 use Rattle.table.proofs.questions.rows_tiled.Statement.{statement}
 use Rattle.table.proofs.questions.rows_tiled.Tie as tie
 

@@ -1,7 +1,7 @@
 -- `scalar_held` meets its contract. Assumes nothing.
-use Rattle.table.specs.Read.{scalarHeld}
 use mathlib.Core.Path.{sym, _∙_}
 use borrow.Author.Needs.{needs}
+use Rattle.table.specs.Read.{scalarHeld}
 use Rattle.table.proofs.questions.scalar_held.Statement.{statement}
 use Rattle.table.proofs.questions.scalar_held.Tie as tie
 

@@ -1,12 +1,12 @@
 -- `table_held` meets its contract. Assumes nothing.
-use Rattle.table.proofs.Accepted.{held-ranged}
-use Rattle.table.specs.Read.{tableHeld}
-use Rattle.mesh.proofs.Counting.{yes, no}
-use Rattle.grid.proofs.Laws.{Ranged}
-use borrow.Author.Tests.{eq-eqb, ne-eqb}
 use native.Mathlib.Nat.{mul-le-mul}
 use native.Mathlib.Omega.{arith}
+use borrow.Author.Tests.{eq-eqb, ne-eqb}
 use borrow.Author.Needs.{needs}
+use Rattle.mesh.proofs.Counting.{yes, no}
+use Rattle.grid.proofs.Laws.{Ranged}
+use Rattle.table.specs.Read.{tableHeld}
+use Rattle.table.proofs.Accepted.{held-ranged}
 use Rattle.table.proofs.questions.table_held.Statement.{statement}
 use Rattle.table.proofs.questions.table_held.Tie as tie
 

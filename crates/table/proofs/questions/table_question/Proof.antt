@@ -1,7 +1,6 @@
 -- `table_question` meets its contract. Assumes nothing.
 use Rattle.mesh.specs.Questions.{ask}
 use Rattle.mesh.proofs.Counting.{yes, no}
-use borrow.Author.Needs.{needs}
 use Rattle.table.proofs.questions.table_question.Statement.{statement}
 use Rattle.table.proofs.questions.table_question.Tie as tie
 

@@ -1,11 +1,11 @@
 -- `read` meets its contract. Assumes nothing.
-use Rattle.table.proofs.Accepted.{laid, inside, read-unlaid, read-refused, read-accepted}
-use Rattle.table.specs.Steps.{Placed, tableQuestion}
-use Rattle.table.specs.Read.{layout, laidOut, tableOf}
-use Rattle.mesh.proofs.Counting.{yes, no}
-use mathlib.Core.Bool.{true}
 use mathlib.Core.Path.{_≡_, sym}
+use mathlib.Core.Bool.{true}
 use borrow.Author.Needs.{needs}
+use Rattle.mesh.proofs.Counting.{yes, no}
+use Rattle.table.specs.Read.{layout, laidOut, tableOf}
+use Rattle.table.specs.Steps.{Placed, tableQuestion}
+use Rattle.table.proofs.Accepted.{laid, inside, read-unlaid, read-refused, read-accepted}
 use Rattle.table.proofs.reader.read.Statement.{statement}
 use Rattle.table.proofs.reader.read.Tie as tie
 

@@ -1,7 +1,7 @@
 -- `energy_count` meets its contract. Assumes nothing.
-use Rattle.table.specs.Steps.{heldBy}
 use mathlib.Core.Path.{sym, ap, _∙_}
 use borrow.Author.Needs.{needs}
+use Rattle.table.specs.Steps.{heldBy}
 use Rattle.table.proofs.sections.energy_count.Statement.{statement}
 use Rattle.table.proofs.sections.energy_count.Tie as tie
 

@@ -1,11 +1,11 @@
 -- `energy_total` meets its contract. Assumes nothing.
-use Rattle.table.proofs.Filed.{total-turn, total-end}
-use Rattle.table.specs.Steps.{heldBy, resolutions, total}
-use Rattle.rows.specs.Rows.{Rows, resolutionAt}
-use Prim.Native.Nat.{_+_}
 use mathlib.Core.Path.{_≡_, ap, _∙_}
+use Prim.Native.Nat.{_+_}
 use native.Mathlib.Omega.{arith}
 use borrow.Author.Needs.{needs}
+use Rattle.rows.specs.Rows.{Rows, resolutionAt}
+use Rattle.table.specs.Steps.{heldBy, resolutions, total}
+use Rattle.table.proofs.Filed.{total-turn, total-end}
 use Rattle.table.proofs.sections.energy_total.Statement.{statement}
 use Rattle.table.proofs.sections.energy_total.Tie as tie
 

@@ -1,7 +1,7 @@
 -- `put_bins` meets its contract. Assumes nothing.
+use borrow.Author.Needs.{needs}
 use Rattle.table.specs.Bytes.{packed, section}
 use Rattle.table.proofs.Puts.{bins-put}
-use borrow.Author.Needs.{needs}
 use Rattle.table.proofs.sections.put_bins.Statement.{statement}
 use Rattle.table.proofs.sections.put_bins.Tie as tie
 

@@ -1,16 +1,15 @@
 -- `put_energies` meets its contract. Assumes nothing.
-use lib.Ieee.{nan}
-use lib.ListN.{getD}
-use Rattle.table.proofs.Filed.{taken-bytes, taken-turn, taken-end}
-use Rattle.table.proofs.Puts.{Left, begun, step, ended, bytes-length}
-use Rattle.table.specs.Bytes.{bytesOf, packed}
-use Rattle.rows.specs.Rows.{narrowBits}
-use lib.ListN.{length, take, drop}
+use mathlib.Core.Path.{_∙_}
 use mathlib.Core.List.{map}
 use Prim.Native.Nat.{_+_, _*_, _≤_}
-use mathlib.Core.Path.{_≡_, ap, _∙_}
 use native.Mathlib.Omega.{arith}
+use lib.ListN.{getD, length, take, drop}
+use lib.Ieee.{nan}
 use borrow.Author.Needs.{needs}
+use Rattle.rows.specs.Rows.{narrowBits}
+use Rattle.table.specs.Bytes.{bytesOf, packed}
+use Rattle.table.proofs.Puts.{Left, begun, step, ended, bytes-length}
+use Rattle.table.proofs.Filed.{taken-bytes, taken-turn, taken-end}
 use Rattle.table.proofs.sections.put_energies.Statement.{statement}
 use Rattle.table.proofs.sections.put_energies.Tie as tie
 

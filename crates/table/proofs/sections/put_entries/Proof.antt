@@ -1,15 +1,15 @@
 -- `put_entries` meets its contract. Assumes nothing.
-use Rattle.table.proofs.Filed.{entries-length, entries-turn, entries-end, total-turn, entry-length}
-use Rattle.table.proofs.Puts.{Left, begun, step, ended}
-use Rattle.table.specs.Steps.{heldBy, entryFor, resolutions, entriesFor, total}
-use Rattle.table.specs.File.{entryBytes}
-use Rattle.table.specs.Bytes.{packed}
-use Rattle.rows.specs.Rows.{Rows, resolutionAt}
-use lib.ListN.{length}
-use Prim.Native.Nat.{_+_, _*_, _≤_}
 use mathlib.Core.Path.{_≡_, ap, _∙_}
+use Prim.Native.Nat.{_+_, _*_, _≤_}
 use native.Mathlib.Omega.{arith}
+use lib.ListN.{length}
 use borrow.Author.Needs.{needs}
+use Rattle.rows.specs.Rows.{Rows, resolutionAt}
+use Rattle.table.specs.Bytes.{packed}
+use Rattle.table.specs.File.{entryBytes}
+use Rattle.table.specs.Steps.{heldBy, entryFor, resolutions, entriesFor, total}
+use Rattle.table.proofs.Puts.{Left, begun, step, ended}
+use Rattle.table.proofs.Filed.{entries-length, entries-turn, entries-end, total-turn, entry-length}
 use Rattle.table.proofs.sections.put_entries.Statement.{statement}
 use Rattle.table.proofs.sections.put_entries.Tie as tie
 

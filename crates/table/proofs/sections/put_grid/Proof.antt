@@ -1,7 +1,7 @@
 -- `put_grid` meets its contract. Assumes nothing.
+use borrow.Author.Needs.{needs}
 use Rattle.table.specs.Bytes.{packed, section}
 use Rattle.table.proofs.Puts.{grid-put}
-use borrow.Author.Needs.{needs}
 use Rattle.table.proofs.sections.put_grid.Statement.{statement}
 use Rattle.table.proofs.sections.put_grid.Tie as tie
 

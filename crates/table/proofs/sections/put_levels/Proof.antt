@@ -1,14 +1,14 @@
 -- `put_levels` meets its contract. Assumes nothing.
-use Rattle.table.proofs.Filed.{below-length}
-use Rattle.table.proofs.Puts.{puts, bytes-length}
-use Rattle.table.specs.Bytes.{bytesOf, packed, section}
+use mathlib.Core.Path.{_≡_, _∙_}
+use mathlib.Core.List.{map}
+use native.Mathlib.Omega.{arith}
+use lib.ListN.{length, length-map}
+use borrow.Author.Needs.{needs}
 use Rattle.mesh.specs.Levels.{vertexCount}
 use Rattle.mesh.specs.Lists.{below}
-use lib.ListN.{length, length-map}
-use mathlib.Core.List.{map}
-use mathlib.Core.Path.{_≡_, _∙_}
-use native.Mathlib.Omega.{arith}
-use borrow.Author.Needs.{needs}
+use Rattle.table.specs.Bytes.{bytesOf, packed, section}
+use Rattle.table.proofs.Puts.{puts, bytes-length}
+use Rattle.table.proofs.Filed.{below-length}
 use Rattle.table.proofs.sections.put_levels.Statement.{statement}
 use Rattle.table.proofs.sections.put_levels.Tie as tie
 

@@ -1,7 +1,7 @@
 -- `put_row` meets its contract. Assumes nothing.
-use Rattle.table.proofs.Filed.{row-put}
 use native.Mathlib.Omega.{arith}
 use borrow.Author.Needs.{needs}
+use Rattle.table.proofs.Filed.{row-put}
 use Rattle.table.proofs.sections.put_row.Statement.{statement}
 use Rattle.table.proofs.sections.put_row.Tie as tie
 

@@ -1,15 +1,15 @@
 -- `put_rows` meets its contract. Assumes nothing.
-use Rattle.table.proofs.Filed.{entriesFor-length, res-length}
-use Rattle.table.proofs.Puts.{puts, bytes-length}
-use Rattle.table.specs.Steps.{resolutions, entriesFor}
-use Rattle.table.specs.File.{entryBytes}
-use Rattle.table.specs.Bytes.{bytesOf, packed, section}
-use Rattle.rows.specs.Rows.{Rows}
-use lib.ListN.{length}
-use Prim.Native.Nat.{_+_}
 use mathlib.Core.Path.{_≡_, _∙_}
+use Prim.Native.Nat.{_+_}
 use native.Mathlib.Omega.{arith}
+use lib.ListN.{length}
 use borrow.Author.Needs.{needs}
+use Rattle.rows.specs.Rows.{Rows}
+use Rattle.table.specs.Bytes.{bytesOf, packed, section}
+use Rattle.table.specs.File.{entryBytes}
+use Rattle.table.specs.Steps.{resolutions, entriesFor}
+use Rattle.table.proofs.Puts.{puts, bytes-length}
+use Rattle.table.proofs.Filed.{entriesFor-length, res-length}
 use Rattle.table.proofs.sections.put_rows.Statement.{statement}
 use Rattle.table.proofs.sections.put_rows.Tie as tie
 

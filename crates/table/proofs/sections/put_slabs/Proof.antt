@@ -1,15 +1,15 @@
 -- `put_slabs` meets its contract. Assumes nothing.
-use Rattle.table.proofs.Filed.{one-less, res-length, total-turn, bounded-turn, energies-turn, energies-end, energies-bytes, taken-bytes}
-use Rattle.table.proofs.Puts.{Left, begun, step, ended}
-use Rattle.table.specs.Steps.{heldBy, resolutions, total, energiesFor, Bounded}
-use Rattle.table.specs.Bytes.{bytesOf, packed}
-use Rattle.rows.specs.Rows.{Rows, resolutionAt, narrowBits}
-use lib.ListN.{length, take, drop}
+use mathlib.Core.Path.{_≡_, ap, _∙_}
 use mathlib.Core.List.{map}
 use Prim.Native.Nat.{_+_, _*_, _≤_}
-use mathlib.Core.Path.{_≡_, ap, _∙_}
 use native.Mathlib.Omega.{arith}
+use lib.ListN.{length, take, drop}
 use borrow.Author.Needs.{needs}
+use Rattle.rows.specs.Rows.{Rows, resolutionAt, narrowBits}
+use Rattle.table.specs.Bytes.{bytesOf, packed}
+use Rattle.table.specs.Steps.{heldBy, resolutions, total, energiesFor, Bounded}
+use Rattle.table.proofs.Puts.{Left, begun, step, ended}
+use Rattle.table.proofs.Filed.{res-length, Slab, slab-turn, energies-turn, energies-end, energies-bytes, taken-bytes}
 use Rattle.table.proofs.sections.put_slabs.Statement.{statement}
 use Rattle.table.proofs.sections.put_slabs.Tie as tie
 
@@ -18,6 +18,19 @@ Inv-loop out₀ at z store kinds levels values n s₀ left₀ to₀ p₀ out s l
 
 abbrev μ-loop : tie.MeasureT-loop
 μ-loop out₀ at z store kinds levels values n s₀ left₀ to₀ p₀ out s left to p = left
+
+-- the rows that were lent, and the energies of the row at hand
+abbrev rows : tie.At-loop Inv-loop μ-loop → Rows
+rows l = let a = l .before .before .before .before .before .before .args in record { kinds = a .kinds .now; levels = a .levels .now; values = a .values .now }
+
+taken : (c : tie.After-energy-count Inv-loop μ-loop) → let l = c .before .before .before in c .energy-count .result ≡ heldBy (resolutionAt (rows l) (l .loop .s))
+taken c = c .energy-count .ensures ∙ ap heldBy (c .before .resolution-at .ensures)
+
+turn : (c : tie.After-energy-count Inv-loop μ-loop) → let l = c .before .before .before in let a = l .before .before .before .before .before .before .args in
+    Slab (rows l) (a .z) (l .loop .s) (l .loop .left) (l .loop .to) (l .loop .p) (c .energy-count .result) (length (a .out .now)) (length (a .store .now))
+turn c =
+    let l = c .before .before .before in
+    slab-turn (rows l) _ _ _ _ _ _ _ _ (omega arith) (taken c) (l .loop .inv .1) (l .loop .inv .2) (l .loop .inv .3)
 
 loop-holds : tie.Need-loop-holds Inv-loop μ-loop
 loop-holds c =
@@ -38,52 +51,16 @@ energy-count-requires : tie.Need-energy-count-requires Inv-loop μ-loop
 energy-count-requires c κs = search needs
 
 put-energies-requires : tie.Need-put-energies-requires Inv-loop μ-loop
-put-energies-requires c κs =
-    let l = c .before .before .before .before in
-    let a = l .before .before .before .before .before .before .args in
-    let r : Rows = record { kinds = a .kinds .now; levels = a .levels .now; values = a .values .now } in
-    let x = resolutionAt r (l .loop .s) in
-    let t = total-turn r (l .loop .s) (l .loop .left) (omega arith) in
-    let h = bounded-turn r (a .z) (l .loop .s) (l .loop .left) (omega arith) (l .loop .inv .3) in
-    let m = one-less (l .loop .left) (a .z) (omega arith) in
-    let e : c .before .energy-count .result ≡ heldBy x = c .before .energy-count .ensures ∙ ap heldBy (c .before .before .resolution-at .ensures) in
-    (omega (arith, t, e, l .loop .inv .1, l .loop .inv .4 .size), omega (arith, e, h .0, m, l .loop .inv .2))
+put-energies-requires c κs = let t = turn (c .before) in (omega (arith, t .fits, c .before .before .before .before .loop .inv .4 .size), t .inside)
 
 mul-to : tie.Need-mul-to Inv-loop μ-loop
-mul-to c =
-    let l = c .before .before .before .before .before .before .before in
-    let a = l .before .before .before .before .before .before .args in
-    let r : Rows = record { kinds = a .kinds .now; levels = a .levels .now; values = a .values .now } in
-    let x = resolutionAt r (l .loop .s) in
-    let t = total-turn r (l .loop .s) (l .loop .left) (omega arith) in
-    let h = bounded-turn r (a .z) (l .loop .s) (l .loop .left) (omega arith) (l .loop .inv .3) in
-    let m = one-less (l .loop .left) (a .z) (omega arith) in
-    let e : c .before .before .before .before .energy-count .result ≡ heldBy x = c .before .before .before .before .energy-count .ensures ∙ ap heldBy (c .before .before .before .before .before .resolution-at .ensures) in
-    omega (arith, t, e, l .loop .inv .1)
+mul-to c = let t = turn (c .before .before .before .before) in omega (arith, t .fits)
 
 add-to : tie.Need-add-to Inv-loop μ-loop
-add-to c =
-    let l = c .before .before .before .before .before .before .before in
-    let a = l .before .before .before .before .before .before .args in
-    let r : Rows = record { kinds = a .kinds .now; levels = a .levels .now; values = a .values .now } in
-    let x = resolutionAt r (l .loop .s) in
-    let t = total-turn r (l .loop .s) (l .loop .left) (omega arith) in
-    let h = bounded-turn r (a .z) (l .loop .s) (l .loop .left) (omega arith) (l .loop .inv .3) in
-    let m = one-less (l .loop .left) (a .z) (omega arith) in
-    let e : c .before .before .before .before .energy-count .result ≡ heldBy x = c .before .before .before .before .energy-count .ensures ∙ ap heldBy (c .before .before .before .before .before .resolution-at .ensures) in
-    omega (arith, t, e, l .loop .inv .1)
+add-to c = let t = turn (c .before .before .before .before) in omega (arith, t .fits)
 
 add-p : tie.Need-add-p Inv-loop μ-loop
-add-p c =
-    let l = c .before .before .before .before .before .before .before in
-    let a = l .before .before .before .before .before .before .args in
-    let r : Rows = record { kinds = a .kinds .now; levels = a .levels .now; values = a .values .now } in
-    let x = resolutionAt r (l .loop .s) in
-    let t = total-turn r (l .loop .s) (l .loop .left) (omega arith) in
-    let h = bounded-turn r (a .z) (l .loop .s) (l .loop .left) (omega arith) (l .loop .inv .3) in
-    let m = one-less (l .loop .left) (a .z) (omega arith) in
-    let e : c .before .before .before .before .energy-count .result ≡ heldBy x = c .before .before .before .before .energy-count .ensures ∙ ap heldBy (c .before .before .before .before .before .resolution-at .ensures) in
-    omega (arith, m, l .loop .inv .2)
+add-p c = let t = turn (c .before .before .before .before) in omega (arith, t .next)
 
 add-s : tie.Need-add-s Inv-loop μ-loop
 add-s c = omega arith
@@ -96,22 +73,19 @@ loop-less c = omega arith
 
 loop-again : tie.Need-loop-again Inv-loop μ-loop
 loop-again c =
+    let t = turn (c .before .before .before .before) in
     let l = c .before .before .before .before .before .before .before in
     let a = l .before .before .before .before .before .before .args in
-    let r : Rows = record { kinds = a .kinds .now; levels = a .levels .now; values = a .values .now } in
-    let x = resolutionAt r (l .loop .s) in
-    let t = total-turn r (l .loop .s) (l .loop .left) (omega arith) in
-    let h = bounded-turn r (a .z) (l .loop .s) (l .loop .left) (omega arith) (l .loop .inv .3) in
-    let m = one-less (l .loop .left) (a .z) (omega arith) in
-    let e : c .before .before .before .before .energy-count .result ≡ heldBy x = c .before .before .before .before .energy-count .ensures ∙ ap heldBy (c .before .before .before .before .before .resolution-at .ensures) in (
+    let e = taken (c .before .before .before .before) in
+    let k = c .before .before .before .before .energy-count .result in (
       omega arith,
-      omega (arith, t, e, l .loop .inv .1),
-      omega (arith, m, l .loop .inv .2),
-      h .1,
-      step (l .loop .inv .4) (packed (bytesOf 4) (map narrowBits (take (heldBy x) (drop (l .loop .p) (a .store .now))))) _ _ _
-          (energies-turn r (a .z) (a .store .now) (l .loop .p) (l .loop .s) (l .loop .left) (omega arith))
-          (c .before .before .put-energies .ensures ∙ rw e)
-          (omega (arith, e, taken-bytes (a .store .now) (l .loop .p) (heldBy x) (omega (arith, h .0, m, l .loop .inv .2)))),
+      t .rest,
+      t .next,
+      t .bounded,
+      step (l .loop .inv .4) (packed (bytesOf 4) (map narrowBits (take k (drop (l .loop .p) (a .store .now))))) _ _ _
+          (energies-turn (rows l) (a .z) (a .store .now) (l .loop .p) (l .loop .s) (l .loop .left) (omega arith) ∙ rw (← e))
+          (c .before .before .put-energies .ensures)
+          (omega (arith, taken-bytes (a .store .now) (l .loop .p) k (t .inside))),
     )
 
 same-length : tie.Need-same-length Inv-loop μ-loop

@@ -1,14 +1,14 @@
 -- `put_tail` meets its contract. Assumes nothing.
-use Rattle.table.proofs.Filed.{energies-length, res-length}
-use Rattle.table.proofs.Puts.{puts, bytes-length}
-use Rattle.table.specs.Steps.{resolutions, energiesFor}
-use Rattle.table.specs.Bytes.{bytesOf, packed, section}
-use Rattle.rows.specs.Rows.{Rows}
-use lib.ListN.{length}
-use Prim.Native.Nat.{_+_}
 use mathlib.Core.Path.{_≡_, sym, _∙_}
+use Prim.Native.Nat.{_+_}
 use native.Mathlib.Omega.{arith}
+use lib.ListN.{length}
 use borrow.Author.Needs.{needs}
+use Rattle.rows.specs.Rows.{Rows}
+use Rattle.table.specs.Bytes.{bytesOf, packed, section}
+use Rattle.table.specs.Steps.{resolutions, energiesFor}
+use Rattle.table.proofs.Puts.{puts, bytes-length}
+use Rattle.table.proofs.Filed.{energies-length, res-length}
 use Rattle.table.proofs.sections.put_tail.Statement.{statement}
 use Rattle.table.proofs.sections.put_tail.Tie as tie
 

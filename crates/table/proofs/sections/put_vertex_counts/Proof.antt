@@ -1,17 +1,16 @@
 -- `put_vertex_counts` meets its contract. Assumes nothing.
-use Rattle.table.proofs.Filed.{counts-turn}
-use Rattle.table.proofs.Puts.{bytes-length}
-use Rattle.table.specs.Bytes.{bytesOf, packed}
-use Rattle.mesh.proofs.Written.{Written, nothing, chunk}
-use Rattle.mesh.proofs.Laws.{count-le}
-use Rattle.mesh.specs.Levels.{vertexCount}
-use Rattle.mesh.specs.Lists.{below}
-use lib.ListN.{length}
+use mathlib.Core.Path.{_≡_, _∙_}
 use mathlib.Core.List.{map}
 use Prim.Native.Nat.{_+_, _-_, _*_, _≤_}
-use mathlib.Core.Path.{_≡_, _∙_}
 use native.Mathlib.Omega.{arith}
 use borrow.Author.Needs.{needs}
+use Rattle.mesh.specs.Levels.{vertexCount}
+use Rattle.mesh.specs.Lists.{below}
+use Rattle.mesh.proofs.Written.{Written, nothing, chunk}
+use Rattle.mesh.proofs.Laws.{count-le}
+use Rattle.table.specs.Bytes.{bytesOf, packed}
+use Rattle.table.proofs.Puts.{bytes-length}
+use Rattle.table.proofs.Filed.{counts-turn}
 use Rattle.table.proofs.sections.put_vertex_counts.Statement.{statement}
 use Rattle.table.proofs.sections.put_vertex_counts.Tie as tie
 

@@ -1,6 +1,6 @@
 -- `grid_of` meets its contract. Assumes nothing.
-use Rattle.table.specs.Read.{gridOf}
 use borrow.Author.Needs.{needs}
+use Rattle.table.specs.Read.{gridOf}
 use Rattle.table.proofs.walk.grid_of.Statement.{statement}
 use Rattle.table.proofs.walk.grid_of.Tie as tie
 

@@ -1,6 +1,6 @@
 -- `laid_out` meets its contract. Assumes nothing.
-use Rattle.table.specs.Read.{laidOut}
 use borrow.Author.Needs.{needs}
+use Rattle.table.specs.Read.{laidOut}
 use Rattle.table.proofs.walk.laid_out.Statement.{statement}
 use Rattle.table.proofs.walk.laid_out.Tie as tie
 

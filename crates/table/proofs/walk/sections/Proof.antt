@@ -1,6 +1,6 @@
 -- `sections` meets its contract. Assumes nothing.
-use Rattle.table.specs.Read.{layout}
 use borrow.Author.Needs.{needs}
+use Rattle.table.specs.Read.{layout}
 use Rattle.table.proofs.walk.sections.Statement.{statement}
 use Rattle.table.proofs.walk.sections.Tie as tie
 

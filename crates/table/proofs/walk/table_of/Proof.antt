@@ -1,6 +1,6 @@
 -- `table_of` meets its contract. Assumes nothing.
-use Rattle.table.specs.Read.{tableOf}
 use borrow.Author.Needs.{needs}
+use Rattle.table.specs.Read.{tableOf}
 use Rattle.table.proofs.walk.table_of.Statement.{statement}
 use Rattle.table.proofs.walk.table_of.Tie as tie
 

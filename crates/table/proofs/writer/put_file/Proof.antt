@@ -1,8 +1,8 @@
 -- `put_file` meets its contract. Assumes nothing.
-use Rattle.table.proofs.Whole.{file-put}
 use native.Mathlib.Nat.{mul-le-mul}
 use native.Mathlib.Omega.{arith}
 use borrow.Author.Needs.{needs}
+use Rattle.table.proofs.Whole.{file-put}
 use Rattle.table.proofs.writer.put_file.Statement.{statement}
 use Rattle.table.proofs.writer.put_file.Tie as tie
 

@@ -1,6 +1,6 @@
 -- `put_head` meets its contract. Assumes nothing.
-use Rattle.table.proofs.Whole.{head-put}
 use borrow.Author.Needs.{needs}
+use Rattle.table.proofs.Whole.{head-put}
 use Rattle.table.proofs.writer.put_head.Statement.{statement}
 use Rattle.table.proofs.writer.put_head.Tie as tie
 

@@ -1,16 +1,16 @@
 -- `rows_known` meets its contract. Assumes nothing.
-use Rattle.builder.specs.Lists.{rowsKnown}
-use Rattle.rows.specs.Rows.{known}
-use Rattle.mesh.proofs.Counting.{all-turn, all-fails, yes, no}
-use Rattle.mesh.specs.Lists.{allUpTo}
-use lib.ListN.{getD}
-use native.Mathlib.Nat.{zero-add}
-use Prim.Native.Nat.{_+_, _-_, _≤_}
-use mathlib.Core.List.{[]}
-use mathlib.Core.Bool.{true}
 use mathlib.Core.Path.{_≡_, refl, sym, _∙_}
+use mathlib.Core.Bool.{true}
+use mathlib.Core.List.{[]}
+use Prim.Native.Nat.{_+_, _-_, _≤_}
+use native.Mathlib.Nat.{zero-add}
 use native.Mathlib.Omega.{arith}
+use lib.ListN.{getD}
 use borrow.Author.Needs.{needs}
+use Rattle.mesh.specs.Lists.{allUpTo}
+use Rattle.mesh.proofs.Counting.{all-turn, all-fails, yes, no}
+use Rattle.rows.specs.Rows.{known}
+use Rattle.builder.specs.Lists.{rowsKnown}
 use Rattle.table.proofs.writer.rows_known.Statement.{statement}
 use Rattle.table.proofs.writer.rows_known.Tie as tie
 

@@ -1,17 +1,17 @@
 -- `write` meets its contract. Assumes nothing.
+use mathlib.Core.Path.{_≡_, sym, _∙_}
+use native.Mathlib.Nat.{mul-le-mul}
+use native.Mathlib.Omega.{arith}
 use lib.ListN.{length}
-use Rattle.table.specs.Write.{fileFrom}
 use borrow.Author.Tests.{lt-leb, le-leb}
-use Rattle.table.proofs.Whole.{file-length}
-use Rattle.table.proofs.Outcome.{Sure, sure, ready, write-refused, write-short, write-done}
-use Rattle.table.specs.Steps.{writeQuestion}
+use borrow.Author.Needs.{needs}
 use Rattle.mesh.specs.Mesh.{Mesh}
 use Rattle.builder.specs.Calls.{meshedRefusal}
 use Rattle.builder.specs.Lists.{Lists, rowsKnown}
-use native.Mathlib.Nat.{mul-le-mul}
-use mathlib.Core.Path.{_≡_, sym, _∙_}
-use native.Mathlib.Omega.{arith}
-use borrow.Author.Needs.{needs}
+use Rattle.table.specs.Write.{fileFrom}
+use Rattle.table.specs.Steps.{writeQuestion}
+use Rattle.table.proofs.Whole.{file-length}
+use Rattle.table.proofs.Outcome.{Sure, sure, ready, write-refused, write-short, write-done}
 use Rattle.table.proofs.writer.write.Statement.{statement}
 use Rattle.table.proofs.writer.write.Tie as tie
 

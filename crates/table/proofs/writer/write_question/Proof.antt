@@ -1,13 +1,13 @@
 -- `write_question` meets its contract. Assumes nothing.
-use Rattle.builder.proofs.Laws.{asked, first-yes}
-use Rattle.builder.specs.Calls.{builderQuestion}
-use Rattle.table.proofs.Outcome.{first-no, first-zero}
-use Rattle.mesh.proofs.Counting.{yes, no}
-use Rattle.mesh.specs.Questions.{ask}
-use native.Mathlib.Nat.{mul-le-mul}
 use mathlib.Core.Path.{_≡_, sym, _∙_}
+use native.Mathlib.Nat.{mul-le-mul}
 use native.Mathlib.Omega.{arith}
 use borrow.Author.Needs.{needs}
+use Rattle.mesh.specs.Questions.{ask}
+use Rattle.mesh.proofs.Counting.{yes, no}
+use Rattle.builder.specs.Calls.{builderQuestion}
+use Rattle.builder.proofs.Laws.{asked, first-yes}
+use Rattle.table.proofs.Outcome.{first-no, first-zero}
 use Rattle.table.proofs.writer.write_question.Statement.{statement}
 use Rattle.table.proofs.writer.write_question.Tie as tie
 

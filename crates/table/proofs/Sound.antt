@@ -1,0 +1,97 @@
+-- Rows that a written file may hold: questions 15 to 17 are answered yes. Assumes nothing.
+use mathlib.Core.Path.{_≡_, refl, ap}
+use mathlib.Core.Bool.{true, false, not}
+use mathlib.Core.List.{List, [], _∷_, _++_}
+use Prim.Native.Nat.{ℕ, suc, _+_, _^_, _<_}
+use native.Mathlib.Nat.{add-zero}
+use native.Mathlib.Omega.{arith}
+use lib.ListN.{length, length-append}
+use lib.Dec.{lit<}
+use lib.Ieee.{binary32, nanBits}
+use borrow.Author.Tests.{lt-ltb, eq-eqb}
+use Rattle.mesh.specs.Lists.{every}
+use Rattle.mesh.specs.Levels.{per}
+use Rattle.rows.specs.Rows.{Row, scalar, repulsive, mesh}
+use Rattle.table.specs.File.{energyCount, energiesIn, entry, entries, energiesOf}
+use Rattle.table.specs.Read.{scalarHeld, entryHeld, tiled}
+use Rattle.table.proofs.Back.{All, Fitting}
+
+-- an energy's bits: of 32 bits, and no NaN's
+abbrev pub Number : ℕ → Type 0
+Number k = (k < 256 ^ 4) × (nanBits binary32 k ≡ false)
+
+-- a row of a table of so many levels, 256 at most
+abbrev pub Fine : ℕ → Row ℕ → Type 0
+Fine levels (scalar x) = (x < 256 ^ 4) × (scalarHeld x ≡ true)
+Fine levels repulsive = Unit
+Fine levels (mesh v b e) = (v < levels) × (length e ≡ per v) × All Number e
+
+pub entries-length : (o : ℕ) (rows : List (Row ℕ)) → length (entries o rows) ≡ length rows
+unfolding entries
+entries-length o [] = refl
+entries-length o (r ∷ rows) = ap suc (entries-length (o + energyCount r) rows)
+
+count-is : (levels : ℕ) (r : Row ℕ) → Fine levels r → length (energiesIn r) ≡ energyCount r
+count-is levels (scalar x) f = refl
+count-is levels repulsive f = refl
+count-is levels (mesh v b e) f = f .1
+
+module _ (levels : ℕ) where
+  entry-held : (o : ℕ) (r : Row ℕ) → Fine levels r → entryHeld levels (entry o r) ≡ true
+  unfolding entryHeld
+  entry-held o (scalar x) f = f .1
+  entry-held o repulsive f = refl
+  entry-held o (mesh v true e) f = rw (lt-ltb v levels (f .0))
+  entry-held o (mesh v false e) f = rw (lt-ltb v levels (f .0))
+
+  -- 15
+  pub entries-held : (o : ℕ) (rows : List (Row ℕ)) → All (Fine levels) rows → every (entryHeld levels) (entries o rows) ≡ true
+  unfolding entries every
+  entries-held o [] f = refl
+  entries-held o (r ∷ rows) f = rw (entry-held o r (f .0)) (entries-held (o + energyCount r) rows (f .1))
+
+  -- 16
+  pub entries-tiled : (o n : ℕ) (rows : List (Row ℕ)) → All (Fine levels) rows → o + length (energiesOf rows) ≡ n → tiled o n (entries o rows) ≡ true
+  unfolding entries energiesOf tiled
+  entries-tiled o n [] f h = eq-eqb o n (omega arith)
+  entries-tiled o n (scalar x ∷ rows) f h = rw add-zero (entries-tiled o n rows (f .1) h)
+  entries-tiled o n (repulsive ∷ rows) f h = rw add-zero (entries-tiled o n rows (f .1) h)
+  entries-tiled o n (mesh v true e ∷ rows) f h =
+      rw (eq-eqb o o refl) (entries-tiled (o + per v) n rows (f .1) (omega (arith, f .0 .1, length-append e (energiesOf rows))))
+  entries-tiled o n (mesh v false e ∷ rows) f h =
+      rw (eq-eqb o o refl) (entries-tiled (o + per v) n rows (f .1) (omega (arith, f .0 .1, length-append e (energiesOf rows))))
+
+  all-append : (l m : List ℕ) → All Number l → All Number m → All Number (l ++ m)
+  all-append [] m a b = b
+  all-append (x ∷ l) m a b = (a .0, all-append l m (a .1) b)
+
+  numbers-in : (r : Row ℕ) → Fine levels r → All Number (energiesIn r)
+  numbers-in (scalar x) f = tt
+  numbers-in repulsive f = tt
+  numbers-in (mesh v b e) f = f .2
+
+  pub numbers : (rows : List (Row ℕ)) → All (Fine levels) rows → All Number (energiesOf rows)
+  unfolding energiesOf
+  numbers [] f = tt
+  numbers (r ∷ rows) f = all-append (energiesIn r) (energiesOf rows) (numbers-in r (f .0)) (numbers rows (f .1))
+
+  -- the rows' fields fit, as long as the last offset does
+  fitting : (o : ℕ) (r : Row ℕ) → levels < 257 → Fine levels r → o < 256 ^ 4 → Fitting (entry o r)
+  fitting o (scalar x) l f h = record { kind = lit< tt; level = lit< tt; offset = lit< tt; scalar = f .0 }
+  fitting o repulsive l f h = record { kind = lit< tt; level = lit< tt; offset = lit< tt; scalar = lit< tt }
+  fitting o (mesh v true e) l f h = record { kind = lit< tt; level = omega (arith, f .0); offset = h; scalar = lit< tt }
+  fitting o (mesh v false e) l f h = record { kind = lit< tt; level = omega (arith, f .0); offset = h; scalar = lit< tt }
+
+  pub entries-fit : (o : ℕ) (rows : List (Row ℕ)) → levels < 257 → All (Fine levels) rows → o + length (energiesOf rows) < 256 ^ 4 → All Fitting (entries o rows)
+  unfolding entries energiesOf
+  entries-fit o [] l f h = tt
+  entries-fit o (r ∷ rows) l f h =
+      let n = length-append (energiesIn r) (energiesOf rows) in
+      let c = count-is levels r (f .0) in
+      (fitting o r l (f .0) (omega (arith, n)), entries-fit (o + energyCount r) rows l (f .1) (omega (arith, n, c)))
+
+-- 17
+pub energies-held : (l : List ℕ) → All Number l → every (λ k. not (nanBits binary32 k)) l ≡ true
+unfolding every
+energies-held [] a = refl
+energies-held (k ∷ l) a = rw (a .0 .1) (energies-held l (a .1))
