@@ -6,17 +6,20 @@ use native.Mathlib.Nat.{le-trans, le-of-eq, add-mul, mul-comm, div-le-of-le-mul,
 use native.Mathlib.Omega.{arith}
 use lib.Dec.{T, ltb, le→leb}
 use lib.IntN.{ℤ, pos}
-use lib.Ieee.{Float, nan, inf, fin, binary64, up, down, round, units, odd, size, nearest, ofBits, ofInt, le, lt, toUnsigned, sub, neg, add, sum, inFloat}
+use lib.Ieee.{Float, nan, inf, fin, binary64, up, down, round, units, odd, size, nearest, ofBits, ofInt, le, lt, toUnsigned, toSigned, sub, neg, add, mul, div, sum, inFloat}
 use lib.Ieee.Exact.{HasValue}
 use lib.Ieee.Fits.{down-pos}
 use lib.Ieee.Back.{round-whole, unsigned-back}
 use lib.Ieee.Nearest.{div-mono}
 use lib.Ieee.Scale.{round-same}
 use borrow.Author.Tests.{le-ltb, ltb-false}
+use Rattle.ieee.specs.Fused.{fused}
 use Rattle.float.specs.Order.{magnitude}
+use Rattle.float.specs.Whole.{integral}
 use Rattle.mesh.specs.Levels.{cellCount}
 use Rattle.search.specs.Geometry as geometry
 use Rattle.search.specs.Geometry.{minus, one, cubeFace, cubeProject, inCells, clamp, cellCoordinate, cellIndex}
+use Rattle.search.specs.Cells.{cellNumber}
 use Rattle.search.specs.declared.Vector3.{Vector3}
 
 -- ---- a number that is not negative and at most b
@@ -150,3 +153,8 @@ cell-index-lt g v l h =
         let b : (i + 1) * g ≤ g * g = mul-le-mul-right g k in
         let c = add-mul i 1 g in
         omega arith
+
+-- ---- truncation, and not floor (`integral` is opened so that a floor would be computed, to -1): a vertex a quarter of a cell before the first cell has that cell's number
+pub before-first : cellNumber 1 (ofBits binary64 0xBFF8_0000_0000_0000) one ≡ pos 0
+unfolding cellNumber inCells fused ofBits ofInt mul div toSigned integral
+before-first = refl
