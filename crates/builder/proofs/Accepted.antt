@@ -19,17 +19,19 @@ use Rattle.mesh.proofs.Kept.{held}
 use Rattle.rows.specs.declared.SlabResolution.{SlabResolution}
 use Rattle.rows.specs.declared.SlabResolution.the-variants.{Scalar, Mesh as MeshRow, Repulsive}
 use Rattle.rows.specs.Rows.{Rows, resolutionAt, Row, scalar, repulsive, mesh, rowWith}
-use Rattle.builder.specs.Gradient.{allRepulsive, gradient}
-use Rattle.builder.specs.Settling.{byGradient, verdict, verdictOf, verdicts, drops, settledSlice, fromLevel}
+use Rattle.settling.specs.Gradient.{allRepulsive, gradient}
+use Rattle.settling.specs.Settling.{byGradient, verdict, verdictOf, verdicts, drops, settledSlice, fromLevel}
 use Rattle.builder.specs.Lists.{Lists, slab, storePlace, rowAt, rowsFrom, sliceAt, settledLists}
 use Rattle.builder.specs.Calls.{SettleOut, meshedRefusal, settleRefusal, settleAccepted}
-use Rattle.builder.specs.Steps.{Below, ReadyIn, partLinks, tallyFrom, start, rowsFromLevel, settleQuestion, dropsBy, droppedBy}
+use Rattle.settling.specs.Steps.{Below}
+use Rattle.builder.specs.Steps.{ReadyIn, partLinks, tallyFrom, start, rowsFromLevel, settleQuestion, dropsBy, droppedBy}
 use Rattle.builder.specs.declared.Builder.{Builder}
 use Rattle.builder.specs.declared.Settled.the-variants.{Accepted as Settles}
-use Rattle.builder.specs.declared.Tally.{Tally}
-use Rattle.builder.specs.declared.Verdict.the-variants.{Blocked}
-use Rattle.builder.proofs.Laws.{place, ask-yes, Meshed}
-use Rattle.builder.proofs.Slopes.{kept-below, gradient-links}
+use Rattle.settling.specs.declared.Tally.{Tally}
+use Rattle.settling.specs.declared.Verdict.the-variants.{Blocked}
+use Rattle.mesh.proofs.Sizes.{place}
+use Rattle.builder.proofs.Laws.{ask-yes, Meshed}
+use Rattle.settling.proofs.Slopes.{kept-below, gradient-links}
 use Rattle.builder.proofs.Changes.{tally-gradient, tally-settled, tally-clear}
 
 -- ---- 11 by the lists

@@ -3,7 +3,6 @@ use mathlib.Core.Path.{_≡_, refl}
 use mathlib.Core.Bool.{Bool, true, false, cond, not, _&&_}
 use mathlib.Core.List.{List}
 use Prim.Native.Nat.{ℕ, suc, _+_, _*_, _≤_, _<_}
-use native.Mathlib.Nat.{mul-le-mul-right, add-mul, one-mul}
 use native.Mathlib.Omega.{arith}
 use lib.Dec.{leb, ltb, eqb, lit<}
 use lib.Ieee.{Float, lt}
@@ -13,7 +12,7 @@ use Rattle.ieee.proofs.Fields.{both-true}
 use Rattle.mesh.specs.Questions.{ask, first}
 use Rattle.mesh.specs.Levels.{per, verticesBelow}
 use Rattle.mesh.specs.Mesh.{Mesh, meshHeld, meshesKeep}
-use Rattle.mesh.proofs.Sizes.{per-mono}
+use Rattle.mesh.proofs.Sizes.{per-mono, place}
 use Rattle.grid.specs.Settings.{question, levelsHeld, slabsHeld}
 use Rattle.grid.specs.declared.Grid.{Grid}
 use Rattle.grid.proofs.Laws.{yes, no, counts-le}
@@ -22,7 +21,7 @@ use Rattle.builder.specs.Lists.{slabs, slab, storePlace, listRoom}
 use Rattle.builder.specs.Calls.{builderQuestion, setQuestion}
 use Rattle.builder.specs.Steps.{dropsBy}
 use Rattle.builder.specs.declared.Builder.{Builder}
-use Rattle.builder.specs.declared.Tally.{Tally}
+use Rattle.settling.specs.declared.Tally.{Tally}
 
 ask-by : (q : Bool) (n r : ℕ) → 0 < n → cond q r n ≡ 0 → (q ≡ true) × (r ≡ 0)
 ask-by true n r p e = (refl, e)
@@ -71,12 +70,6 @@ asked g top level e =
       omegas = n .1;
       few = leb-true (slabs g * per top) 4294967295 (q5 .0);
     }
-
--- row s of n rows of z places: its first k places
-pub place : (s n k z : ℕ) → s < n → k ≤ z → s * z + k ≤ n * z
-place s n k z h l =
-    let m : (s + 1) * z ≤ n * z = mul-le-mul-right z (omega arith) in
-    omega (arith, rw (add-mul, one-mul) at m)
 
 -- 6, of store and rows, answered yes
 pub record Roomy (g : Grid) (top store kinds levels values : ℕ) : Type 0 where

@@ -16,11 +16,12 @@ use Rattle.mesh.specs.Levels.{vertexCount, per}
 use Rattle.rows.specs.declared.SlabResolution.{SlabResolution}
 use Rattle.rows.specs.declared.SlabResolution.the-variants.{Scalar, Mesh, Repulsive}
 use Rattle.rows.specs.Rows.{Rows, kindOf, levelOf, valueOf, resolutionOf, resolutionAt, replaced, Row, rowWith}
-use Rattle.builder.specs.Settling.{newRow, fromLevel}
-use Rattle.builder.specs.Lists.{Lists, storePlace, rowAt, rowsFrom, replacedBy, settledLists}
-use Rattle.builder.specs.Steps.{tallied, tallyFrom}
-use Rattle.builder.specs.declared.Tally.{Tally}
-use Rattle.builder.specs.declared.Verdict.{Verdict}
+use Rattle.settling.specs.Settling.{newRow, fromLevel, replacedBy}
+use Rattle.builder.specs.Lists.{Lists, storePlace, rowAt, rowsFrom, settledLists}
+use Rattle.settling.specs.Steps.{tallied}
+use Rattle.builder.specs.Steps.{tallyFrom}
+use Rattle.settling.specs.declared.Tally.{Tally}
+use Rattle.settling.specs.declared.Verdict.{Verdict}
 
 -- ---- a row and its energies
 

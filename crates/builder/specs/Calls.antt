@@ -13,8 +13,8 @@ use Rattle.grid.specs.Settings.{question, counted}
 use Rattle.grid.specs.declared.Grid.{Grid}
 use Rattle.rows.specs.declared.SlabResolution.the-variants.{Mesh as toMesh}
 use Rattle.rows.specs.Rows.{replaced}
-use Rattle.builder.specs.Gradient.{zero}
-use Rattle.builder.specs.Settling.{verdicts, settledSlice, fromLevel}
+use Rattle.settling.specs.Gradient.{zero}
+use Rattle.settling.specs.Settling.{verdicts, settledSlice, fromLevel}
 use Rattle.builder.specs.Lists.{Lists, slabs, slab, storePlace, sliceAt, settledLists, listsHeld, meshesHeld, rowsKnown}
 use Rattle.builder.specs.declared.Builder.{Builder}
 use Rattle.builder.specs.declared.Built.{Built}

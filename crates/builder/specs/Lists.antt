@@ -1,7 +1,6 @@
 -- The lists that are lent to a builder's calls, and the rows in them. Definitions only.
 use mathlib.Core.Bool.{Bool, _&&_}
 use mathlib.Core.List.{List, [], _∷_}
-use mathlib.Core.Option.{Option, none, some}
 use Prim.Native.Nat.{ℕ, zero, suc, _+_, _*_}
 use lib.ListN.{length, getD, take, drop}
 use lib.Dec.{leb}
@@ -10,10 +9,9 @@ use Rattle.mesh.specs.Lists.{allUpTo}
 use Rattle.mesh.specs.Levels.{per, verticesBelow}
 use Rattle.mesh.specs.Mesh.{Mesh, meshHeld}
 use Rattle.grid.specs.declared.Grid.{Grid}
-use Rattle.rows.specs.declared.SlabResolution.{SlabResolution}
-use Rattle.rows.specs.Rows.{Rows, resolutionAt, replaced, rowKnown, rowRoom, Row, rowWith}
-use Rattle.builder.specs.Settling.{newRow}
-use Rattle.builder.specs.declared.Verdict.{Verdict}
+use Rattle.rows.specs.Rows.{Rows, resolutionAt, rowKnown, rowRoom, Row, rowWith}
+use Rattle.settling.specs.Settling.{newRow, replacedBy}
+use Rattle.settling.specs.declared.Verdict.{Verdict}
 use Rattle.builder.specs.declared.Builder.{Builder}
 
 -- the store and the rows
@@ -45,11 +43,7 @@ rowsFrom top l s (suc n) = rowAt top l s ∷ rowsFrom top l (suc s) n
 abbrev pub sliceAt : Builder → Lists → ℕ → List (Row Float)
 sliceAt b l ri = rowsFrom (b .top) l (slab (b .grid) ri 0) (b .grid .«n_omega»)
 
--- settled rows take the places of those from slab s on; rows that stay keep their bits
-abbrev pub replacedBy : Rows → ℕ → Option SlabResolution → Rows
-replacedBy r s none = r
-replacedBy r s (some x) = replaced r s x
-
+-- settled rows take the places of those from slab s on
 unfoldable pub settledLists : ℕ → Rows → ℕ → List Verdict → Rows
 settledLists c r s [] = r
 settledLists c r s (v ∷ vs) = settledLists c (replacedBy r s (newRow c v)) (suc s) vs

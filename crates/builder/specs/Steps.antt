@@ -1,71 +1,22 @@
 -- Steps of the code. Definitions only.
-use mathlib.Core.Bool.{Bool, true, false, cond, _&&_, _||_}
-use mathlib.Core.List.{List, [], _∷_, _++_, map}
-use Prim.Native.Nat.{ℕ, zero, suc, _+_, _*_, _-_, _≤_, _<_}
+use mathlib.Core.Bool.{Bool, true, false, cond, _&&_}
+use mathlib.Core.List.{List, [], _∷_, map}
+use Prim.Native.Nat.{ℕ, suc, _+_, _*_, _-_, _≤_}
 use mathlib.Core.Path.{_≡_}
-use lib.ListN.{length, getD}
+use lib.ListN.{length}
 use lib.Dec.{ltb}
-use lib.Ieee.{Float, nan, binary64, ofBits, lt}
+use lib.Ieee.{Float, binary64, ofBits, lt}
 use Rattle.mesh.specs.Questions.{ask}
-use Rattle.mesh.specs.Lists.{allUpTo, forEach, every}
+use Rattle.mesh.specs.Lists.{allUpTo, every}
 use Rattle.mesh.specs.Levels.{vertexCount, per, verticesBelow}
-use Rattle.mesh.specs.Mesh.{Mesh, degree, neighbour, levelPart}
+use Rattle.mesh.specs.Mesh.{Mesh, levelPart}
 use Rattle.rows.specs.Rows.{Rows, resolutionAt, Row, rowWith}
-use Rattle.rows.specs.declared.SlabResolution.{SlabResolution}
-use Rattle.rows.specs.declared.SlabResolution.the-variants.{Scalar as toScalar, Mesh as toMesh, Repulsive as toRepulsive}
-use Rattle.builder.specs.Gradient.{weight, alongNeighbours}
-use Rattle.builder.specs.Settling.{verdictOf, newRow, inPlaceOf, steeperOf, settles, notRepulsive, fromLevel}
-use Rattle.builder.specs.Lists.{Lists, slab, slabs, sliceAt, replacedBy, settledLists, rowsKnown}
+use Rattle.settling.specs.Settling.{verdictOf, newRow, fromLevel, replacedBy}
+use Rattle.builder.specs.Lists.{Lists, slab, slabs, sliceAt, settledLists, rowsKnown}
 use Rattle.builder.specs.declared.Builder.{Builder}
-use Rattle.builder.specs.declared.Tally.{Tally}
-use Rattle.builder.specs.declared.Verdict.{Verdict}
-use Rattle.builder.specs.declared.Verdict.the-variants.{Empty, Blocked, Isotropic, Smooth, Rough}
-
--- the weights of n energies, from place `from` on, `step` places apart: a row or a column of a slab
-unfoldable pub lineWeights : Float → List Float → ℕ → ℕ → ℕ → List Float
-lineWeights beta e from step zero = []
-lineWeights beta e from step (suc n) = lineWeights beta e from step n ++ (weight beta (getD e (from + step * n) nan) ∷ [])
-
--- the gradient along a line of weights, one for each vertex
-unfoldable pub lineGradient : Mesh → ℕ → List Float → Float → Float
-lineGradient m n ws g = forEach n (λ v. alongNeighbours m v (λ k. getD ws k nan) (getD ws v nan)) g
-
--- along n lines, each `step` places apart, that begin `apart` places after one another
-unfoldable pub linesGradient : Mesh → ℕ → Float → List Float → ℕ → ℕ → Float → Float
-linesGradient m n beta e apart step g = forEach n (λ t. lineGradient m n (lineWeights beta e (apart * t) step n)) g
-
--- every neighbour is a vertex
-abbrev pub Below : ℕ → Mesh → Type 0
-Below n m = (v k : ℕ) → v < n → k < degree m v → neighbour m v k < n
-
--- the row stays as it is; and the row that takes its place where it does not
-abbrev pub stays : Verdict → Bool
-stays Empty = true
-stays Blocked = false
-stays (Isotropic x) = false
-stays (Smooth x) = false
-stays (Rough x) = true
-
-abbrev pub becomes : ℕ → Verdict → SlabResolution
-becomes c Empty = toRepulsive
-becomes c Blocked = toRepulsive
-becomes c (Isotropic x) = toScalar x
-becomes c (Smooth x) = toMesh c false
-becomes c (Rough x) = toRepulsive
-
--- the row after a verdict at level c
-unfoldable pub leftRow : ℕ → SlabResolution → Verdict → SlabResolution
-leftRow c row v = cond (stays v) row (becomes c v)
-
-abbrev pub isClear : SlabResolution → Bool
-isClear (toScalar x) = true
-isClear (toMesh v b) = true
-isClear toRepulsive = false
-
--- what a slice adds up to so far, and with one slab more
-unfoldable pub tallied : ℕ → Tally → Row Float → Verdict → Tally
-tallied c t r v =
-    record { gradient = steeperOf (t .gradient) v; settled = t .settled || settles v; clear = t .clear && notRepulsive (inPlaceOf r (newRow c v)) }
+use Rattle.settling.specs.Steps.{Below, tallied}
+use Rattle.settling.specs.declared.Tally.{Tally}
+use Rattle.settling.specs.declared.Verdict.{Verdict}
 
 -- what settling a slab at level c gives and leaves: the tally, and the rows
 abbrev pub settledSlab : Float → Float → Mesh → ℕ → Tally → Row Float → ℕ → Rows → Tally → Rows → Type 0

@@ -3,7 +3,7 @@ ghost use mathlib.Core.Path.{_≡_};
 ghost use Prim.Native.Nat.{_+_, _≤_};
 ghost use lib.ListN.{length, replicate};
 ghost use Rattle.mesh.specs.Lists.{put};
-ghost use Rattle.builder.specs.Gradient.{zero};
+ghost use Rattle.settling.specs.Gradient.{zero};
 
 // Writes a list into another from a place on.
 pub(crate) fn copy_at(dst: &mut [f64], at: usize, src: &[f64])

@@ -1,16 +1,11 @@
 // The builder of a table, by value; its store, rows and meshes are lent.
 ghost use mathlib.Core.Path.{_≡_};
-ghost use lib.ListN.{length};
-ghost use Rattle.rows.specs.Rows.{Rows};
-ghost use Rattle.builder.specs.Lists.{Lists};
 ghost use Rattle.builder.specs.Calls.{BuiltOut, SettleOut, freshBuilder, freshOut, setOut, settleOut};
 use grid::Grid;
 use rows::SlabResolution;
 
 mod copies;
-mod gradient;
 mod room;
-mod settling;
 mod slices;
 
 pub use room::meshed_refusal;
@@ -26,22 +21,6 @@ pub struct Builder {
 pub enum Built {
     Accepted(Builder),
     Refused(u64),
-}
-
-// What settling finds of a slab: that its row holds no energies; that it is repulsive; or, by its gradient, that it becomes a scalar, is read at the nearest vertex or stays as it is.
-pub enum Verdict {
-    Empty,
-    Blocked,
-    Isotropic(f32),
-    Smooth(f64),
-    Rough(f64),
-}
-
-// What a slice adds up to: the largest gradient of slabs left as Mesh, whether some slab was settled, and whether no row is Repulsive.
-pub struct Tally {
-    pub gradient: f64,
-    pub settled: bool,
-    pub clear: bool,
 }
 
 // What settle answers: the builder, and the largest gradient.

@@ -10,7 +10,7 @@ ghost use Rattle.mesh.specs.Lists.{every};
 ghost use Rattle.mesh.specs.Levels.{verticesBelow};
 ghost use Rattle.mesh.specs.Mesh.{meshHeld, meshesKeep};
 ghost use Rattle.rows.specs.Rows.{rowWith};
-ghost use Rattle.builder.specs.Settling.{fromLevel};
+ghost use Rattle.settling.specs.Settling.{fromLevel};
 ghost use Rattle.builder.specs.Lists.{listRoom, rowsKnown};
 ghost use Rattle.builder.specs.Steps.{rowsFromLevel, settleQuestion};
 ghost use Rattle.builder.specs.Calls.{builderQuestion, setQuestion};

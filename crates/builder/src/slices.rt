@@ -4,11 +4,11 @@ ghost use mathlib.Core.List.{[]};
 ghost use Prim.Native.Nat.{_+_, _*_, _≤_};
 ghost use lib.ListN.{length, take, drop};
 ghost use Rattle.mesh.specs.Levels.{vertexCount};
-ghost use Rattle.rows.specs.Rows.{Rows, resolutionAt, rowWith};
-ghost use Rattle.builder.specs.Steps.{Below, Ready, ReadyIn, partLinks, settledSlab, settledRows, dropsBy, droppedBy};
+ghost use Rattle.rows.specs.Rows.{resolutionAt, rowWith};
+ghost use Rattle.settling.specs.Steps.{Below};
+ghost use Rattle.builder.specs.Steps.{Ready, ReadyIn, partLinks, settledSlab, settledRows, dropsBy, droppedBy};
 use crate::Builder;
-use crate::Tally;
-use crate::settling;
+use settling::Tally;
 
 // Settles slab s, whose energies are at place `at` of the store.
 fn settle_slab(
@@ -43,7 +43,7 @@ fn settle_slab(
         neighbours,
         angles,
         &store[at..end],
-        n as u32,
+        level,
         row,
     );
     settling::replace_by(kinds, levels, values, s, level, v);

@@ -10,8 +10,8 @@ use Rattle.mesh.specs.Lists.{every, put}
 use Rattle.mesh.specs.Mesh.{Mesh}
 use Rattle.grid.specs.declared.Grid.{Grid}
 use Rattle.rows.specs.Rows.{Row, scalar, mesh}
-use Rattle.builder.specs.Gradient.{zero}
-use Rattle.builder.specs.Settling.{verdicts, settledSlice, fromLevel}
+use Rattle.settling.specs.Gradient.{zero}
+use Rattle.settling.specs.Settling.{verdicts, settledSlice, fromLevel}
 use Rattle.builder.specs.Lists.{Lists, slabs, slab}
 use Rattle.builder.specs.Calls.{builderAfter, settledBuilder, setQuestion, setOut, settleOut}
 use Rattle.builder.specs.declared.Builder.{Builder}

@@ -23,8 +23,8 @@ use Rattle.grid.specs.Bins.{distanceBin, dihedralBin}
 use Rattle.grid.specs.Settings.{above, question, inRange, levelsHeld, countsHeld, ownCount, slabsHeld, counted}
 use Rattle.grid.specs.declared.Grid.{Grid}
 use Rattle.rows.specs.Rows.{resolutionOf, resolutionAt, replaced, known, rowRoom}
-use Rattle.builder.specs.Gradient.{weight, repulsive, allRepulsive, steeper, alongNeighbours, gradientOf, gradient, sumFrom, meanNarrowed}
-use Rattle.builder.specs.Settling.{byGradient, verdict, verdicts, settledRows, largestFrom, someSettle, drops, settledSlice}
+use Rattle.settling.specs.Gradient.{weight, repulsive, allRepulsive, steeper, alongNeighbours, gradientOf, gradient, sumFrom, meanNarrowed}
+use Rattle.settling.specs.Settling.{byGradient, verdict, verdicts, settledRows, largestFrom, someSettle, drops, settledSlice}
 use Rattle.builder.specs.Lists.{Lists, rowAt, rowsFrom, settledLists, listRoom, rowsKnown}
 use Rattle.builder.specs.Calls.{meshedRefusal, freshBuilder, filled, freshOut, setQuestion, setRefusal, setLists, setOut, settleRefusal, settleAccepted, settleOut}
 use Rattle.table.specs.Bytes.{bytesOf, numberOf, numberAt, packed, section, items}

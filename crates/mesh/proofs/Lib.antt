@@ -4,6 +4,7 @@ pub mod Sizes
 pub mod Counting
 pub mod Sums
 pub mod Written
+pub mod Loops
 pub mod Tables
 pub mod Kept
 pub mod Asking

@@ -6,7 +6,7 @@ use lib.ListN.{length, replicate, length-set}
 use borrow.Author.Needs.{needs}
 use Rattle.mesh.specs.Lists.{put}
 use Rattle.mesh.proofs.Written.{put-nil}
-use Rattle.builder.proofs.Loops.{fill-turn}
+use Rattle.mesh.proofs.Loops.{fill-turn}
 use Rattle.builder.proofs.copies.clear_rows.Statement.{statement}
 use Rattle.builder.proofs.copies.clear_rows.Tie as tie
 

@@ -6,8 +6,8 @@ use lib.ListN.{length, replicate, length-set}
 use borrow.Author.Needs.{needs}
 use Rattle.mesh.specs.Lists.{put}
 use Rattle.mesh.proofs.Written.{put-nil}
-use Rattle.builder.specs.Gradient.{zero}
-use Rattle.builder.proofs.Loops.{fill-turn}
+use Rattle.settling.specs.Gradient.{zero}
+use Rattle.mesh.proofs.Loops.{fill-turn}
 use Rattle.builder.proofs.copies.clear_store.Statement.{statement}
 use Rattle.builder.proofs.copies.clear_store.Tie as tie
 

@@ -8,7 +8,7 @@ use lib.Ieee.{nan, isNan}
 use borrow.Author.Needs.{needs}
 use Rattle.mesh.specs.Lists.{every}
 use Rattle.grid.proofs.Laws.{yes, no}
-use Rattle.builder.proofs.Loops.{every-fails, every-next, every-end}
+use Rattle.mesh.proofs.Loops.{every-fails, every-next, every-end}
 use Rattle.builder.proofs.room.no_nan.Statement.{statement}
 use Rattle.builder.proofs.room.no_nan.Tie as tie
 

@@ -8,7 +8,7 @@ use Rattle.mesh.specs.Lists.{allUpTo}
 use Rattle.mesh.proofs.Counting.{all-turn, all-fails, yes, no}
 use mathlib.Core.List.{[]}
 use Rattle.rows.specs.Rows.{resolutionAt, rowWith}
-use Rattle.builder.specs.Settling.{fromLevel}
+use Rattle.settling.specs.Settling.{fromLevel}
 use Rattle.builder.specs.Steps.{rowsFromLevel}
 use Rattle.builder.proofs.room.rows_from_level.Statement.{statement}
 use Rattle.builder.proofs.room.rows_from_level.Tie as tie

@@ -8,13 +8,12 @@ use lib.ListN.{length}
 use lib.Ieee.{Float, ofBits}
 use borrow.Author.Needs.{needs}
 use Rattle.mesh.specs.Levels.{vertexCount, per}
-use Rattle.mesh.proofs.Sizes.{per-mono}
+use Rattle.mesh.proofs.Sizes.{per-mono, place}
 use Rattle.rows.specs.Rows.{Rows, Row}
-use Rattle.builder.specs.Settling.{verdictOf, fromLevel}
+use Rattle.settling.specs.Settling.{verdictOf, fromLevel}
 use Rattle.builder.specs.Lists.{Lists, slabs, rowAt}
 use Rattle.builder.specs.Steps.{start}
-use Rattle.builder.specs.declared.Verdict.{Verdict}
-use Rattle.builder.proofs.Laws.{place}
+use Rattle.settling.specs.declared.Verdict.{Verdict}
 use Rattle.builder.proofs.Turns.{After, begin, again, end, row-passes, read-row}
 use Rattle.builder.proofs.slices.settle_rows.Statement.{statement}
 use Rattle.builder.proofs.slices.settle_rows.Tie as tie

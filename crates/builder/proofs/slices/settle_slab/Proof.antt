@@ -4,16 +4,17 @@ use Prim.Native.Nat.{_*_, _≤_}
 use native.Mathlib.Nat.{mul-le-mul}
 use native.Mathlib.Omega.{arith}
 use mathlib.Core.List.{List, []}
-use lib.ListN.{take, drop}
+use lib.ListN.{length, take, drop}
 use lib.Ieee.{Float}
 use Rattle.mesh.specs.Levels.{vertexCount}
 use Rattle.mesh.specs.Mesh.{Mesh}
 use Rattle.rows.specs.Rows.{Rows, resolutionAt, rowWith}
-use Rattle.builder.specs.Settling.{verdictOf}
-use Rattle.builder.specs.Steps.{tallied}
+use Rattle.settling.specs.Settling.{verdictOf}
+use Rattle.settling.specs.Steps.{tallied}
 use Rattle.mesh.proofs.Laws.{count-le}
-use Rattle.builder.proofs.Loops.{part-length, part-is}
-use Rattle.builder.proofs.Changes.{row-clear}
+use Rattle.mesh.proofs.Loops.{part-length, part-is}
+use Rattle.settling.proofs.Slopes.{lined-is}
+use Rattle.settling.proofs.Changes.{row-clear}
 use borrow.Author.Needs.{needs}
 use Rattle.builder.proofs.slices.settle_slab.Statement.{statement}
 use Rattle.builder.proofs.slices.settle_slab.Tie as tie
@@ -46,14 +47,8 @@ part-verdict-of-start c = search needs
 part-verdict-of-end : tie.Need-part-verdict-of-end
 part-verdict-of-end c = rw (c .vertex-count .ensures) (c .before .before .before .before .before .before .before .before .before .before .before .before .pre .1)
 
-cast-verdict-of : tie.Need-cast-verdict-of
-cast-verdict-of c = rw (c .before .vertex-count .ensures) (omega (arith, small (c .before)))
-
 verdict-of-requires : tie.Need-verdict-of-requires
-verdict-of-requires c κs =
-    let s = c .before .before .before .before .before .before .before .before .before .before .before .before .before in
-    let n = vertexCount (s .args .level) in
-    rw (c .before .vertex-count .ensures) (small (c .before), part-length (s .args .store .now) (s .args .at) (n * n) (s .pre .1), s .pre .2)
+verdict-of-requires c κs = search needs
 
 replace-by-requires : tie.Need-replace-by-requires
 replace-by-requires c κs = search needs
@@ -80,8 +75,11 @@ returns c =
     let x = resolutionAt rows (a .s) in
     let m : Mesh = record { vertices = []; counts = a .counts .now; neighbours = a .neighbours .now; angles = a .angles .now } in
     let v = verdictOf (a .threshold) (a .beta) m n (rowWith x e) in
+    let pre = c .before .before .before .before .before .before .before .before .before .before .before .before .before .before .before .before .before .before .before .before .before .before .before .before .before .pre in
+    let many : length e ≡ n * n = rw (part-is (a .store .now) (a .at) (n * n)) at (part-length (a .store .now) (a .at) (n * n) (pre .1)) in
     let found : c .before .before .before .before .before .before .before .before .before .before .before .verdict-of .result ≡ v =
-    rw (c .before .before .before .before .before .before .before .before .before .before .before .before .before .vertex-count .ensures, part-is (a .store .now) (a .at) (n * n), c .before .before .before .before .before .before .before .before .before .before .before .before .before .before .resolution-at .ensures) at (c .before .before .before .before .before .before .before .before .before .before .before .verdict-of .ensures) in
+    rw (c .before .before .before .before .before .before .before .before .before .before .before .before .before .vertex-count .ensures, part-is (a .store .now) (a .at) (n * n), c .before .before .before .before .before .before .before .before .before .before .before .before .before .before .resolution-at .ensures) at (c .before .before .before .before .before .before .before .before .before .before .before .verdict-of .ensures)
+    ∙ lined-is (a .threshold) (a .beta) m (a .level) x e (pre .0) many (pre .2) in
     (c .tallied .ensures ∙ rw (c .before .before .before .before .before .before .before .before .before .before .before .before .before .before .resolution-at .ensures, found, row-clear x e (a .level) v), c .before .before .before .before .before .before .before .replace-by .ensures ∙ rw found)
 
 pub settle-slab-spec : {M : Type 1} → statement M
@@ -96,7 +94,6 @@ settle-slab-spec =
     sub-verdict-of
     part-verdict-of-start
     part-verdict-of-end
-    cast-verdict-of
     verdict-of-requires
     replace-by-requires
     tallied-requires

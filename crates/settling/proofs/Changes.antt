@@ -1,0 +1,43 @@
+-- What a verdict makes of a row. Assumes nothing.
+use mathlib.Core.Path.{_≡_, refl, sym}
+use mathlib.Core.Bool.{true, false}
+use mathlib.Core.List.{List}
+use Prim.Native.Nat.{ℕ}
+use lib.Ieee.{Float}
+use Rattle.rows.specs.declared.SlabResolution.{SlabResolution}
+use Rattle.rows.specs.declared.SlabResolution.the-variants.{Scalar, Mesh, Repulsive}
+use Rattle.rows.specs.Rows.{Rows, replaced, rowWith}
+use Rattle.settling.specs.Settling.{newRow, inPlaceOf, notRepulsive, replacedBy}
+use Rattle.settling.specs.Steps.{stays, becomes, leftRow, isClear}
+use Rattle.settling.specs.declared.Verdict.{Verdict}
+use Rattle.settling.specs.declared.Verdict.the-variants.{Empty, Blocked, Isotropic, Smooth, Rough}
+use Rattle.settling.proofs.Largest.{clash}
+
+pub row-stays : (r : Rows) (s c : ℕ) (v : Verdict) → stays v ≡ true → r ≡ replacedBy r s (newRow c v)
+row-stays r s c Empty e = refl
+row-stays r s c Blocked e = clash (sym e)
+row-stays r s c (Isotropic x) e = clash (sym e)
+row-stays r s c (Smooth x) e = clash (sym e)
+row-stays r s c (Rough x) e = refl
+
+pub row-becomes : (r : Rows) (s c : ℕ) (v : Verdict) → stays v ≡ false → replaced r s (becomes c v) ≡ replacedBy r s (newRow c v)
+row-becomes r s c Empty e = clash e
+row-becomes r s c Blocked e = refl
+row-becomes r s c (Isotropic x) e = refl
+row-becomes r s c (Smooth x) e = refl
+row-becomes r s c (Rough x) e = clash e
+
+same-clear : (x : SlabResolution) (e : List Float) → isClear x ≡ notRepulsive (rowWith x e)
+same-clear (Scalar y) e = refl
+same-clear (Mesh v b) e = refl
+same-clear Repulsive e = refl
+
+pub row-clear : (x : SlabResolution) (e : List Float) (c : ℕ) (v : Verdict) → isClear (leftRow c x v) ≡ notRepulsive (inPlaceOf (rowWith x e) (newRow c v))
+unfolding leftRow
+row-clear x e c Empty = same-clear x e
+row-clear x e c Blocked = refl
+row-clear x e c (Isotropic y) = refl
+row-clear (Scalar z) e c (Smooth y) = refl
+row-clear (Mesh v b) e c (Smooth y) = refl
+row-clear Repulsive e c (Smooth y) = refl
+row-clear x e c (Rough y) = same-clear x e

@@ -1,0 +1,7 @@
+-- Laws that belong to no one function.
+pub mod Sums
+pub mod Lines
+pub mod Orders
+pub mod Largest
+pub mod Slopes
+pub mod Changes

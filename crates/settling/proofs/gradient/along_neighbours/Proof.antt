@@ -1,0 +1,101 @@
+-- `along_neighbours` meets its contract. Assumes nothing.
+use mathlib.Core.Path.{_≡_, refl, _∙_}
+use mathlib.Core.List.{List}
+use Prim.Native.Nat.{ℕ, _+_, _*_, _-_, _≤_}
+use native.Mathlib.Omega.{arith}
+use lib.ListN.{getD}
+use lib.Ieee.{Float, nan}
+use borrow.Author.Needs.{needs}
+use Rattle.mesh.specs.Lists.{forEach}
+use Rattle.settling.specs.Gradient.{steeper, alongNeighbours}
+use Rattle.mesh.proofs.Loops.{each-turn}
+use Rattle.settling.proofs.gradient.along_neighbours.Statement.{statement}
+use Rattle.settling.proofs.gradient.along_neighbours.Tie as tie
+
+-- what a turn of the loop makes of the gradient so far
+abbrev turn : List ℕ → List ℕ → List Float → List Float → ℕ → ℕ → Float → Float
+turn counts neighbours angles weights v k h = steeper (getD weights v nan) (getD weights (getD neighbours (6 * v + k) 0) nan) (getD angles (6 * v + k) nan) h
+
+abbrev Inv-loop : tie.InvT-loop
+Inv-loop counts neighbours angles weights v g d x h₀ k₀ h k = (k ≤ d) × (h ≡ forEach k (turn counts neighbours angles weights v) g)
+
+abbrev μ-loop : tie.MeasureT-loop
+μ-loop counts neighbours angles weights v g d x h₀ k₀ h k = d - k
+
+degree-requires : tie.Need-degree-requires Inv-loop μ-loop
+degree-requires c κs = search needs
+
+entry-requires : tie.Need-entry-requires Inv-loop μ-loop
+entry-requires c κs = search needs
+
+loop-holds : tie.Need-loop-holds Inv-loop μ-loop
+unfolding forEach
+loop-holds c = (omega arith, refl)
+
+neighbour-requires : tie.Need-neighbour-requires Inv-loop μ-loop
+neighbour-requires c κs = search needs
+
+cast-entry : tie.Need-cast-entry Inv-loop μ-loop
+cast-entry c = search needs
+
+entry-requires-2 : tie.Need-entry-requires-2 Inv-loop μ-loop
+entry-requires-2 c κs = search needs
+
+mul-entry : tie.Need-mul-entry Inv-loop μ-loop
+mul-entry c = omega arith
+
+cast-entry-2 : tie.Need-cast-entry-2 Inv-loop μ-loop
+cast-entry-2 c = search needs
+
+add-entry : tie.Need-add-entry Inv-loop μ-loop
+add-entry c = omega arith
+
+entry-requires-3 : tie.Need-entry-requires-3 Inv-loop μ-loop
+entry-requires-3 c κs = search needs
+
+steeper-requires : tie.Need-steeper-requires Inv-loop μ-loop
+steeper-requires c κs = search needs
+
+add-k : tie.Need-add-k Inv-loop μ-loop
+add-k c = omega arith
+
+loop-less : tie.Need-loop-less Inv-loop μ-loop
+loop-less c = omega arith
+
+loop-again : tie.Need-loop-again Inv-loop μ-loop
+loop-again c =
+    let l = c .before .before .before .before .before in
+    let a = l .before .before .before .before .before .before .before .args in (
+      omega arith,
+      rw (c .steeper .ensures, l .before .entry .ensures, c .before .before .entry2 .ensures, c .before .entry3 .ensures, c .before .before .before .neighbour .ensures)
+          (each-turn (turn (a .counts .now) (a .neighbours .now) (a .angles .now) (a .weights .now) (a .v)) (l .loop .k) (a .g) (l .loop .h) (l .loop .inv .1)),
+    )
+
+returns : tie.Need-returns Inv-loop μ-loop
+unfolding alongNeighbours
+returns c =
+    let l = c .before in
+    let full : l .loop .k ≡ l .before .before .degree .result = omega arith in
+    l .loop .inv .1 ∙ rw (full, l .before .before .degree .ensures)
+
+pub along-neighbours-spec : {M : Type 1} → statement M
+along-neighbours-spec =
+    tie.close
+    (tie.spec
+    Inv-loop
+    μ-loop
+    degree-requires
+    entry-requires
+    loop-holds
+    neighbour-requires
+    cast-entry
+    entry-requires-2
+    mul-entry
+    cast-entry-2
+    add-entry
+    entry-requires-3
+    steeper-requires
+    add-k
+    loop-less
+    loop-again
+    returns)

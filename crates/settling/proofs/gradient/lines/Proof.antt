@@ -1,0 +1,81 @@
+-- `lines` meets its contract. Assumes nothing.
+use mathlib.Core.Path.{_≡_, refl, _∙_}
+use mathlib.Core.List.{List, []}
+use Prim.Native.Nat.{ℕ, _*_, _-_, _≤_}
+use native.Mathlib.Nat.{mul-le-mul}
+use native.Mathlib.Omega.{arith}
+use lib.Ieee.{Float}
+use borrow.Author.Needs.{needs}
+use Rattle.mesh.specs.Lists.{forEach}
+use Rattle.settling.specs.Steps.{lineWeights, lineGradient, linesGradient}
+use Rattle.mesh.proofs.Loops.{each-turn}
+use Rattle.settling.proofs.gradient.lines.Statement.{statement}
+use Rattle.settling.proofs.gradient.lines.Tie as tie
+
+-- what a turn of the loop makes of the gradient so far
+abbrev turn : List ℕ → List ℕ → List Float → List Float → Float → ℕ → ℕ → ℕ → ℕ → Float → Float
+turn counts neighbours angles energies beta apart step n t =
+    lineGradient (record { vertices = []; counts = counts; neighbours = neighbours; angles = angles }) n (lineWeights beta energies (apart * t) step n)
+
+abbrev Inv-loop : tie.InvT-loop
+Inv-loop counts neighbours angles energies beta apart step n g h₀ t₀ h t = (t ≤ n) × (h ≡ forEach t (turn counts neighbours angles energies beta apart step n) g)
+
+abbrev μ-loop : tie.MeasureT-loop
+μ-loop counts neighbours angles energies beta apart step n g h₀ t₀ h t = n - t
+
+-- where a line begins is a small place
+place : (c : tie.In-loop Inv-loop μ-loop) → c .before .before .before .before .before .before .args .apart * c .before .loop .t ≤ 2562 * 2562
+place c =
+    let a = c .before .before .before .before .before .before in
+    let t : c .before .loop .t ≤ 2562 = omega arith in
+    mul-le-mul (a .pre .2) t
+
+loop-holds : tie.Need-loop-holds Inv-loop μ-loop
+unfolding forEach
+loop-holds c = (omega arith, refl)
+
+cast-line : tie.Need-cast-line Inv-loop μ-loop
+cast-line c = search needs
+
+mul-line : tie.Need-mul-line Inv-loop μ-loop
+mul-line c = omega (arith, place c)
+
+line-requires : tie.Need-line-requires Inv-loop μ-loop
+line-requires c κs = let a = c .before .before .before .before .before .before in (a .pre .0, a .pre .1, place c)
+
+add-t : tie.Need-add-t Inv-loop μ-loop
+add-t c = omega arith
+
+loop-less : tie.Need-loop-less Inv-loop μ-loop
+loop-less c = omega arith
+
+loop-again : tie.Need-loop-again Inv-loop μ-loop
+loop-again c =
+    let l = c .before .before in
+    let a = l .before .before .before .before .before .args in (
+      omega arith,
+      rw (c .line .ensures)
+          (each-turn (turn (a .counts .now) (a .neighbours .now) (a .angles .now) (a .energies .now) (a .beta) (a .apart) (a .step) (a .n)) (l .loop .t) (a .g) (l .loop .h) (l .loop .inv .1)),
+    )
+
+returns : tie.Need-returns Inv-loop μ-loop
+unfolding linesGradient
+returns c =
+    let l = c .before in
+    let full : l .loop .t ≡ l .before .before .before .before .before .args .n = omega arith in
+    l .loop .inv .1 ∙ rw full
+
+pub lines-spec : {M : Type 1} → statement M
+lines-spec =
+    tie.close
+    (tie.spec
+    Inv-loop
+    μ-loop
+    loop-holds
+    cast-line
+    mul-line
+    line-requires
+    add-t
+    loop-less
+    loop-again
+    returns)

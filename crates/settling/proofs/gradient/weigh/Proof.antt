@@ -1,0 +1,91 @@
+-- `weigh` meets its contract. Assumes nothing.
+use mathlib.Core.Path.{_≡_, refl, sym, _∙_}
+use Prim.Native.Nat.{_*_, _-_, _≤_}
+use native.Mathlib.Nat.{mul-le-mul}
+use native.Mathlib.Omega.{arith}
+use lib.ListN.{length, length-set}
+use borrow.Author.Needs.{needs}
+use Rattle.mesh.specs.Lists.{put}
+use Rattle.mesh.proofs.Written.{put-nil}
+use Rattle.settling.specs.Steps.{lineWeights}
+use Rattle.settling.proofs.Lines.{weigh-turn}
+use Rattle.settling.proofs.gradient.weigh.Statement.{statement}
+use Rattle.settling.proofs.gradient.weigh.Tie as tie
+
+abbrev Inv-loop : tie.InvT-loop
+Inv-loop beta energies from step n weights₀ i₀ weights i = (i ≤ n) × (length weights ≡ length weights₀) × (weights ≡ put weights₀ 0 (lineWeights beta energies from step i))
+
+abbrev μ-loop : tie.MeasureT-loop
+μ-loop beta energies from step n weights₀ i₀ weights i = n - i
+
+-- the place of an entry is small
+place : (c : tie.In-loop Inv-loop μ-loop) → c .before .before .before .before .args .step * c .before .loop .i ≤ 2562 * 2562
+place c =
+    let a = c .before .before .before .before in
+    let i : c .before .loop .i ≤ 2562 = omega arith in
+    mul-le-mul (a .pre .2) i
+
+loop-holds : tie.Need-loop-holds Inv-loop μ-loop
+unfolding lineWeights
+loop-holds c = (search needs, refl, sym (put-nil (c .before .before .args .weights .now) 0))
+
+mul-entry : tie.Need-mul-entry Inv-loop μ-loop
+mul-entry c = omega (arith, place c)
+
+add-entry : tie.Need-add-entry Inv-loop μ-loop
+add-entry c = omega (arith, place c)
+
+entry-requires : tie.Need-entry-requires Inv-loop μ-loop
+entry-requires c κs = search needs
+
+weight-requires : tie.Need-weight-requires Inv-loop μ-loop
+weight-requires c κs = search needs
+
+mul-weights : tie.Need-mul-weights Inv-loop μ-loop
+mul-weights c = omega arith
+
+slice-write-weights : tie.Need-slice-write-weights Inv-loop μ-loop
+slice-write-weights c = omega arith
+
+add-i : tie.Need-add-i Inv-loop μ-loop
+add-i c = omega arith
+
+loop-less : tie.Need-loop-less Inv-loop μ-loop
+loop-less c = omega arith
+
+loop-again : tie.Need-loop-again Inv-loop μ-loop
+loop-again c =
+    let l = c .before .before .before in
+    let a = l .before .before .before .args in (
+      omega arith,
+      simp length-set (l .loop .inv .1),
+      rw (c .weight .ensures, c .before .entry .ensures) (weigh-turn (a .beta) (a .energies .now) (a .from) (a .step) (a .weights .now) (l .loop .weights) (l .loop .i) (l .loop .inv .2) (omega arith)),
+    )
+
+same-length : tie.Need-same-length Inv-loop μ-loop
+same-length c = search needs
+
+returns : tie.Need-returns Inv-loop μ-loop
+returns c =
+    let l = c .before in
+    let full : l .loop .i ≡ l .before .before .before .args .n = omega arith in
+    l .loop .inv .2 ∙ rw full
+
+pub weigh-spec : {M : Type 1} → statement M
+weigh-spec =
+    tie.close
+    (tie.spec
+    Inv-loop
+    μ-loop
+    loop-holds
+    mul-entry
+    add-entry
+    entry-requires
+    weight-requires
+    mul-weights
+    slice-write-weights
+    add-i
+    loop-less
+    loop-again
+    same-length
+    returns)

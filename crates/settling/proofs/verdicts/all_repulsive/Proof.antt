@@ -1,0 +1,72 @@
+-- `all_repulsive` meets its contract. Assumes nothing.
+use mathlib.Core.Path.{_≡_, refl, sym, _∙_}
+use Prim.Native.Nat.{_-_}
+use native.Mathlib.Omega.{arith}
+use lib.ListN.{length, drop}
+use lib.Ieee.{nan}
+use borrow.Author.Needs.{needs}
+use Rattle.mesh.specs.Lists.{every}
+use Rattle.grid.proofs.Laws.{yes, no}
+use Rattle.settling.specs.Gradient.{repulsive, allRepulsive}
+use Rattle.mesh.proofs.Loops.{every-fails, every-next, every-end}
+use Rattle.settling.proofs.verdicts.all_repulsive.Statement.{statement}
+use Rattle.settling.proofs.verdicts.all_repulsive.Tie as tie
+
+abbrev Inv-loop : tie.InvT-loop
+Inv-loop beta energies i₀ i = every (repulsive beta) (drop i energies) ≡ every (repulsive beta) energies
+
+abbrev μ-loop : tie.MeasureT-loop
+μ-loop beta energies i₀ i = length energies - i
+
+loop-holds : tie.Need-loop-holds Inv-loop μ-loop
+loop-holds c = refl
+
+mul-is-repulsive : tie.Need-mul-is-repulsive Inv-loop μ-loop
+mul-is-repulsive c = search needs
+
+shared-slice-read-is-repulsive : tie.Need-shared-slice-read-is-repulsive Inv-loop μ-loop
+shared-slice-read-is-repulsive c = search needs
+
+is-repulsive-requires : tie.Need-is-repulsive-requires Inv-loop μ-loop
+is-repulsive-requires c κs = search needs
+
+returns : tie.Need-returns Inv-loop μ-loop
+unfolding allRepulsive
+returns c =
+    let l = c .before .before .before .before in
+    let a = l .before .before .args in
+    sym (every-fails (repulsive (a .beta)) (a .energies .now) (l .loop .i) nan (omega arith) (no (c .before .is-repulsive .ensures) (c .if1 .taken))) ∙ l .loop .inv
+
+add-i : tie.Need-add-i Inv-loop μ-loop
+add-i c = omega arith
+
+loop-less : tie.Need-loop-less Inv-loop μ-loop
+loop-less c = omega arith
+
+loop-again : tie.Need-loop-again Inv-loop μ-loop
+loop-again c =
+    let l = c .before .before .before .before in
+    let a = l .before .before .args in
+    sym (every-next (repulsive (a .beta)) (a .energies .now) (l .loop .i) nan (omega arith) (yes (c .before .is-repulsive .ensures) (c .if1 .left))) ∙ l .loop .inv
+
+returns-2 : tie.Need-returns-2 Inv-loop μ-loop
+unfolding allRepulsive
+returns-2 c =
+    let a = c .before .before .before .args in
+    sym (every-end (repulsive (a .beta)) (a .energies .now) _ nan (c .loop-test .left)) ∙ c .before .loop .inv
+
+pub all-repulsive-spec : {M : Type 1} → statement M
+all-repulsive-spec =
+    tie.close
+    (tie.spec
+    Inv-loop
+    μ-loop
+    loop-holds
+    mul-is-repulsive
+    shared-slice-read-is-repulsive
+    is-repulsive-requires
+    returns
+    add-i
+    loop-less
+    loop-again
+    returns-2)

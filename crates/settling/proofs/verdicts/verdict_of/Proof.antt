@@ -1,0 +1,30 @@
+-- `verdict_of` meets its contract. Assumes nothing.
+use borrow.Author.Needs.{needs}
+use Rattle.settling.proofs.verdicts.verdict_of.Statement.{statement}
+use Rattle.settling.proofs.verdicts.verdict_of.Tie as tie
+
+enum-told : tie.Need-enum-told
+enum-told c = search needs
+
+enum-told-2 : tie.Need-enum-told-2
+enum-told-2 c = search needs
+
+enum-told-3 : tie.Need-enum-told-3
+enum-told-3 c = search needs
+
+verdict-requires : tie.Need-verdict-requires
+verdict-requires c κs = search needs
+
+returns : tie.Need-returns
+returns c = rw (c .enum-told .given .1)
+
+returns-2 : tie.Need-returns-2
+returns-2 c = rw (c .enum-told2 .given .1)
+
+returns-3 : tie.Need-returns-3
+returns-3 c = rw (c .before .enum-told3 .given .1, c .verdict .ensures)
+
+pub verdict-of-spec : {M : Type 1} → statement M
+verdict-of-spec =
+    tie.close
+    (tie.spec enum-told enum-told-2 enum-told-3 verdict-requires returns returns-2 returns-3)

@@ -1,0 +1,3 @@
+pub mod Gradient
+pub mod Settling
+pub mod Steps

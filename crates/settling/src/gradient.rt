@@ -1,0 +1,155 @@
+// The gradient of a slab. No list of weights is kept: the weights of a row, or of a column, fit into a local array, so that each entry is weighed twice.
+ghost use mathlib.Core.Path.{_≡_};
+ghost use mathlib.Core.List.{[]};
+ghost use Prim.Native.Nat.{_+_, _*_, _≤_};
+ghost use lib.ListN.{length, getD};
+ghost use lib.Ieee.{nan};
+ghost use Rattle.mesh.specs.Lists.{put};
+ghost use Rattle.settling.specs.Gradient.{weight, steeper, alongNeighbours};
+ghost use Rattle.settling.specs.Steps.{lineWeights, lineGradient, linesGradient, byLines};
+
+// The Boltzmann weight of an energy.
+pub(crate) fn weight(beta: f64, e: f64) -> f64
+    ensures { λ r. ⌜ r ≡ weight beta e ⌝ }
+{
+    float::exp(-beta * e)
+}
+
+// The larger of g and the slope between two weights; a pair at a smaller angle is passed over.
+fn steeper(x: f64, y: f64, angle: f64, g: f64) -> f64
+    ensures { λ r. ⌜ r ≡ steeper x y angle g ⌝ }
+{
+    if 1e-12 < angle {
+        return float::max(g, float::abs(x - y) / angle);
+    }
+    g
+}
+
+// The weights of a line.
+fn weigh(beta: f64, energies: &[f64], from: usize, step: usize, n: usize, weights: &mut [f64])
+    requires { ⌜ (n ≤ length (now weights)) × (n ≤ 2562) × (step ≤ 2562) × (from ≤ 6563844) ⌝ }
+    ensures { λ _. ⌜ now (weights .exit) ≡ put (now (weights .entry)) 0 (lineWeights beta (now (energies .entry)) from step n) ⌝ }
+{
+    let mut i = 0;
+    while i < n {
+        weights[i] = weight(beta, mesh::entry(energies, from + step * i));
+        i += 1;
+    }
+}
+
+// A vertex of a line against its neighbours.
+fn along_neighbours(
+    counts: &[u8],
+    neighbours: &[u16],
+    angles: &[f64],
+    weights: &[f64],
+    v: u32,
+    g: f64,
+) -> f64
+    ensures { λ r. ⌜ r ≡ alongNeighbours (record { vertices = []; counts = now (counts .entry); neighbours = now (neighbours .entry); angles = now (angles .entry) }) v
+        (λ k. getD (now (weights .entry)) k nan) (getD (now (weights .entry)) v nan) g ⌝ }
+{
+    let d = mesh::degree(counts, v);
+    let x = mesh::entry(weights, v as usize);
+    let mut h = g;
+    let mut k: u32 = 0;
+    while k < d {
+        let y = mesh::entry(weights, mesh::neighbour(neighbours, v, k) as usize);
+        h = steeper(x, y, mesh::entry(angles, 6 * v as usize + k as usize), h);
+        k += 1;
+    }
+    h
+}
+
+// All vertices of a line.
+fn line_gradient(
+    counts: &[u8],
+    neighbours: &[u16],
+    angles: &[f64],
+    weights: &[f64],
+    n: u32,
+    g: f64,
+) -> f64
+    ensures { λ r. ⌜ r ≡ lineGradient (record { vertices = []; counts = now (counts .entry); neighbours = now (neighbours .entry); angles = now (angles .entry) }) n (now (weights .entry)) g ⌝ }
+{
+    let mut h = g;
+    let mut v: u32 = 0;
+    while v < n {
+        h = along_neighbours(counts, neighbours, angles, weights, v, h);
+        v += 1;
+    }
+    h
+}
+
+// A line's weights, and the gradient along it.
+fn line(
+    counts: &[u8],
+    neighbours: &[u16],
+    angles: &[f64],
+    energies: &[f64],
+    beta: f64,
+    from: usize,
+    step: usize,
+    n: u32,
+    g: f64,
+) -> f64
+    requires { ⌜ (n ≤ 2562) × (step ≤ 2562) × (from ≤ 6563844) ⌝ }
+    ensures { λ r. ⌜ r ≡ lineGradient (record { vertices = []; counts = now (counts .entry); neighbours = now (neighbours .entry); angles = now (angles .entry) }) n
+        (lineWeights beta (now (energies .entry)) from step n) g ⌝ }
+{
+    let mut weights = [0.0; 2562];
+    let m = n as usize;
+    weigh(beta, energies, from, step, m, &mut weights);
+    line_gradient(counts, neighbours, angles, &weights[0..m], n, g)
+}
+
+// n lines of n entries, one after another.
+fn lines(
+    counts: &[u8],
+    neighbours: &[u16],
+    angles: &[f64],
+    energies: &[f64],
+    beta: f64,
+    apart: usize,
+    step: usize,
+    n: u32,
+    g: f64,
+) -> f64
+    requires { ⌜ (n ≤ 2562) × (step ≤ 2562) × (apart ≤ 2562) ⌝ }
+    ensures { λ r. ⌜ r ≡ linesGradient (record { vertices = []; counts = now (counts .entry); neighbours = now (neighbours .entry); angles = now (angles .entry) }) n beta (now (energies .entry)) apart step g ⌝ }
+{
+    let mut h = g;
+    let mut t: u32 = 0;
+    while t < n {
+        h = line(
+            counts,
+            neighbours,
+            angles,
+            energies,
+            beta,
+            apart * t as usize,
+            step,
+            n,
+            h,
+        );
+        t += 1;
+    }
+    h
+}
+
+// The gradient of a slab: along its columns, then along its rows.
+pub(crate) fn gradient(
+    counts: &[u8],
+    neighbours: &[u16],
+    angles: &[f64],
+    energies: &[f64],
+    beta: f64,
+    n: u32,
+) -> f64
+    requires { ⌜ n ≤ 2562 ⌝ }
+    ensures { λ r. ⌜ r ≡ byLines (record { vertices = []; counts = now (counts .entry); neighbours = now (neighbours .entry); angles = now (angles .entry) }) n beta (now (energies .entry)) ⌝ }
+{
+    let m = n as usize;
+    let h = lines(counts, neighbours, angles, energies, beta, 1, m, n, 0.0);
+    lines(counts, neighbours, angles, energies, beta, m, 1, n, h)
+}

@@ -1,0 +1,23 @@
+// The settling of one slab: its gradient, what settling finds of it, and the row that it leaves.
+mod gradient;
+mod verdicts;
+
+pub use verdicts::replace_by;
+pub use verdicts::tallied;
+pub use verdicts::verdict_of;
+
+// What settling finds of a slab: that its row holds no energies; that it is repulsive; or, by its gradient, that it becomes a scalar, is read at the nearest vertex or stays as it is.
+pub enum Verdict {
+    Empty,
+    Blocked,
+    Isotropic(f32),
+    Smooth(f64),
+    Rough(f64),
+}
+
+// What a slice adds up to: the largest gradient of slabs left as Mesh, whether some slab was settled, and whether no row is Repulsive.
+pub struct Tally {
+    pub gradient: f64,
+    pub settled: bool,
+    pub clear: bool,
+}

@@ -1,0 +1,216 @@
+// The settling of one slab.
+ghost use mathlib.Core.Path.{_≡_};
+ghost use mathlib.Core.Bool.{_&&_, _||_};
+ghost use mathlib.Core.List.{[]};
+ghost use lib.Ieee.{binary64, ofBits};
+ghost use Rattle.rows.specs.Rows.{Rows, rowWith};
+ghost use Rattle.settling.specs.Gradient.{repulsive, allRepulsive, sumFrom, meanNarrowed};
+ghost use Rattle.settling.specs.Settling.{byGradient, newRow, replacedBy, steeperOf, settles};
+ghost use Rattle.settling.specs.Steps.{linedVerdict, linedVerdictOf, stays, becomes, leftRow, isClear};
+use crate::Tally;
+use crate::Verdict;
+use crate::gradient;
+use rows::SlabResolution;
+
+fn is_repulsive(beta: f64, e: f64) -> bool
+    ensures { λ r. ⌜ r ≡ repulsive beta e ⌝ }
+{
+    gradient::weight(beta, e) - 1.0 < 1e-4 - 1.0
+}
+
+fn all_repulsive(beta: f64, energies: &[f64]) -> bool
+    ensures { λ r. ⌜ r ≡ allRepulsive beta (now (energies .entry)) ⌝ }
+{
+    let mut i = 0;
+    while i < energies.len() {
+        if !is_repulsive(beta, energies[i]) {
+            return false;
+        }
+        i += 1;
+    }
+    true
+}
+
+// The sum in index order, from -0.0.
+fn sum(energies: &[f64]) -> f64
+    ensures { λ r. ⌜ r ≡ sumFrom (ofBits binary64 0x8000_0000_0000_0000) (now (energies .entry)) ⌝ }
+{
+    let mut x = -0.0;
+    let mut i = 0;
+    while i < energies.len() {
+        x = x + energies[i];
+        i += 1;
+    }
+    x
+}
+
+fn mean_narrowed(energies: &[f64]) -> f32
+    ensures { λ r. ⌜ r ≡ meanNarrowed (now (energies .entry)) ⌝ }
+{
+    ieee::narrow(sum(energies) / float::of_u64(energies.len() as u64))
+}
+
+fn by_gradient(threshold: f64, energies: &[f64], x: f64) -> Verdict
+    ensures { λ r. ⌜ r ≡ byGradient threshold (now (energies .entry)) x ⌝ }
+{
+    if x < threshold / 10.0 {
+        return Verdict::Isotropic(mean_narrowed(energies));
+    }
+    if x < threshold {
+        return Verdict::Smooth(x);
+    }
+    Verdict::Rough(x)
+}
+
+fn steeper_of(x: f64, v: Verdict) -> f64
+    ensures { λ r. ⌜ r ≡ steeperOf x v ⌝ }
+{
+    match v {
+        Verdict::Empty => x,
+        Verdict::Blocked => x,
+        Verdict::Isotropic(_) => x,
+        Verdict::Smooth(y) => float::max(x, y),
+        Verdict::Rough(y) => float::max(x, y),
+    }
+}
+
+fn settles(v: Verdict) -> bool
+    ensures { λ r. ⌜ r ≡ settles v ⌝ }
+{
+    match v {
+        Verdict::Empty => false,
+        Verdict::Blocked => false,
+        Verdict::Isotropic(_) => true,
+        Verdict::Smooth(_) => true,
+        Verdict::Rough(_) => true,
+    }
+}
+
+// What settling finds of a slab's energies.
+fn verdict(
+    threshold: f64,
+    beta: f64,
+    counts: &[u8],
+    neighbours: &[u16],
+    angles: &[f64],
+    energies: &[f64],
+    level: u8,
+) -> Verdict
+    ensures { λ r. ⌜ r ≡ linedVerdict threshold beta (record { vertices = []; counts = now (counts .entry); neighbours = now (neighbours .entry); angles = now (angles .entry) }) level (now (energies .entry)) ⌝ }
+{
+    if 15 < level {
+        return Verdict::Empty;
+    }
+    if all_repulsive(beta, energies) {
+        return Verdict::Blocked;
+    }
+    let n = mesh::vertex_count(level) as u32;
+    let x = gradient::gradient(counts, neighbours, angles, energies, beta, n);
+    by_gradient(threshold, energies, x)
+}
+
+// The same of a row; one that holds no energies has none to settle.
+pub fn verdict_of(
+    threshold: f64,
+    beta: f64,
+    counts: &[u8],
+    neighbours: &[u16],
+    angles: &[f64],
+    energies: &[f64],
+    level: u8,
+    row: SlabResolution,
+) -> Verdict
+    ensures { λ r. ⌜ r ≡ linedVerdictOf threshold beta (record { vertices = []; counts = now (counts .entry); neighbours = now (neighbours .entry); angles = now (angles .entry) }) level (rowWith row (now (energies .entry))) ⌝ }
+{
+    match row {
+        SlabResolution::Scalar(_) => Verdict::Empty,
+        SlabResolution::Repulsive => Verdict::Empty,
+        SlabResolution::Mesh(_, _) => verdict(
+            threshold,
+            beta,
+            counts,
+            neighbours,
+            angles,
+            energies,
+            level,
+        ),
+    }
+}
+
+fn stays(v: Verdict) -> bool
+    ensures { λ r. ⌜ r ≡ stays v ⌝ }
+{
+    match v {
+        Verdict::Empty => true,
+        Verdict::Blocked => false,
+        Verdict::Isotropic(_) => false,
+        Verdict::Smooth(_) => false,
+        Verdict::Rough(_) => true,
+    }
+}
+
+// The row that takes a slab's place; where the row stays, it is not used.
+fn becomes(level: u8, v: Verdict) -> SlabResolution
+    ensures { λ r. ⌜ r ≡ becomes level v ⌝ }
+{
+    match v {
+        Verdict::Empty => SlabResolution::Repulsive,
+        Verdict::Blocked => SlabResolution::Repulsive,
+        Verdict::Isotropic(x) => SlabResolution::Scalar(x),
+        Verdict::Smooth(_) => SlabResolution::Mesh(level, false),
+        Verdict::Rough(_) => SlabResolution::Repulsive,
+    }
+}
+
+// The row after a verdict.
+fn left_row(level: u8, row: SlabResolution, v: Verdict) -> SlabResolution
+    ensures { λ r. ⌜ r ≡ leftRow level row v ⌝ }
+{
+    if stays(v) {
+        return row;
+    }
+    becomes(level, v)
+}
+
+fn is_clear(row: SlabResolution) -> bool
+    ensures { λ r. ⌜ r ≡ isClear row ⌝ }
+{
+    match row {
+        SlabResolution::Scalar(_) => true,
+        SlabResolution::Mesh(_, _) => true,
+        SlabResolution::Repulsive => false,
+    }
+}
+
+// The slice with one slab more.
+pub fn tallied(level: u8, t: Tally, row: SlabResolution, v: Verdict) -> Tally
+    ensures { λ r. ⌜ r ≡ record { gradient = steeperOf (t .gradient) v; settled = t .settled || settles v; clear = t .clear && isClear (leftRow level row v) } ⌝ }
+{
+    let gradient = t.gradient;
+    let settled = t.settled;
+    let clear = t.clear;
+    Tally {
+        gradient: steeper_of(gradient, v),
+        settled: settled | settles(v),
+        clear: clear & is_clear(left_row(level, row, v)),
+    }
+}
+
+// Puts the settled row in its place; a row that stays keeps its bits.
+pub fn replace_by(
+    kinds: &mut [u8],
+    levels: &mut [u8],
+    values: &mut [u32],
+    s: u64,
+    level: u8,
+    v: Verdict,
+)
+    ensures { λ _. ⌜ _≡_ {A = Rows}
+        (record { kinds = now (kinds .exit); levels = now (levels .exit); values = now (values .exit) })
+        (replacedBy (record { kinds = now (kinds .entry); levels = now (levels .entry); values = now (values .entry) }) s (newRow level v)) ⌝ }
+{
+    if stays(v) {
+        return;
+    }
+    rows::replace(kinds, levels, values, s, becomes(level, v));
+}
