@@ -1,14 +1,17 @@
--- A slice of slabs added up. Assumes nothing.
+-- A slice of slabs added up, and the level after it. Assumes nothing.
 use mathlib.Core.Path.{_≡_, refl, sym, _∙_}
 use mathlib.Core.Bool.{Bool, true, false, _&&_, _||_}
 use mathlib.Core.List.{List, [], _∷_, map}
-use Prim.Native.Nat.{ℕ}
-use lib.Ieee.{Float}
+use Prim.Native.Nat.{ℕ, _<_}
+use lib.Dec.{ltb}
+use lib.Ieee.{Float, lt}
+use borrow.Author.Tests.{ltb-true}
+use Rattle.ieee.proofs.Fields.{both-true}
 use Rattle.mesh.specs.Lists.{every}
 use Rattle.rows.specs.Rows.{Row}
 use Rattle.settling.specs.Settling.{newRow, inPlaceOf, settles, someSettle, largestFrom, settledRows, notRepulsive}
 use Rattle.settling.specs.Steps.{tallied}
-use Rattle.builder.specs.Steps.{tallyFrom}
+use Rattle.builder.specs.Steps.{tallyFrom, dropsBy}
 use Rattle.settling.specs.declared.Tally.{Tally}
 use Rattle.settling.specs.declared.Verdict.{Verdict}
 
@@ -43,3 +46,11 @@ module _ (f : Row Float → Verdict) (c : ℕ) where
       and-true true = refl
       and-true false = refl
   tally-clear t (r ∷ rs) = tally-clear (tallied c t r (f r)) rs ∙ and-assoc (t .clear) (notRepulsive (inPlaceOf r (newRow c (f r)))) (every notRepulsive (settledRows c rs (map f rs)))
+
+-- the level drops only where it is above 0
+pub drops-above : (t : Tally) (threshold : Float) (level : ℕ) → dropsBy t threshold level ≡ true → 0 < level
+unfolding dropsBy
+drops-above t threshold level e =
+    let a = both-true (t .settled) (t .clear && (lt (t .gradient) threshold && ltb 0 level)) e .1 in
+    let b = both-true (t .clear) (lt (t .gradient) threshold && ltb 0 level) a .1 in
+    ltb-true 0 level (both-true (lt (t .gradient) threshold) (ltb 0 level) b .1)

@@ -1,4 +1,3 @@
-pub mod Laws
 pub mod Changes
 pub mod Turns
 pub mod Accepted

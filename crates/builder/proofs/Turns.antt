@@ -17,7 +17,8 @@ use Rattle.rows.specs.declared.SlabResolution.{SlabResolution}
 use Rattle.rows.specs.declared.SlabResolution.the-variants.{Scalar, Mesh, Repulsive}
 use Rattle.rows.specs.Rows.{Rows, kindOf, levelOf, valueOf, resolutionOf, resolutionAt, replaced, Row, rowWith}
 use Rattle.settling.specs.Settling.{newRow, fromLevel, replacedBy}
-use Rattle.builder.specs.Lists.{Lists, storePlace, rowAt, rowsFrom, settledLists}
+use Rattle.questions.specs.Lists.{Lists, storePlace, rowAt, rowsFrom}
+use Rattle.builder.specs.Calls.{settledLists}
 use Rattle.settling.specs.Steps.{tallied}
 use Rattle.builder.specs.Steps.{tallyFrom}
 use Rattle.settling.specs.declared.Tally.{Tally}

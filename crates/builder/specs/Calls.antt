@@ -1,22 +1,23 @@
 -- Fresh, set and settle: what each answers, and what it leaves in the lent lists. Definitions only.
-use mathlib.Core.Bool.{true, not, cond, _&&_}
-use mathlib.Core.List.{List}
-use Prim.Native.Nat.{ℕ, _*_}
-use lib.ListN.{length, replicate}
-use lib.Dec.{ltb, eqb}
-use lib.Ieee.{Float, isNan}
-use Rattle.mesh.specs.Questions.{ask, first}
-use Rattle.mesh.specs.Lists.{every, put}
+use mathlib.Core.Bool.{true, cond}
+use mathlib.Core.List.{List, [], _∷_}
+use Prim.Native.Nat.{ℕ, suc, _*_}
+use lib.ListN.{replicate}
+use lib.Dec.{eqb}
+use lib.Ieee.{Float}
+use Rattle.mesh.specs.Lists.{put}
 use Rattle.mesh.specs.Levels.{per}
-use Rattle.mesh.specs.Mesh.{Mesh, meshesKeep}
-use Rattle.grid.specs.Settings.{question, counted}
+use Rattle.mesh.specs.Mesh.{Mesh}
+use Rattle.grid.specs.Settings.{counted}
 use Rattle.grid.specs.declared.Grid.{Grid}
 use Rattle.rows.specs.declared.SlabResolution.the-variants.{Mesh as toMesh}
-use Rattle.rows.specs.Rows.{replaced}
+use Rattle.rows.specs.Rows.{Rows, replaced}
 use Rattle.settling.specs.Gradient.{zero}
-use Rattle.settling.specs.Settling.{verdicts, settledSlice, fromLevel}
-use Rattle.builder.specs.Lists.{Lists, slabs, slab, storePlace, sliceAt, settledLists, listsHeld, meshesHeld, rowsKnown}
-use Rattle.builder.specs.declared.Builder.{Builder}
+use Rattle.settling.specs.Settling.{newRow, replacedBy, verdicts, settledSlice}
+use Rattle.settling.specs.declared.Verdict.{Verdict}
+use Rattle.questions.specs.Lists.{Lists, slabs, slab, storePlace, sliceAt}
+use Rattle.questions.specs.Refusals.{meshedRefusal, setRefusal, settleRefusal}
+use Rattle.questions.specs.declared.Builder.{Builder}
 use Rattle.builder.specs.declared.Built.{Built}
 use Rattle.builder.specs.declared.Built.the-variants.{Accepted as Builds, Refused as NotBuilt}
 use Rattle.builder.specs.declared.Settled.{Settled}
@@ -46,16 +47,6 @@ abbrev pub settledGradient : Settled → Float
 settledGradient (Settles b x) = x
 settledGradient (NotSettled n) = zero
 
--- ---- questions
-
--- "Set, settle and write first put 1 to 5 to the builder's settings, counts and levels"
-abbrev pub builderQuestion : Builder → ℕ
-builderQuestion b = question (b .grid) (b .top) (b .level)
-
--- ".. then 6; settle and write then put 7": 1 to 7, of a call that the meshes are lent to
-unfoldable pub meshedRefusal : Builder → Mesh → Lists → ℕ
-meshedRefusal b m l = first (builderQuestion b) (ask (listsHeld b l && meshesHeld b m) 6 (ask (meshesKeep (b .top) m) 7 0))
-
 -- ---- fresh
 
 -- the builder of accepted settings: the counts that they give, whatever was handed in, and the top level
@@ -84,16 +75,6 @@ freshOut g top m l =
 
 -- ---- set
 
--- "are both bin numbers below their counts? 8. Are there exactly n·n energies, n of the current level? 9. Is none a NaN? 10."
-unfoldable pub setQuestion : Grid → ℕ → ℕ → ℕ → List Float → ℕ
-setQuestion g level ri oi e =
-    ask (ltb ri (g .«n_r») && ltb oi (g .«n_omega»)) 8
-    (ask (eqb (length e) (per level)) 9
-    (ask (every (λ x. not (isNan x)) e) 10 0))
-
-unfoldable pub setRefusal : Builder → Lists → ℕ → ℕ → List Float → ℕ
-setRefusal b l ri oi e = first (builderQuestion b) (ask (listsHeld b l) 6 (setQuestion (b .grid) (b .level) ri oi e))
-
 -- "Set writes the first n·n places of its slab in the store and the slab's others stay"; "the row becomes Mesh, current level, flag true"
 unfoldable pub setLists : Builder → Lists → ℕ → List Float → Lists
 setLists b l s e = record { store = put (l .store) (storePlace (b .top) s) e; rows = replaced (l .rows) s (toMesh (b .level) true) }
@@ -105,13 +86,10 @@ setOut b l ri oi e =
 
 -- ---- settle
 
--- "8 for the distance bin"; "Settle after 8 .. put the kind and level part of 15 to each row touched"; "Do all slabs of the slice that hold energies hold them from the current level? 11."
-unfoldable pub settleRefusal : Builder → Mesh → Lists → ℕ → ℕ
-settleRefusal b m l ri =
-    first (meshedRefusal b m l)
-    (ask (ltb ri (b .grid .«n_r»)) 8
-    (ask (rowsKnown (b .top) (l .rows) (slab (b .grid) ri 0) (b .grid .«n_omega»)) 15
-    (ask (every (fromLevel (b .level)) (sliceAt b l ri)) 11 0)))
+-- settled rows take the places of those from slab s on
+unfoldable pub settledLists : ℕ → Rows → ℕ → List Verdict → Rows
+settledLists c r s [] = r
+settledLists c r s (v ∷ vs) = settledLists c (replacedBy r s (newRow c v)) (suc s) vs
 
 -- what settle leaves; "settle leaves the store"
 pub record SettleOut : Type 0 where

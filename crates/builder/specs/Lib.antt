@@ -1,3 +1,2 @@
-pub mod Lists
-pub mod Steps
 pub mod Calls
+pub mod Steps

@@ -6,14 +6,14 @@ use mathlib.Core.Path.{_≡_}
 use lib.ListN.{length}
 use lib.Dec.{ltb}
 use lib.Ieee.{Float, binary64, ofBits, lt}
-use Rattle.mesh.specs.Questions.{ask}
-use Rattle.mesh.specs.Lists.{allUpTo, every}
+use Rattle.mesh.specs.Lists.{every}
 use Rattle.mesh.specs.Levels.{vertexCount, per, verticesBelow}
 use Rattle.mesh.specs.Mesh.{Mesh, levelPart}
-use Rattle.rows.specs.Rows.{Rows, resolutionAt, Row, rowWith}
+use Rattle.rows.specs.Rows.{Rows, Row}
 use Rattle.settling.specs.Settling.{verdictOf, newRow, fromLevel, replacedBy}
-use Rattle.builder.specs.Lists.{Lists, slab, slabs, sliceAt, settledLists, rowsKnown}
-use Rattle.builder.specs.declared.Builder.{Builder}
+use Rattle.questions.specs.Lists.{Lists, slab, slabs, sliceAt}
+use Rattle.builder.specs.Calls.{settledLists}
+use Rattle.questions.specs.declared.Builder.{Builder}
 use Rattle.settling.specs.Steps.{Below, tallied}
 use Rattle.settling.specs.declared.Tally.{Tally}
 use Rattle.settling.specs.declared.Verdict.{Verdict}
@@ -59,17 +59,6 @@ abbrev pub settledRows : Builder → Mesh → Lists → ℕ → Tally → Rows �
 settledRows b m l ri t rows =
     let f = verdictOf (b .grid .threshold) (b .grid .beta) m (vertexCount (b .level)) in
     (t ≡ tallyFrom f (b .level) start (sliceAt b l ri)) × (rows ≡ settledLists (b .level) (l .rows) (slab (b .grid) ri 0) (map f (sliceAt b l ri)))
-
--- 11, of the rows of a slice, by what the lists say of them
-unfoldable pub rowsFromLevel : ℕ → Rows → ℕ → ℕ → Bool
-rowsFromLevel c r s n = allUpTo n (λ i. fromLevel c (rowWith (resolutionAt r (s + i)) []))
-
--- 8, 15 and 11 of settle
-unfoldable pub settleQuestion : Builder → Rows → ℕ → ℕ
-settleQuestion b r ri =
-    ask (ltb ri (b .grid .«n_r»)) 8
-    (ask (rowsKnown (b .top) r (slab (b .grid) ri 0) (b .grid .«n_omega»)) 15
-    (ask (rowsFromLevel (b .level) r (slab (b .grid) ri 0) (b .grid .«n_omega»)) 11 0))
 
 -- the level drops after a slice
 unfoldable pub dropsBy : Tally → Float → ℕ → Bool

@@ -2,20 +2,11 @@
 ghost use mathlib.Core.Path.{_≡_};
 ghost use Rattle.builder.specs.Calls.{BuiltOut, SettleOut, freshBuilder, freshOut, setOut, settleOut};
 use grid::Grid;
+use questions::Builder;
 use rows::SlabResolution;
 
 mod copies;
-mod room;
 mod slices;
-
-pub use room::meshed_refusal;
-
-// The settings, the top level and the current one.
-pub struct Builder {
-    pub grid: Grid,
-    pub top: u64,
-    pub level: u64,
-}
 
 // What fresh and set answer.
 pub enum Built {
@@ -58,7 +49,7 @@ pub fn fresh(
         (record { store = now (store .entry); rows = record { kinds = now (kinds .entry); levels = now (levels .entry); values = now (values .entry) } })) ⌝ }
 {
     let b = fresh_builder(g, top);
-    let no = room::meshed_refusal(
+    let no = questions::meshed_refusal(
         b,
         store.len() as u64,
         kinds.len() as u64,
@@ -96,7 +87,7 @@ pub fn set(
         (record { answer = r; lists = record { store = now (store .exit); rows = record { kinds = now (kinds .exit); levels = now (levels .exit); values = now (values .exit) } } })
         (setOut b (record { store = now (store .entry); rows = record { kinds = now (kinds .entry); levels = now (levels .entry); values = now (values .entry) } }) ri oi (now (energies .entry))) ⌝ }
 {
-    let no = room::set_refusal(
+    let no = questions::set_refusal(
         b,
         store.len() as u64,
         kinds.len() as u64,
@@ -142,23 +133,20 @@ pub fn settle(
         (settleOut b (record { vertices = now (vertices .entry); counts = now (counts .entry); neighbours = now (neighbours .entry); angles = now (angles .entry) })
         (record { store = now (store .entry); rows = record { kinds = now (kinds .entry); levels = now (levels .entry); values = now (values .entry) } }) ri) ⌝ }
 {
-    let no = room::meshed_refusal(
+    let no = questions::settle_refusal(
         b,
-        store.len() as u64,
-        kinds.len() as u64,
-        levels.len() as u64,
-        values.len() as u64,
+        store,
+        kinds,
+        levels,
+        values,
         vertices,
         counts,
         neighbours,
         angles,
+        ri,
     );
     if no != 0 {
         return Settled::Refused(no);
-    }
-    let asked = room::settle_question(b, kinds, levels, values, ri);
-    if asked != 0 {
-        return Settled::Refused(asked);
     }
     let t = slices::settle_slice(
         b,

@@ -7,7 +7,7 @@ ghost use Rattle.mesh.specs.Levels.{vertexCount};
 ghost use Rattle.rows.specs.Rows.{resolutionAt, rowWith};
 ghost use Rattle.settling.specs.Steps.{Below};
 ghost use Rattle.builder.specs.Steps.{Ready, ReadyIn, partLinks, settledSlab, settledRows, dropsBy, droppedBy};
-use crate::Builder;
+use questions::Builder;
 use settling::Tally;
 
 // Settles slab s, whose energies are at place `at` of the store.

@@ -12,9 +12,10 @@ use Rattle.grid.specs.declared.Grid.{Grid}
 use Rattle.rows.specs.Rows.{Row, scalar, mesh}
 use Rattle.settling.specs.Gradient.{zero}
 use Rattle.settling.specs.Settling.{verdicts, settledSlice, fromLevel}
-use Rattle.builder.specs.Lists.{Lists, slabs, slab}
-use Rattle.builder.specs.Calls.{builderAfter, settledBuilder, setQuestion, setOut, settleOut}
-use Rattle.builder.specs.declared.Builder.{Builder}
+use Rattle.questions.specs.Lists.{Lists, slabs, slab}
+use Rattle.builder.specs.Calls.{builderAfter, settledBuilder, setOut, settleOut}
+use Rattle.questions.specs.Refusals.{setQuestion}
+use Rattle.questions.specs.declared.Builder.{Builder}
 use Rattle.table.specs.Write.{writeOut}
 
 -- "lists of set, settle and write calls": set's bins and energies, settle's distance bin, write's output

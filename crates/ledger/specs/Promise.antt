@@ -12,7 +12,7 @@ use Rattle.grid.specs.declared.Grid.{Grid}
 use Rattle.rows.specs.Rows.{Row, repulsive, compared}
 use Rattle.search.specs.Search.{Locator}
 use Rattle.locator.specs.Several.{locators, Roomy}
-use Rattle.builder.specs.Lists.{Lists, slabs}
+use Rattle.questions.specs.Lists.{Lists, slabs}
 use Rattle.builder.specs.Calls.{BuiltOut, builtNumber, builderAfter, freshBuilder, freshOut}
 use Rattle.table.specs.Write.{WriteOut, writtenNumber, writtenLength, writeOut}
 use Rattle.table.specs.Read.{readNumber, readTable, readOut}

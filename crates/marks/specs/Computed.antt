@@ -25,8 +25,9 @@ use Rattle.grid.specs.declared.Grid.{Grid}
 use Rattle.rows.specs.Rows.{resolutionOf, resolutionAt, replaced, known, rowRoom}
 use Rattle.settling.specs.Gradient.{weight, repulsive, allRepulsive, steeper, alongNeighbours, gradientOf, gradient, sumFrom, meanNarrowed}
 use Rattle.settling.specs.Settling.{byGradient, verdict, verdicts, settledRows, largestFrom, someSettle, drops, settledSlice}
-use Rattle.builder.specs.Lists.{Lists, rowAt, rowsFrom, settledLists, listRoom, rowsKnown}
-use Rattle.builder.specs.Calls.{meshedRefusal, freshBuilder, filled, freshOut, setQuestion, setRefusal, setLists, setOut, settleRefusal, settleAccepted, settleOut}
+use Rattle.questions.specs.Lists.{Lists, rowAt, rowsFrom, listRoom, rowsKnown}
+use Rattle.builder.specs.Calls.{settledLists, freshBuilder, filled, freshOut, setLists, setOut, settleAccepted, settleOut}
+use Rattle.questions.specs.Refusals.{meshedRefusal, setQuestion, setRefusal, settleRefusal}
 use Rattle.table.specs.Bytes.{bytesOf, numberOf, numberAt, packed, section, items}
 use Rattle.table.specs.File.{entryBytes, entryOf, entries, energiesOf, fileOf}
 use Rattle.table.specs.Write.{fileFrom, writeRefusal, writeOut}

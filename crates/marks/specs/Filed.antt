@@ -4,7 +4,7 @@ use mathlib.Core.List.{List, [], _∷_, _++_}
 use Prim.Native.Nat.{ℕ}
 use lib.ListN.{replicate, set, take, drop}
 use lib.Ieee.{Float}
-use Rattle.builder.specs.Lists.{Lists}
+use Rattle.questions.specs.Lists.{Lists}
 use Rattle.table.specs.Write.{writtenLength, writeOut}
 use Rattle.table.specs.Read.{readNumber, readTable, readOut}
 use Rattle.ledger.specs.Ledger.{set-call, settle-call, write-call}

@@ -6,9 +6,9 @@ use lib.ListN.{replicate, set}
 use lib.Ieee.{Float, nan}
 use Rattle.mesh.specs.Mesh.{Mesh}
 use Rattle.grid.specs.Settings.{counted}
-use Rattle.builder.specs.Lists.{Lists}
+use Rattle.questions.specs.Lists.{Lists}
 use Rattle.builder.specs.Calls.{builtNumber, settledNumber, freshOut, setOut, settleOut}
-use Rattle.builder.specs.declared.Builder.{Builder}
+use Rattle.questions.specs.declared.Builder.{Builder}
 use Rattle.table.specs.Write.{writtenNumber, writeOut}
 use Rattle.ledger.specs.Ledger.{Call, set-call, settle-call, State, run}
 use Rattle.ledger.specs.Promise.{History, ended}

@@ -11,10 +11,10 @@ use Rattle.mesh.specs.Questions.{ask, first}
 use Rattle.mesh.specs.Lists.{put}
 use Rattle.mesh.specs.Levels.{per}
 use Rattle.mesh.specs.Mesh.{Mesh}
-use Rattle.builder.specs.Lists.{Lists, slabs, rowsKnown}
-use Rattle.builder.specs.Calls.{meshedRefusal}
-use Rattle.builder.specs.declared.Builder.{Builder}
-use Rattle.builder.proofs.Laws.{ask-yes, first-yes, meshed}
+use Rattle.questions.specs.Lists.{Lists, slabs, rowsKnown}
+use Rattle.questions.specs.Refusals.{meshedRefusal}
+use Rattle.questions.specs.declared.Builder.{Builder}
+use Rattle.questions.proofs.Laws.{ask-yes, first-yes, meshed}
 use Rattle.table.specs.Write.{fileFrom, writeRefusal, writeOut}
 use Rattle.table.specs.Steps.{resolutions, total, Bounded, Ready, writeQuestion}
 use Rattle.table.specs.declared.Written.the-variants.{Accepted as Writes, Refused as NotWritten}

@@ -19,8 +19,8 @@ use Rattle.grid.specs.declared.Grid.{Grid}
 use Rattle.rows.specs.declared.SlabResolution.{SlabResolution}
 use Rattle.rows.specs.declared.SlabResolution.the-variants.{Scalar, Mesh, Repulsive}
 use Rattle.rows.specs.Rows.{Rows, resolutionOf, resolutionAt, known, rowWith, compared, narrowBits}
-use Rattle.builder.specs.Lists.{Lists, slabs, rowAt, rowsFrom, rowsKnown}
-use Rattle.builder.specs.declared.Builder.{Builder}
+use Rattle.questions.specs.Lists.{Lists, slabs, rowAt, rowsFrom, rowsKnown}
+use Rattle.questions.specs.declared.Builder.{Builder}
 use Rattle.table.specs.Bytes.{bytesOf, section}
 use Rattle.table.specs.File.{entryBytes, entry, energyCount, energiesIn, entries, energiesOf, fileOf}
 use Rattle.table.specs.Write.{fileFrom}

@@ -14,9 +14,9 @@ use Rattle.grid.specs.declared.Grid.{Grid}
 use Rattle.rows.specs.declared.SlabResolution.{SlabResolution}
 use Rattle.rows.specs.declared.SlabResolution.the-variants.{Scalar, Mesh as OnMesh, Repulsive}
 use Rattle.rows.specs.Rows.{Rows, kindOf, levelOf, valueOf, resolutionAt, narrowBits}
-use Rattle.builder.specs.Lists.{Lists, slabs, rowsKnown}
-use Rattle.builder.specs.Calls.{meshedRefusal}
-use Rattle.builder.specs.declared.Builder.{Builder}
+use Rattle.questions.specs.Lists.{Lists, slabs, rowsKnown}
+use Rattle.questions.specs.Refusals.{meshedRefusal}
+use Rattle.questions.specs.declared.Builder.{Builder}
 use Rattle.table.specs.Bytes.{bytesOf, section}
 use Rattle.table.specs.File.{Entry}
 use Rattle.table.specs.Read.{countAt, rowItems, energyItems, tableHeld, entryHeld, tiled}

@@ -8,9 +8,9 @@ use Rattle.mesh.specs.Questions.{ask, first}
 use Rattle.mesh.specs.Lists.{put}
 use Rattle.mesh.specs.Mesh.{Mesh}
 use Rattle.rows.specs.Rows.{compared}
-use Rattle.builder.specs.declared.Builder.{Builder}
-use Rattle.builder.specs.Lists.{Lists, slabs, rowsFrom, rowsKnown}
-use Rattle.builder.specs.Calls.{meshedRefusal}
+use Rattle.questions.specs.declared.Builder.{Builder}
+use Rattle.questions.specs.Lists.{Lists, slabs, rowsFrom, rowsKnown}
+use Rattle.questions.specs.Refusals.{meshedRefusal}
 use Rattle.table.specs.File.{fileOf}
 use Rattle.table.specs.declared.Written.{Written}
 use Rattle.table.specs.declared.Written.the-variants.{Accepted as Writes, Refused as NotWritten}

@@ -9,8 +9,8 @@ ghost use Rattle.mesh.specs.Questions.{ask, first};
 ghost use Rattle.mesh.specs.Lists.{put};
 ghost use Rattle.mesh.specs.Levels.{verticesBelow};
 ghost use Rattle.mesh.specs.Mesh.{meshHeld, meshesKeep};
-ghost use Rattle.builder.specs.Lists.{slabs, listRoom, rowsKnown};
-ghost use Rattle.builder.specs.Calls.{builderQuestion};
+ghost use Rattle.questions.specs.Lists.{slabs, listRoom, rowsKnown};
+ghost use Rattle.questions.specs.Refusals.{builderQuestion};
 ghost use Rattle.table.specs.Write.{WriteOut, fileFrom, writeOut};
 ghost use Rattle.table.specs.Steps.{headBytes, Ready};
 use crate::Written;
@@ -20,8 +20,8 @@ use crate::sections::put_grid;
 use crate::sections::put_levels;
 use crate::sections::put_rows;
 use crate::sections::put_tail;
-use builder::Builder;
 use grid::Grid;
+use questions::Builder;
 
 // The kind and level part of question 15, of every row.
 fn rows_known(top: u64, kinds: &[u8], levels: &[u8], n: u64) -> bool
@@ -57,7 +57,7 @@ fn write_question(
     let n_r = b.grid.n_r;
     let n_omega = b.grid.n_omega;
     let top = b.top;
-    let no = builder::meshed_refusal(
+    let no = questions::meshed_refusal(
         b,
         store,
         kinds.len() as u64,

@@ -3,8 +3,9 @@ use mathlib.Core.Path.{sym, _∙_}
 use native.Mathlib.Omega.{arith}
 use lib.ListN.{length}
 use borrow.Author.Tests.{eq-eqb, ne-eqb}
-use Rattle.builder.specs.Calls.{setOut, setRefusal, setLists}
-use Rattle.builder.proofs.Laws.{Set, accepted}
+use Rattle.builder.specs.Calls.{setOut, setLists}
+use Rattle.questions.specs.Refusals.{setRefusal}
+use Rattle.questions.proofs.Laws.{Set, accepted}
 use borrow.Author.Needs.{needs}
 use Rattle.builder.proofs.set.Statement.{statement}
 use Rattle.builder.proofs.set.Tie as tie

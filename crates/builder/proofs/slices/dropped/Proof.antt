@@ -2,7 +2,7 @@
 use mathlib.Core.Path.{sym, _∙_}
 use native.Mathlib.Omega.{arith}
 use Rattle.builder.specs.Steps.{droppedBy}
-use Rattle.builder.proofs.Laws.{drops-above}
+use Rattle.builder.proofs.Changes.{drops-above}
 use borrow.Author.Needs.{needs}
 use Rattle.builder.proofs.slices.dropped.Statement.{statement}
 use Rattle.builder.proofs.slices.dropped.Tie as tie

@@ -11,7 +11,7 @@ use Rattle.mesh.specs.Levels.{vertexCount, per}
 use Rattle.mesh.proofs.Sizes.{per-mono, place}
 use Rattle.rows.specs.Rows.{Rows, Row}
 use Rattle.settling.specs.Settling.{verdictOf, fromLevel}
-use Rattle.builder.specs.Lists.{Lists, slabs, rowAt}
+use Rattle.questions.specs.Lists.{Lists, slabs, rowAt}
 use Rattle.builder.specs.Steps.{start}
 use Rattle.settling.specs.declared.Verdict.{Verdict}
 use Rattle.builder.proofs.Turns.{After, begin, again, end, row-passes, read-row}

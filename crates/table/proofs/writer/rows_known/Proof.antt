@@ -10,7 +10,7 @@ use borrow.Author.Needs.{needs}
 use Rattle.mesh.specs.Lists.{allUpTo}
 use Rattle.mesh.proofs.Counting.{all-turn, all-fails, yes, no}
 use Rattle.rows.specs.Rows.{known}
-use Rattle.builder.specs.Lists.{rowsKnown}
+use Rattle.questions.specs.Lists.{rowsKnown}
 use Rattle.table.proofs.writer.rows_known.Statement.{statement}
 use Rattle.table.proofs.writer.rows_known.Tie as tie
 

@@ -6,8 +6,8 @@ use lib.ListN.{length}
 use borrow.Author.Tests.{lt-leb, le-leb}
 use borrow.Author.Needs.{needs}
 use Rattle.mesh.specs.Mesh.{Mesh}
-use Rattle.builder.specs.Calls.{meshedRefusal}
-use Rattle.builder.specs.Lists.{Lists, rowsKnown}
+use Rattle.questions.specs.Refusals.{meshedRefusal}
+use Rattle.questions.specs.Lists.{Lists, rowsKnown}
 use Rattle.table.specs.Write.{fileFrom}
 use Rattle.table.specs.Steps.{writeQuestion}
 use Rattle.table.proofs.Whole.{file-length}

@@ -5,8 +5,8 @@ use native.Mathlib.Omega.{arith}
 use borrow.Author.Needs.{needs}
 use Rattle.mesh.specs.Questions.{ask}
 use Rattle.mesh.proofs.Counting.{yes, no}
-use Rattle.builder.specs.Calls.{builderQuestion}
-use Rattle.builder.proofs.Laws.{asked, first-yes}
+use Rattle.questions.specs.Refusals.{builderQuestion}
+use Rattle.questions.proofs.Laws.{asked, first-yes}
 use Rattle.table.proofs.Outcome.{first-no, first-zero}
 use Rattle.table.proofs.writer.write_question.Statement.{statement}
 use Rattle.table.proofs.writer.write_question.Tie as tie

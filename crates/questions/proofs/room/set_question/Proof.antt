@@ -2,10 +2,10 @@
 use borrow.Author.Tests.{eq-eqb, ne-eqb}
 use Rattle.mesh.specs.Questions.{ask}
 use Rattle.grid.proofs.Laws.{yes, no}
-use Rattle.builder.specs.Calls.{setQuestion}
+use Rattle.questions.specs.Refusals.{setQuestion}
 use borrow.Author.Needs.{needs}
-use Rattle.builder.proofs.room.set_question.Statement.{statement}
-use Rattle.builder.proofs.room.set_question.Tie as tie
+use Rattle.questions.proofs.room.set_question.Statement.{statement}
+use Rattle.questions.proofs.room.set_question.Tie as tie
 
 bins-held-requires : tie.Need-bins-held-requires
 bins-held-requires c κs = search needs

@@ -4,10 +4,10 @@ use native.Mathlib.Omega.{arith}
 use borrow.Author.Tests.{eq-eqb, ne-eqb}
 use Rattle.mesh.specs.Questions.{ask, first}
 use Rattle.grid.proofs.Laws.{yes, no}
-use Rattle.builder.proofs.Laws.{Asked, asked, second-yes, second-no}
+use Rattle.questions.proofs.Laws.{Asked, asked, second-yes, second-no}
 use borrow.Author.Needs.{needs}
-use Rattle.builder.proofs.room.meshed_refusal.Statement.{statement}
-use Rattle.builder.proofs.room.meshed_refusal.Tie as tie
+use Rattle.questions.proofs.room.meshed_refusal.Statement.{statement}
+use Rattle.questions.proofs.room.meshed_refusal.Tie as tie
 
 -- 1 to 5 were answered yes
 held : (c : tie.Else1) → let a = c .before .before .before .before .before .before .before .args in Asked (a .b .grid) (a .b .top) (a .b .level)

@@ -10,9 +10,7 @@ use Rattle.mesh.specs.Levels.{per, verticesBelow}
 use Rattle.mesh.specs.Mesh.{Mesh, meshHeld}
 use Rattle.grid.specs.declared.Grid.{Grid}
 use Rattle.rows.specs.Rows.{Rows, resolutionAt, rowKnown, rowRoom, Row, rowWith}
-use Rattle.settling.specs.Settling.{newRow, replacedBy}
-use Rattle.settling.specs.declared.Verdict.{Verdict}
-use Rattle.builder.specs.declared.Builder.{Builder}
+use Rattle.questions.specs.declared.Builder.{Builder}
 
 -- the store and the rows
 pub record Lists : Type 0 where
@@ -42,11 +40,6 @@ rowsFrom top l s (suc n) = rowAt top l s ∷ rowsFrom top l (suc s) n
 -- the rows of a slice
 abbrev pub sliceAt : Builder → Lists → ℕ → List (Row Float)
 sliceAt b l ri = rowsFrom (b .top) l (slab (b .grid) ri 0) (b .grid .«n_omega»)
-
--- settled rows take the places of those from slab s on
-unfoldable pub settledLists : ℕ → Rows → ℕ → List Verdict → Rows
-settledLists c r s [] = r
-settledLists c r s (v ∷ vs) = settledLists c (replacedBy r s (newRow c v)) (suc s) vs
 
 -- 6, of store and rows
 unfoldable pub listRoom : Grid → ℕ → ℕ → ℕ → ℕ → ℕ → Bool

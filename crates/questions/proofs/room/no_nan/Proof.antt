@@ -9,8 +9,8 @@ use borrow.Author.Needs.{needs}
 use Rattle.mesh.specs.Lists.{every}
 use Rattle.grid.proofs.Laws.{yes, no}
 use Rattle.mesh.proofs.Loops.{every-fails, every-next, every-end}
-use Rattle.builder.proofs.room.no_nan.Statement.{statement}
-use Rattle.builder.proofs.room.no_nan.Tie as tie
+use Rattle.questions.proofs.room.no_nan.Statement.{statement}
+use Rattle.questions.proofs.room.no_nan.Tie as tie
 
 abbrev Inv-loop : tie.InvT-loop
 Inv-loop e i₀ i = every (λ x. not (isNan x)) (drop i e) ≡ every (λ x. not (isNan x)) e

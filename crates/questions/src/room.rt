@@ -11,15 +11,15 @@ ghost use Rattle.mesh.specs.Levels.{verticesBelow};
 ghost use Rattle.mesh.specs.Mesh.{meshHeld, meshesKeep};
 ghost use Rattle.rows.specs.Rows.{rowWith};
 ghost use Rattle.settling.specs.Settling.{fromLevel};
-ghost use Rattle.builder.specs.Lists.{listRoom, rowsKnown};
-ghost use Rattle.builder.specs.Steps.{rowsFromLevel, settleQuestion};
-ghost use Rattle.builder.specs.Calls.{builderQuestion, setQuestion};
+ghost use Rattle.questions.specs.Lists.{listRoom, rowsKnown};
+ghost use Rattle.questions.specs.Steps.{rowsFromLevel, settleQuestion};
+ghost use Rattle.questions.specs.Refusals.{builderQuestion, setQuestion, settleRefusal};
 use crate::Builder;
 use grid::Grid;
 use rows::SlabResolution;
 
 // Question 6 of store and rows, once 1 to 5 are answered yes.
-pub(crate) fn list_room(g: Grid, top: u64, store: u64, kinds: u64, levels: u64, values: u64) -> bool
+fn list_room(g: Grid, top: u64, store: u64, kinds: u64, levels: u64, values: u64) -> bool
     requires { ⌜ (g .«n_r» ≤ 65535) × (g .«n_omega» ≤ 65535) × (top ≤ 15) ⌝ }
     ensures { λ r. ⌜ r ≡ listRoom g top store kinds levels values ⌝ }
 {
@@ -74,7 +74,8 @@ fn set_question(g: Grid, level: u64, ri: u64, oi: u64, energies: &[f64]) -> u64
     0
 }
 
-pub(crate) fn set_refusal(
+// Questions 1 to 6 and 8 to 10, of set.
+pub fn set_refusal(
     b: Builder,
     store: u64,
     kinds: u64,
@@ -182,13 +183,7 @@ fn rows_from_level(level: u64, kinds: &[u8], levels: &[u8], values: &[u32], s: u
 }
 
 // Questions 8, 15 and 11 of settle.
-pub(crate) fn settle_question(
-    b: Builder,
-    kinds: &[u8],
-    levels: &[u8],
-    values: &[u32],
-    ri: u64,
-) -> u64
+fn settle_question(b: Builder, kinds: &[u8], levels: &[u8], values: &[u32], ri: u64) -> u64
     requires { ⌜ (b .grid .«n_r» ≤ 65535) × (b .grid .«n_omega» ≤ 65535) ⌝ }
     ensures { λ r. ⌜ r ≡ settleQuestion b (record { kinds = now (kinds .entry); levels = now (levels .entry); values = now (values .entry) }) ri ⌝ }
 {
@@ -207,4 +202,37 @@ pub(crate) fn settle_question(
         return 11;
     }
     0
+}
+
+// Questions 1 to 8, 15 and 11, of settle.
+pub fn settle_refusal(
+    b: Builder,
+    store: &[f64],
+    kinds: &[u8],
+    levels: &[u8],
+    values: &[u32],
+    vertices: &[f64],
+    counts: &[u8],
+    neighbours: &[u16],
+    angles: &[f64],
+    ri: u64,
+) -> u64
+    ensures { λ r. ⌜ r ≡ settleRefusal b (record { vertices = now (vertices .entry); counts = now (counts .entry); neighbours = now (neighbours .entry); angles = now (angles .entry) })
+        (record { store = now (store .entry); rows = record { kinds = now (kinds .entry); levels = now (levels .entry); values = now (values .entry) } }) ri ⌝ }
+{
+    let no = meshed_refusal(
+        b,
+        store.len() as u64,
+        kinds.len() as u64,
+        levels.len() as u64,
+        values.len() as u64,
+        vertices,
+        counts,
+        neighbours,
+        angles,
+    );
+    if no != 0 {
+        return no;
+    }
+    settle_question(b, kinds, levels, values, ri)
 }

@@ -8,9 +8,9 @@ use Rattle.mesh.specs.Lists.{allUpTo}
 use Rattle.mesh.proofs.Counting.{all-turn, all-fails, yes, no}
 use lib.ListN.{getD}
 use Rattle.rows.specs.Rows.{known}
-use Rattle.builder.specs.Lists.{rowsKnown}
-use Rattle.builder.proofs.room.rows_known.Statement.{statement}
-use Rattle.builder.proofs.room.rows_known.Tie as tie
+use Rattle.questions.specs.Lists.{rowsKnown}
+use Rattle.questions.proofs.room.rows_known.Statement.{statement}
+use Rattle.questions.proofs.room.rows_known.Tie as tie
 
 abbrev Inv-loop : tie.InvT-loop
 Inv-loop top kinds levels s n i₀ i = (i ≤ n) × (allUpTo i (λ j. known top (getD kinds (s + j) 0) (getD levels (s + j) 0)) ≡ true)

@@ -3,10 +3,10 @@ use native.Mathlib.Nat.{mul-le-mul}
 use native.Mathlib.Omega.{arith}
 use Rattle.rows.specs.Rows.{rowRoom}
 use Rattle.grid.proofs.Laws.{energies-le}
-use Rattle.builder.specs.Lists.{listRoom}
+use Rattle.questions.specs.Lists.{listRoom}
 use borrow.Author.Needs.{needs}
-use Rattle.builder.proofs.room.list_room.Statement.{statement}
-use Rattle.builder.proofs.room.list_room.Tie as tie
+use Rattle.questions.proofs.room.list_room.Statement.{statement}
+use Rattle.questions.proofs.room.list_room.Tie as tie
 
 mul-n : tie.Need-mul-n
 mul-n c = omega (arith, mul-le-mul (c .pre .0) (c .pre .1))

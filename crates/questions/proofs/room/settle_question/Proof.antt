@@ -6,10 +6,10 @@ use native.Mathlib.Omega.{arith}
 use borrow.Author.Tests.{lt-ltb, le-ltb}
 use Rattle.mesh.specs.Questions.{ask}
 use Rattle.mesh.proofs.Counting.{yes, no}
-use Rattle.builder.specs.Lists.{rowsKnown}
-use Rattle.builder.specs.Steps.{settleQuestion}
-use Rattle.builder.proofs.room.settle_question.Statement.{statement}
-use Rattle.builder.proofs.room.settle_question.Tie as tie
+use Rattle.questions.specs.Lists.{rowsKnown}
+use Rattle.questions.specs.Steps.{settleQuestion}
+use Rattle.questions.proofs.room.settle_question.Statement.{statement}
+use Rattle.questions.proofs.room.settle_question.Tie as tie
 
 -- where the slice begins
 small : (c : tie.Else1) → c .before .before .before .before .args .ri * c .before .before .before .before .args .b .grid .«n_omega» ≤ 65535 * 65535

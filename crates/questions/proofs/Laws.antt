@@ -5,7 +5,7 @@ use mathlib.Core.List.{List}
 use Prim.Native.Nat.{ℕ, suc, _+_, _*_, _≤_, _<_}
 use native.Mathlib.Omega.{arith}
 use lib.Dec.{leb, ltb, eqb, lit<}
-use lib.Ieee.{Float, lt}
+use lib.Ieee.{Float}
 use lib.ListN.{length}
 use borrow.Author.Tests.{leb-true, ltb-true, eqb-true, eqb-false}
 use Rattle.ieee.proofs.Fields.{both-true}
@@ -17,11 +17,9 @@ use Rattle.grid.specs.Settings.{question, levelsHeld, slabsHeld}
 use Rattle.grid.specs.declared.Grid.{Grid}
 use Rattle.grid.proofs.Laws.{yes, no, counts-le}
 use Rattle.rows.specs.Rows.{rowRoom}
-use Rattle.builder.specs.Lists.{slabs, slab, storePlace, listRoom}
-use Rattle.builder.specs.Calls.{builderQuestion, setQuestion}
-use Rattle.builder.specs.Steps.{dropsBy}
-use Rattle.builder.specs.declared.Builder.{Builder}
-use Rattle.settling.specs.declared.Tally.{Tally}
+use Rattle.questions.specs.Lists.{slabs, slab, storePlace, listRoom}
+use Rattle.questions.specs.Refusals.{builderQuestion, setQuestion}
+use Rattle.questions.specs.declared.Builder.{Builder}
 
 ask-by : (q : Bool) (n r : ℕ) → 0 < n → cond q r n ≡ 0 → (q ≡ true) × (r ≡ 0)
 ask-by true n r p e = (refl, e)
@@ -138,11 +136,3 @@ meshed b m store kinds levels values p =
     let q7 = ask-yes (lit< tt) (q6 .1) in
     let r = both-true (listRoom (b .grid) (b .top) store kinds levels values) (meshHeld (verticesBelow (suc (b .top))) m) (q6 .0) in
     record { asked = asked (b .grid) (b .top) (b .level) (f .0); room = roomy (b .grid) (b .top) store kinds levels values (r .0); held = r .1; kept = q7 .0 }
-
--- the level drops only where it is above 0
-pub drops-above : (t : Tally) (threshold : Float) (level : ℕ) → dropsBy t threshold level ≡ true → 0 < level
-unfolding dropsBy
-drops-above t threshold level e =
-    let a = both-true (t .settled) (t .clear && (lt (t .gradient) threshold && ltb 0 level)) e .1 in
-    let b = both-true (t .clear) (lt (t .gradient) threshold && ltb 0 level) a .1 in
-    ltb-true 0 level (both-true (lt (t .gradient) threshold) (ltb 0 level) b .1)

@@ -9,9 +9,9 @@ use Rattle.mesh.proofs.Counting.{all-turn, all-fails, yes, no}
 use mathlib.Core.List.{[]}
 use Rattle.rows.specs.Rows.{resolutionAt, rowWith}
 use Rattle.settling.specs.Settling.{fromLevel}
-use Rattle.builder.specs.Steps.{rowsFromLevel}
-use Rattle.builder.proofs.room.rows_from_level.Statement.{statement}
-use Rattle.builder.proofs.room.rows_from_level.Tie as tie
+use Rattle.questions.specs.Steps.{rowsFromLevel}
+use Rattle.questions.proofs.room.rows_from_level.Statement.{statement}
+use Rattle.questions.proofs.room.rows_from_level.Tie as tie
 
 abbrev Inv-loop : tie.InvT-loop
 Inv-loop level kinds levels values s n i₀ i = (i ≤ n) × (allUpTo i (λ j. fromLevel level (rowWith (resolutionAt (record { kinds = kinds; levels = levels; values = values }) (s + j)) [])) ≡ true)

@@ -1,7 +1,7 @@
 -- `from_level` meets its contract. Assumes nothing.
 use borrow.Author.Needs.{needs}
-use Rattle.builder.proofs.room.from_level.Statement.{statement}
-use Rattle.builder.proofs.room.from_level.Tie as tie
+use Rattle.questions.proofs.room.from_level.Statement.{statement}
+use Rattle.questions.proofs.room.from_level.Tie as tie
 
 enum-told : tie.Need-enum-told
 enum-told c = search needs

@@ -1,7 +1,7 @@
 -- `is_number` meets its contract. Assumes nothing.
 use Rattle.bits.proofs.Laws.{unlike-itself}
-use Rattle.builder.proofs.room.is_number.Statement.{statement}
-use Rattle.builder.proofs.room.is_number.Tie as tie
+use Rattle.questions.proofs.room.is_number.Statement.{statement}
+use Rattle.questions.proofs.room.is_number.Tie as tie
 
 returns : tie.Need-returns
 returns c = rw (unlike-itself (c .args .x))
