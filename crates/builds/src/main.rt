@@ -4,7 +4,7 @@ use builder::Settled;
 use grid::Grid;
 use libc::STDOUT_FILENO;
 use questions::Builder;
-use table::Written;
+use writer::Written;
 
 mod icospheres;
 
@@ -87,7 +87,7 @@ fn written(
     values: &[u32],
     output: &mut [u8],
 ) -> u64 {
-    match table::write(
+    match writer::write(
         b,
         store,
         kinds,

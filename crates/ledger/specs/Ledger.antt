@@ -16,7 +16,7 @@ use Rattle.questions.specs.Lists.{Lists, slabs, slab}
 use Rattle.builder.specs.Calls.{builderAfter, settledBuilder, setOut, settleOut}
 use Rattle.questions.specs.Refusals.{setQuestion}
 use Rattle.questions.specs.declared.Builder.{Builder}
-use Rattle.table.specs.Write.{writeOut}
+use Rattle.writer.specs.Write.{writeOut}
 
 -- "lists of set, settle and write calls": set's bins and energies, settle's distance bin, write's output
 pub data Call : Type 0 where

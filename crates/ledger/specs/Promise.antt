@@ -14,7 +14,7 @@ use Rattle.search.specs.Search.{Locator}
 use Rattle.locator.specs.Several.{locators, Roomy}
 use Rattle.questions.specs.Lists.{Lists, slabs}
 use Rattle.builder.specs.Calls.{BuiltOut, builtNumber, builderAfter, freshBuilder, freshOut}
-use Rattle.table.specs.Write.{WriteOut, writtenNumber, writtenLength, writeOut}
+use Rattle.writer.specs.Write.{WriteOut, writtenNumber, writtenLength, writeOut}
 use Rattle.table.specs.Read.{readNumber, readTable, readOut}
 use Rattle.reading.specs.Resolve.{Query}
 use Rattle.reading.specs.Reading.{readingOut}

@@ -30,7 +30,7 @@ use Rattle.builder.specs.Calls.{settledLists, freshBuilder, filled, freshOut, s
 use Rattle.questions.specs.Refusals.{meshedRefusal, setQuestion, setRefusal, settleRefusal}
 use Rattle.table.specs.Bytes.{bytesOf, numberOf, numberAt, packed, section, items}
 use Rattle.table.specs.File.{entryBytes, entryOf, entries, energiesOf, fileOf}
-use Rattle.table.specs.Write.{fileFrom, writeRefusal, writeOut}
+use Rattle.writer.specs.Write.{fileFrom, writeRefusal, writeOut}
 use Rattle.table.specs.Read.{layout, laidOut, gridOf, tableOf, gridHeld, tableHeld, scalarHeld, entryHeld, tiled, readRefusal, readOut}
 use Rattle.reading.specs.Resolve.{queryHeld, outside, resolve, joint, nearestPick, facePick, nineTerms, combined}
 use Rattle.reading.specs.Reading.{rowInside, energyInside, entryAt, energyAt, searchIn, readEntry, readingOut}

@@ -5,7 +5,7 @@ use Prim.Native.Nat.{ℕ}
 use lib.ListN.{replicate, set, take, drop}
 use lib.Ieee.{Float}
 use Rattle.questions.specs.Lists.{Lists}
-use Rattle.table.specs.Write.{writtenLength, writeOut}
+use Rattle.writer.specs.Write.{writtenLength, writeOut}
 use Rattle.table.specs.Read.{readNumber, readTable, readOut}
 use Rattle.ledger.specs.Ledger.{set-call, settle-call, write-call}
 use Rattle.ledger.specs.Promise.{ended, lastWrite, file}

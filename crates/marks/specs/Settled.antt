@@ -9,7 +9,7 @@ use Rattle.grid.specs.Settings.{counted}
 use Rattle.questions.specs.Lists.{Lists}
 use Rattle.builder.specs.Calls.{builtNumber, settledNumber, freshOut, setOut, settleOut}
 use Rattle.questions.specs.declared.Builder.{Builder}
-use Rattle.table.specs.Write.{writtenNumber, writeOut}
+use Rattle.writer.specs.Write.{writtenNumber, writeOut}
 use Rattle.ledger.specs.Ledger.{Call, set-call, settle-call, State, run}
 use Rattle.ledger.specs.Promise.{History, ended}
 use Rattle.marks.specs.Icospheres.{twoLevels}

@@ -13,7 +13,7 @@ use Rattle.float.specs.Exp.{exponential}
 use Rattle.mesh.specs.Mesh.{meshesKeep}
 use Rattle.search.specs.Geometry.{cubeProject}
 use Rattle.builder.specs.Calls.{builtNumber}
-use Rattle.table.specs.declared.Written.the-variants.{Accepted as Writes}
+use Rattle.writer.specs.declared.Written.the-variants.{Accepted as Writes}
 use Rattle.ledger.specs.Promise.{fresh, lastWrite, file}
 use Rattle.marks.specs.Icospheres.{icosahedron}
 use Rattle.marks.specs.Computed.{f64, history, computed}

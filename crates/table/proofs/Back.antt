@@ -10,7 +10,7 @@ use lib.Dec.{lit<}
 use Rattle.table.specs.Bytes.{bytesOf, numberOf, numberAt, packed, section, items}
 use Rattle.table.specs.File.{Entry, entryBytes, entryOf}
 use Rattle.table.specs.Read.{countAt}
-use Rattle.table.proofs.Puts.{bytes-length}
+use Rattle.table.proofs.Lengths.{bytes-length}
 
 pub number-back : (w x : ℕ) → x < 256 ^ w → numberOf (bytesOf w x) ≡ x
 unfolding bytesOf numberOf

@@ -2,10 +2,7 @@
 pub mod Numbers
 pub mod Items
 pub mod Accepted
-pub mod Puts
-pub mod Filed
-pub mod Whole
-pub mod Outcome
+pub mod Lengths
 pub mod Back
 pub mod Parsed
 pub mod Sound

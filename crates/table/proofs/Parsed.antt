@@ -12,8 +12,7 @@ use Rattle.grid.specs.Bins.{tableRmax}
 use Rattle.table.specs.Bytes.{bytesOf, numberOf, numberAt, section, items}
 use Rattle.table.specs.File.{Entry, entryBytes, entryOf}
 use Rattle.table.specs.Read.{countAt, layout, laidOut, gridOf}
-use Rattle.table.proofs.Puts.{bytes-length, section-length}
-use Rattle.table.proofs.Filed.{entry-length}
+use Rattle.table.proofs.Lengths.{bytes-length, section-length, entry-length}
 use Rattle.table.proofs.Back.{All, Fitting, number-back, entry-back, count-is, items-are, item-at}
 
 -- a file of five sections, with three and two numbers in the first ones

@@ -1,5 +1,4 @@
 pub mod Bytes
 pub mod File
-pub mod Write
 pub mod Read
 pub mod Steps

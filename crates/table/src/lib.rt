@@ -1,22 +1,13 @@
-// The table file.
+// The table file, and read.
 use grid::Grid;
 
 mod bytes;
 mod questions;
 mod reader;
-mod sections;
 mod walk;
-mod writer;
 
 pub use bytes::u32_at;
 pub use reader::read;
-pub use writer::write;
-
-// What write answers: the length of the file.
-pub enum Written {
-    Accepted(u64),
-    Refused(u64),
-}
 
 // Where each section after the first begins, with its count, and where the last one ends.
 pub struct Layout {

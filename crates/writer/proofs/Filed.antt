@@ -1,0 +1,155 @@
+-- The sections of a file, row by row and energy by energy. Assumes nothing.
+use mathlib.Core.Path.{_≡_, refl, ap, _∙_}
+use mathlib.Core.List.{List, [], _∷_, _++_, map, append-nil, map-append}
+use Prim.Native.Nat.{ℕ, zero, suc, _+_, _-_, _*_, _≤_, _<_}
+use native.Mathlib.Nat.{suc-mul, mod-eq-of-lt}
+use native.Mathlib.Numerals.{add-one}
+use native.Mathlib.Omega.{arith}
+use lib.ListN.{length, getD, take, drop, length-append, length-map, length-drop}
+use lib.Seq.{drop-cons, length-take-le}
+use lib.Ieee.{Float, nan}
+use Rattle.mesh.specs.Lists.{below, put}
+use Rattle.mesh.specs.Levels.{vertexCount}
+use Rattle.rows.specs.declared.SlabResolution.{SlabResolution}
+use Rattle.rows.specs.Rows.{Rows, resolutionAt, narrowBits}
+use Rattle.table.specs.Bytes.{bytesOf, packed}
+use Rattle.table.specs.File.{Entry, entryBytes}
+use Rattle.writer.specs.Steps.{heldBy, entryFor, resolutions, entriesFor, total, energiesFor, Bounded}
+use Rattle.table.proofs.Lengths.{bytes-length, packed-length, packed-append, entry-length}
+use Rattle.writer.proofs.Puts.{puts-three}
+
+pub one-less : (n z : ℕ) → 0 < n → n * z ≡ (n - 1) * z + z
+one-less zero z h = absurd (omega arith)
+one-less (suc n) z h = let e : suc n - 1 ≡ n = omega arith in rw (e, suc-mul)
+
+-- ---- levels
+
+pub counts-turn : (m : ℕ) → packed (bytesOf 4) (map vertexCount (below (m + 1))) ≡ packed (bytesOf 4) (map vertexCount (below m)) ++ bytesOf 4 (vertexCount m)
+unfolding below packed
+counts-turn m =
+    let e : map vertexCount (below m ++ (m ∷ [])) ≡ map vertexCount (below m) ++ (vertexCount m ∷ []) = map-append vertexCount (below m) (m ∷ []) in
+    rw (add-one, e) (packed-append (bytesOf 4) (map vertexCount (below m)) (vertexCount m ∷ []) ∙ rw (append-nil (bytesOf 4 (vertexCount m))))
+
+-- ---- rows
+
+one-byte : (x : ℕ) → x < 256 → bytesOf 1 x ≡ x ∷ []
+unfolding bytesOf
+one-byte x h = rw (mod-eq-of-lt h)
+
+pub row-put : (d : List ℕ) (at : ℕ) (r : Entry) → r .kind < 256 → r .level < 256 → at + 10 ≤ length d
+    → put (put (put d at (r .kind ∷ r .level ∷ [])) (at + 2) (bytesOf 4 (r .offset))) (at + 6) (bytesOf 4 (r .scalar)) ≡ put d at (entryBytes r)
+unfolding entryBytes
+row-put d at r hk hl h =
+    puts-three d at (r .kind ∷ r .level ∷ []) (bytesOf 4 (r .offset)) (bytesOf 4 (r .scalar)) (at + 2) (at + 6) refl (omega (arith, bytes-length 4 (r .offset))) (omega arith)
+    ∙ rw (one-byte (r .kind) hk, one-byte (r .level) hl)
+
+module _ (r : Rows) where
+  res-cons : (s n : ℕ) → 0 < n → resolutions r s n ≡ resolutionAt r s ∷ resolutions r (s + 1) (n - 1)
+  unfolding resolutions
+  res-cons s zero h = absurd (omega arith)
+  res-cons s (suc n) h = let e : suc n - 1 ≡ n = omega arith in rw (e, add-one)
+
+  pub res-length : (s n : ℕ) → length (resolutions r s n) ≡ n
+  unfolding resolutions
+  res-length s zero = refl
+  res-length s (suc n) = ap suc (res-length (suc s) n)
+
+  pub total-turn : (s n : ℕ) → 0 < n → total (resolutions r s n) ≡ heldBy (resolutionAt r s) + total (resolutions r (s + 1) (n - 1))
+  unfolding total
+  total-turn s n h = rw (res-cons s n h)
+
+  pub total-end : (s n : ℕ) → n ≤ 0 → total (resolutions r s n) ≡ 0
+  unfolding total resolutions
+  total-end s n h = let e : n ≡ 0 = omega arith in rw e
+
+  pub entries-turn : (s n o : ℕ) → 0 < n
+      → packed entryBytes (entriesFor o (resolutions r s n))
+      ≡ entryBytes (entryFor o (resolutionAt r s)) ++ packed entryBytes (entriesFor (o + heldBy (resolutionAt r s)) (resolutions r (s + 1) (n - 1)))
+  unfolding entriesFor packed
+  entries-turn s n o h = rw (res-cons s n h)
+
+  pub entries-end : (s n o : ℕ) → n ≤ 0 → packed entryBytes (entriesFor o (resolutions r s n)) ≡ []
+  unfolding entriesFor packed resolutions
+  entries-end s n o h = let e : n ≡ 0 = omega arith in rw e
+
+  pub bounded-turn : (z s n : ℕ) → 0 < n → Bounded z (resolutions r s n) → (heldBy (resolutionAt r s) ≤ z) × Bounded z (resolutions r (s + 1) (n - 1))
+  unfolding Bounded
+  bounded-turn z s n h b = rw (res-cons s n h) at b
+
+  pub energies-turn : (z : ℕ) (store : List Float) (p s n : ℕ) → 0 < n
+      → packed (bytesOf 4) (energiesFor z store p (resolutions r s n))
+      ≡ packed (bytesOf 4) (map narrowBits (take (heldBy (resolutionAt r s)) (drop p store))) ++ packed (bytesOf 4) (energiesFor z store (p + z) (resolutions r (s + 1) (n - 1)))
+  unfolding energiesFor
+  energies-turn z store p s n h =
+      rw (res-cons s n h) (packed-append (bytesOf 4) (map narrowBits (take (heldBy (resolutionAt r s)) (drop p store))) (energiesFor z store (p + z) (resolutions r (s + 1) (n - 1))))
+
+  pub energies-end : (z : ℕ) (store : List Float) (p s n : ℕ) → n ≤ 0 → packed (bytesOf 4) (energiesFor z store p (resolutions r s n)) ≡ []
+  unfolding energiesFor packed resolutions
+  energies-end z store p s n h = let e : n ≡ 0 = omega arith in rw e
+
+pub entriesFor-length : (o : ℕ) (xs : List SlabResolution) → length (entriesFor o xs) ≡ length xs
+unfolding entriesFor
+entriesFor-length o [] = refl
+entriesFor-length o (x ∷ xs) = ap suc (entriesFor-length (o + heldBy x) xs)
+
+pub entries-length : (r : Rows) (o s n : ℕ) → length (packed entryBytes (entriesFor o (resolutions r s n))) ≡ n * 10
+entries-length r o s n =
+    packed-length entryBytes 10 entry-length (entriesFor o (resolutions r s n))
+    ∙ ap (λ (k : ℕ). k * 10) (entriesFor-length o (resolutions r s n) ∙ res-length r s n)
+
+-- ---- energies
+
+pub taken-length : (store : List Float) (p k : ℕ) → p + k ≤ length store → length (map narrowBits (take k (drop p store))) ≡ k
+taken-length store p k h = length-map (take k (drop p store)) narrowBits ∙ length-take-le k (drop p store) (omega (arith, length-drop p store))
+
+pub taken-bytes : (store : List Float) (p k : ℕ) → p + k ≤ length store → length (packed (bytesOf 4) (map narrowBits (take k (drop p store)))) ≡ k * 4
+taken-bytes store p k h =
+    packed-length (bytesOf 4) 4 (bytes-length 4) (map narrowBits (take k (drop p store))) ∙ ap (λ (n : ℕ). n * 4) (taken-length store p k h)
+
+pub taken-turn : (store : List Float) (p k : ℕ) → 0 < k → p < length store
+    → packed (bytesOf 4) (map narrowBits (take k (drop p store)))
+    ≡ bytesOf 4 (narrowBits (getD store p nan)) ++ packed (bytesOf 4) (map narrowBits (take (k - 1) (drop (p + 1) store)))
+unfolding packed
+taken-turn store p zero h l = absurd (omega arith)
+taken-turn store p (suc k) h l =
+    let e : suc k - 1 ≡ k = omega arith in
+    rw (e, drop-cons store p nan l, add-one)
+
+pub taken-end : (store : List Float) (p k : ℕ) → k ≤ 0 → packed (bytesOf 4) (map narrowBits (take k (drop p store))) ≡ []
+unfolding packed
+taken-end store p k h = let e : k ≡ 0 = omega arith in rw e
+
+-- as many energies as the rows hold, where they are inside the store
+pub energies-length : (z : ℕ) (store : List Float) (p : ℕ) (xs : List SlabResolution) → Bounded z xs → p + length xs * z ≤ length store → length (energiesFor z store p xs) ≡ total xs
+unfolding energiesFor total Bounded
+energies-length z store p [] b h = refl
+energies-length z store p (x ∷ xs) b h =
+    let m : p + (length xs * z + z) ≤ length store = rw suc-mul at h in
+    length-append (map narrowBits (take (heldBy x) (drop p store))) (energiesFor z store (p + z) xs)
+    ∙ omega (arith, taken-length store p (heldBy x) (omega (arith, m, b .0)), energies-length z store (p + z) xs (b .1) (omega (arith, m)))
+
+pub energies-bytes : (z : ℕ) (store : List Float) (p : ℕ) (xs : List SlabResolution) → Bounded z xs → p + length xs * z ≤ length store
+    → length (packed (bytesOf 4) (energiesFor z store p xs)) ≡ total xs * 4
+energies-bytes z store p xs b h = packed-length (bytesOf 4) 4 (bytes-length 4) (energiesFor z store p xs) ∙ ap (λ (n : ℕ). n * 4) (energies-length z store p xs b h)
+
+-- a turn of the loop over slabs: the k energies of row s fit, and so do those of the rows behind it
+pub record Slab (r : Rows) (z s n to p k room held : ℕ) : Type 0 where
+  pub fits : to + k * 4 ≤ room
+  pub inside : p + k ≤ held
+  pub rest : to + 4 * k + total (resolutions r (s + 1) (n - 1)) * 4 ≤ room
+  pub next : p + z + (n - 1) * z ≤ held
+  pub bounded : Bounded z (resolutions r (s + 1) (n - 1))
+
+pub slab-turn : (r : Rows) (z s n to p k room held : ℕ) → 0 < n → k ≡ heldBy (resolutionAt r s) → to + total (resolutions r s n) * 4 ≤ room → p + n * z ≤ held
+    → Bounded z (resolutions r s n) → Slab r z s n to p k room held
+slab-turn r z s n to p k room held h e fits inside b =
+    let t = total-turn r s n h in
+    let m = one-less n z h in
+    let d = bounded-turn r z s n h b in
+    record {
+      fits = omega (arith, t, e, fits);
+      inside = omega (arith, e, d .0, m, inside);
+      rest = omega (arith, t, e, fits);
+      next = omega (arith, m, inside);
+      bounded = d .1;
+    }

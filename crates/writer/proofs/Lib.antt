@@ -1,0 +1,5 @@
+-- Laws that belong to no one function.
+pub mod Puts
+pub mod Filed
+pub mod Whole
+pub mod Outcome

@@ -1,0 +1,123 @@
+-- `write` meets its contract. Assumes nothing.
+use mathlib.Core.Path.{_≡_, sym, _∙_}
+use native.Mathlib.Nat.{mul-le-mul}
+use native.Mathlib.Omega.{arith}
+use lib.ListN.{length}
+use borrow.Author.Tests.{lt-leb, le-leb}
+use borrow.Author.Needs.{needs}
+use Rattle.mesh.specs.Mesh.{Mesh}
+use Rattle.questions.specs.Refusals.{meshedRefusal}
+use Rattle.questions.specs.Lists.{Lists, rowsKnown}
+use Rattle.writer.specs.Write.{fileFrom}
+use Rattle.writer.specs.Steps.{writeQuestion}
+use Rattle.writer.proofs.Whole.{file-length}
+use Rattle.writer.proofs.Outcome.{Sure, sure, ready, write-refused, write-short, write-done}
+use Rattle.writer.proofs.files.write.Statement.{statement}
+use Rattle.writer.proofs.files.write.Tie as tie
+
+-- the lists and the meshes that were lent
+abbrev lists : tie.Start → Lists
+lists s = record { store = s .args .store .now; rows = record { kinds = s .args .kinds .now; levels = s .args .levels .now; values = s .args .values .now } }
+
+abbrev meshes : tie.Start → Mesh
+meshes s = record { vertices = s .args .vertices .now; counts = s .args .counts .now; neighbours = s .args .neighbours .now; angles = s .args .angles .now }
+
+-- the first questions' answer; and what it says where it is 0
+answer : (c : tie.After-write-question) → let s = c .before .before .before .before .before .before .before .before .before .before in
+    c .write-question .result ≡ writeQuestion (s .args .b) (meshes s) (lists s)
+unfolding meshedRefusal rowsKnown
+answer c = c .write-question .ensures
+
+certain : (c : tie.Else1) → let s = c .before .before .before .before .before .before .before .before .before .before .before in Sure (s .args .b) (lists s)
+certain c =
+    let s = c .before .before .before .before .before .before .before .before .before .before .before in
+    sure (s .args .b) (meshes s) (lists s) (sym (answer (c .before)) ∙ c .if1 .left)
+
+write-question-requires : tie.Need-write-question-requires
+write-question-requires c κs = search needs
+
+returns : tie.Need-returns
+returns c =
+    let s = c .before .before .before .before .before .before .before .before .before .before .before in
+    sym (write-refused (s .args .b) (meshes s) (lists s) (s .args .output .now) (c .before .write-question .result) (answer (c .before)) (c .if1 .taken))
+
+mul-n : tie.Need-mul-n
+mul-n c = let f = certain c in omega (arith, mul-le-mul (f .rs) (f .omegas))
+
+energy-total-requires : tie.Need-energy-total-requires
+energy-total-requires c κs = certain c .few
+
+mul-size : tie.Need-mul-size
+mul-size c =
+    let f = certain (c .before) in
+    omega (arith, mul-le-mul (f .rs) (f .omegas), f .top-le, f .few, c .energy-total .ensures)
+
+add-size : tie.Need-add-size
+add-size c =
+    let f = certain (c .before) in
+    omega (arith, mul-le-mul (f .rs) (f .omegas), f .top-le, f .few, c .energy-total .ensures)
+
+mul-size-2 : tie.Need-mul-size-2
+mul-size-2 c =
+    let f = certain (c .before) in
+    omega (arith, mul-le-mul (f .rs) (f .omegas), f .top-le, f .few, c .energy-total .ensures)
+
+add-size-2 : tie.Need-add-size-2
+add-size-2 c =
+    let f = certain (c .before) in
+    omega (arith, mul-le-mul (f .rs) (f .omegas), f .top-le, f .few, c .energy-total .ensures)
+
+mul-size-3 : tie.Need-mul-size-3
+mul-size-3 c =
+    let f = certain (c .before) in
+    omega (arith, mul-le-mul (f .rs) (f .omegas), f .top-le, f .few, c .energy-total .ensures)
+
+add-size-3 : tie.Need-add-size-3
+add-size-3 c =
+    let f = certain (c .before) in
+    omega (arith, mul-le-mul (f .rs) (f .omegas), f .top-le, f .few, c .energy-total .ensures)
+
+returns-2 : tie.Need-returns-2
+returns-2 c =
+    let s = c .before .before .before .before .before .before .before .before .before .before .before .before .before in
+    let zero = sym (answer (c .before .before .before)) ∙ c .before .before .if1 .left in
+    let f = certain (c .before .before) in
+    let e = c .before .energy-total .result in
+    let len = file-length (s .args .b) (lists s) e (f .store) (f .bounded) (c .before .energy-total .ensures) in
+    sym (write-short (s .args .b) (meshes s) (lists s) (s .args .output .now) zero (lt-leb (length (fileFrom (s .args .b) (lists s))) (length (s .args .output .now)) (omega (arith, len, c .if2 .taken))))
+
+put-file-requires : tie.Need-put-file-requires
+put-file-requires c κs =
+    let s = c .before .before .before .before .before .before .before .before .before .before .before .before .before .before in
+    ready (s .args .b) (lists s) (c .before .before .energy-total .result) _ (certain (c .before .before .before)) (c .before .before .energy-total .ensures) (omega (arith, c .before .if2 .left))
+
+same-length : tie.Need-same-length
+same-length c = search needs
+
+returns-3 : tie.Need-returns-3
+returns-3 c =
+    let s = c .before .before .before .before .before .before .before .before .before .before .before .before .before .before .before .before .before in
+    let zero = sym (answer (c .before .before .before .before .before .before .before)) ∙ c .before .before .before .before .before .before .if1 .left in
+    let f = certain (c .before .before .before .before .before .before) in
+    let e = c .before .before .before .before .before .energy-total .result in
+    let len = file-length (s .args .b) (lists s) e (f .store) (f .bounded) (c .before .before .before .before .before .energy-total .ensures) in
+    rw (c .before .before .put-file .ensures, write-done (s .args .b) (meshes s) (lists s) (s .args .output .now) zero (le-leb (length (fileFrom (s .args .b) (lists s))) (length (s .args .output .now)) (omega (arith, len, c .before .before .before .before .if2 .left))), len)
+
+pub write-spec : {M : Type 1} → statement M
+write-spec =
+    tie.close
+    (tie.spec
+    write-question-requires
+    returns
+    mul-n
+    energy-total-requires
+    mul-size
+    add-size
+    mul-size-2
+    add-size-2
+    mul-size-3
+    add-size-3
+    returns-2
+    put-file-requires
+    same-length
+    returns-3)

@@ -1,0 +1,39 @@
+-- `put_levels` meets its contract. Assumes nothing.
+use mathlib.Core.Path.{_≡_, _∙_}
+use mathlib.Core.List.{map}
+use native.Mathlib.Omega.{arith}
+use lib.ListN.{length, length-map}
+use borrow.Author.Needs.{needs}
+use Rattle.mesh.specs.Levels.{vertexCount}
+use Rattle.mesh.specs.Lists.{below}
+use Rattle.table.specs.Bytes.{bytesOf, packed, section}
+use Rattle.writer.proofs.Puts.{puts}
+use Rattle.table.proofs.Lengths.{bytes-length, below-length}
+use Rattle.writer.proofs.sections.put_levels.Statement.{statement}
+use Rattle.writer.proofs.sections.put_levels.Tie as tie
+
+cast-put-u32 : tie.Need-cast-put-u32
+cast-put-u32 c = search needs
+
+put-u32-requires : tie.Need-put-u32-requires
+put-u32-requires c κs = search needs
+
+put-vertex-counts-requires : tie.Need-put-vertex-counts-requires
+put-vertex-counts-requires c κs = search needs
+
+same-length : tie.Need-same-length
+same-length c = search needs
+
+returns : tie.Need-returns
+unfolding section
+returns c =
+    let s = c .before .before .before .before .before .before .before .before .before in
+    let n = s .args .levels in
+    let e : length (map vertexCount (below n)) ≡ n = length-map (below n) vertexCount ∙ below-length n in
+    rw (c .before .before .put-vertex-counts .ensures, c .before .before .before .before .before .before .put-u32 .ensures, e)
+    (puts (s .args .out .now) 40 (bytesOf 4 n) (packed (bytesOf 4) (map vertexCount (below n))) 44 (omega (arith, bytes-length 4 n)) (omega arith))
+
+pub put-levels-spec : {M : Type 1} → statement M
+put-levels-spec =
+    tie.close
+    (tie.spec cast-put-u32 put-u32-requires put-vertex-counts-requires same-length returns)

@@ -1,0 +1,118 @@
+-- `put_slabs` meets its contract. Assumes nothing.
+use mathlib.Core.Path.{_≡_, ap, _∙_}
+use mathlib.Core.List.{map}
+use Prim.Native.Nat.{_+_, _*_, _≤_}
+use native.Mathlib.Omega.{arith}
+use lib.ListN.{length, take, drop}
+use borrow.Author.Needs.{needs}
+use Rattle.rows.specs.Rows.{Rows, resolutionAt, narrowBits}
+use Rattle.table.specs.Bytes.{bytesOf, packed}
+use Rattle.writer.specs.Steps.{heldBy, resolutions, total, energiesFor, Bounded}
+use Rattle.writer.proofs.Puts.{Left, begun, step, ended}
+use Rattle.writer.proofs.Filed.{res-length, Slab, slab-turn, energies-turn, energies-end, energies-bytes, taken-bytes}
+use Rattle.writer.proofs.sections.put_slabs.Statement.{statement}
+use Rattle.writer.proofs.sections.put_slabs.Tie as tie
+
+abbrev Inv-loop : tie.InvT-loop
+Inv-loop out₀ at z store kinds levels values n s₀ left₀ to₀ p₀ out s left to p = (s + left ≡ n) × (to + total (resolutions (record { kinds = kinds; levels = levels; values = values }) s left) * 4 ≤ length out₀) × (p + left * z ≤ length store) × Bounded z (resolutions (record { kinds = kinds; levels = levels; values = values }) s left) × Left out₀ at (packed (bytesOf 4) (energiesFor z store 0 (resolutions (record { kinds = kinds; levels = levels; values = values }) 0 n))) out to (packed (bytesOf 4) (energiesFor z store p (resolutions (record { kinds = kinds; levels = levels; values = values }) s left)))
+
+abbrev μ-loop : tie.MeasureT-loop
+μ-loop out₀ at z store kinds levels values n s₀ left₀ to₀ p₀ out s left to p = left
+
+-- the rows that were lent, and the energies of the row at hand
+abbrev rows : tie.At-loop Inv-loop μ-loop → Rows
+rows l = let a = l .before .before .before .before .before .before .args in record { kinds = a .kinds .now; levels = a .levels .now; values = a .values .now }
+
+taken : (c : tie.After-energy-count Inv-loop μ-loop) → let l = c .before .before .before in c .energy-count .result ≡ heldBy (resolutionAt (rows l) (l .loop .s))
+taken c = c .energy-count .ensures ∙ ap heldBy (c .before .resolution-at .ensures)
+
+turn : (c : tie.After-energy-count Inv-loop μ-loop) → let l = c .before .before .before in let a = l .before .before .before .before .before .before .args in
+    Slab (rows l) (a .z) (l .loop .s) (l .loop .left) (l .loop .to) (l .loop .p) (c .energy-count .result) (length (a .out .now)) (length (a .store .now))
+turn c =
+    let l = c .before .before .before in
+    slab-turn (rows l) _ _ _ _ _ _ _ _ (omega arith) (taken c) (l .loop .inv .1) (l .loop .inv .2) (l .loop .inv .3)
+
+loop-holds : tie.Need-loop-holds Inv-loop μ-loop
+loop-holds c =
+    let s = c .before .before .before .before .before in
+    let a = s .args in
+    let r : Rows = record { kinds = a .kinds .now; levels = a .levels .now; values = a .values .now } in (
+      omega arith,
+      s .pre .0,
+      omega (arith, s .pre .1),
+      s .pre .2,
+      begun (a .out .now) (a .at) _ (omega (arith, s .pre .0, energies-bytes (a .z) (a .store .now) 0 (resolutions r 0 (a .n)) (s .pre .2) (rw (res-length r 0 (a .n)) (omega (arith, s .pre .1))))),
+    )
+
+resolution-at-requires : tie.Need-resolution-at-requires Inv-loop μ-loop
+resolution-at-requires c κs = search needs
+
+energy-count-requires : tie.Need-energy-count-requires Inv-loop μ-loop
+energy-count-requires c κs = search needs
+
+put-energies-requires : tie.Need-put-energies-requires Inv-loop μ-loop
+put-energies-requires c κs = let t = turn (c .before) in (omega (arith, t .fits, c .before .before .before .before .loop .inv .4 .size), t .inside)
+
+mul-to : tie.Need-mul-to Inv-loop μ-loop
+mul-to c = let t = turn (c .before .before .before .before) in omega (arith, t .fits)
+
+add-to : tie.Need-add-to Inv-loop μ-loop
+add-to c = let t = turn (c .before .before .before .before) in omega (arith, t .fits)
+
+add-p : tie.Need-add-p Inv-loop μ-loop
+add-p c = let t = turn (c .before .before .before .before) in omega (arith, t .next)
+
+add-s : tie.Need-add-s Inv-loop μ-loop
+add-s c = omega arith
+
+sub-left : tie.Need-sub-left Inv-loop μ-loop
+sub-left c = omega arith
+
+loop-less : tie.Need-loop-less Inv-loop μ-loop
+loop-less c = omega arith
+
+loop-again : tie.Need-loop-again Inv-loop μ-loop
+loop-again c =
+    let t = turn (c .before .before .before .before) in
+    let l = c .before .before .before .before .before .before .before in
+    let a = l .before .before .before .before .before .before .args in
+    let e = taken (c .before .before .before .before) in
+    let k = c .before .before .before .before .energy-count .result in (
+      omega arith,
+      t .rest,
+      t .next,
+      t .bounded,
+      step (l .loop .inv .4) (packed (bytesOf 4) (map narrowBits (take k (drop (l .loop .p) (a .store .now))))) _ _ _
+          (energies-turn (rows l) (a .z) (a .store .now) (l .loop .p) (l .loop .s) (l .loop .left) (omega arith) ∙ rw (← e))
+          (c .before .before .put-energies .ensures)
+          (omega (arith, taken-bytes (a .store .now) (l .loop .p) k (t .inside))),
+    )
+
+same-length : tie.Need-same-length Inv-loop μ-loop
+same-length c = c .before .loop .inv .4 .size
+
+returns : tie.Need-returns Inv-loop μ-loop
+returns c =
+    let l = c .before in
+    let a = l .before .before .before .before .before .before .args in
+    ended (l .loop .inv .4) (energies-end (record { kinds = a .kinds .now; levels = a .levels .now; values = a .values .now }) (a .z) (a .store .now) (l .loop .p) (l .loop .s) (l .loop .left) (omega arith))
+
+pub put-slabs-spec : {M : Type 1} → statement M
+put-slabs-spec =
+    tie.close
+    (tie.spec
+    Inv-loop
+    μ-loop
+    loop-holds
+    resolution-at-requires
+    energy-count-requires
+    put-energies-requires
+    mul-to
+    add-to
+    add-p
+    add-s
+    sub-left
+    loop-less
+    loop-again
+    same-length
+    returns)

@@ -1,0 +1,51 @@
+-- Write: what it answers, and what it leaves in the output. Definitions only.
+use mathlib.Core.Bool.{cond}
+use mathlib.Core.List.{List, map}
+use Prim.Native.Nat.{ℕ, suc}
+use lib.ListN.{length}
+use lib.Dec.{leb, eqb}
+use Rattle.mesh.specs.Questions.{ask, first}
+use Rattle.mesh.specs.Lists.{put}
+use Rattle.mesh.specs.Mesh.{Mesh}
+use Rattle.rows.specs.Rows.{compared}
+use Rattle.questions.specs.declared.Builder.{Builder}
+use Rattle.questions.specs.Lists.{Lists, slabs, rowsFrom, rowsKnown}
+use Rattle.questions.specs.Refusals.{meshedRefusal}
+use Rattle.table.specs.File.{fileOf}
+use Rattle.writer.specs.declared.Written.{Written}
+use Rattle.writer.specs.declared.Written.the-variants.{Accepted as Writes, Refused as NotWritten}
+
+-- 01's number and value for each case: "write returns its length in bytes"
+abbrev pub writtenNumber : Written → ℕ
+writtenNumber (Writes n) = 0
+writtenNumber (NotWritten n) = n
+
+abbrev pub writtenLength : Written → ℕ
+writtenLength (Writes n) = n
+writtenLength (NotWritten n) = 0
+
+-- the file of a builder and the lists that it holds. "The level count is the top level plus one."
+unfoldable pub fileFrom : Builder → Lists → List ℕ
+fileFrom b l = fileOf (b .grid) (suc (b .top)) (map compared (rowsFrom (b .top) l 0 (slabs (b .grid))))
+
+-- "write before 12, put the kind and level part of 15 to each row touched"; "is the output at least as long as the file? 12"
+unfoldable pub writeRefusal : Builder → Mesh → Lists → ℕ → ℕ
+writeRefusal b m l room =
+    first (meshedRefusal b m l)
+    (ask (rowsKnown (b .top) (l .rows) 0 (slabs (b .grid))) 15
+    (ask (leb (length (fileFrom b l)) room) 12 0))
+
+-- what write leaves: the builder and the lists, which it does not alter, and the output
+pub record WriteOut : Type 0 where
+  pub answer : Written
+  pub builder : Builder
+  pub lists : Lists
+  pub output : List ℕ
+
+-- "Bytes beyond the file stay."
+unfoldable pub writeOut : Builder → Mesh → Lists → List ℕ → WriteOut
+writeOut b m l out =
+    let r = writeRefusal b m l (length out) in
+    cond (eqb r 0)
+    (record { answer = Writes (length (fileFrom b l)); builder = b; lists = l; output = put out 0 (fileFrom b l) })
+    (record { answer = NotWritten r; builder = b; lists = l; output = out })

@@ -1,0 +1,171 @@
+// Write: its questions, then the file.
+ghost use mathlib.Core.Path.{_≡_};
+ghost use mathlib.Core.Bool.{_&&_};
+ghost use mathlib.Core.List.{[]};
+ghost use Prim.Native.Nat.{suc, _+_, _*_, _≤_};
+ghost use lib.ListN.{length};
+ghost use Rattle.mesh.specs.Questions.{ask, first};
+ghost use Rattle.mesh.specs.Lists.{put};
+ghost use Rattle.mesh.specs.Levels.{verticesBelow};
+ghost use Rattle.mesh.specs.Mesh.{meshHeld, meshesKeep};
+ghost use Rattle.questions.specs.Lists.{slabs, listRoom, rowsKnown};
+ghost use Rattle.questions.specs.Refusals.{builderQuestion};
+ghost use Rattle.writer.specs.Write.{WriteOut, fileFrom, writeOut};
+ghost use Rattle.writer.specs.Steps.{headBytes, Ready};
+use crate::Written;
+use crate::sections::energy_total;
+use crate::sections::put_bins;
+use crate::sections::put_grid;
+use crate::sections::put_levels;
+use crate::sections::put_rows;
+use crate::sections::put_tail;
+use grid::Grid;
+use questions::Builder;
+
+// The kind and level part of question 15, of every row.
+fn rows_known(top: u64, kinds: &[u8], levels: &[u8], n: u64) -> bool
+    ensures { λ r. ⌜ r ≡ rowsKnown top (record { kinds = now (kinds .entry); levels = now (levels .entry); values = [] }) 0 n ⌝ }
+{
+    let mut s: u64 = 0;
+    while s < n {
+        if !rows::row_known(top, kinds, levels, s) {
+            return false;
+        }
+        s += 1;
+    }
+    true
+}
+
+// Questions 1 to 7, then 15 of every row.
+fn write_question(
+    b: Builder,
+    store: u64,
+    kinds: &[u8],
+    levels: &[u8],
+    values: u64,
+    vertices: &[f64],
+    counts: &[u8],
+    neighbours: &[u16],
+    angles: &[f64],
+) -> u64
+    ensures { λ r. ⌜ r ≡ first (first (builderQuestion b)
+        (ask (listRoom (b .grid) (b .top) store (length (now (kinds .entry))) (length (now (levels .entry))) values && meshHeld (verticesBelow (suc (b .top))) (record { vertices = now (vertices .entry); counts = now (counts .entry); neighbours = now (neighbours .entry); angles = now (angles .entry) })) 6
+        (ask (meshesKeep (b .top) (record { vertices = now (vertices .entry); counts = now (counts .entry); neighbours = now (neighbours .entry); angles = now (angles .entry) })) 7 0)))
+        (ask (rowsKnown (b .top) (record { kinds = now (kinds .entry); levels = now (levels .entry); values = [] }) 0 (slabs (b .grid))) 15 0) ⌝ }
+{
+    let n_r = b.grid.n_r;
+    let n_omega = b.grid.n_omega;
+    let top = b.top;
+    let no = questions::meshed_refusal(
+        b,
+        store,
+        kinds.len() as u64,
+        levels.len() as u64,
+        values,
+        vertices,
+        counts,
+        neighbours,
+        angles,
+    );
+    if no != 0 {
+        return no;
+    }
+    if !rows_known(top, kinds, levels, n_r * n_omega) {
+        return 15;
+    }
+    0
+}
+
+// The sections before the rows.
+fn put_head(out: &mut [u8], g: Grid, levels: u64)
+    requires { ⌜ (44 + 4 * levels ≤ length (now out)) × (levels ≤ 16) × (g .«n_r» ≤ 65535) × (g .«n_omega» ≤ 65535) ⌝ }
+    ensures { λ _. ⌜ now (out .exit) ≡ put (now (out .entry)) 0 (headBytes g levels) ⌝ }
+{
+    let rmin = g.rmin;
+    let dr = g.dr;
+    let step = g.omega_step;
+    let n_r = g.n_r;
+    let n_omega = g.n_omega;
+    put_grid(out, rmin, dr, step);
+    put_bins(out, n_r as u32, n_omega as u32);
+    put_levels(out, levels);
+}
+
+// The file, whose rows hold e energies together.
+fn put_file(
+    b: Builder,
+    store: &[f64],
+    kinds: &[u8],
+    levels: &[u8],
+    values: &[u32],
+    e: u64,
+    out: &mut [u8],
+)
+    requires { ⌜ Ready b (record { store = now store; rows = record { kinds = now kinds; levels = now levels; values = now values } }) e (length (now out)) ⌝ }
+    ensures { λ _. ⌜ now (out .exit) ≡ put (now (out .entry)) 0 (fileFrom b (record { store = now (store .entry); rows = record { kinds = now (kinds .entry); levels = now (levels .entry); values = now (values .entry) } })) ⌝ }
+{
+    let g = b.grid;
+    let n_r = b.grid.n_r;
+    let n_omega = b.grid.n_omega;
+    let top = b.top;
+    let n = n_r * n_omega;
+    let z = mesh::per_level(top as u8);
+    put_head(out, g, top + 1);
+    put_rows(out, 48 + 4 * top, kinds, levels, values, n);
+    put_tail(
+        out,
+        52 + 4 * top + 10 * n,
+        e,
+        z,
+        store,
+        kinds,
+        levels,
+        values,
+        n,
+    );
+}
+
+// Writes the table file of a builder.
+pub fn write(
+    b: Builder,
+    store: &[f64],
+    kinds: &[u8],
+    levels: &[u8],
+    values: &[u32],
+    vertices: &[f64],
+    counts: &[u8],
+    neighbours: &[u16],
+    angles: &[f64],
+    output: &mut [u8],
+) -> Written
+    ensures { λ r. ⌜ _≡_ {A = WriteOut}
+        (record { answer = r; builder = b; lists = record { store = now (store .entry); rows = record { kinds = now (kinds .entry); levels = now (levels .entry); values = now (values .entry) } }; output = now (output .exit) })
+        (writeOut b (record { vertices = now (vertices .entry); counts = now (counts .entry); neighbours = now (neighbours .entry); angles = now (angles .entry) })
+        (record { store = now (store .entry); rows = record { kinds = now (kinds .entry); levels = now (levels .entry); values = now (values .entry) } }) (now (output .entry))) ⌝ }
+{
+    let n_r = b.grid.n_r;
+    let n_omega = b.grid.n_omega;
+    let top = b.top;
+    let no = write_question(
+        b,
+        store.len() as u64,
+        kinds,
+        levels,
+        values.len() as u64,
+        vertices,
+        counts,
+        neighbours,
+        angles,
+    );
+    if no != 0 {
+        return Written::Refused(no);
+    }
+    let n = n_r * n_omega;
+    let e = energy_total(kinds, levels, values, n);
+    let size = 56 + 4 * top + 10 * n + 4 * e;
+    if (output.len() as u64) < size {
+        return Written::Refused(12);
+    }
+    put_file(b, store, kinds, levels, values, e, output);
+    Written::Accepted(size)
+}

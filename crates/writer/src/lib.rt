@@ -1,0 +1,12 @@
+// Write: a builder's table as a file.
+mod bytes;
+mod files;
+mod sections;
+
+pub use files::write;
+
+// What write answers: the length of the file.
+pub enum Written {
+    Accepted(u64),
+    Refused(u64),
+}

@@ -1,0 +1,214 @@
+// The bytes of each section of a table file.
+ghost use mathlib.Core.Path.{_≡_};
+ghost use mathlib.Core.List.{[], _∷_, map};
+ghost use Prim.Native.Nat.{_+_, _*_, _≤_};
+ghost use lib.ListN.{length, take, drop};
+ghost use lib.Ieee.{binary64, toBits};
+ghost use Rattle.mesh.specs.Lists.{put, below};
+ghost use Rattle.mesh.specs.Levels.{vertexCount};
+ghost use Rattle.rows.specs.Rows.{narrowBits};
+ghost use Rattle.table.specs.Bytes.{bytesOf, packed, section};
+ghost use Rattle.table.specs.File.{entryBytes};
+ghost use Rattle.writer.specs.Steps.{heldBy, offsetOf, resolutions, entriesFor, total, energiesFor, Bounded};
+use crate::bytes::put_f64;
+use crate::bytes::put_u32;
+use rows::SlabResolution;
+
+pub(crate) fn put_grid(out: &mut [u8], rmin: f64, dr: f64, step: f64)
+    requires { ⌜ 28 ≤ length (now out) ⌝ }
+    ensures { λ _. ⌜ now (out .exit) ≡ put (now (out .entry)) 0 (section (bytesOf 8) (toBits binary64 rmin ∷ toBits binary64 dr ∷ toBits binary64 step ∷ [])) ⌝ }
+{
+    put_u32(out, 0, 3);
+    put_f64(out, 4, rmin);
+    put_f64(out, 12, dr);
+    put_f64(out, 20, step);
+}
+
+pub(crate) fn put_bins(out: &mut [u8], n: u32, m: u32)
+    requires { ⌜ 40 ≤ length (now out) ⌝ }
+    ensures { λ _. ⌜ now (out .exit) ≡ put (now (out .entry)) 28 (section (bytesOf 4) (n ∷ m ∷ [])) ⌝ }
+{
+    put_u32(out, 28, 2);
+    put_u32(out, 32, n);
+    put_u32(out, 36, m);
+}
+
+fn put_vertex_counts(out: &mut [u8], levels: u64)
+    requires { ⌜ (44 + 4 * levels ≤ length (now out)) × (levels ≤ 16) ⌝ }
+    ensures { λ _. ⌜ now (out .exit) ≡ put (now (out .entry)) 44 (packed (bytesOf 4) (map vertexCount (below levels))) ⌝ }
+{
+    let mut m: u64 = 0;
+    while m < levels {
+        put_u32(out, 44 + 4 * m, mesh::vertex_count(m as u8) as u32);
+        m += 1;
+    }
+}
+
+pub(crate) fn put_levels(out: &mut [u8], levels: u64)
+    requires { ⌜ (44 + 4 * levels ≤ length (now out)) × (levels ≤ 16) ⌝ }
+    ensures { λ _. ⌜ now (out .exit) ≡ put (now (out .entry)) 40 (section (bytesOf 4) (map vertexCount (below levels))) ⌝ }
+{
+    put_u32(out, 40, levels as u32);
+    put_vertex_counts(out, levels);
+}
+
+// How many energies a row holds.
+pub(crate) fn energy_count(x: SlabResolution) -> u64
+    ensures { λ r. ⌜ r ≡ heldBy x ⌝ }
+{
+    match x {
+        SlabResolution::Scalar(_) => 0,
+        SlabResolution::Mesh(level, _) => mesh::per_level(level),
+        SlabResolution::Repulsive => 0,
+    }
+}
+
+// Only a row with energies has an offset.
+fn offset_of(x: SlabResolution, o: u32) -> u32
+    ensures { λ r. ⌜ r ≡ offsetOf o x ⌝ }
+{
+    match x {
+        SlabResolution::Scalar(_) => 0xffff_ffff,
+        SlabResolution::Mesh(_, _) => o,
+        SlabResolution::Repulsive => 0xffff_ffff,
+    }
+}
+
+fn put_two(out: &mut [u8], at: u64, a: u8, b: u8)
+    requires { ⌜ at + 2 ≤ length (now out) ⌝ }
+    ensures { λ _. ⌜ now (out .exit) ≡ put (now (out .entry)) at (a ∷ b ∷ []) ⌝ }
+{
+    let i = at as usize;
+    out[i] = a;
+    out[i + 1] = b;
+}
+
+fn put_row(out: &mut [u8], at: u64, kind: u8, level: u8, offset: u32, value: u32)
+    requires { ⌜ at + 10 ≤ length (now out) ⌝ }
+    ensures { λ _. ⌜ now (out .exit) ≡ put (now (out .entry)) at (entryBytes (record { kind = kind; level = level; offset = offset; scalar = value })) ⌝ }
+{
+    put_two(out, at, kind, level);
+    put_u32(out, at + 2, offset);
+    put_u32(out, at + 6, value);
+}
+
+// The rows, one after another; their energies are packed in row order.
+fn put_entries(out: &mut [u8], at: u64, kinds: &[u8], levels: &[u8], values: &[u32], n: u64)
+    requires { ⌜ (at + n * 10 ≤ length (now out))
+        × (total (resolutions (record { kinds = now kinds; levels = now levels; values = now values }) 0 n) ≤ 4294967295) ⌝ }
+    ensures { λ _. ⌜ now (out .exit) ≡ put (now (out .entry)) at (packed entryBytes (entriesFor 0 (resolutions (record { kinds = now (kinds .entry); levels = now (levels .entry); values = now (values .entry) }) 0 n))) ⌝ }
+{
+    let mut s: u64 = 0;
+    let mut left = n;
+    let mut to = at;
+    let mut o: u64 = 0;
+    while 0 < left {
+        let x = rows::resolution_at(kinds, levels, values, s);
+        let offset = offset_of(x, o as u32);
+        put_row(
+            out,
+            to,
+            rows::kind_of(x),
+            rows::level_of(x),
+            offset,
+            rows::value_of(x),
+        );
+        o += energy_count(x);
+        to += 10;
+        s += 1;
+        left -= 1;
+    }
+}
+
+// The energies of all rows together.
+pub(crate) fn energy_total(kinds: &[u8], levels: &[u8], values: &[u32], n: u64) -> u64
+    requires { ⌜ total (resolutions (record { kinds = now kinds; levels = now levels; values = now values }) 0 n) ≤ 4294967295 ⌝ }
+    ensures { λ r. ⌜ r ≡ total (resolutions (record { kinds = now (kinds .entry); levels = now (levels .entry); values = now (values .entry) }) 0 n) ⌝ }
+{
+    let mut s: u64 = 0;
+    let mut left = n;
+    let mut o: u64 = 0;
+    while 0 < left {
+        o += energy_count(rows::resolution_at(kinds, levels, values, s));
+        s += 1;
+        left -= 1;
+    }
+    o
+}
+
+// The energies of one row, narrowed.
+fn put_energies(out: &mut [u8], at: u64, store: &[f64], from: u64, n: u64)
+    requires { ⌜ (at + n * 4 ≤ length (now out)) × (from + n ≤ length (now store)) ⌝ }
+    ensures { λ _. ⌜ now (out .exit) ≡ put (now (out .entry)) at (packed (bytesOf 4) (map narrowBits (take n (drop from (now (store .entry)))))) ⌝ }
+{
+    let mut p = from;
+    let mut left = n;
+    let mut to = at;
+    while 0 < left {
+        let i = p as usize;
+        put_u32(out, to, bits::bits32(ieee::narrow(store[i])));
+        p += 1;
+        to += 4;
+        left -= 1;
+    }
+}
+
+// The energies of all rows, in row order; slabs are z places apart in the store.
+fn put_slabs(
+    out: &mut [u8],
+    at: u64,
+    z: u64,
+    store: &[f64],
+    kinds: &[u8],
+    levels: &[u8],
+    values: &[u32],
+    n: u64,
+)
+    requires { ⌜ (at + total (resolutions (record { kinds = now kinds; levels = now levels; values = now values }) 0 n) * 4 ≤ length (now out))
+        × (n * z ≤ length (now store)) × (Bounded z (resolutions (record { kinds = now kinds; levels = now levels; values = now values }) 0 n)) ⌝ }
+    ensures { λ _. ⌜ now (out .exit) ≡ put (now (out .entry)) at (packed (bytesOf 4) (energiesFor z (now (store .entry)) 0 (resolutions (record { kinds = now (kinds .entry); levels = now (levels .entry); values = now (values .entry) }) 0 n))) ⌝ }
+{
+    let mut s: u64 = 0;
+    let mut left = n;
+    let mut to = at;
+    let mut p: u64 = 0;
+    while 0 < left {
+        let k = energy_count(rows::resolution_at(kinds, levels, values, s));
+        put_energies(out, to, store, p, k);
+        to += 4 * k;
+        p += z;
+        s += 1;
+        left -= 1;
+    }
+}
+
+// The section of rows.
+pub(crate) fn put_rows(out: &mut [u8], at: u64, kinds: &[u8], levels: &[u8], values: &[u32], n: u64)
+    requires { ⌜ (at + 4 + n * 10 ≤ length (now out)) × (n ≤ 4294967295)
+        × (total (resolutions (record { kinds = now kinds; levels = now levels; values = now values }) 0 n) ≤ 4294967295) ⌝ }
+    ensures { λ _. ⌜ now (out .exit) ≡ put (now (out .entry)) at (section entryBytes (entriesFor 0 (resolutions (record { kinds = now (kinds .entry); levels = now (levels .entry); values = now (values .entry) }) 0 n))) ⌝ }
+{
+    put_u32(out, at, n as u32);
+    put_entries(out, at + 4, kinds, levels, values, n);
+}
+
+// The section of energies, of which there are e.
+pub(crate) fn put_tail(
+    out: &mut [u8],
+    at: u64,
+    e: u64,
+    z: u64,
+    store: &[f64],
+    kinds: &[u8],
+    levels: &[u8],
+    values: &[u32],
+    n: u64,
+)
+    requires { ⌜ (at + 4 + e * 4 ≤ length (now out)) × (e ≤ 4294967295)
+        × (e ≡ total (resolutions (record { kinds = now kinds; levels = now levels; values = now values }) 0 n))
+        × (n * z ≤ length (now store)) × (Bounded z (resolutions (record { kinds = now kinds; levels = now levels; values = now values }) 0 n)) ⌝ }
+    ensures { λ _. ⌜ now (out .exit) ≡ put (now (out .entry)) at (section (bytesOf 4) (energiesFor z (now (store .entry)) 0 (resolutions (record { kinds = now (kinds .entry); levels = now (levels .entry); values = now (values .entry) }) 0 n))) ⌝ }
+{
+    put_u32(out, at, e as u32);
+    put_slabs(out, at + 4, z, store, kinds, levels, values, n);
+}
