@@ -10,3 +10,5 @@ pub mod Back
 pub mod Parsed
 pub mod Sound
 pub mod Accepts
+pub mod OfRows
+pub mod OfFile
