@@ -1,0 +1,4 @@
+-- Laws of lists of calls, and the theorem.
+pub mod Store
+pub mod Invariant
+pub mod Follows
