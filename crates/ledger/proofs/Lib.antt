@@ -2,3 +2,5 @@
 pub mod Store
 pub mod Invariant
 pub mod Follows
+pub mod Readings
+pub mod Theorem
