@@ -12,3 +12,4 @@ pub mod Sound
 pub mod Accepts
 pub mod OfRows
 pub mod OfFile
+pub mod Checked

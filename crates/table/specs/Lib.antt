@@ -3,3 +3,4 @@ pub mod File
 pub mod Write
 pub mod Read
 pub mod Steps
+pub mod Checks
