@@ -105,7 +105,7 @@ folds {A} {B} q F G f g fn fc gn gc s b (x ∷ l) e =
     fc b x l ∙ ap (λ (t : B). F t l) (s b x (h .0)) ∙ folds q F G f g fn fc gn gc s (g b x) l (h .1) ∙ sym (gc b x l)
 
 -- a face whose vertices are below n and lent
-abbrev lent : List Float → ℕ → Face → Bool
+abbrev pub lent : List Float → ℕ → Face → Bool
 lent vs n f = vertexInside vs n (f .a) && (vertexInside vs n (f .b) && vertexInside vs n (f .c))
 
 module _ (vs r : List Float) (p : Vector3) (n : ℕ) where
@@ -192,7 +192,7 @@ module _ (n g : ℕ) (m : Mesh) (l : Locator)
   piece-in vs true i j k e hi hj hk = rw (vertex-in vs i e hi, vertex-in vs j e hj, vertex-in vs k e hk)
   piece-in vs false i j k e hi hj hk = refl
 
-  faces-in : (vs : List Float) (v : ℕ) → length (m .vertices) ≤ length vs → every (lent vs n) (facesOf m n v) ≡ true
+  pub faces-in : (vs : List Float) (v : ℕ) → length (m .vertices) ≤ length vs → every (lent vs n) (facesOf m n v) ≡ true
   unfolding facesOf extractFaces facesFrom
   faces-in vs v e =
       let q = lent vs n in
@@ -277,7 +277,7 @@ module _ (n g : ℕ) (m : Mesh) (l : Locator)
       (ap triples (entries-are 3 n (facesOf m n) (λ v. flat (facesOf m n v)) (l .faceOffsets ++ behind .faceOffsets) (l .faces ++ behind .faces) (flat-wide (facesOf m n))
       (omega (arith, ok .r3, length-append (l .faceOffsets) (behind .faceOffsets))) (omega (arith, faces-held, length-append (l .faces) (behind .faces))) v h) ∙ triples-flat (facesOf m n v))
 
-  nearest-below : (p : Vector3) → nearestOf m n g p .number ≡ 0 → nearestOf m n g p .vertex < n
+  pub nearest-below : (p : Vector3) → nearestOf m n g p .number ≡ 0 → nearestOf m n g p .vertex < n
   unfolding nearestOf nearestAmong
   nearest-below p = nearest-in-list (m .vertices) p n (notNearest 20) (cell (m .vertices) n g (cellIndex g p)) (vertices-in (m .vertices) (cellIndex g p) (omega arith)) (λ e. absurd (omega arith))
 

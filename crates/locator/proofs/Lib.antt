@@ -8,3 +8,4 @@ pub mod Accepted
 pub mod Entries
 pub mod Answers
 pub mod Laid
+pub mod Picked

@@ -25,7 +25,7 @@ use Rattle.table.proofs.Accepted.{read-accepted}
 use Rattle.table.proofs.Back.{All, Fitting, item-at}
 use Rattle.table.proofs.Parsed.{sections, laid, laid-out, levels-count, rows-count, energies-count, levels-back, rows-back, energies-back, grid-back}
 
-all-is : (p : ℕ → Bool) (n : ℕ) → ((k : ℕ) → k < n → p k ≡ true) → allUpTo n p ≡ true
+pub all-is : (p : ℕ → Bool) (n : ℕ) → ((k : ℕ) → k < n → p k ≡ true) → allUpTo n p ≡ true
 unfolding allUpTo
 all-is p zero h = refl
 all-is p (suc n) h = rw (all-is p n (λ k l. h k (omega arith)), h n (omega arith))

@@ -7,3 +7,6 @@ pub mod Back
 pub mod Parsed
 pub mod Sound
 pub mod Accepts
+pub mod OfRows
+pub mod OfFile
+pub mod Checked

@@ -1,0 +1,231 @@
+-- After every call, accepted or refused, the builder's level and rows are the ledger's. Assumes nothing.
+use mathlib.Core.Path.{_≡_, refl, sym, ap, _∙_, subst}
+use mathlib.Core.Bool.{Bool, true, false, cond, not, _&&_}
+use mathlib.Core.List.{List, [], _∷_, map}
+use mathlib.Core.Logic.{_⊎_, inl, inr}
+use Prim.Native.Nat.{ℕ, zero, suc, _+_, _*_, _-_, _≤_, _<_}
+use native.Mathlib.Nat.{add-zero}
+use native.Mathlib.Omega.{arith}
+use lib.ListN.{length, getD, set, take, drop, replicate, length-replicate, length-drop, getD-replicate}
+use lib.Seq.{sets, length-take-le}
+use lib.Dec.{T, eqb, ltb, leb, lit<}
+use lib.Ieee.{Float, binary32, binary64, isNan, fits, ofBits, toBits}
+use borrow.Author.Tests.{eqb-true, ltb-true, le-leb}
+use Rattle.ieee.proofs.Pack.{le-or-lt}
+use Rattle.ieee.proofs.Fields.{both-true}
+use Rattle.mesh.specs.Questions.{ask, first}
+use Rattle.mesh.specs.Lists.{every, put}
+use Rattle.mesh.specs.Levels.{per, vertexCount, verticesBelow}
+use Rattle.mesh.specs.Mesh.{Mesh, levelPart, meshHeld, meshesKeep}
+use Rattle.mesh.proofs.Sizes.{per-mono, place}
+use Rattle.mesh.proofs.Written.{length-put}
+use Rattle.grid.specs.Settings.{inRange, levelsHeld, countsHeld, ownCount, slabsHeld, question}
+use Rattle.grid.specs.declared.Grid.{Grid}
+use Rattle.grid.proofs.Laws.{top-le}
+use Rattle.rows.specs.declared.SlabResolution.the-variants.{Mesh as OnMesh}
+use Rattle.rows.specs.Rows.{Rows, replaced, rowRoom, Row, scalar, repulsive, mesh}
+use Rattle.locator.proofs.Entries.{getD-put}
+use Rattle.settling.specs.Gradient.{zero as nought}
+use Rattle.settling.specs.Settling.{verdictOf, verdicts, settledRows, settledSlice, drops, fromLevel}
+use Rattle.questions.specs.Lists.{Lists, slabs, slab, rowsFrom, sliceAt, listRoom, listsHeld, rowsKnown}
+use Rattle.builder.specs.Calls.{settledLists, filled, setLists, setOut, settleAccepted, settleOut}
+use Rattle.questions.specs.Refusals.{meshedRefusal, setQuestion, setRefusal, settleRefusal}
+use Rattle.questions.specs.declared.Builder.{Builder}
+use Rattle.settling.specs.declared.Verdict.{Verdict}
+use Rattle.questions.proofs.Laws.{ask-yes, Roomy}
+use Rattle.writer.specs.Write.{WriteOut, fileFrom, writeRefusal, writeOut}
+use Rattle.table.proofs.OfRows.{Good}
+use Rattle.ledger.specs.Ledger.{Call, set-call, settle-call, write-call, State, called, run, Ledger, opened, ledgerSlice, settleQuestion, setEntered, settleEntered, entered, ledger}
+use Rattle.ledger.proofs.Store.{put-same, other-slab, put-sets, all-replicate}
+use Rattle.ledger.proofs.Invariant.{Fit, rows-are, rows-known, fit-set, settled-fit, verdict-fits}
+
+-- ---- what an accepted fresh leaves answered yes
+
+pub record Basis (g : Grid) (top : ℕ) (m : Mesh) : Type 0 where
+  pub asked : question g top top ≡ 0
+  pub held : meshHeld (verticesBelow (suc top)) m ≡ true
+  pub kept : meshesKeep top m ≡ true
+
+abbrev pub builderAt : Grid → ℕ → ℕ → Builder
+builderAt g top v = record { grid = g; top = top; level = v }
+
+-- 1 to 5, at a lower level
+lower-asked : (g : Grid) (top v : ℕ) → question g top top ≡ 0 → v ≤ top → question g top v ≡ 0
+unfolding question levelsHeld ask
+lower-asked g top v e h =
+    let q1 = ask-yes {q = inRange g} (lit< tt) e in
+    let q2 = ask-yes {q = levelsHeld top top} (lit< tt) (q1 .1) in
+    let q3 = ask-yes {q = countsHeld g} (lit< tt) (q2 .1) in
+    let q4 = ask-yes {q = ownCount (g .«n_r») (g .dr) (g .rmin)} (lit< tt) (q3 .1) in
+    let q5 = ask-yes {q = slabsHeld (g .«n_r») (g .«n_omega») top} (lit< tt) (q4 .1) in
+    rw (q1 .0, le-leb top 15 (top-le top top (q2 .0)), le-leb v top h, q3 .0, q4 .0, q5 .0)
+
+room-held : (g : Grid) (top store kinds levels values : ℕ) → Roomy g top store kinds levels values → listRoom g top store kinds levels values ≡ true
+unfolding listRoom rowRoom
+room-held g top store kinds levels values r =
+    rw (le-leb (slabs g * per top) store (r .store-le), le-leb (slabs g) kinds (r .kinds-le), le-leb (slabs g) levels (r .levels-le), le-leb (slabs g) values (r .values-le))
+
+-- ---- the calls
+
+pub record Agree (g : Grid) (top : ℕ) (st : State) (b : Ledger) : Type 0 where
+  pub same : st .builder ≡ builderAt g top (b .level)
+  pub low : b .level ≤ top
+  pub fit : Fit g top (st .lists .store) (st .lists .rows) (b .rows)
+
+apart : (t s : ℕ) → (t ≡ s → ⊥) → (s ≤ t) ⊎ (t < s) → (t < s) ⊎ (s < t)
+apart t s n (inl h) = inr (omega (arith, n))
+apart t s n (inr h) = inl h
+
+lowered : (v n : ℕ) (x : Bool) → v ≤ n → cond x (v - 1) v ≤ n
+lowered v n true h = omega arith
+lowered v n false h = h
+
+settled-many : (c : ℕ) (f : Row Float → Verdict) (rs : List (Row Float)) → length (settledRows c rs (map f rs)) ≡ length rs
+unfolding settledRows
+settled-many c f [] = refl
+settled-many c f (r ∷ rs) = ap suc (settled-many c f rs)
+
+module _ (g : Grid) (top : ℕ) (m : Mesh) (base : Basis g top m) (v : ℕ) (low : v ≤ top) (store : List Float) (l : Rows) (rows : List (Row Float)) (a : Fit g top store l rows) where
+  abbrev b : Builder
+  b = builderAt g top v
+
+  abbrev ls : Lists
+  ls = record { store = store; rows = l }
+
+  abbrev st : State
+  st = record { builder = b; lists = ls }
+
+  abbrev bk : Ledger
+  bk = record { level = v; rows = rows }
+
+  unchanged : Agree g top st bk
+  unchanged = record { same = refl; low = low; fit = a }
+
+  abbrev asked : question g top v ≡ 0
+  asked = lower-asked g top v (base .asked) low
+
+  abbrev roomy : listsHeld b ls ≡ true
+  roomy = room-held g top (length store) (length (l .kinds)) (length (l .levels)) (length (l .values)) (a .room)
+
+  pub meshed-yes : meshedRefusal b m ls ≡ 0
+  unfolding meshedRefusal first ask
+  meshed-yes = rw (asked, roomy, base .held, base .kept)
+
+  -- set
+
+  set-number : (ri oi : ℕ) (e : List Float) → setRefusal b ls ri oi e ≡ setQuestion g v ri oi e
+  unfolding setRefusal first ask
+  set-number ri oi e = rw (asked, roomy)
+
+  set-fit : (ri oi : ℕ) (e : List Float) → setQuestion g v ri oi e ≡ 0
+      → Fit g top (put store (slab g ri oi * per top) e) (replaced l (slab g ri oi) (OnMesh v true)) (set rows (slab g ri oi) (mesh v true e))
+  unfolding setQuestion
+  set-fit ri oi e p =
+      let q8 = ask-yes (lit< tt) p in
+      let q9 = ask-yes (lit< tt) (q8 .1) in
+      let q10 = ask-yes (lit< tt) (q9 .1) in
+      let bins = both-true (ltb ri (g .«n_r»)) (ltb oi (g .«n_omega»)) (q8 .0) in
+      let s = slab g ri oi in
+      let w = per top in
+      let row : s < slabs g =
+      omega (arith, place ri (g .«n_r») (oi + 1) (g .«n_omega») (ltb-true ri (g .«n_r») (bins .0)) (omega (arith, ltb-true oi (g .«n_omega») (bins .1)))) in
+      let n : length e ≡ per v = eqb-true (length e) (per v) (q9 .0) in
+      let few : length e ≤ w = omega (arith, n, per-mono v top low) in
+      let fits : s * w + length e ≤ length store = omega (arith, a .room .store-le, place s (slabs g) (length e) w row few) in
+      fit-set g top store l rows a s row (mesh v true e) (low, n, q10 .0) (put store (s * w) e) (length-put store (s * w) e fits) (put-same store (s * w) e (omega arith))
+      (λ t k ne i. other-slab store w s t k e fits few i (apart t s ne (le-or-lt s t)))
+
+  set-step : (ri oi : ℕ) (e : List Float) (x : Bool) → eqb (setQuestion g v ri oi e) 0 ≡ x → Agree g top (called m st (set-call ri oi e)) (entered g m bk (set-call ri oi e))
+  unfolding called entered setOut setLists setEntered
+  set-step ri oi e true d = rw (set-number ri oi e, d) (record { same = refl; low = low; fit = set-fit ri oi e (eqb-true _ _ d) })
+  set-step ri oi e false d = rw (set-number ri oi e, d) unchanged
+
+  -- settle
+
+  slice-in : (ri : ℕ) → ltb ri (g .«n_r») ≡ true → slab g ri 0 + g .«n_omega» ≤ slabs g
+  slice-in ri d = omega (arith, place ri (g .«n_r») (g .«n_omega») (g .«n_omega») (ltb-true ri (g .«n_r») d) (omega arith))
+
+  slice-is : (ri : ℕ) → ltb ri (g .«n_r») ≡ true → sliceAt b ls ri ≡ ledgerSlice g bk ri
+  slice-is ri d = rows-are g top store l rows a (g .«n_omega») (slab g ri 0) (slice-in ri d)
+
+  settle-number : (ri : ℕ) (x : Bool) → ltb ri (g .«n_r») ≡ x → settleRefusal b m ls ri ≡ settleQuestion g bk ri
+  unfolding settleRefusal settleQuestion first ask
+  settle-number ri true d = rw (meshed-yes, d, rows-known g top store l rows a (g .«n_omega») (slab g ri 0) (slice-in ri d), slice-is ri d)
+  settle-number ri false d = rw (meshed-yes, d)
+
+  abbrev seen : Row Float → Verdict
+  seen = verdictOf (g .threshold) (g .beta) (levelPart v m) (vertexCount v)
+
+  settle-fit : (ri : ℕ) → settleQuestion g bk ri ≡ 0
+      → (let rs = ledgerSlice g bk ri in Fit g top store (settledLists v l (slab g ri 0) (map seen rs)) (put rows (slab g ri 0) (settledRows v rs (map seen rs))))
+  unfolding settleQuestion
+  settle-fit ri p =
+      let q8 = ask-yes (lit< tt) p in
+      let q11 = ask-yes (lit< tt) (q8 .1) in
+      let s = slab g ri 0 in
+      let n = g .«n_omega» in
+      let rs = ledgerSlice g bk ri in
+      let i = slice-in ri (q8 .0) in
+      let many : length rs ≡ n = length-take-le n (drop s rows) (omega (arith, length-drop s rows, a .many)) in
+      rw (put-sets rows s (settledRows v rs (map seen rs)) (omega (arith, settled-many v seen rs, a .many)))
+      (settled-fit g top v seen (λ x. refl) refl (verdict-fits (g .threshold) (g .beta) (levelPart v m) (vertexCount v)) n s store l rows a i (q11 .0))
+
+  settle-step : (ri : ℕ) (x : Bool) → eqb (settleQuestion g bk ri) 0 ≡ x → Agree g top (called m st (settle-call ri)) (entered g m bk (settle-call ri))
+  unfolding called entered settleOut settleAccepted settleEntered settledSlice settleQuestion verdicts
+  settle-step ri true d =
+      let q8 = ask-yes (lit< tt) (eqb-true _ _ d) in
+      let rs = ledgerSlice g bk ri in
+      let vs = map seen rs in
+      rw (settle-number ri _ refl, d, slice-is ri (q8 .0)) (record { same = refl; low = lowered v top (drops (g .threshold) v vs (settledRows v rs vs)) low; fit = settle-fit ri (eqb-true _ _ d) })
+  settle-step ri false d = rw (settle-number ri _ refl, d) unchanged
+
+  -- write
+
+  write-step : (out : List ℕ) (x : Bool) → eqb (writeRefusal b m ls (length out)) 0 ≡ x → Agree g top (called m st (write-call out)) (entered g m bk (write-call out))
+  unfolding called entered writeOut
+  write-step out true d = rw d unchanged
+  write-step out false d = rw d unchanged
+
+  step : (c : Call) → Agree g top (called m st c) (entered g m bk c)
+  step (set-call ri oi e) = set-step ri oi e _ refl
+  step (settle-call ri) = settle-step ri _ refl
+  step (write-call out) = write-step out _ refl
+
+pub follows : (g : Grid) (top : ℕ) (m : Mesh) → Basis g top m → (st : State) (b : Ledger) (cs : List Call) → Agree g top st b → Agree g top (run m st cs) (ledger g m b cs)
+unfolding run ledger
+follows g top m base st b [] a = a
+follows g top m base st b (c ∷ cs) a =
+    follows g top m base (called m st c) (entered g m b c) cs
+    (subst (λ (x : Builder). Agree g top (called m (record { builder = x; lists = st .lists }) c) (entered g m b c)) (sym (a .same))
+    (step g top m base (b .level) (a .low) (st .lists .store) (st .lists .rows) (b .rows) (a .fit) c))
+
+-- ---- fresh
+
+filled-at : (d : List ℕ) (n s : ℕ) → s < n → getD (put d 0 (replicate n 0)) s 0 ≡ 0
+filled-at d n s h = getD-put d (replicate n 0) s (omega (arith, length-replicate {A = ℕ} n 0)) ∙ getD-replicate n s 0 0 h
+
+filled-wide : {A : Type 0} (d : List A) (n : ℕ) (x : A) → n ≤ length d → length (put d 0 (replicate n x)) ≡ length d
+filled-wide d n x h = length-put d 0 (replicate n x) (omega (arith, length-replicate n x))
+
+pub starts : (g : Grid) (top : ℕ) (l : Lists) → Roomy g top (length (l .store)) (length (l .rows .kinds)) (length (l .rows .levels)) (length (l .rows .values))
+    → Agree g top (record { builder = builderAt g top top; lists = filled (builderAt g top top) l }) (opened g top)
+unfolding filled opened fits ofBits toBits
+starts g top l r =
+    let n = slabs g in
+    record {
+      same = refl;
+      low = omega arith;
+      fit = record {
+        room = record {
+          store-le = omega (arith, filled-wide (l .store) (n * per top) nought (r .store-le), r .store-le);
+          kinds-le = omega (arith, filled-wide (l .rows .kinds) n 0 (r .kinds-le), r .kinds-le);
+          levels-le = omega (arith, filled-wide (l .rows .levels) n 0 (r .levels-le), r .levels-le);
+          values-le = omega (arith, filled-wide (l .rows .values) n 0 (r .values-le), r .values-le);
+        };
+        many = length-replicate n (scalar nought);
+        good = all-replicate (Good top) n (scalar nought) tt;
+        each = λ s h.
+            rw (getD-replicate {A = Row Float} n s (scalar nought) repulsive h)
+            (filled-at (l .rows .kinds) n s h, filled-at (l .rows .levels) n s h, filled-at (l .rows .values) n s h, refl);
+      };
+    }

@@ -1,0 +1,6 @@
+-- Laws of lists of calls, and the theorem.
+pub mod Store
+pub mod Invariant
+pub mod Follows
+pub mod Readings
+pub mod Theorem

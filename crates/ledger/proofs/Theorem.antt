@@ -1,0 +1,152 @@
+-- Demand 3. Assumes nothing.
+use mathlib.Core.Path.{_≡_, refl, sym, ap, _∙_}
+use mathlib.Core.Bool.{Bool, true, false, cond}
+use mathlib.Core.List.{List, map}
+use Prim.Native.Nat.{ℕ, suc, _+_, _*_, _≤_, _<_}
+use native.Mathlib.Omega.{arith}
+use lib.ListN.{length, getD, take, drop, length-map}
+use lib.Seq.{take-all, take-at, ext-getD}
+use lib.Dec.{eqb}
+use lib.Ieee.{binary64, toBits}
+use borrow.Author.Tests.{eqb-true, eqb-false}
+use Rattle.mesh.specs.Lists.{put}
+use Rattle.mesh.specs.Mesh.{Mesh}
+use Rattle.grid.specs.Settings.{counted}
+use Rattle.grid.specs.declared.Grid.{Grid}
+use Rattle.grid.proofs.Tables.{table-held}
+use Rattle.rows.specs.Rows.{Row, repulsive, compared}
+use Rattle.questions.specs.Lists.{Lists, slabs, rowsFrom}
+use Rattle.builder.specs.Calls.{BuiltOut, builtNumber, builderAfter, freshBuilder, filled, freshOut}
+use Rattle.questions.specs.Refusals.{meshedRefusal}
+use Rattle.questions.specs.declared.Builder.{Builder}
+use Rattle.builder.specs.declared.Built.the-variants.{Accepted as Builds}
+use Rattle.questions.proofs.Laws.{first-yes, Meshed, meshed}
+use Rattle.table.specs.File.{fileOf}
+use Rattle.writer.specs.Write.{writtenNumber, writtenLength, fileFrom, writeRefusal, writeOut}
+use Rattle.table.specs.Read.{readNumber, readTable, readOut}
+use Rattle.table.specs.declared.ReadAnswer.{ReadAnswer}
+use Rattle.table.proofs.OfRows.{fine-rows}
+use Rattle.table.proofs.OfFile.{Filable, Holds, file-accepted, file-holds}
+use Rattle.ledger.specs.Ledger.{Ledger, opened, ledger}
+use Rattle.ledger.specs.Promise.{History, fresh, ended, lastWrite, file, Accepted, rows, Same, Kept, Promise}
+use Rattle.ledger.proofs.Invariant.{Fit, rows-are}
+use Rattle.ledger.proofs.Follows.{Basis, builderAt, Agree, follows, starts}
+use Rattle.ledger.proofs.Readings.{reads}
+
+-- ---- what accepted calls are
+
+fresh-number : (g : Grid) (top : ℕ) (m : Mesh) (l : Lists) (x : Bool) → eqb (meshedRefusal (freshBuilder g top) m l) 0 ≡ x → builtNumber (freshOut g top m l .answer) ≡ 0
+    → meshedRefusal (freshBuilder g top) m l ≡ 0
+unfolding freshOut
+fresh-number g top m l true d e = eqb-true _ 0 d
+fresh-number g top m l false d e = rw d at e
+
+fresh-is : (g : Grid) (top : ℕ) (m : Mesh) (l : Lists) → meshedRefusal (freshBuilder g top) m l ≡ 0
+    → freshOut g top m l ≡ record { answer = Builds (builderAt (counted g) top top); lists = filled (builderAt (counted g) top top) l }
+unfolding freshOut freshBuilder
+fresh-is g top m l e = rw e
+
+-- the bytes of an accepted write
+written-is : (b : Builder) (m : Mesh) (l : Lists) (out : List ℕ) (x : Bool) → eqb (writeRefusal b m l (length out)) 0 ≡ x → writtenNumber (writeOut b m l out .answer) ≡ 0
+    → take (writtenLength (writeOut b m l out .answer)) (writeOut b m l out .output) ≡ fileFrom b l
+unfolding writeOut put
+written-is b m l out true d e = rw d (take-at (fileFrom b l) (drop (0 + length (fileFrom b l)) out) (length (fileFrom b l)) refl)
+written-is b m l out false d e = absurd (eqb-false _ 0 d (rw d at e))
+
+-- ---- one list of calls
+
+module _ (h : History) (ok : Accepted h) where
+  abbrev g : Grid
+  g = counted (h .grid)
+
+  abbrev last : Ledger
+  last = ledger g (h .meshes) (opened g (h .top)) (h .calls)
+
+  none : meshedRefusal (freshBuilder (h .grid) (h .top)) (h .meshes) (h .lists) ≡ 0
+  none = fresh-number (h .grid) (h .top) (h .meshes) (h .lists) _ refl (ok .fresh)
+
+  yes-all : Meshed (builderAt g (h .top) (h .top)) (h .meshes) (length (h .lists .store)) (length (h .lists .rows .kinds)) (length (h .lists .rows .levels)) (length (h .lists .rows .values))
+  unfolding meshedRefusal freshBuilder
+  yes-all = meshed (builderAt g (h .top) (h .top)) (h .meshes) (length (h .lists .store)) (length (h .lists .rows .kinds)) (length (h .lists .rows .levels)) (length (h .lists .rows .values)) none
+
+  basis : Basis g (h .top) (h .meshes)
+  unfolding meshedRefusal freshBuilder
+  basis = record { asked = first-yes none .0; held = yes-all .held; kept = yes-all .kept }
+
+  -- the builder ends as the ledger does
+  agree : Agree g (h .top) (ended h) last
+  unfolding ended
+  agree =
+      rw (fresh-is (h .grid) (h .top) (h .meshes) (h .lists) none)
+      (follows g (h .top) (h .meshes) basis _ (opened g (h .top)) (h .calls) (starts g (h .top) (h .lists) (yes-all .room)))
+
+  many : length (rows h) ≡ slabs g
+  unfolding rows
+  many = length-map (last .rows) compared ∙ agree .fit .many
+
+  rows-written : fileFrom (builderAt g (h .top) (last .level)) (ended h .lists) ≡ fileOf g (suc (h .top)) (rows h)
+  unfolding fileFrom rows
+  rows-written =
+      let l = ended h .lists in
+      rw (rows-are g (h .top) (l .store) (l .rows) (last .rows) (agree .fit) (slabs g) 0 (omega arith), take-all (slabs g) (last .rows) (omega (arith, agree .fit .many)))
+
+  file-is : file h ≡ fileOf g (suc (h .top)) (rows h)
+  unfolding file
+  file-is =
+      written-is (ended h .builder) (h .meshes) (ended h .lists) (h .output) _ refl (ok .write)
+      ∙ ap (λ (b : Builder). fileFrom b (ended h .lists)) (agree .same) ∙ rows-written
+
+  filable : Filable g (suc (h .top)) (rows h)
+  unfolding counted rows
+  filable =
+      record {
+        rmin = ok .rmin;
+        dr = ok .dr;
+        step = ok .step;
+        held = table-held g (h .top) (h .top) (basis .asked);
+        many = many;
+        fine = fine-rows (h .top) (last .rows) (agree .fit .good);
+      }
+
+  kept : Kept h
+  kept =
+      record {
+        read = rw (file-is, file-accepted g (suc (h .top)) (rows h) filable) refl;
+        readings = λ l r q.
+            rw (file-is, file-accepted g (suc (h .top)) (rows h) filable)
+            (reads (h .top) (h .meshes) l (yes-all .asked .top-le) (basis .held) (basis .kept) r q g (rows h) filable);
+      }
+
+-- ---- two lists of calls
+
+same : (a b : History) → Accepted a → Accepted b → file a ≡ file b → Same a b
+unfolding counted
+same a b p q e =
+    let h = file-holds (counted (a .grid)) (counted (b .grid)) (suc (a .top)) (suc (b .top)) (rows a) (rows b) (filable a p) (filable b q) (sym (file-is a p) ∙ e ∙ file-is b q) in
+    record {
+      rmin = ap (toBits binary64) (h .rmin);
+      dr = ap (toBits binary64) (h .dr);
+      step = ap (toBits binary64) (h .step);
+      «n_r» = h .«n_r»;
+      «n_omega» = h .«n_omega»;
+      levels = h .levels;
+      rows = λ s i. ap (λ (l : List (Row ℕ)). getD l s repulsive) (h .rows);
+    }
+
+file-same : (g h : Grid) (m n : ℕ) (a b : List (Row ℕ)) → toBits binary64 (g .rmin) ≡ toBits binary64 (h .rmin) → toBits binary64 (g .dr) ≡ toBits binary64 (h .dr)
+    → toBits binary64 (g .«omega_step») ≡ toBits binary64 (h .«omega_step») → g .«n_r» ≡ h .«n_r» → g .«n_omega» ≡ h .«n_omega» → m ≡ n → a ≡ b → fileOf g m a ≡ fileOf h n b
+unfolding fileOf
+file-same g h m n a b r d s k o l e = rw (r, d, s, k, o, l, e)
+
+equal : (a b : History) → Accepted a → Accepted b → Same a b → file a ≡ file b
+unfolding counted
+equal a b p q h =
+    let n : length (rows a) ≡ length (rows b) = many a p ∙ rw (h .«n_r», h .«n_omega») (sym (many b q)) in
+    let r : rows a ≡ rows b = ext-getD repulsive (rows a) (rows b) n (λ s i. h .rows s (omega (arith, many a p))) in
+    file-is a p
+    ∙ file-same (counted (a .grid)) (counted (b .grid)) (suc (a .top)) (suc (b .top)) (rows a) (rows b) (h .rmin) (h .dr) (h .step) (h .«n_r») (h .«n_omega») (h .levels) r
+    ∙ sym (file-is b q)
+
+-- demand 3
+pub promise : Promise
+promise a b p q = ((same a b p q, equal a b p q), (kept a p, kept b q))

@@ -1,0 +1,235 @@
+-- The file of a grid and rows: the reader accepts it, what stands where in it, and that it is one to one. Assumes nothing.
+use mathlib.Core.Path.{_≡_, refl, sym, ap, _∙_}
+use mathlib.Core.Bool.{true, _&&_}
+use mathlib.Core.List.{List, map}
+use Prim.Native.Nat.{ℕ, _+_, _*_, _-_, _^_, _≤_, _<_}
+use native.Mathlib.Nat.{mul-le-mul, zero-add}
+use native.Mathlib.Omega.{arith}
+use lib.ListN.{length, getD, take, drop}
+use lib.Dec.{T, leb, eqb}
+use lib.Ieee.{Float, binary64, fits, toBits, ofBits}
+use lib.Ieee.Bits.{ofBits-toBits, toBits-lt}
+use borrow.Author.Tests.{leb-true, eqb-true}
+use Rattle.mesh.specs.Lists.{below}
+use Rattle.mesh.specs.Levels.{vertexCount, per}
+use Rattle.mesh.proofs.Counting.{and-yes}
+use Rattle.grid.specs.Bins.{tableRmax}
+use Rattle.grid.specs.Settings.{gridRange, slabsHeld, gridHeld}
+use Rattle.grid.specs.declared.Grid.{Grid}
+use Rattle.grid.proofs.Laws.{Ranged, ranged}
+use Rattle.rows.specs.Rows.{Row, repulsive}
+use Rattle.table.specs.Bytes.{numberOf, numberAt, items}
+use Rattle.table.specs.File.{Entry, entryOf, entry, entries, energiesIn, energiesOf, fileOf}
+use Rattle.table.specs.Read.{layout, laidOut, countAt, readTable, readOut}
+use Rattle.table.specs.declared.Table.{Table}
+use Rattle.table.specs.declared.ReadAnswer.{ReadAnswer}
+use Rattle.table.specs.declared.ReadAnswer.the-variants.{Accepted as Reads}
+use Rattle.table.proofs.Back.{All, Fitting, item-at}
+use Rattle.table.proofs.Parsed.{laid, laid-out, rows-back, energies-back}
+use Rattle.table.proofs.Sound.{Fine, entries-length, entries-held, entries-tiled, entries-fit, numbers, energies-held}
+use Rattle.table.proofs.Accepts.{written, tableFound, accepts}
+use Rattle.table.proofs.OfRows.{before, counts-many, counts-at, counts-fit, numbers-fit, energies-le, entry-is, energies-in, energy-is, same-rows}
+
+-- a grid, a level count and rows that a file can hold: settings that an f64 can have, 14 answered yes, a row for each slab, and each row one of a table
+pub record Filable (g : Grid) (levels : ℕ) (rows : List (Row ℕ)) : Type 0 where
+  pub rmin : T (fits binary64 (g .rmin))
+  pub dr : T (fits binary64 (g .dr))
+  pub step : T (fits binary64 (g .«omega_step»))
+  pub held : gridHeld g levels ≡ true
+  pub many : length rows ≡ g .«n_r» * g .«n_omega»
+  pub fine : All (Fine levels) rows
+
+module _ (g : Grid) (levels : ℕ) (rows : List (Row ℕ)) where
+  -- what read answers for the file
+  abbrev pub gridIn : Grid
+  gridIn = record {
+    rmin = g .rmin;
+    rmax = tableRmax (g .«n_r») (g .dr) (g .rmin);
+    dr = g .dr;
+    «omega_step» = g .«omega_step»;
+    threshold = ofBits binary64 0;
+    beta = ofBits binary64 0;
+    «n_r» = g .«n_r»;
+    «n_omega» = g .«n_omega»;
+  }
+
+  abbrev pub tableIn : Table
+  tableIn = record {
+    grid = gridIn;
+    levels = levels;
+    rows = length rows;
+    energies = length (energiesOf rows);
+    «grid_start» = 4;
+    «bins_start» = 28 + 4;
+    «levels_start» = 40 + 4;
+    «rows_start» = 40 + 4 + levels * 4 + 4;
+    «energies_start» = 40 + 4 + levels * 4 + 4 + length rows * 10 + 4;
+  }
+
+module _ (g : Grid) (levels : ℕ) (rows : List (Row ℕ)) (ok : Filable g levels rows) where
+  abbrev x : ℕ
+  x = toBits binary64 (g .rmin)
+
+  abbrev y : ℕ
+  y = toBits binary64 (g .dr)
+
+  abbrev z : ℕ
+  z = toBits binary64 (g .«omega_step»)
+
+  abbrev ls : List ℕ
+  ls = map vertexCount (below levels)
+
+  abbrev rs : List Entry
+  rs = entries 0 rows
+
+  abbrev es : List ℕ
+  es = energiesOf rows
+
+  sizes : Ranged g levels × (g .«n_r» * g .«n_omega» * per (levels - 1) ≤ 4294967295)
+  unfolding gridHeld slabsHeld
+  sizes =
+      let a = and-yes (gridRange g levels) (leb (g .«n_r» * g .«n_omega» * per (levels - 1)) 4294967295) (ok .held) in
+      (ranged g levels (a .0), leb-true (g .«n_r» * g .«n_omega» * per (levels - 1)) 4294967295 (a .1))
+
+  few-levels : length ls < 256 ^ 4
+  few-levels = omega (arith, counts-many levels, sizes .0 .few)
+
+  few-rows : length rs < 256 ^ 4
+  few-rows = omega (arith, entries-length 0 rows, ok .many, mul-le-mul (sizes .0 .distances) (sizes .0 .dihedrals))
+
+  few : length es ≤ 4294967295
+  few = omega (arith, rw (ok .many) at (energies-le levels rows (ok .fine)), sizes .1)
+
+  few-energies : length es < 256 ^ 4
+  few-energies = omega (arith, few)
+
+  hx : x < 256 ^ 8
+  hx = toBits-lt binary64 (g .rmin) (ok .rmin)
+
+  hy : y < 256 ^ 8
+  hy = toBits-lt binary64 (g .dr) (ok .dr)
+
+  hz : z < 256 ^ 8
+  hz = toBits-lt binary64 (g .«omega_step») (ok .step)
+
+  hn : g .«n_r» < 256 ^ 4
+  hn = omega (arith, sizes .0 .distances)
+
+  hm : g .«n_omega» < 256 ^ 4
+  hm = omega (arith, sizes .0 .dihedrals)
+
+  fit-rows : All Fitting rs
+  fit-rows = entries-fit levels 0 rows (omega (arith, sizes .0 .few)) (ok .fine) (omega (arith, few-energies))
+
+  fit-energies : All (λ k. k < 256 ^ 4) es
+  fit-energies = numbers-fit es (numbers levels rows (ok .fine))
+
+  abbrev file : List ℕ
+  file = written x y z (g .«n_r») (g .«n_omega») ls rs es few-levels few-rows few-energies hx hy hz hn hm
+
+  file-is : fileOf g levels rows ≡ file
+  unfolding fileOf
+  file-is = refl
+
+  found-is : tableFound x y z (g .«n_r») (g .«n_omega») ls rs es few-levels few-rows few-energies hx hy hz hn hm ≡ tableIn g levels rows
+  found-is =
+      rw (
+        ofBits-toBits binary64 (g .rmin) (ok .rmin),
+        ofBits-toBits binary64 (g .dr) (ok .dr),
+        ofBits-toBits binary64 (g .«omega_step») (ok .step),
+        counts-many levels,
+        entries-length 0 rows,
+      )
+
+  q14 : gridHeld (tableFound x y z (g .«n_r») (g .«n_omega») ls rs es few-levels few-rows few-energies hx hy hz hn hm .grid) (length ls) ≡ true
+  unfolding gridHeld
+  q14 =
+      rw (
+        ofBits-toBits binary64 (g .rmin) (ok .rmin),
+        ofBits-toBits binary64 (g .dr) (ok .dr),
+        ofBits-toBits binary64 (g .«omega_step») (ok .step),
+        counts-many levels,
+      ) (ok .held)
+
+  -- the reader accepts the file
+  pub file-accepted : readOut (fileOf g levels rows) ≡ Reads (tableIn g levels rows)
+  file-accepted =
+      rw file-is
+      (accepts x y z (g .«n_r») (g .«n_omega») ls rs es few-levels few-rows few-energies hx hy hz hn hm
+      (λ k l. counts-at levels k (omega (arith, counts-many levels))) (counts-fit levels (sizes .0 .few)) fit-rows fit-energies q14 (entries-length 0 rows ∙ ok .many)
+      (rw (counts-many levels) (entries-held levels 0 rows (ok .fine))) (entries-tiled levels 0 (length es) rows (ok .fine) (zero-add (length es))) (energies-held es (numbers levels rows (ok .fine))))
+      ∙ ap Reads found-is
+
+  -- ---- what stands in it
+
+  pub file-length : length (fileOf g levels rows) ≡ 40 + 4 + levels * 4 + 4 + length rows * 10 + 4 + length es * 4
+  unfolding laidOut
+  file-length =
+      let h = laid-out x y z (g .«n_r») (g .«n_omega») ls rs es few-levels few-rows few-energies in
+      let a = and-yes (eqb (countAt file 0) 3) _ h .1 in
+      let b = and-yes (eqb (countAt file (layout file .bins)) 2) (eqb (layout file .end) (length file)) a .1 in
+      let e = eqb-true (layout file .end) (length file) b in
+      let w = rw (laid x y z (g .«n_r») (g .«n_omega») ls rs es few-levels few-rows few-energies) at e in
+      rw file-is (sym w ∙ rw (counts-many levels, entries-length 0 rows))
+
+  pub entries-are : items entryOf 10 (fileOf g levels rows) (tableIn g levels rows .«rows_start») (length rows) ≡ rs
+  entries-are =
+      rw file-is (rw (counts-many levels, entries-length 0 rows) at (rows-back x y z (g .«n_r») (g .«n_omega») ls rs es few-levels few-rows few-energies fit-rows))
+
+  pub energies-are : items numberOf 4 (fileOf g levels rows) (tableIn g levels rows .«energies_start») (length es) ≡ es
+  energies-are =
+      rw file-is (rw (counts-many levels, entries-length 0 rows) at (energies-back x y z (g .«n_r») (g .«n_omega») ls rs es few-levels few-rows few-energies fit-energies))
+
+  -- row s, its energies at the place where those of the rows before it end
+  pub entry-of : (s : ℕ) → s < length rows
+      → entryOf (take 10 (drop (tableIn g levels rows .«rows_start» + s * 10) (fileOf g levels rows))) ≡ entry (before levels rows s) (getD rows s repulsive)
+  entry-of s h =
+      let d : Entry = entry 0 repulsive in
+      sym (item-at entryOf 10 (fileOf g levels rows) d (tableIn g levels rows .«rows_start») (length rows) s h) ∙ ap (λ (l : List Entry). getD l s d) entries-are
+      ∙ entry-is levels 0 rows s d h ∙ rw zero-add
+
+  -- energy k of row s
+  pub energy-of : (s k : ℕ) → s < length rows → k < length (energiesIn (getD rows s repulsive))
+      → (before levels rows s + k < length es)
+      × (numberAt 4 (fileOf g levels rows) (tableIn g levels rows .«energies_start» + (before levels rows s + k) * 4) ≡ getD (energiesIn (getD rows s repulsive)) k 0)
+  unfolding numberAt
+  energy-of s k h i =
+      let j = before levels rows s + k in
+      let l : j < length es = omega (arith, energies-in levels rows s (ok .fine) h) in (
+        l,
+        sym (item-at numberOf 4 (fileOf g levels rows) 0 (tableIn g levels rows .«energies_start») (length es) j l) ∙ ap (λ (q : List ℕ). getD q j 0) energies-are
+            ∙ energy-is levels rows s k (ok .fine) h i,
+      )
+
+-- ---- one to one
+
+-- what a file holds
+pub record Holds (g h : Grid) (m n : ℕ) (a b : List (Row ℕ)) : Type 0 where
+  pub rmin : g .rmin ≡ h .rmin
+  pub dr : g .dr ≡ h .dr
+  pub step : g .«omega_step» ≡ h .«omega_step»
+  pub «n_r» : g .«n_r» ≡ h .«n_r»
+  pub «n_omega» : g .«n_omega» ≡ h .«n_omega»
+  pub levels : m ≡ n
+  pub rows : a ≡ b
+
+-- files are equal only where they hold the same
+pub file-holds : (g h : Grid) (m n : ℕ) (a b : List (Row ℕ)) → Filable g m a → Filable h n b → fileOf g m a ≡ fileOf h n b → Holds g h m n a b
+file-holds g h m n a b p q e =
+    let t : tableIn g m a ≡ tableIn h n b =
+    sym (ap readTable (file-accepted g m a p)) ∙ ap (λ (f : List ℕ). readTable (readOut f)) e ∙ ap readTable (file-accepted h n b q) in
+    let rows : entries 0 a ≡ entries 0 b =
+    sym (entries-are g m a p) ∙ ap (λ (f : List ℕ). items entryOf 10 f (tableIn g m a .«rows_start») (length a)) e
+    ∙ ap (λ (k : Table). items entryOf 10 (fileOf h n b) (k .«rows_start») (k .rows)) t ∙ entries-are h n b q in
+    let energies : energiesOf a ≡ energiesOf b =
+    sym (energies-are g m a p) ∙ ap (λ (f : List ℕ). items numberOf 4 f (tableIn g m a .«energies_start») (length (energiesOf a))) e
+    ∙ ap (λ (k : Table). items numberOf 4 (fileOf h n b) (k .«energies_start») (k .energies)) t ∙ energies-are h n b q in
+    record {
+      rmin = ap (λ (k : Table). k .grid .rmin) t;
+      dr = ap (λ (k : Table). k .grid .dr) t;
+      step = ap (λ (k : Table). k .grid .«omega_step») t;
+      «n_r» = ap (λ (k : Table). k .grid .«n_r») t;
+      «n_omega» = ap (λ (k : Table). k .grid .«n_omega») t;
+      levels = ap (λ (k : Table). k .levels) t;
+      rows = same-rows m n a b (p .fine) (q .fine) rows energies;
+    }

@@ -1,0 +1,160 @@
+-- Rows in a file: which a table can hold, where each stands, and that they can be told from their entries and energies. Assumes nothing.
+use mathlib.Core.Path.{_≡_, refl, sym, ap, _∙_}
+use mathlib.Core.Bool.{Bool, true, false, cond, not}
+use mathlib.Core.List.{List, [], _∷_, _++_, map, map-append}
+use mathlib.Core.Logic.{_⊎_, inl, inr}
+use Prim.Native.Nat.{ℕ, zero, suc, _+_, _*_, _-_, _^_, _≤_, _<_}
+use native.Mathlib.Nat.{suc-mul, add-zero, zero-add, add-assoc}
+use native.Mathlib.Omega.{arith}
+use lib.ListN.{length, getD, take, drop, length-append, length-map, List·getD-append}
+use lib.Seq.{take-at, drop-at, getD-at, getD-append-add}
+use lib.Dec.{T, leb, eqb}
+use lib.Ieee.{Float, nan, inf, fin, binary32, isNan, fits, nanBits, toBits}
+use borrow.Author.Tests.{not-true}
+use Rattle.ieee.proofs.Pack.{le-or-lt}
+use Rattle.mesh.specs.Lists.{below, every}
+use Rattle.mesh.specs.Levels.{vertexCount, per}
+use Rattle.mesh.proofs.Laws.{count-le}
+use Rattle.mesh.proofs.Counting.{and-yes}
+use Rattle.mesh.proofs.Sizes.{per-mono}
+use Rattle.rows.specs.Rows.{Row, scalar, repulsive, mesh, narrowBits, compared}
+use Rattle.rows.proofs.Compared.{bits-lt, bits-nan, narrow-lt, narrow-nan}
+use Rattle.table.specs.File.{Entry, energyCount, energiesIn, entry, entries, energiesOf}
+use Rattle.table.specs.Read.{scalarHeld}
+use Rattle.table.proofs.Back.{All}
+use Rattle.table.proofs.Lengths.{below-length}
+use Rattle.table.proofs.Sound.{Number, Fine}
+
+-- ---- rows of floats, as they compare
+
+-- a row of a builder of this top level
+abbrev pub Good : ℕ → Row Float → Type 0
+Good top (scalar x) = T (fits binary32 x)
+Good top repulsive = Unit {0}
+Good top (mesh v b e) = (v ≤ top) × (length e ≡ per v) × (every (λ x. not (isNan x)) e ≡ true)
+
+one-nan : (x : Float) → cond (isNan x) (eqb (toBits binary32 x) 0x7FC0_0000) true ≡ true
+unfolding isNan toBits
+one-nan nan = refl
+one-nan (inf s) = refl
+one-nan (fin s m e) = refl
+
+pub scalar-held : (x : Float) → T (fits binary32 x) → scalarHeld (toBits binary32 x) ≡ true
+unfolding scalarHeld
+scalar-held x h = rw (bits-nan x h) (one-nan x)
+
+pub narrow-numbers : (e : List Float) → every (λ x. not (isNan x)) e ≡ true → All Number (map narrowBits e)
+unfolding every
+narrow-numbers [] h = tt
+narrow-numbers (x ∷ e) h =
+    let a = and-yes (not (isNan x)) (every (λ y. not (isNan y)) e) h in
+    ((narrow-lt x, narrow-nan x ∙ not-true (isNan x) (a .0)), narrow-numbers e (a .1))
+
+fine-row : (top : ℕ) (r : Row Float) → Good top r → Fine (suc top) (compared r)
+fine-row top (scalar x) h = (bits-lt x h, scalar-held x h)
+fine-row top repulsive h = tt
+fine-row top (mesh v b e) h = (omega (arith, h .0), length-map e narrowBits ∙ h .1, narrow-numbers e (h .2))
+
+pub fine-rows : (top : ℕ) (rows : List (Row Float)) → All (Good top) rows → All (Fine (suc top)) (map compared rows)
+fine-rows top [] h = tt
+fine-rows top (r ∷ rows) h = (fine-row top r (h .0), fine-rows top rows (h .1))
+
+-- ---- the vertex counts
+
+pub counts-many : (n : ℕ) → length (map vertexCount (below n)) ≡ n
+counts-many n = length-map (below n) vertexCount ∙ below-length n
+
+counts-more : (n : ℕ) → map vertexCount (below (suc n)) ≡ map vertexCount (below n) ++ (vertexCount n ∷ [])
+unfolding below
+counts-more n = map-append vertexCount (below n) (n ∷ [])
+
+pub counts-at : (n k : ℕ) → k < n → getD (map vertexCount (below n)) k 0 ≡ vertexCount k
+counts-at zero k h = absurd (omega arith)
+counts-at (suc n) k h = rw (counts-more n) (by (le-or-lt n k) (counts-at n k))
+  where
+    by : (n ≤ k) ⊎ (k < n) → (k < n → getD (map vertexCount (below n)) k 0 ≡ vertexCount k) → getD (map vertexCount (below n) ++ (vertexCount n ∷ [])) k 0 ≡ vertexCount k
+    by (inl l) r = let e : k ≡ n = omega arith in rw e (getD-at (map vertexCount (below n)) (vertexCount n) [] 0 n (counts-many n))
+    by (inr l) r = List·getD-append (map vertexCount (below n)) (vertexCount n ∷ []) 0 k (omega (arith, counts-many n)) ∙ r l
+
+all-append : {A : Type 0} (P : A → Type 0) (a b : List A) → All P a → All P b → All P (a ++ b)
+all-append P [] b p q = q
+all-append P (x ∷ a) b p q = (p .0, all-append P a b (p .1) q)
+
+pub counts-fit : (n : ℕ) → n ≤ 16 → All (λ k. k < 256 ^ 4) (map vertexCount (below n))
+unfolding below
+counts-fit zero h = tt
+counts-fit (suc n) h =
+    rw (counts-more n)
+    (all-append (λ k. k < 256 ^ 4) (map vertexCount (below n)) (vertexCount n ∷ []) (counts-fit n (omega arith)) (omega (arith, count-le n 16 (omega arith)), tt))
+
+-- ---- energies
+
+pub numbers-fit : (l : List ℕ) → All Number l → All (λ k. k < 256 ^ 4) l
+numbers-fit [] a = tt
+numbers-fit (x ∷ l) a = (a .0 .0, numbers-fit l (a .1))
+
+module _ (levels : ℕ) where
+  size-is : (r : Row ℕ) → Fine levels r → length (energiesIn r) ≡ energyCount r
+  size-is (scalar x) f = refl
+  size-is repulsive f = refl
+  size-is (mesh v b e) f = f .1
+
+  size-le : (r : Row ℕ) → Fine levels r → length (energiesIn r) ≤ per (levels - 1)
+  size-le (scalar x) f = omega arith
+  size-le repulsive f = omega arith
+  size-le (mesh v b e) f = omega (arith, f .1, per-mono v (levels - 1) (omega (arith, f .0)))
+
+  pub energies-le : (rows : List (Row ℕ)) → All (Fine levels) rows → length (energiesOf rows) ≤ length rows * per (levels - 1)
+  unfolding energiesOf
+  energies-le [] f = omega arith
+  energies-le (r ∷ rows) f = rw (length-append, suc-mul) (omega (arith, size-le r (f .0), energies-le rows (f .1)))
+
+  -- the energies of the rows before row s
+  abbrev pub before : List (Row ℕ) → ℕ → ℕ
+  before [] s = 0
+  before (r ∷ rows) zero = 0
+  before (r ∷ rows) (suc s) = energyCount r + before rows s
+
+  pub entry-is : (o : ℕ) (rows : List (Row ℕ)) (s : ℕ) (d : Entry) → s < length rows → getD (entries o rows) s d ≡ entry (o + before rows s) (getD rows s repulsive)
+  unfolding entries
+  entry-is o [] s d h = absurd (omega arith)
+  entry-is o (r ∷ rows) zero d h = rw add-zero
+  entry-is o (r ∷ rows) (suc s) d h = entry-is (o + energyCount r) rows s d (omega arith) ∙ rw add-assoc
+
+  pub energies-in : (rows : List (Row ℕ)) (s : ℕ) → All (Fine levels) rows → s < length rows
+      → before rows s + length (energiesIn (getD rows s repulsive)) ≤ length (energiesOf rows)
+  unfolding energiesOf
+  energies-in [] s f h = absurd (omega arith)
+  energies-in (r ∷ rows) zero f h = rw length-append (omega arith)
+  energies-in (r ∷ rows) (suc s) f h = rw length-append (omega (arith, size-is r (f .0), energies-in rows s (f .1) (omega arith)))
+
+  pub energy-is : (rows : List (Row ℕ)) (s k : ℕ) → All (Fine levels) rows → s < length rows → k < length (energiesIn (getD rows s repulsive))
+      → getD (energiesOf rows) (before rows s + k) 0 ≡ getD (energiesIn (getD rows s repulsive)) k 0
+  unfolding energiesOf
+  energy-is [] s k f h i = absurd (omega arith)
+  energy-is (r ∷ rows) zero k f h i = rw zero-add (List·getD-append (energiesIn r) (energiesOf rows) 0 k i)
+  energy-is (r ∷ rows) (suc s) k f h i =
+      rw (add-assoc, ← size-is r (f .0))
+      (getD-append-add (energiesIn r) (energiesOf rows) (before rows s + k) 0 ∙ energy-is rows s k (f .1) (omega arith) i)
+
+-- ---- rows from entries and energies
+
+rowFrom : Entry → List ℕ → Row ℕ
+rowFrom r es = cond (eqb (r .kind) 0) (scalar (r .scalar)) (cond (eqb (r .kind) 1) repulsive (mesh (r .level) (eqb (r .kind) 3) (take (per (r .level)) es)))
+
+abbrev rebuilt : List Entry → List ℕ → List (Row ℕ)
+rebuilt [] es = []
+rebuilt (r ∷ rs) es = rowFrom r es ∷ rebuilt rs (cond (leb (r .kind) 1) es (drop (per (r .level)) es))
+
+rebuilt-is : (levels o : ℕ) (rows : List (Row ℕ)) → All (Fine levels) rows → rebuilt (entries o rows) (energiesOf rows) ≡ rows
+unfolding entries energiesOf rowFrom
+rebuilt-is levels o [] f = refl
+rebuilt-is levels o (scalar x ∷ rows) f = ap (λ (l : List (Row ℕ)). scalar x ∷ l) (rebuilt-is levels (o + 0) rows (f .1))
+rebuilt-is levels o (repulsive ∷ rows) f = ap (λ (l : List (Row ℕ)). repulsive ∷ l) (rebuilt-is levels (o + 0) rows (f .1))
+rebuilt-is levels o (mesh v true e ∷ rows) f =
+    rw (take-at e (energiesOf rows) (per v) (f .0 .1), drop-at e (energiesOf rows) (per v) (f .0 .1), rebuilt-is levels (o + per v) rows (f .1))
+rebuilt-is levels o (mesh v false e ∷ rows) f =
+    rw (take-at e (energiesOf rows) (per v) (f .0 .1), drop-at e (energiesOf rows) (per v) (f .0 .1), rebuilt-is levels (o + per v) rows (f .1))
+
+pub same-rows : (m n : ℕ) (a b : List (Row ℕ)) → All (Fine m) a → All (Fine n) b → entries 0 a ≡ entries 0 b → energiesOf a ≡ energiesOf b → a ≡ b
+same-rows m n a b f g e h = sym (rebuilt-is m 0 a f) ∙ rw (e, h) (rebuilt-is n 0 b g)
