@@ -1,5 +1,6 @@
 // Writes the lists of calls that the program `calls` replays, with the answers, gradients, levels and rows that the Rust gives; a refused call's number is document 01's (refusals.rs). The
-// first argument names the file, and what the program writes where all agrees goes to the second. Prints which cases occur, and fails where one is missing.
+// first argument names the file, and what the program writes where all agrees goes to the second. Prints which cases occur, and fails where one is missing. A third argument, a number, gives
+// other lists of the same kinds.
 #[allow(dead_code)]
 mod meshes;
 mod refusals;
@@ -182,7 +183,7 @@ fn odd_call(world: &mut World, random: &mut Random) {
             1 => oi = [good.n_omega, u64::MAX, 1 << 32][random.below(3)],
             2 => {
                 let n = [vertices_of(0), vertices_of(1), vertices_of(2), 0][random.below(4)];
-                rule.count = [n * n, rule.count - 1, rule.count + 1][random.below(3)];
+                rule.count = [n * n, rule.count.saturating_sub(1), rule.count + 1][random.below(3)];
             }
             3 => rule.places[0] = (random.below(144), f64::NAN),
             4 => {
@@ -472,8 +473,9 @@ fn main() {
     for words in HEAD {
         world.remark(words);
     }
-    let mut random = Random(0x9e3779b97f4a7c15);
-    let mut other = Random(0x853c49e6748fea9b);
+    let seed: u64 = paths.get(2).map_or(0, |n| n.parse().unwrap());
+    let mut random = Random(0x9e3779b97f4a7c15 ^ seed);
+    let mut other = Random(0x853c49e6748fea9b ^ seed);
     let spheres: Vec<Mesh> = (0..3).map(icosphere).collect();
     lend(&mut world, &spheres, |a| a);
     accident(&mut world);
@@ -504,7 +506,7 @@ fn main() {
         println!("{n:5} {words}");
     }
     for words in needed() {
-        assert!(world.cases.contains_key(&words), "no call has this case: {words}");
+        assert!(seed != 0 || world.cases.contains_key(&words), "no call has this case: {words}");
     }
     std::fs::write(&paths[0], &world.out).unwrap();
     report(&world, &paths[1]);

@@ -1,22 +1,9 @@
 // The energies of a set, by a rule: base + step * (x % modulus), x being Park and Miller's minimal standard generator; then two places are given values of their own.
+use crate::line;
 use crate::words::float;
 use crate::words::more;
 use crate::words::place;
 use crate::words::word;
-
-pub(crate) const COUNT: usize = 473;
-
-const MODULUS: usize = 478;
-
-const SEED: usize = 487;
-
-const BASE: usize = 496;
-
-const STEP: usize = 513;
-
-const FIRST: usize = 530;
-
-const SECOND: usize = 552;
 
 fn next(x: u64) -> u64 {
     x % 2147483647 * 16807 % 2147483647
@@ -34,10 +21,10 @@ fn value(base: f64, step: f64, n: u64) -> f64 {
 }
 
 fn fill(line: &[u8], energies: &mut [f64]) {
-    let base = float(line, BASE);
-    let step = float(line, STEP);
-    let modulus = word(line, MODULUS, 8);
-    let mut x = word(line, SEED, 8);
+    let base = float(line, line::BASE);
+    let step = float(line, line::STEP);
+    let modulus = word(line, line::MODULUS, 8);
+    let mut x = word(line, line::SEED, 8);
     let mut i = 0;
     while i < energies.len() {
         x = next(x);
@@ -56,6 +43,6 @@ fn replace(line: &[u8], at: usize, energies: &mut [f64]) {
 
 pub(crate) fn make(line: &[u8], energies: &mut [f64]) {
     fill(line, energies);
-    replace(line, FIRST, energies);
-    replace(line, SECOND, energies);
+    replace(line, line::FIRST, energies);
+    replace(line, line::SECOND, energies);
 }

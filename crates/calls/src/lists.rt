@@ -1,20 +1,11 @@
 // The lent lists: entries that the input gives, and what a call has left.
+use crate::line;
 use crate::tally;
 use crate::tally::Count;
 use crate::words::float;
 use crate::words::more;
 use crate::words::place;
 use crate::words::word;
-
-// A line of entries: the list, the place of the first one, how many they are, and the entries.
-const START: usize = 6;
-
-const NUMBER: usize = 11;
-
-const ENTRIES: usize = 14;
-
-// The rows that a call is to leave.
-const ROWS: usize = 49;
 
 // An entry beyond the end is left out.
 fn put_float(list: &mut [f64], i: usize, x: f64) {
@@ -23,10 +14,10 @@ fn put_float(list: &mut [f64], i: usize, x: f64) {
     }
 }
 
-pub(crate) fn put_floats(line: &[u8], list: &mut [f64]) {
-    let mut i = place(line, START);
-    let mut p = ENTRIES;
-    let mut left = word(line, NUMBER, 2);
+fn put_floats(line: &[u8], list: &mut [f64]) {
+    let mut i = place(line, line::START);
+    let mut p = line::ENTRIES;
+    let mut left = word(line, line::HOW_MANY, 2);
     while left > 0 {
         put_float(list, i, float(line, p));
         i = more(i, 1);
@@ -46,10 +37,10 @@ fn put_short(list: &mut [u16], i: usize, x: u16) {
     }
 }
 
-pub(crate) fn put_shorts(line: &[u8], list: &mut [u16]) {
-    let mut i = place(line, START);
-    let mut p = ENTRIES;
-    let mut left = word(line, NUMBER, 2);
+fn put_shorts(line: &[u8], list: &mut [u16]) {
+    let mut i = place(line, line::START);
+    let mut p = line::ENTRIES;
+    let mut left = word(line, line::HOW_MANY, 2);
     while left > 0 {
         put_short(list, i, short(word(line, p, 16)));
         i = more(i, 1);
@@ -69,10 +60,10 @@ fn put_byte(list: &mut [u8], i: usize, x: u8) {
     }
 }
 
-pub(crate) fn put_bytes(line: &[u8], list: &mut [u8]) {
-    let mut i = place(line, START);
-    let mut p = ENTRIES;
-    let mut left = word(line, NUMBER, 2);
+fn put_bytes(line: &[u8], list: &mut [u8]) {
+    let mut i = place(line, line::START);
+    let mut p = line::ENTRIES;
+    let mut left = word(line, line::HOW_MANY, 2);
     while left > 0 {
         put_byte(list, i, byte(word(line, p, 16)));
         i = more(i, 1);
@@ -92,15 +83,57 @@ fn put_long(list: &mut [u32], i: usize, x: u32) {
     }
 }
 
-pub(crate) fn put_longs(line: &[u8], list: &mut [u32]) {
-    let mut i = place(line, START);
-    let mut p = ENTRIES;
-    let mut left = word(line, NUMBER, 2);
+fn put_longs(line: &[u8], list: &mut [u32]) {
+    let mut i = place(line, line::START);
+    let mut p = line::ENTRIES;
+    let mut left = word(line, line::HOW_MANY, 2);
     while left > 0 {
         put_long(list, i, long(word(line, p, 16)));
         i = more(i, 1);
         p = more(p, 17);
         left -= 1;
+    }
+}
+
+// Entries of the rows: 0 kinds, 1 levels, 2 values.
+pub(crate) fn put_rows(line: &[u8], kinds: &mut [u8], levels: &mut [u8], values: &mut [u32]) {
+    let list = word(line, line::LIST, 2);
+    if list == 0 {
+        put_bytes(line, kinds);
+        return;
+    }
+    if list == 1 {
+        put_bytes(line, levels);
+        return;
+    }
+    if list == 2 {
+        put_longs(line, values);
+    }
+}
+
+// Entries of the meshes: 3 vertices, 4 counts, 5 neighbours, 6 angles.
+pub(crate) fn put_meshes(
+    line: &[u8],
+    vertices: &mut [f64],
+    counts: &mut [u8],
+    neighbours: &mut [u16],
+    angles: &mut [f64],
+) {
+    let list = word(line, line::LIST, 2);
+    if list == 3 {
+        put_floats(line, vertices);
+        return;
+    }
+    if list == 4 {
+        put_bytes(line, counts);
+        return;
+    }
+    if list == 5 {
+        put_shorts(line, neighbours);
+        return;
+    }
+    if list == 6 {
+        put_floats(line, angles);
     }
 }
 
@@ -118,7 +151,7 @@ pub(crate) fn rows_agree(
     values: &[u32; 12],
 ) -> Count {
     let mut c = tally::none();
-    let mut p = ROWS;
+    let mut p = line::ROWS;
     let mut i = 0;
     while i < 12 {
         c = tally::with(c, row_agrees(line, p, kinds[i], levels[i], values[i]));

@@ -1,9 +1,9 @@
--- `calls::set` ends and does nothing undefined: what is lent of a list is at most all of it. Assumes nothing.
+-- `calls::call::set` ends and does nothing undefined: what is lent of a list is at most all of it. Assumes nothing.
 use borrow.Author.Needs.{needs}
 use mathlib.Core.Path.{sym}
 use lib.Seq.{length-take-le}
-use Rattle.calls.proofs.set.Statement.{statement}
-use Rattle.calls.proofs.set.Tie as tie
+use Rattle.calls.proofs.call.set.Statement.{statement}
+use Rattle.calls.proofs.call.set.Tie as tie
 
 lent-requires : tie.Need-lent-requires
 lent-requires c κs = search needs

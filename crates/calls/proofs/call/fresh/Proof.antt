@@ -1,9 +1,9 @@
--- `calls::fresh` ends and does nothing undefined: what is lent of a list is at most all of it. Assumes nothing.
+-- `calls::call::fresh` ends and does nothing undefined: what is lent of a list is at most all of it. Assumes nothing.
 use borrow.Author.Needs.{needs}
 use mathlib.Core.Path.{sym}
 use lib.Seq.{length-take-le}
-use Rattle.calls.proofs.fresh.Statement.{statement}
-use Rattle.calls.proofs.fresh.Tie as tie
+use Rattle.calls.proofs.call.fresh.Statement.{statement}
+use Rattle.calls.proofs.call.fresh.Tie as tie
 
 lent-requires : tie.Need-lent-requires
 lent-requires c κs = search needs
@@ -32,8 +32,8 @@ lent-requires-8 c κs = search needs
 settings-requires : tie.Need-settings-requires
 settings-requires c κs = search needs
 
-top-requires : tie.Need-top-requires
-top-requires c κs = search needs
+top-level-requires : tie.Need-top-level-requires
+top-level-requires c κs = search needs
 
 slice-relend-prefix-fresh : tie.Need-slice-relend-prefix-fresh
 slice-relend-prefix-fresh c = search needs
@@ -102,7 +102,7 @@ fresh-spec =
     lent-requires-7
     lent-requires-8
     settings-requires
-    top-requires
+    top-level-requires
     slice-relend-prefix-fresh
     slice-aggregate-fresh
     slice-relend-prefix-fresh-2
