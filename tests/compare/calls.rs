@@ -4,7 +4,7 @@
 #[allow(dead_code)]
 mod meshes;
 mod refusals;
-mod world;
+mod caller;
 #[allow(dead_code, clippy::all)]
 mod oracle {
     include!(concat!(env!("COMPARE"), "/builder.rs"));
@@ -14,7 +14,7 @@ use meshes::{icosphere, Mesh, Random};
 use oracle::SlabResolution;
 use refusals::{dihedral_count, distance_count, vertices_below, vertices_of, Held, Settings};
 use std::f64::consts::TAU;
-use world::{bits, Rule, World, NOWHERE, PRIME};
+use caller::{bits, Rule, Caller, NOWHERE, PRIME};
 
 const HEAD: &[&str] = &[
     "Lists of calls of fresh, set and settle, 574 letters a line; numbers in hexadecimal, floats by their bits. A line that starts so is passed over.",
@@ -32,7 +32,7 @@ fn angle(a: &[f64], b: &[f64]) -> f64 {
 }
 
 // Lends meshes of levels 0 to 2, with angles as a function has them.
-fn lend(world: &mut World, meshes: &[Mesh], mut angle_of: impl FnMut(f64) -> f64) {
+fn lend(caller: &mut Caller, meshes: &[Mesh], mut angle_of: impl FnMut(f64) -> f64) {
     let mut lent = [Vec::new(), Vec::new(), Vec::new(), Vec::new()];
     for mesh in meshes {
         let part = mesh.lent();
@@ -48,16 +48,16 @@ fn lend(world: &mut World, meshes: &[Mesh], mut angle_of: impl FnMut(f64) -> f64
     }
     for (k, words) in lent.iter().enumerate() {
         // what is lent already is not written again
-        if (0..words.len()).any(|i| world.word(3 + k, i) != words[i]) {
-            world.entries(3 + k, 0, words);
+        if (0..words.len()).any(|i| caller.word(3 + k, i) != words[i]) {
+            caller.entries(3 + k, 0, words);
         }
     }
 }
 
 // Energies of the current level by a rule; calm ones settle as Scalar or Mesh nearest over most meshes.
-fn rule(world: &World, random: &mut Random, calm: bool) -> Rule {
-    let n = vertices_of(world.held.level);
-    let Settings { threshold, beta, .. } = world.held.settings;
+fn rule(caller: &Caller, random: &mut Random, calm: bool) -> Rule {
+    let n = vertices_of(caller.held.level);
+    let Settings { threshold, beta, .. } = caller.held.settings;
     let modulus = 1 + random.below(1000) as u64;
     let seed = 1 + random.below(PRIME as usize - 1) as u64;
     let slope = threshold / (beta * modulus as f64);
@@ -132,7 +132,7 @@ fn wrong(b: Held, which: usize, random: &mut Random) -> Held {
         11 => b.settings.omega_step = [1e-5, 20.0][random.below(2)],
         12 => (b.settings.rmin, b.settings.rmax, b.settings.dr, b.n_r) = (0.0, 1.79e308, 1.1e308, 2),
         _ => {
-            // 40,000 distance bins and more of the dihedral angle
+            // 40,000 distance bins by 800 of the dihedral angle
             (b.settings.rmin, b.settings.rmax, b.settings.dr, b.n_r) = (0.0, 40000.0, 1.0, 40000);
             b.settings.omega_step = TAU / 800.0;
             b.n_omega = dihedral_count(b.settings.omega_step);
@@ -144,7 +144,7 @@ fn wrong(b: Held, which: usize, random: &mut Random) -> Held {
 const WRONG_MESH: usize = 8;
 
 // One entry of a mesh altered: the list, the place, what it becomes.
-fn wrong_mesh(world: &World, which: usize, random: &mut Random) -> (usize, usize, u64) {
+fn wrong_mesh(caller: &Caller, which: usize, random: &mut Random) -> (usize, usize, u64) {
     let n = vertices_below(3);
     let v = random.below(n);
     let k = 6 * v + random.below(6);
@@ -153,7 +153,7 @@ fn wrong_mesh(world: &World, which: usize, random: &mut Random) -> (usize, usize
         1 => (4, v, [0, 4, 7, 255][random.below(4)]),
         2 => (5, k, [v as u64, 65535, 92, 12][random.below(4)]),
         3 => (5, k, random.below(12) as u64),
-        4 => (5, k, world.lists.neighbours[6 * v] as u64),
+        4 => (5, k, caller.lists.neighbours[6 * v] as u64),
         5 => (6, k, bits(-1e-300)),
         6 => (6, k, bits([f64::NAN, f64::INFINITY][random.below(2)])),
         _ => (6, 6 * v + 5, bits(-1.0)),
@@ -169,12 +169,12 @@ fn needed_lengths(b: &Held) -> [usize; 8] {
 }
 
 // A call with something wrong about it, which is put right again behind it.
-fn odd_call(world: &mut World, random: &mut Random) {
-    let good = world.held;
-    let mut lent = world.lists.lengths();
+fn odd_call(caller: &mut Caller, random: &mut Random) {
+    let good = caller.held;
+    let mut lent = caller.lists.lengths();
     let mut ri = random.below(good.n_r as usize) as u64;
     let mut oi = random.below(good.n_omega as usize) as u64;
-    let mut rule = rule(world, random, false);
+    let mut rule = rule(caller, random, false);
     let mut undo = Vec::new();
     let what = random.below(5);
     for _ in 0..1 + random.below(2) {
@@ -193,27 +193,27 @@ fn odd_call(world: &mut World, random: &mut Random) {
             }
             5 => {
                 let b = wrong(good, random.below(WRONG), random);
-                world.hold(b);
-                world.altered = !same(&b, &good);
+                caller.hold(b);
+                caller.altered = !same(&b, &good);
             }
             6 => {
-                let (list, at, n) = wrong_mesh(world, random.below(WRONG_MESH), random);
-                undo.push((list, at, world.word(list, at), n));
-                world.entries(list, at, &[n]);
+                let (list, at, n) = wrong_mesh(caller, random.below(WRONG_MESH), random);
+                undo.push((list, at, caller.word(list, at), n));
+                caller.entries(list, at, &[n]);
             }
             7 => {
                 let s = random.below((good.n_r * good.n_omega) as usize);
-                undo.push((0, s, world.word(0, s), 4));
-                world.entries(0, s, &[[4, 255][random.below(2)]]);
-                undo.last_mut().unwrap().3 = world.word(0, s);
+                undo.push((0, s, caller.word(0, s), 4));
+                caller.entries(0, s, &[[4, 255][random.below(2)]]);
+                undo.last_mut().unwrap().3 = caller.word(0, s);
             }
             _ => {
                 let s = random.below((good.n_r * good.n_omega) as usize);
                 // a level of a row that holds energies: too high, or another one
-                if world.lists.kinds[s] >= 2 {
-                    let level = [good.top + 1, (world.lists.levels[s] as u64 + 1) % (good.top + 1), 255][random.below(3)];
-                    undo.push((1, s, world.word(1, s), level));
-                    world.entries(1, s, &[level]);
+                if caller.lists.kinds[s] >= 2 {
+                    let level = [good.top + 1, (caller.lists.levels[s] as u64 + 1) % (good.top + 1), 255][random.below(3)];
+                    undo.push((1, s, caller.word(1, s), level));
+                    caller.entries(1, s, &[level]);
                 }
             }
         }
@@ -222,30 +222,30 @@ fn odd_call(world: &mut World, random: &mut Random) {
     match what {
         0 => {
             let b = wrong(good, random.below(WRONG), random);
-            if refusals::fresh(b.settings, b.top, &lent, &world.lists).1 != 0 {
-                world.fresh(b.settings, b.top, [b.n_r, b.n_omega], lent);
+            if refusals::fresh(b.settings, b.top, &lent, &caller.lists).1 != 0 {
+                caller.fresh(b.settings, b.top, [b.n_r, b.n_omega], lent);
             }
         }
         1 | 2 => {
-            if !world.altered || refusals::set(&world.held, &lent, ri, oi, &rule.energies()) != 0 {
-                world.set(ri, oi, rule, lent);
+            if !caller.altered || refusals::set(&caller.held, &lent, ri, oi, &rule.energies()) != 0 {
+                caller.set(ri, oi, rule, lent);
             }
         }
         _ => {
-            let unseen = undo.iter().any(|u| u.0 == 1 || u.0 > 2 && !unread(world, u));
-            if !(world.altered || unseen) || refusals::settle(&world.held, &lent, &world.lists, ri) != 0 {
-                world.settle(ri, lent);
+            let unseen = undo.iter().any(|u| u.0 == 1 || u.0 > 2 && !unread(caller, u));
+            if !(caller.altered || unseen) || refusals::settle(&caller.held, &lent, &caller.lists, ri) != 0 {
+                caller.settle(ri, lent);
             }
         }
     }
     for (list, at, before, now) in undo.into_iter().rev() {
-        if world.word(list, at) == now {
-            world.entries(list, at, &[before]);
+        if caller.word(list, at) == now {
+            caller.entries(list, at, &[before]);
         }
     }
-    if world.altered {
-        world.hold(good);
-        world.altered = false;
+    if caller.altered {
+        caller.hold(good);
+        caller.altered = false;
     }
 }
 
@@ -254,61 +254,61 @@ fn same(a: &Held, b: &Held) -> bool {
 }
 
 // A place of a mesh that no accepted settle reads: a vertex, the sixth of five, or one of a level above the top.
-fn unread(world: &World, u: &(usize, usize, u64, u64)) -> bool {
+fn unread(caller: &Caller, u: &(usize, usize, u64, u64)) -> bool {
     let v = match u.0 {
         3 => return true,
         4 => u.1,
         _ => u.1 / 6,
     };
-    v >= vertices_below(world.held.top + 1) || u.0 > 4 && u.1 % 6 >= world.lists.counts[v] as usize
+    v >= vertices_below(caller.held.top + 1) || u.0 > 4 && u.1 % 6 >= caller.lists.counts[v] as usize
 }
 
 // A list of calls: fresh, then slice after slice set and settled, with other calls in between.
-fn list(world: &mut World, random: &mut Random, top: u64) {
+fn list(caller: &mut Caller, random: &mut Random, top: u64) {
     let n = vertices_of(top);
-    let most = (world.lists.store.len() / (n * n)).min(12) as u64;
+    let most = (caller.lists.store.len() / (n * n)).min(12) as u64;
     let s = settings(random, most);
-    let all = world.lists.lengths();
-    assert_eq!(world.fresh(s, top, [0, 9], all), 0);
-    for ri in 0..world.held.n_r {
+    let all = caller.lists.lengths();
+    assert_eq!(caller.fresh(s, top, [0, 9], all), 0);
+    for ri in 0..caller.held.n_r {
         let calm = random.below(2) == 0;
-        for oi in 0..world.held.n_omega {
+        for oi in 0..caller.held.n_omega {
             if random.below(6) != 0 {
-                let r = rule(world, random, calm);
-                world.set(ri, oi, r, all);
+                let r = rule(caller, random, calm);
+                caller.set(ri, oi, r, all);
             }
             if random.below(3) == 0 {
-                odd_call(world, random);
+                odd_call(caller, random);
             }
         }
         if random.below(8) == 0 {
             // a slice that may be of another level by the time it is settled
-            let r = rule(world, random, calm);
-            world.set(random.below(world.held.n_r as usize) as u64, 0, r, all);
+            let r = rule(caller, random, calm);
+            caller.set(random.below(caller.held.n_r as usize) as u64, 0, r, all);
         }
-        world.settle(ri, all);
+        caller.settle(ri, all);
         if random.below(3) == 0 {
-            world.settle(random.below(world.held.n_r as usize) as u64, all);
+            caller.settle(random.below(caller.held.n_r as usize) as u64, all);
         }
     }
-    odd_call(world, random);
-    odd_call(world, random);
+    odd_call(caller, random);
+    odd_call(caller, random);
 }
 
 // The accident: twelve slabs of level 1 that stay Mesh nearest are settled, the level drops, and they are settled again. Here the second call is refused with 11. The Rust takes it, and its
 // table has more energies than its rows account for.
-fn accident(world: &mut World) {
-    let all = world.lists.lengths();
+fn accident(caller: &mut Caller) {
+    let all = caller.lists.lengths();
     let s = Settings { rmin: 0.0, rmax: 1.0, dr: 1.0, omega_step: TAU / 12.0, threshold: 0.1, beta: 1.0 };
-    assert_eq!(world.fresh(s, 1, [0, 0], all), 0);
+    assert_eq!(caller.fresh(s, 1, [0, 0], all), 0);
     let r = Rule { count: 1764, modulus: 1, seed: 1, base: 0.0, step: 0.0, places: [(100, 0.05), (NOWHERE, 0.0)] };
     for oi in 0..12 {
-        assert_eq!(world.set(0, oi, r, all), 0);
+        assert_eq!(caller.set(0, oi, r, all), 0);
     }
-    assert_eq!(world.settle(0, all), 0);
-    assert_eq!(world.held.level, 0);
-    assert_eq!(world.settle(0, all), 11);
-    let mut rust = world.rust.take().unwrap();
+    assert_eq!(caller.settle(0, all), 0);
+    assert_eq!(caller.held.level, 0);
+    assert_eq!(caller.settle(0, all), 11);
+    let mut rust = caller.rust.take().unwrap();
     rust.finish_r_slice(0);
     assert!(rust.slab_res.iter().all(|r| *r == SlabResolution::Mesh { level: 0, interpolate: false }));
     let table = rust.build();
@@ -317,101 +317,101 @@ fn accident(world: &mut World) {
 }
 
 // Repulsive rows and the level: a row that is Repulsive from before keeps it; set anew, it does not.
-fn repulsive_rows(world: &mut World) {
-    let all = world.lists.lengths();
+fn repulsive_rows(caller: &mut Caller) {
+    let all = caller.lists.lengths();
     let s = Settings { rmin: 0.0, rmax: 2.0, dr: 1.0, omega_step: TAU / 2.0, threshold: 0.1, beta: 1.0 };
-    assert_eq!(world.fresh(s, 1, [2, 2], all), 0);
+    assert_eq!(caller.fresh(s, 1, [2, 2], all), 0);
     let flat = |e| Rule { count: 1764, modulus: 1, seed: 1, base: e, step: 0.0, places: [(NOWHERE, 0.0); 2] };
     for (oi, e) in [(0, 10.0), (1, 0.5)] {
-        world.set(0, oi, flat(e), all);
+        caller.set(0, oi, flat(e), all);
     }
-    world.settle(0, all);
-    world.set(0, 1, flat(0.25), all);
-    world.settle(0, all);
-    assert_eq!(world.held.level, 1);
-    world.settle(1, all);
-    world.set(0, 0, flat(-0.0), all);
-    world.settle(0, all);
-    assert_eq!(world.held.level, 0);
+    caller.settle(0, all);
+    caller.set(0, 1, flat(0.25), all);
+    caller.settle(0, all);
+    assert_eq!(caller.held.level, 1);
+    caller.settle(1, all);
+    caller.set(0, 0, flat(-0.0), all);
+    caller.settle(0, all);
+    assert_eq!(caller.held.level, 0);
 }
 
 // Three slices, each settled as Mesh nearest at a level of its own.
-fn descent(world: &mut World) {
-    let all = world.lists.lengths();
+fn descent(caller: &mut Caller) {
+    let all = caller.lists.lengths();
     let s = Settings { rmin: 0.0, rmax: 3.0, dr: 1.0, omega_step: 6.0, threshold: 0.1, beta: 1.0 };
-    assert_eq!(world.fresh(s, 2, [0, 0], all), 0);
+    assert_eq!(caller.fresh(s, 2, [0, 0], all), 0);
     for ri in 0..3 {
-        let n = vertices_of(world.held.level);
+        let n = vertices_of(caller.held.level);
         let r = Rule { count: n * n, modulus: 100, seed: 1 + ri, base: -0.25, step: 1e-4, places: [(NOWHERE, 0.0); 2] };
-        assert_eq!([world.set(ri, 0, r, all), world.settle(ri, all)], [0, 0]);
+        assert_eq!([caller.set(ri, 0, r, all), caller.settle(ri, all)], [0, 0]);
     }
-    assert_eq!(world.lists.kinds[..3], [2, 2, 2]);
-    assert_eq!(world.lists.levels[..3], [2, 1, 0]);
+    assert_eq!(caller.lists.kinds[..3], [2, 2, 2]);
+    assert_eq!(caller.lists.levels[..3], [2, 1, 0]);
 }
 
 // Each thing that can be wrong with a builder or a mesh, in each call.
-fn refused(world: &mut World, random: &mut Random) {
-    let all = world.lists.lengths();
+fn refused(caller: &mut Caller, random: &mut Random) {
+    let all = caller.lists.lengths();
     let s = Settings { rmin: 1.0, rmax: 3.0, dr: 1.0, omega_step: TAU / 2.0, threshold: 0.1, beta: 1.0 };
-    assert_eq!(world.fresh(s, 1, [5, 5], all), 0);
-    let good = world.held;
-    let r = rule(world, random, true);
+    assert_eq!(caller.fresh(s, 1, [5, 5], all), 0);
+    let good = caller.held;
+    let r = rule(caller, random, true);
     for which in 0..WRONG {
         let b = wrong(good, which, random);
-        if refusals::fresh(b.settings, b.top, &all, &world.lists).1 != 0 {
-            world.fresh(b.settings, b.top, [b.n_r, b.n_omega], all);
+        if refusals::fresh(b.settings, b.top, &all, &caller.lists).1 != 0 {
+            caller.fresh(b.settings, b.top, [b.n_r, b.n_omega], all);
         }
-        world.hold(b);
-        world.altered = true;
-        assert!(world.set(0, 0, r, all) > 0 && world.settle(0, all) > 0);
+        caller.hold(b);
+        caller.altered = true;
+        assert!(caller.set(0, 0, r, all) > 0 && caller.settle(0, all) > 0);
     }
-    world.hold(good);
-    world.altered = false;
+    caller.hold(good);
+    caller.altered = false;
     for which in 0..2 * WRONG_MESH {
-        let (list, at, n) = wrong_mesh(world, which % WRONG_MESH, random);
-        let before = world.word(list, at);
-        world.entries(list, at, &[n]);
-        if refusals::settle(&good, &all, &world.lists, 0) != 0 {
-            world.fresh(s, 1, [0, 0], all);
-            world.settle(0, all);
+        let (list, at, n) = wrong_mesh(caller, which % WRONG_MESH, random);
+        let before = caller.word(list, at);
+        caller.entries(list, at, &[n]);
+        if refusals::settle(&good, &all, &caller.lists, 0) != 0 {
+            caller.fresh(s, 1, [0, 0], all);
+            caller.settle(0, all);
         }
-        world.entries(list, at, &[before]);
+        caller.entries(list, at, &[before]);
     }
 }
 
 // Lists that are exactly as long as needed, and one of them one short.
-fn lengths(world: &mut World, random: &mut Random) {
+fn lengths(caller: &mut Caller, random: &mut Random) {
     let s = Settings { rmin: 1.0, rmax: 3.0, dr: 1.0, omega_step: TAU / 2.0, threshold: 0.1, beta: 1.0 };
-    let (b, _) = refusals::fresh(s, 1, &world.lists.lengths(), &world.lists);
+    let (b, _) = refusals::fresh(s, 1, &caller.lists.lengths(), &caller.lists);
     let exact = needed_lengths(&b);
-    assert_eq!(world.fresh(s, 1, [0, 0], exact), 0);
-    let r = rule(world, random, true);
-    assert_eq!(world.set(1, 1, r, exact), 0);
+    assert_eq!(caller.fresh(s, 1, [0, 0], exact), 0);
+    let r = rule(caller, random, true);
+    assert_eq!(caller.set(1, 1, r, exact), 0);
     for k in 0..8 {
         let mut short = exact;
         short[k] -= 1;
-        assert_eq!([world.fresh(s, 1, [0, 0], short), world.settle(1, short)], [6, 6]);
-        assert_eq!(world.set(1, 1, r, short), if k < 4 { 6 } else { 0 });
+        assert_eq!([caller.fresh(s, 1, [0, 0], short), caller.settle(1, short)], [6, 6]);
+        assert_eq!(caller.set(1, 1, r, short), if k < 4 { 6 } else { 0 });
     }
-    assert_eq!(world.settle(1, exact), 0);
+    assert_eq!(caller.settle(1, exact), 0);
 }
 
 // Over meshes none of whose pairs counts: the mean of infinities of both signs. With one pair at a huge angle: a gradient that is subnormal.
-fn odd_numbers(world: &mut World) {
-    let all = world.lists.lengths();
+fn odd_numbers(caller: &mut Caller) {
+    let all = caller.lists.lengths();
     let s = Settings { rmin: 0.0, rmax: 1.0, dr: 1.0, omega_step: 6.0, threshold: 0.1, beta: 1.0 };
     let with = |places| Rule { count: 144, modulus: 1, seed: 1, base: 0.0, step: 0.0, places };
-    assert_eq!(world.fresh(s, 0, [0, 0], all), 0);
-    world.set(0, 0, with([(3, f64::INFINITY), (5, f64::NEG_INFINITY)]), all);
-    world.settle(0, all);
-    let before = world.word(6, 0);
-    world.entries(6, 0, &[bits(1e308)]);
+    assert_eq!(caller.fresh(s, 0, [0, 0], all), 0);
+    caller.set(0, 0, with([(3, f64::INFINITY), (5, f64::NEG_INFINITY)]), all);
+    caller.settle(0, all);
+    let before = caller.word(6, 0);
+    caller.entries(6, 0, &[bits(1e308)]);
     for threshold in [1e-309, 5e-308, 0.1] {
-        assert_eq!(world.fresh(Settings { threshold, ..s }, 0, [0, 0], all), 0);
-        world.set(0, 0, with([(3, 20.0), (NOWHERE, 0.0)]), all);
-        world.settle(0, all);
+        assert_eq!(caller.fresh(Settings { threshold, ..s }, 0, [0, 0], all), 0);
+        caller.set(0, 0, with([(3, 20.0), (NOWHERE, 0.0)]), all);
+        caller.settle(0, all);
     }
-    world.entries(6, 0, &[before]);
+    caller.entries(6, 0, &[before]);
 }
 
 // Cases that the lists are to have.
@@ -445,11 +445,11 @@ fn needed() -> Vec<String> {
     words
 }
 
-fn report(world: &World, path: &str) {
+fn report(caller: &Caller, path: &str) {
     let count = |what: &str| {
         let refused = |n: usize| format!("{what} {n}");
-        let sum: usize = (1..16).filter_map(|n| world.cases.get(&refused(n))).sum();
-        (world.cases[&refused(0)], sum)
+        let sum: usize = (1..16).filter_map(|n| caller.cases.get(&refused(n))).sum();
+        (caller.cases[&refused(0)], sum)
     };
     let mut text = String::new();
     let mut agree = |what: &str, n: usize| text.push_str(&format!("{what}: {n} of {n} agree\n"));
@@ -460,7 +460,7 @@ fn report(world: &World, path: &str) {
         agree(&format!("{what}, refused"), refused);
         calls += accepted + refused;
     }
-    agree("gradients", world.gradients);
+    agree("gradients", caller.gradients);
     agree("levels", calls);
     agree("rows", 12 * calls);
     agree("stores", calls);
@@ -469,46 +469,46 @@ fn report(world: &World, path: &str) {
 
 fn main() {
     let paths: Vec<String> = std::env::args().skip(1).collect();
-    let mut world = World::new();
+    let mut caller = Caller::new();
     for words in HEAD {
-        world.remark(words);
+        caller.remark(words);
     }
     let seed: u64 = paths.get(2).map_or(0, |n| n.parse().unwrap());
     let mut random = Random(0x9e3779b97f4a7c15 ^ seed);
     let mut other = Random(0x853c49e6748fea9b ^ seed);
     let spheres: Vec<Mesh> = (0..3).map(icosphere).collect();
-    lend(&mut world, &spheres, |a| a);
-    accident(&mut world);
-    repulsive_rows(&mut world);
-    descent(&mut world);
-    refused(&mut world, &mut random);
-    lengths(&mut world, &mut random);
+    lend(&mut caller, &spheres, |a| a);
+    accident(&mut caller);
+    repulsive_rows(&mut caller);
+    descent(&mut caller);
+    refused(&mut caller, &mut random);
+    lengths(&mut caller, &mut random);
     for k in 0..24 {
-        list(&mut world, &mut random, [0, 1, 2, 1, 2, 2][k % 6]);
+        list(&mut caller, &mut random, [0, 1, 2, 1, 2, 2][k % 6]);
     }
     let odd = [0.0, -0.0, 5e-324, 1e-12, 1.0000000000000002e-12, 1e-11, 3.0, 1e308];
-    lend(&mut world, &spheres, |_| odd[other.below(8)]);
+    lend(&mut caller, &spheres, |_| odd[other.below(8)]);
     for k in 0..8 {
-        list(&mut world, &mut random, [0, 1][k % 2]);
+        list(&mut caller, &mut random, [0, 1][k % 2]);
     }
     // no pair counts, and every slab that is not repulsive becomes a scalar
-    lend(&mut world, &spheres, |_| odd[other.below(4)]);
-    odd_numbers(&mut world);
+    lend(&mut caller, &spheres, |_| odd[other.below(4)]);
+    odd_numbers(&mut caller);
     for k in 0..6 {
-        list(&mut world, &mut random, [0, 1][k % 2]);
+        list(&mut caller, &mut random, [0, 1][k % 2]);
     }
     let shuffled: Vec<Mesh> = spheres.iter().map(|m| m.shuffled(&mut random)).collect();
-    lend(&mut world, &shuffled, |a| a * (1.0 + 0.5 * other.unit()));
+    lend(&mut caller, &shuffled, |a| a * (1.0 + 0.5 * other.unit()));
     for k in 0..12 {
-        list(&mut world, &mut random, [1, 0, 2][k % 3]);
+        list(&mut caller, &mut random, [1, 0, 2][k % 3]);
     }
-    for (words, n) in &world.cases {
+    for (words, n) in &caller.cases {
         println!("{n:5} {words}");
     }
     for words in needed() {
-        assert!(seed != 0 || world.cases.contains_key(&words), "no call has this case: {words}");
+        assert!(seed != 0 || caller.cases.contains_key(&words), "no call has this case: {words}");
     }
-    std::fs::write(&paths[0], &world.out).unwrap();
-    report(&world, &paths[1]);
-    println!("{} letters, {} lines", world.out.len(), world.lines());
+    std::fs::write(&paths[0], &caller.out).unwrap();
+    report(&caller, &paths[1]);
+    println!("{} letters, {} lines", caller.out.len(), caller.lines());
 }

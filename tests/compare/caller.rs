@@ -1,4 +1,4 @@
-// What a list of calls works on: the lent lists, the builder as the calls left it, and the Rust's builder; every call is made here, and its line written.
+// The caller of a list of calls: the lent lists, the builder as the calls left it, and the Rust's builder. Every call is made here, and its line written.
 use crate::oracle::{AdaptiveBuilder, MeshLevel, SlabResolution};
 use crate::refusals::{self, vertices_below, vertices_of, Held, Lists, Settings};
 use std::collections::BTreeMap;
@@ -82,7 +82,7 @@ impl Line {
     }
 }
 
-pub struct World {
+pub struct Caller {
     pub lists: Lists,
     pub held: Held,
     pub rust: Option<AdaptiveBuilder>,
@@ -93,11 +93,11 @@ pub struct World {
     pub gradients: usize,
 }
 
-impl World {
-    pub fn new() -> World {
+impl Caller {
+    pub fn new() -> Caller {
         let settings = Settings { rmin: 0.0, rmax: 0.0, dr: 0.0, omega_step: 0.0, threshold: 0.0, beta: 0.0 };
         let n = vertices_below(3);
-        World {
+        Caller {
             lists: Lists {
                 store: vec![1.0; 25392],
                 kinds: vec![9; 12],
@@ -211,7 +211,7 @@ impl World {
     pub fn fresh(&mut self, settings: Settings, top: u64, counts: [u64; 2], lent: [usize; 8]) -> u64 {
         let (b, number) = refusals::fresh(settings, top, &lent, &self.lists);
         let mut line = Line::new(1);
-        // the counts and the level handed in are ignored
+        // fresh ignores the counts that it is handed, and is handed no level
         line.builder(&Held { n_r: counts[0], n_omega: counts[1], level: 77, ..b });
         if number == 0 {
             let s = settings;
