@@ -6,9 +6,10 @@ use libc::STDOUT_FILENO;
 use questions::Builder;
 use writer::Written;
 
+mod accident;
 mod icospheres;
 
-fn say(what: &[u8], got: u64, wanted: u64) {
+pub(crate) fn say(what: &[u8], got: u64, wanted: u64) {
     io::write_all(STDOUT_FILENO, what);
     io::write_all(STDOUT_FILENO, b": ");
     io::print_decimal(STDOUT_FILENO, got);
@@ -31,7 +32,7 @@ fn wide32(x: u32) -> u64 {
 }
 
 // rmin 0, dr 1, beta 1, threshold 0.1
-fn settings(rmax: f64, omega_step: f64) -> Grid {
+pub(crate) fn settings(rmax: f64, omega_step: f64) -> Grid {
     Grid {
         rmin: 0.0,
         rmax,
@@ -53,7 +54,7 @@ fn none() -> Builder {
 }
 
 // The builder that fresh answers; one that every call refuses where it does not.
-fn begun(
+pub(crate) fn begun(
     g: Grid,
     top: u64,
     store: &mut [f64],
@@ -79,7 +80,7 @@ fn begun(
 }
 
 // The length of the file that write answers, or its number and a million.
-fn written(
+pub(crate) fn written(
     b: Builder,
     store: &[f64],
     kinds: &[u8],
@@ -105,7 +106,7 @@ fn written(
 }
 
 // 0 where set was accepted, else its number.
-fn set_number(a: Built) -> u64 {
+pub(crate) fn set_number(a: Built) -> u64 {
     match a {
         Built::Accepted(_) => 0,
         Built::Refused(no) => no,
@@ -113,7 +114,7 @@ fn set_number(a: Built) -> u64 {
 }
 
 // What settle answers, over the two meshes.
-fn settled(
+pub(crate) fn settled(
     b: Builder,
     ri: u64,
     store: &[f64],
@@ -135,7 +136,7 @@ fn settled(
     )
 }
 
-fn settled_number(a: Settled) -> u64 {
+pub(crate) fn settled_number(a: Settled) -> u64 {
     match a {
         Settled::Accepted(_, _) => 0,
         Settled::Refused(no) => no,
@@ -236,4 +237,5 @@ fn main() {
     nothing_set();
     one_slab(b"144 tens", 10.0, 1);
     one_slab(b"144 zeros", 0.0, 0);
+    accident::settled_twice();
 }
