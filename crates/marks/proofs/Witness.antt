@@ -4,7 +4,7 @@ use mathlib.Core.Bool.{true, false}
 use mathlib.Core.List.{List, [], _∷_, _++_}
 use Prim.Native.Nat.{ℕ, _<_}
 use native.Mathlib.Omega.{arith}
-use lib.ListN.{length, replicate, set, getD}
+use lib.ListN.{length, replicate, getD}
 use lib.Dec.{T}
 use lib.Ieee.{Float, binary64, fits}
 use lib.Ieee.Bits.{ofBits-fits}
@@ -19,7 +19,8 @@ use Rattle.ledger.specs.Ledger.{Call, set-call, settle-call, write-call, State,
 use Rattle.ledger.specs.Promise.{History, ended, file, rows, Accepted, Same}
 use Rattle.ledger.proofs.Theorem.{promise}
 use Rattle.marks.specs.Icospheres.{twoLevels}
-use Rattle.marks.specs.Computed.{f64, settings, lent, history, history₂, computed}
+use Rattle.marks.specs.Computed.{f64, lent, history, history₂, computed}
+use Rattle.marks.specs.Settled.{tens, nearly, lowered, after, lowers}
 
 -- lists over the same settings are the same where their ledgers are
 same-rows : (a b : History) → a .grid ≡ b .grid → a .top ≡ b .top → rows a ≡ rows b → Same a b
@@ -44,9 +45,6 @@ six-fits : T (fits binary64 (f64 0x4018_0000_0000_0000))
 six-fits = ofBits-fits binary64 0x4018_0000_0000_0000
 
 -- ---- one slab at level 0
-
-abbrev tens : List Float
-tens = replicate 144 (f64 0x4024_0000_0000_0000)
 
 abbrev zeros : List Float
 zeros = replicate 144 (f64 0)
@@ -106,57 +104,43 @@ files-differ e =
 
 -- ---- three slabs at levels 0 and 1
 
--- 1764 zeros but for one 0.05, which settles as nearest and lowers the level
-abbrev nearly : List Float
-nearly = set (replicate 1764 (f64 0)) 100 (f64 0x3FA9_9999_9999_999A)
-
 abbrev deep : List Call → History
 deep cs = record { grid = history₂ [] .grid; top = 1; meshes = twoLevels; lists = lent 5292 3; calls = cs; output = replicate 14202 7 }
 
--- two slices set, one of them settled, so that the level drops; and after that a settle of each, which 11 refuses, and a write
-abbrev lowered : History
-lowered = deep (set-call 1 0 nearly ∷ set-call 0 0 nearly ∷ settle-call 0 ∷ [])
+-- calls that lower the level; and after them a settle of each slice that was set, which 11 refuses, and a write
+abbrev later : List Call
+later = settle-call 0 ∷ settle-call 1 ∷ write-call (replicate 14202 0) ∷ []
+
+abbrev short : History
+short = deep lowered
 
 abbrev refused : History
-refused = deep (set-call 1 0 nearly ∷ set-call 0 0 nearly ∷ settle-call 0 ∷ settle-call 0 ∷ settle-call 1 ∷ write-call (replicate 14202 0) ∷ [])
-
--- what the first three calls leave in the builder's lists, and in the ledger
-abbrev left : State
-left = record {
-  builder = record { grid = counted (lowered .grid); top = 1; level = 0 };
-  lists = record {
-    store = nearly ++ (nearly ++ (replicate 1764 (f64 0) ++ (f64 0x4000_0000_0000_0000 ∷ [])));
-    rows = record { kinds = 2 ∷ 3 ∷ 0 ∷ 9 ∷ []; levels = 1 ∷ 1 ∷ 0 ∷ 9 ∷ []; values = 0 ∷ 0 ∷ 0 ∷ 9 ∷ [] };
-  };
-}
+refused = deep (lowered ++ later)
 
 abbrev book : Ledger
 book = record { level = 0; rows = mesh 1 false nearly ∷ mesh 1 true nearly ∷ scalar (f64 0) ∷ [] }
 
-abbrev later : List Call
-later = settle-call 0 ∷ settle-call 1 ∷ write-call (replicate 14202 0) ∷ []
-
-ended-lowered : ended lowered ≡ left
+ended-lowered : ended short ≡ after
 unfolding computed
-ended-lowered = refl
+ended-lowered = lowers
 
-later-refused : run twoLevels left later ≡ left
+later-refused : run twoLevels after later ≡ after
 unfolding computed
 later-refused = refl
 
-ended-refused : ended refused ≡ left
+ended-refused : ended refused ≡ after
 unfolding ended run
 ended-refused = ap (λ (st : State). run twoLevels st later) ended-lowered ∙ later-refused
 
-written : writtenNumber (writeOut (left .builder) twoLevels (left .lists) (replicate 14202 7) .answer) ≡ 0
+written : writtenNumber (writeOut (after .builder) twoLevels (after .lists) (replicate 14202 7) .answer) ≡ 0
 unfolding computed
 written = refl
 
-opened-yes : builtNumber (freshOut (lowered .grid) 1 twoLevels (lent 5292 3) .answer) ≡ 0
+opened-yes : builtNumber (freshOut (short .grid) 1 twoLevels (lent 5292 3) .answer) ≡ 0
 unfolding computed
 opened-yes = refl
 
-pub accepted-lowered : Accepted lowered
+pub accepted-lowered : Accepted short
 accepted-lowered = record { rmin = zero-fits; dr = one-fits; step = six-fits; fresh = opened-yes; write = rw ended-lowered written }
 
 pub accepted-refused : Accepted refused
@@ -164,9 +148,9 @@ accepted-refused = record { rmin = zero-fits; dr = one-fits; step = six-fits; fr
 
 -- the ledger is computed alone
 abbrev g : Grid
-g = counted (lowered .grid)
+g = counted (short .grid)
 
-ledger-lowered : ledger g twoLevels (opened g 1) (lowered .calls) ≡ book
+ledger-lowered : ledger g twoLevels (opened g 1) lowered ≡ book
 unfolding computed
 ledger-lowered = refl
 
@@ -174,13 +158,13 @@ ledger-later : ledger g twoLevels book later ≡ book
 unfolding computed
 ledger-later = refl
 
-ledger-refused : ledger g twoLevels (opened g 1) (refused .calls) ≡ book
+ledger-refused : ledger g twoLevels (opened g 1) (lowered ++ later) ≡ book
 unfolding ledger
 ledger-refused = ap (λ (b : Ledger). ledger g twoLevels b later) ledger-lowered ∙ ledger-later
 
-ledgers-equal-too : rows lowered ≡ rows refused
+ledgers-equal-too : rows short ≡ rows refused
 unfolding rows
 ledgers-equal-too = rw (ledger-lowered, ledger-refused)
 
-pub files-equal-too : file lowered ≡ file refused
-files-equal-too = promise lowered refused accepted-lowered accepted-refused .0 .1 (same-rows lowered refused refl refl ledgers-equal-too)
+pub files-equal-too : file short ≡ file refused
+files-equal-too = promise short refused accepted-lowered accepted-refused .0 .1 (same-rows short refused refl refl ledgers-equal-too)
