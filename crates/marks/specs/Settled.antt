@@ -25,19 +25,19 @@ wasSet h ri oi e = builtNumber (setOut (ended h .builder) (ended h .lists) ri oi
 abbrev zeros : ℕ → List Float
 zeros n = replicate n (f64 0)
 
-abbrev tens : List Float
+abbrev pub tens : List Float
 tens = replicate 144 (f64 0x4024_0000_0000_0000)
 
 -- 1764 zeros but for one 0.05, which settles as nearest at threshold 0.1 and lowers the level
-abbrev nearly : List Float
+abbrev pub nearly : List Float
 nearly = set (zeros 1764) 100 (f64 0x3FA9_9999_9999_999A)
 
 -- two slices set at level 1, and one of them settled
-abbrev lowered : List Call
+abbrev pub lowered : List Call
 lowered = set-call 1 0 nearly ∷ set-call 0 0 nearly ∷ settle-call 0 ∷ []
 
 -- what these calls leave: a nearest row of level 1, an interpolated one, one without energies; and level 0
-abbrev after : State
+abbrev pub after : State
 after = record {
   builder = record { grid = counted (history₂ [] .grid); top = 1; level = 0 };
   lists = record {
