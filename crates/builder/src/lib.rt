@@ -16,6 +16,7 @@ mod slices;
 pub use room::meshed_refusal;
 
 // The settings, the top level and the current one.
+#[repr(C)]
 pub struct Builder {
     pub grid: Grid,
     pub top: u64,
