@@ -161,21 +161,36 @@ fn power_of_least(j: u64) -> f64
     f64::from_bits((j - 51) * 0x10_0000_0000_0000)
 }
 
-// 2 ^ k, rounded.
+// 2 ^ k, rounded. Every exponent of a normal number takes one path, whatever its sign.
 fn power_of_two(k: i64) -> f64
     ensures { λ r. ⌜ r ≡ twoTo k ⌝ }
 {
-    let n = distance(k);
-    if k >= 0 {
-        if n < 1024 {
-            return power_of_least(n + 1074);
+    if k >= -1022 {
+        if k < 1024 {
+            return power_of_least((k + 1074) as u64);
         }
         return 1.0 / 0.0;
     }
+    let n = distance(k);
     if n < 1074 {
         return power_of_least(1073 - n);
     }
     0.0
+}
+
+// k, which is the floor of x, as an integer. The machine's cast serves small numbers.
+fn floor_to_i64(x: f64, k: f64) -> i64
+    requires { ⌜ k ≡ floored x ⌝ }
+    ensures { λ r. ⌜ r ≡ toSigned 63 k ⌝ }
+{
+    if x != 0.0 {
+        if x > -1024.0 {
+            if x < 1024.0 {
+                return k as i64;
+            }
+        }
+    }
+    to_i64(k)
 }
 
 // The sum of r ^ j / j! for j up to 13.
@@ -211,7 +226,8 @@ pub fn exp(y: f64) -> f64
     if y > 709.0 {
         return 1.0 / 0.0;
     }
-    let k = floor(y * 1.4426950408889634 + 0.5);
+    let x = y * 1.4426950408889634 + 0.5;
+    let k = floor(x);
     let r = (y - k * 0.6931471803691238) - k * 1.9082149292705877e-10;
-    series(r) * power_of_two(to_i64(k))
+    series(r) * power_of_two(floor_to_i64(x, k))
 }

@@ -1,5 +1,4 @@
 -- `icotable_read` meets its contract. Assumes nothing.
-use Rattle.icotable.specs.Answers.{tableAnswer}
 use borrow.Author.Needs.{needs}
 use Rattle.icotable.proofs.icotable_read.Statement.{statement}
 use Rattle.icotable.proofs.icotable_read.Tie as tie
