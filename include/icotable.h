@@ -154,6 +154,16 @@ uint64_t icotable_locator(
     uint32_t *face_offsets, size_t face_offsets_count,
     uint16_t *faces, size_t faces_count);
 
+/* n of a level, and 6*g*g+1: what a host sizes its lists with. 0 for a level above 15. */
+uint64_t icotable_vertices(uint64_t level);
+uint64_t icotable_cells(uint64_t level);
+
+/* The square root, a*b+c rounded once and the nearest float, as IEEE 754 has them; and the exponential that settling uses. */
+double icotable_root(double x);
+double icotable_exp(double y);
+double icotable_mul_add(double a, double b, double c);
+float icotable_narrow(double x);
+
 #ifdef __cplusplus
 }
 #endif

@@ -1,5 +1,5 @@
 /* A host in C: an empty table of level 0 from its settings, written, printed and read back; a slab set and settled; calls that are
- * refused; the locator of the icosahedron. Every answer is compared with what document 01 says, and the status is 1 where one differs. */
+ * refused; the locator of the icosahedron; sizes and numbers. Every answer is compared with what document 01 says, and the status is 1 where one differs. */
 #include "icotable.h"
 
 #include <stdio.h>
@@ -174,12 +174,31 @@ static void locator(void) {
     expect("locator with a list too short", number, 6);
 }
 
+static void sizes_and_numbers(void) {
+    expect("vertices of level 15", icotable_vertices(15), 2562);
+    expect("cell offsets of level 15", icotable_cells(15), 3751);
+    expect("cell offsets of level 0", icotable_cells(0), 25);
+    expect("vertices of level 16", icotable_vertices(16), 0);
+    expect("cell offsets of level 16", icotable_cells(16), 0);
+    double x = icotable_root(2);
+    uint64_t bits;
+    memcpy(&bits, &x, sizeof bits);
+    expect("bits of the root of 2", bits, 0x3FF6A09E667F3BCD);
+    expect("E(0) is 1", icotable_exp(0) == 1, 1);
+    expect("E(-709) is 0", icotable_exp(-709) == 0, 1);
+    double tiny = 1.0 / (1 << 30);
+    expect("fused (1 + 2^-30)(1 - 2^-30) - 1 is -2^-60", icotable_mul_add(1 + tiny, 1 - tiny, -1) == -tiny * tiny, 1);
+    expect("16777217, narrowed", (uint64_t)icotable_narrow(16777217), 16777216);
+    expect("16777219, narrowed", (uint64_t)icotable_narrow(16777219), 16777220);
+}
+
 int main(void) {
     mesh();
     empty_table();
     one_slab();
     refused();
     locator();
+    sizes_and_numbers();
     printf("%d answers differ\n", differing);
     return differing != 0;
 }

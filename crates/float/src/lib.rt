@@ -2,8 +2,9 @@
 // specs/, or with one of the logic's account of IEEE 754 (lib.Ieee), where there is one NaN and one type of values for
 // both formats.
 ghost use mathlib.Core.Path.{_≡_};
-ghost use mathlib.Core.Bool.{false};
-ghost use Prim.Native.Nat.{_^_, _<_};
+ghost use mathlib.Core.Bool.{false, cond};
+ghost use Prim.Native.Nat.{_-_, _^_, _≤_, _<_};
+ghost use lib.Dec.{ltb};
 ghost use lib.IntN.{pos};
 ghost use lib.Signed.{mag};
 ghost use lib.Ieee.{binary64, round, toUnsigned, toSigned, ofInt};
@@ -107,8 +108,15 @@ pub fn rem_tau(x: f64) -> f64
     if t < 0.0 { t + TAU } else { t }
 }
 
-// x without its fraction. Of a pattern whose exponent's field is from 1023 to 1074, the fraction is the lowest digits,
-// 1075 less the field; below that only the sign is left, and above it there is no fraction.
+// How many of a pattern's lowest digits are the fraction, by the exponent's field: 1075 less the field, and below 1023 all but the sign.
+fn fraction_digits(field: u64) -> u64
+    requires { ⌜ field ≤ 1074 ⌝ }
+    ensures { λ r. ⌜ (r ≡ cond (ltb field 1023) 63 (1075 - field)) × (r ≤ 63) ⌝ }
+{
+    if field < 1023 { 63 } else { 1075 - field }
+}
+
+// x without its fraction; from the field 1075 on there is none.
 fn truncated(x: f64) -> f64
     ensures { λ r. ⌜ r ≡ truncation x ⌝ }
 {
@@ -120,10 +128,7 @@ fn truncated(x: f64) -> f64
     if field > 1074 {
         return x;
     }
-    if field < 1023 {
-        return if b < 0x8000_0000_0000_0000 { 0.0 } else { -0.0 };
-    }
-    let s = 1075 - field;
+    let s = fraction_digits(field);
     f64::from_bits((b >> s) << s)
 }
 

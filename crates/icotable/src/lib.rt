@@ -1,9 +1,14 @@
 // The table's operations for a caller in C or Rust: include/icotable.h declares them. Each function calls the operation and turns its answer into a struct whose first field is document 01's number, 0 for accepted.
 ghost use mathlib.Core.Path.{_≡_};
+ghost use Rattle.ieee.specs.Root.{root};
+ghost use Rattle.ieee.specs.Fused.{fused};
+ghost use Rattle.ieee.specs.Narrow.{narrowed};
+ghost use Rattle.float.specs.Exp.{exponential};
 ghost use Rattle.builder.specs.Calls.{freshOut, setOut, settleOut};
 ghost use Rattle.table.specs.Write.{writeOut};
 ghost use Rattle.table.specs.Read.{readOut};
 ghost use Rattle.locator.specs.Locator.{LocatorOut, locatorOut};
+ghost use Rattle.icotable.specs.Sizes.{heldVertices, heldCells};
 ghost use Rattle.icotable.specs.Answers.{BuildOut, SettledOut, WrittenOut, noBuilder, builtAnswer, buildOut, settleAnswer, settledOut, writeAnswer, writtenOut, tableWith, tableAnswer};
 use builder::Builder;
 use builder::Built;
@@ -302,4 +307,55 @@ pub extern "C" fn icotable_locator(
         face_offsets,
         faces,
     )
+}
+
+// The vertices of a level; 0 above level 15.
+#[no_mangle]
+pub extern "C" fn icotable_vertices(level: u64) -> u64
+    ensures { λ r. ⌜ r ≡ heldVertices level ⌝ }
+{
+    if level <= 15 {
+        return mesh::vertex_count(level as u8);
+    }
+    0
+}
+
+// The cell offsets of a level; 0 above level 15.
+#[no_mangle]
+pub extern "C" fn icotable_cells(level: u64) -> u64
+    ensures { λ r. ⌜ r ≡ heldCells level ⌝ }
+{
+    if level <= 15 {
+        let m = level as u8;
+        return mesh::cell_offsets_below(m + 1) - mesh::cell_offsets_below(m);
+    }
+    0
+}
+
+#[no_mangle]
+pub extern "C" fn icotable_root(x: f64) -> f64
+    ensures { λ r. ⌜ r ≡ root x ⌝ }
+{
+    ieee::root(x)
+}
+
+#[no_mangle]
+pub extern "C" fn icotable_exp(y: f64) -> f64
+    ensures { λ r. ⌜ r ≡ exponential y ⌝ }
+{
+    float::exp(y)
+}
+
+#[no_mangle]
+pub extern "C" fn icotable_mul_add(a: f64, b: f64, c: f64) -> f64
+    ensures { λ r. ⌜ r ≡ fused a b c ⌝ }
+{
+    ieee::mul_add(a, b, c)
+}
+
+#[no_mangle]
+pub extern "C" fn icotable_narrow(x: f64) -> f32
+    ensures { λ r. ⌜ r ≡ narrowed x ⌝ }
+{
+    ieee::narrow(x)
 }
