@@ -6,3 +6,4 @@ pub mod Fields
 pub mod Steps
 pub mod Truncation
 pub mod Powers
+pub mod Casts

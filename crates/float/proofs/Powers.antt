@@ -5,10 +5,10 @@ use native.Mathlib.Nat.{le-refl, le-trans, le-of-eq, lt-trans, lt-of-lt-of-le, o
 use native.Mathlib.Omega.{arith}
 use mathlib.Core.Bool.{Bool, true, false, not, cond, true≢false}
 use lib.Dec.{T, lit<}
-use lib.IntN.{ℤ, pos, negsuc, _-ℤ_}
-use lib.Signed.{mag, leZ}
+use lib.IntN.{ℤ, pos, negsuc, _+ℤ_, _-ℤ_}
+use lib.Signed.{mag, leZ, ltZ}
 use lib.Pow.{pow-add, pow-pos, pow-mono, pow-lt}
-use lib.Ieee.{Float, nan, inf, fin, Format, binary64, prec, emax, low, size, units, round, le, hid, ofBits, nanBits}
+use lib.Ieee.{Float, nan, inf, fin, Format, binary64, prec, emax, low, up, down, size, units, round, le, hid, ofBits, nanBits}
 use lib.Arith.{le-zero}
 use lib.Ieee.Digits.{size-le}
 use lib.Ieee.Fits.{two, two-le-pos, core, round-is, round-fits}
@@ -20,7 +20,7 @@ use lib.Ieee.Scale.{round-same}
 use mir.Syntax.{w64}
 use mir.Val.{SFits, Fits, toZ, ofZ}
 use mir.ValLaws.{toZ-ofZ}
-use borrow.Author.Tests.{le-ltb, le-leb}
+use borrow.Author.Tests.{le-ltb, le-leb, ltb-true, ltb-false, leb-true}
 use Rattle.ieee.proofs.Pack.{value-bits}
 use Rattle.float.proofs.Values.{value-no-nan, no-nan-bits}
 
@@ -129,3 +129,31 @@ up-power f n = round-same f false (2 ^ (n + low f)) (2 ^ low f) (2 ^ n) 1 (pow-p
 
 pub down-power : (f : Format) (j n : ℕ) → j + n ≡ low f → round f false (2 ^ j) (2 ^ low f) ≡ round f false 1 (2 ^ n)
 down-power f j n h = round-same f false (2 ^ j) (2 ^ low f) 1 (2 ^ n) (pow-pos (low f)) (pow-pos n) (sym (pow-add 2 j n) ∙ ap (λ (x : ℕ). 2 ^ x) h ∙ sym (one-mul (2 ^ low f)))
+
+-- ---- exponents of either sign: 2 ^ k is 2 ^ (k + 1074) of the smallest values
+pub record Normal (k : ℤ) : Type 0 where
+  pub place : ℕ
+  pub place-is : k +ℤ pos 1074 ≡ pos place
+  pub small : place < 2098
+  pub power : round binary64 false (2 ^ place) (2 ^ 1074) ≡ round binary64 false (up k) (down k)
+
+pub normal : (k : ℤ) → leZ (negsuc 1021) k ≡ true → ltZ k (pos 1024) ≡ true → Normal k
+normal (pos n) l u = let h : n < 1024 = ltb-true n 1024 u in record { place = n + 1074; place-is = refl; small = omega arith; power = up-power binary64 n }
+normal (negsuc n) l u =
+    let h : n ≤ 1021 = leb-true n 1021 l in
+    let g : 1074 - suc n + suc n ≡ 1074 = omega arith in
+    let b : suc n ≤ 1074 = omega arith in
+    record {
+      place = 1074 - suc n;
+      place-is = ap (λ (t : Bool). cond t (negsuc (suc n - 1075)) (pos (1074 - suc n))) (le-ltb 1074 (suc n) b);
+      small = omega arith;
+      power = down-power binary64 (1074 - suc n) (suc n) g;
+    }
+
+pub beyond : (k : ℤ) → ltZ k (pos 1024) ≡ false → round binary64 false (up k) (down k) ≡ inf false
+beyond (pos n) h = overflows n (ltb-false n 1024 h)
+beyond (negsuc n) h = absurd (true≢false h)
+
+pub far-below : (k : ℤ) → leZ (negsuc 1021) k ≡ false → k ≡ negsuc (mag k)
+far-below (pos n) h = absurd (true≢false h)
+far-below (negsuc n) h = refl

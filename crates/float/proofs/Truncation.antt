@@ -4,12 +4,13 @@ use Prim.Native.Nat.{ℕ, zero, suc, _+_, _-_, _*_, _/_, _%_, _^_, _≤_, _<_}
 use native.Mathlib.Nat.{le-trans, le-of-eq, lt-of-le-of-lt, le-add-right, add-mul, mul-assoc, mul-one, mul-right-comm, mul-le-mul-right, mod-lt, mod-eq-of-lt, mul-add-div-right, le-div-iff-mul-le, div-mul-le-self, add-assoc, le-of-lt}
 use native.Mathlib.Omega.{arith}
 use mathlib.Core.Bool.{Bool, true, false, not, cond}
-use lib.Dec.{T, leb}
+use lib.Dec.{T, leb, ltb}
+use borrow.Author.Tests.{ltb-true, ltb-false, leb-true, leb-false}
 use lib.IntN.{ℤ, pos}
 use lib.Pow.{pow-add, pow-pos}
 use lib.Ieee.{Float, nan, inf, fin, binary64, up, down, round, toBits, ofBits, fits, isNan}
 use lib.Ieee.Fits.{down-pos, round-fits}
-use lib.Ieee.Bits.{ofBits-toBits}
+use lib.Ieee.Bits.{ofBits-toBits, toBits-lt}
 use lib.Ieee.Exact.{HasValue}
 use Rattle.ieee.proofs.Pack.{value-bits}
 use Rattle.ieee.proofs.Words.{whole-back}
@@ -39,7 +40,7 @@ rescaled (inf t) s n a c g v = v
 rescaled (fin t m e) s n a c g v = (v .0, ap (λ (x : ℕ). x * c) (sym (mul-one (m * up e)) ∙ v .1) ∙ mul-right-comm n (down e) c ∙ ap (λ (x : ℕ). x * down e) g)
 
 -- ---- below one
-pub tiny : (x : Float) → T (fits binary64 x) → T (not (isNan x)) → field binary64 (toBits binary64 x) < 1023 → truncation x ≡ fin (leb (2 ^ 63) (toBits binary64 x)) 0 (pos 0)
+tiny : (x : Float) → T (fits binary64 x) → T (not (isNan x)) → field binary64 (toBits binary64 x) < 1023 → truncation x ≡ fin (leb (2 ^ 63) (toBits binary64 x)) 0 (pos 0)
 unfolding isNan truncation
 tiny nan h k l = absurd k
 tiny (inf s) h k l = let e = infinite-field s in let z : ⊥ = omega arith in absurd z
@@ -106,7 +107,7 @@ cut-off s m e q k u h v lo hi g w =
     even : 2 ^ 52 ≡ 2 ^ (52 - u) * 2 ^ u
     even = ap (λ (x : ℕ). 2 ^ x) (sym (split u w)) ∙ pow-add 2 (52 - u) u
 
-pub between : (x : Float) → T (fits binary64 x) → T (not (isNan x)) → 1023 ≤ field binary64 (toBits binary64 x) → field binary64 (toBits binary64 x) ≤ 1074
+between : (x : Float) → T (fits binary64 x) → T (not (isNan x)) → 1023 ≤ field binary64 (toBits binary64 x) → field binary64 (toBits binary64 x) ≤ 1074
     → let b = toBits binary64 x in let u = 1075 - field binary64 b in ofBits binary64 (b / 2 ^ u * 2 ^ u) ≡ truncation x
 unfolding isNan truncation
 between nan h k l g = absurd k
@@ -120,6 +121,24 @@ between (fin s m e) h w l g =
     let few : 1075 - x ≤ 52 = omega arith in
     cut-off s m e (digits binary64 x t) (x - 1) (1075 - x) h (parts binary64 s m e h .1)
     (le-trans (le-add-right (2 ^ 52) t) (le-of-eq (sym (leading x t first)))) (digits-lt x t (mod-lt b (pow-pos 52))) place few
+
+-- the sign alone
+sign-alone : (b : ℕ) → b < 2 ^ 64 → ofBits binary64 (b / 2 ^ 63 * 2 ^ 63) ≡ fin (leb (2 ^ 63) b) 0 (pos 0)
+unfolding ofBits
+sign-alone b h = go (leb (2 ^ 63) b) refl
+  where
+    go : (t : Bool) → leb (2 ^ 63) b ≡ t → ofBits binary64 (b / 2 ^ 63 * 2 ^ 63) ≡ fin t 0 (pos 0)
+    go true e = let g = leb-true (2 ^ 63) b e in let q : b / 2 ^ 63 ≡ 1 = omega (arith, g, h) in rw q
+    go false e = let g = leb-false (2 ^ 63) b e in let q : b / 2 ^ 63 ≡ 0 = omega (arith, g) in rw q
+
+-- up to the field 1074
+pub cut-short : (x : Float) → T (fits binary64 x) → T (not (isNan x)) → field binary64 (toBits binary64 x) ≤ 1074
+    → let b = toBits binary64 x in let u = cond (ltb (field binary64 b) 1023) 63 (1075 - field binary64 b) in ofBits binary64 (b / 2 ^ u * 2 ^ u) ≡ truncation x
+cut-short x h k g = go (ltb (field binary64 (toBits binary64 x)) 1023) refl
+  where
+    go : (t : Bool) → ltb (field binary64 (toBits binary64 x)) 1023 ≡ t → let b = toBits binary64 x in let u = cond t 63 (1075 - field binary64 b) in ofBits binary64 (b / 2 ^ u * 2 ^ u) ≡ truncation x
+    go true e = sign-alone (toBits binary64 x) (toBits-lt binary64 x h) ∙ sym (tiny x h k (ltb-true _ _ e))
+    go false e = between x h k (ltb-false _ _ e) g
 
 pub stays-in : (b u : ℕ) → b < 2 ^ 64 → b / 2 ^ u * 2 ^ u % 2 ^ 64 ≡ b / 2 ^ u * 2 ^ u
 stays-in b u h = mod-eq-of-lt (lt-of-le-of-lt (div-mul-le-self b (2 ^ u)) h)

@@ -2,8 +2,9 @@
 // specs/, or with one of the logic's account of IEEE 754 (lib.Ieee), where there is one NaN and one type of values for
 // both formats.
 ghost use mathlib.Core.Path.{_≡_};
-ghost use mathlib.Core.Bool.{false};
-ghost use Prim.Native.Nat.{_^_, _<_};
+ghost use mathlib.Core.Bool.{false, cond};
+ghost use Prim.Native.Nat.{_-_, _^_, _≤_, _<_};
+ghost use lib.Dec.{ltb};
 ghost use lib.IntN.{pos};
 ghost use lib.Signed.{mag};
 ghost use lib.Ieee.{binary64, round, toUnsigned, toSigned, ofInt};
@@ -107,8 +108,15 @@ pub fn rem_tau(x: f64) -> f64
     if t < 0.0 { t + TAU } else { t }
 }
 
-// x without its fraction. Of a pattern whose exponent's field is from 1023 to 1074, the fraction is the lowest digits,
-// 1075 less the field; below that only the sign is left, and above it there is no fraction.
+// How many of a pattern's lowest digits are the fraction, by the exponent's field: 1075 less the field, and below 1023 all but the sign.
+fn fraction_digits(field: u64) -> u64
+    requires { ⌜ field ≤ 1074 ⌝ }
+    ensures { λ r. ⌜ (r ≡ cond (ltb field 1023) 63 (1075 - field)) × (r ≤ 63) ⌝ }
+{
+    if field < 1023 { 63 } else { 1075 - field }
+}
+
+// x without its fraction; from the field 1075 on there is none.
 fn truncated(x: f64) -> f64
     ensures { λ r. ⌜ r ≡ truncation x ⌝ }
 {
@@ -120,10 +128,7 @@ fn truncated(x: f64) -> f64
     if field > 1074 {
         return x;
     }
-    if field < 1023 {
-        return if b < 0x8000_0000_0000_0000 { 0.0 } else { -0.0 };
-    }
-    let s = 1075 - field;
+    let s = fraction_digits(field);
     f64::from_bits((b >> s) << s)
 }
 
@@ -161,21 +166,36 @@ fn power_of_least(j: u64) -> f64
     f64::from_bits((j - 51) * 0x10_0000_0000_0000)
 }
 
-// 2 ^ k, rounded.
+// 2 ^ k, rounded. Every exponent of a normal number takes one path, whatever its sign.
 fn power_of_two(k: i64) -> f64
     ensures { λ r. ⌜ r ≡ twoTo k ⌝ }
 {
-    let n = distance(k);
-    if k >= 0 {
-        if n < 1024 {
-            return power_of_least(n + 1074);
+    if k >= -1022 {
+        if k < 1024 {
+            return power_of_least((k + 1074) as u64);
         }
         return 1.0 / 0.0;
     }
+    let n = distance(k);
     if n < 1074 {
         return power_of_least(1073 - n);
     }
     0.0
+}
+
+// k, which is the floor of x, as an integer. The machine's cast serves small numbers.
+fn floor_to_i64(x: f64, k: f64) -> i64
+    requires { ⌜ k ≡ floored x ⌝ }
+    ensures { λ r. ⌜ r ≡ toSigned 63 k ⌝ }
+{
+    if x != 0.0 {
+        if x > -1024.0 {
+            if x < 1024.0 {
+                return k as i64;
+            }
+        }
+    }
+    to_i64(k)
 }
 
 // The sum of r ^ j / j! for j up to 13.
@@ -211,7 +231,8 @@ pub fn exp(y: f64) -> f64
     if y > 709.0 {
         return 1.0 / 0.0;
     }
-    let k = floor(y * 1.4426950408889634 + 0.5);
+    let x = y * 1.4426950408889634 + 0.5;
+    let k = floor(x);
     let r = (y - k * 0.6931471803691238) - k * 1.9082149292705877e-10;
-    series(r) * power_of_two(to_i64(k))
+    series(r) * power_of_two(floor_to_i64(x, k))
 }

@@ -5,6 +5,7 @@ ghost use Rattle.grid.specs.Bins.{nearestBin, distanceCount, dihedralCou
 ghost use Rattle.grid.specs.Settings.{above, inRange, levelsHeld, binsInRange, countsHeld, ownCount, slabsHeld, question, counted, freshQuestion, gridRange, gridHeld};
 
 // The settings beside the bin counts that they give. In a table that was read, rmax is the table's own.
+#[repr(C)]
 pub struct Grid {
     pub rmin: f64,
     pub rmax: f64,

@@ -8,6 +8,7 @@ pub use room::set_refusal;
 pub use room::settle_refusal;
 
 // The settings, the top level and the current one.
+#[repr(C)]
 pub struct Builder {
     pub grid: Grid,
     pub top: u64,

@@ -33,8 +33,8 @@ floor-requires c κs = tt
 series-requires : tie.Need-series-requires
 series-requires c κs = tt
 
-to-i64-requires : tie.Need-to-i64-requires
-to-i64-requires c κs = tt
+floor-to-i64-requires : tie.Need-floor-to-i64-requires
+floor-to-i64-requires c κs = c .before .floor .ensures
 
 power-of-two-requires : tie.Need-power-of-two-requires
 power-of-two-requires c κs = tt
@@ -44,7 +44,7 @@ answer : (c : tie.After-power-of-two) → let k = c .before .before .before in m
 unfolding scaled residue
 answer c =
     let k = c .before .before .before .floor .result in
-    rw (c .before .before .series .ensures, c .power-of-two .ensures, c .before .to-i64 .ensures, read (toSigned 63 k) (record { sfits = toSigned-in 63 k }))
+    rw (c .before .before .series .ensures, c .power-of-two .ensures, c .before .floor-to-i64 .ensures, read (toSigned 63 k) (record { sfits = toSigned-in 63 k }))
 
 returns-4 : tie.Need-returns-4
 unfolding exponential doublings neg ofBits
@@ -61,6 +61,6 @@ exp-spec =
     returns-3
     floor-requires
     series-requires
-    to-i64-requires
+    floor-to-i64-requires
     power-of-two-requires
     returns-4)

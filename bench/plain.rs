@@ -1,0 +1,189 @@
+// What the Rust side needs beside the Rust's own text: document 01's exponential E, and a plain writer and checker of the table file (docs/FORMAT.md).
+
+// E(y)
+pub fn exponential(y: f64) -> f64 {
+    if y.is_nan() {
+        return y;
+    }
+    if y < -708.0 {
+        return 0.0;
+    }
+    if y > 709.0 {
+        return f64::INFINITY;
+    }
+    let l = f64::from_bits(0x3FF71547652B82FE);
+    let h = f64::from_bits(0x3FE62E42FEE00000);
+    let w = f64::from_bits(0x3DEA39EF35793C76);
+    let k = (y * l + 0.5).floor();
+    let r = (y - k * h) - k * w;
+    let mut p = f64::from_bits(0x3DE6124613A86D09);
+    for c in INVERSE_FACTORIALS {
+        p = p * r + f64::from_bits(c);
+    }
+    p * f64::from_bits(((k as i64 + 1023) as u64) << 52)
+}
+
+// 1/j! for j from 12 down to 0
+const INVERSE_FACTORIALS: [u64; 13] = [
+    0x3E21EED8EFF8D898,
+    0x3E5AE64567F544E4,
+    0x3E927E4FB7789F5C,
+    0x3EC71DE3A556C734,
+    0x3EFA01A01A01A01A,
+    0x3F2A01A01A01A01A,
+    0x3F56C16C16C16C17,
+    0x3F81111111111111,
+    0x3FA5555555555555,
+    0x3FC5555555555555,
+    0x3FE0000000000000,
+    0x3FF0000000000000,
+    0x3FF0000000000000,
+];
+
+fn per_level(level: u8) -> usize {
+    let m = level as usize + 1;
+    let n = 10 * m * m + 2;
+    n * n
+}
+
+fn mesh(kind: u8) -> bool {
+    kind == 2 || kind == 3
+}
+
+// A builder's lists, as they are lent.
+pub struct Held<'a> {
+    pub rmin: f64,
+    pub dr: f64,
+    pub step: f64,
+    pub n_r: u32,
+    pub n_omega: u32,
+    pub top: u8,
+    pub store: &'a [f64],
+    pub kinds: &'a [u8],
+    pub levels: &'a [u8],
+    pub values: &'a [u32],
+}
+
+// Writes the table file; its length. The machine's cast narrows.
+pub fn write(b: &Held, out: &mut [u8]) -> usize {
+    let mut at = 0;
+    let mut put = |bytes: &[u8]| {
+        out[at..at + bytes.len()].copy_from_slice(bytes);
+        at += bytes.len();
+    };
+    put(&3u32.to_le_bytes());
+    for x in [b.rmin, b.dr, b.step] {
+        put(&x.to_le_bytes());
+    }
+    for n in [2, b.n_r, b.n_omega, b.top as u32 + 1] {
+        put(&n.to_le_bytes());
+    }
+    for m in 0..b.top as u32 + 1 {
+        put(&(10 * (m + 1) * (m + 1) + 2).to_le_bytes());
+    }
+    let slabs = (b.n_r * b.n_omega) as usize;
+    put(&(slabs as u32).to_le_bytes());
+    let mut offset = 0;
+    for s in 0..slabs {
+        let (kind, level, value) = (b.kinds[s], b.levels[s], b.values[s]);
+        put(&[kind, level]);
+        put(&(if mesh(kind) { offset } else { u32::MAX }).to_le_bytes());
+        put(&value.to_le_bytes());
+        if mesh(kind) {
+            offset += per_level(level) as u32;
+        }
+    }
+    put(&offset.to_le_bytes());
+    for s in 0..slabs {
+        if !mesh(b.kinds[s]) {
+            continue;
+        }
+        let n = per_level(b.levels[s]);
+        let from = s * per_level(b.top);
+        for (place, x) in out[at..at + 4 * n].chunks_exact_mut(4).zip(&b.store[from..from + n]) {
+            place.copy_from_slice(&(*x as f32).to_le_bytes());
+        }
+        at += 4 * n;
+    }
+    at
+}
+
+fn number(file: &[u8], at: usize) -> Option<u32> {
+    let bytes = file.get(at..at.checked_add(4)?)?;
+    Some(u32::from_le_bytes(bytes.try_into().unwrap()))
+}
+
+fn float(file: &[u8], at: usize) -> f64 {
+    f64::from_le_bytes(file[at..at + 8].try_into().unwrap())
+}
+
+// The sections' items; none where they do not follow their counts to the last byte.
+fn sections(file: &[u8]) -> Option<[&[u8]; 5]> {
+    let mut parts: [&[u8]; 5] = [&[]; 5];
+    let mut at = 0;
+    for (part, width) in parts.iter_mut().zip([8, 4, 4, 10, 4]) {
+        let end = at + 4 + number(file, at)? as usize * width;
+        *part = file.get(at + 4..end)?;
+        at = end;
+    }
+    (at == file.len() && parts[0].len() == 24 && parts[1].len() == 8).then_some(parts)
+}
+
+fn grid_held(parts: &[&[u8]; 5]) -> bool {
+    let (rmin, dr, step) = (float(parts[0], 0), float(parts[0], 8), float(parts[0], 16));
+    let n_r = number(parts[1], 0).unwrap() as usize;
+    let n_omega = number(parts[1], 4).unwrap() as usize;
+    let levels = parts[2].len() / 4;
+    let above = |x: f64| x.is_finite() && x > 0.0;
+    let rmax = (n_r as f64).mul_add(dr, rmin);
+    rmin.is_finite()
+        && above(dr)
+        && above(step)
+        && (1..=16).contains(&levels)
+        && (1..=65535).contains(&n_r)
+        && (1..=65535).contains(&n_omega)
+        && n_omega == (std::f64::consts::TAU / step + 0.5) as usize
+        && n_r == ((rmax - rmin) / dr + 0.5) as usize
+        && n_r * n_omega * per_level(levels as u8 - 1) <= u32::MAX as usize
+        && parts[3].len() / 10 == n_r * n_omega
+        && (0..levels).all(|m| number(parts[2], 4 * m) == Some(10 * (m as u32 + 1).pow(2) + 2))
+}
+
+fn nan_bits(x: u32) -> bool {
+    x & 0x7FFF_FFFF > 0x7F80_0000
+}
+
+// The number of the first question from 13 to 17 that is answered no, or 0.
+pub fn read(file: &[u8]) -> u64 {
+    let Some(parts) = sections(file) else { return 13 };
+    if !grid_held(&parts) {
+        return 14;
+    }
+    let levels = parts[2].len() / 4;
+    for row in parts[3].chunks_exact(10) {
+        let (offset, scalar) = (number(row, 2).unwrap(), number(row, 6).unwrap());
+        let held = match row[0] {
+            0 => row[1] == 0 && offset == u32::MAX && (!nan_bits(scalar) || scalar == 0x7FC0_0000),
+            1 => row[1] == 0 && offset == u32::MAX && scalar == 0,
+            2 | 3 => (row[1] as usize) < levels && scalar == 0,
+            _ => false,
+        };
+        if !held {
+            return 15;
+        }
+    }
+    let mut place = 0;
+    for row in parts[3].chunks_exact(10).filter(|row| mesh(row[0])) {
+        if number(row, 2).unwrap() as usize != place {
+            return 16;
+        }
+        place += per_level(row[1]);
+    }
+    if place != parts[4].len() / 4 {
+        return 16;
+    }
+    if parts[4].chunks_exact(4).any(|x| f32::from_le_bytes(x.try_into().unwrap()).is_nan()) {
+        return 17;
+    }
+    0
+}

@@ -1,0 +1,361 @@
+// The table's operations for a caller in C or Rust: include/icotable.h declares them. Each function calls the operation and turns its answer into a struct whose first field is document 01's number, 0 for accepted.
+ghost use mathlib.Core.Path.{_≡_};
+ghost use Rattle.ieee.specs.Root.{root};
+ghost use Rattle.ieee.specs.Fused.{fused};
+ghost use Rattle.ieee.specs.Narrow.{narrowed};
+ghost use Rattle.float.specs.Exp.{exponential};
+ghost use Rattle.builder.specs.Calls.{freshOut, setOut, settleOut};
+ghost use Rattle.writer.specs.Write.{writeOut};
+ghost use Rattle.table.specs.Read.{readOut};
+ghost use Rattle.locator.specs.Locator.{LocatorOut, locatorOut};
+ghost use Rattle.icotable.specs.Sizes.{heldVertices, heldCells};
+ghost use Rattle.icotable.specs.Answers.{BuildOut, SettledOut, WrittenOut, noBuilder, builtAnswer, buildOut, settleAnswer, settledOut, writeAnswer, writtenOut, tableWith, tableAnswer};
+use builder::Built;
+use builder::Settled;
+use grid::Grid;
+use questions::Builder;
+use table::ReadAnswer;
+use table::Table;
+use writer::Written;
+
+// Of fresh and set.
+#[repr(C)]
+pub struct BuildAnswer {
+    pub number: u64,
+    pub builder: Builder,
+}
+
+#[repr(C)]
+pub struct SettleAnswer {
+    pub number: u64,
+    pub gradient: f64,
+    pub builder: Builder,
+}
+
+#[repr(C)]
+pub struct WriteAnswer {
+    pub number: u64,
+    pub length: u64,
+}
+
+// What a file holds; `start` has the byte after each section's count.
+#[repr(C)]
+pub struct TableAnswer {
+    pub number: u64,
+    pub grid: Grid,
+    pub levels: u64,
+    pub rows: u64,
+    pub energies: u64,
+    pub start: [u64; 5],
+}
+
+fn no_grid() -> Grid
+    ensures { λ r. ⌜ r ≡ noBuilder .grid ⌝ }
+{
+    Grid {
+        rmin: 0.0,
+        rmax: 0.0,
+        dr: 0.0,
+        omega_step: 0.0,
+        threshold: 0.0,
+        beta: 0.0,
+        n_r: 0,
+        n_omega: 0,
+    }
+}
+
+fn no_builder() -> Builder
+    ensures { λ r. ⌜ r ≡ noBuilder ⌝ }
+{
+    Builder {
+        grid: no_grid(),
+        top: 0,
+        level: 0,
+    }
+}
+
+fn built_answer(kept: Builder, a: Built) -> BuildAnswer
+    ensures { λ r. ⌜ r ≡ builtAnswer kept a ⌝ }
+{
+    match a {
+        Built::Accepted(builder) => BuildAnswer { number: 0, builder },
+        Built::Refused(number) => BuildAnswer {
+            number,
+            builder: kept,
+        },
+    }
+}
+
+fn settle_answer(kept: Builder, a: Settled) -> SettleAnswer
+    ensures { λ r. ⌜ r ≡ settleAnswer kept a ⌝ }
+{
+    match a {
+        Settled::Accepted(builder, gradient) => SettleAnswer {
+            number: 0,
+            gradient,
+            builder,
+        },
+        Settled::Refused(number) => SettleAnswer {
+            number,
+            gradient: 0.0,
+            builder: kept,
+        },
+    }
+}
+
+fn write_answer(a: Written) -> WriteAnswer
+    ensures { λ r. ⌜ r ≡ writeAnswer a ⌝ }
+{
+    match a {
+        Written::Accepted(length) => WriteAnswer { number: 0, length },
+        Written::Refused(number) => WriteAnswer { number, length: 0 },
+    }
+}
+
+fn table_with(number: u64, t: Table) -> TableAnswer
+    ensures { λ r. ⌜ r ≡ tableWith number t ⌝ }
+{
+    let grid = t.grid;
+    let levels = t.levels;
+    let rows = t.rows;
+    let energies = t.energies;
+    let start = [
+        t.grid_start,
+        t.bins_start,
+        t.levels_start,
+        t.rows_start,
+        t.energies_start,
+    ];
+    TableAnswer {
+        number,
+        grid,
+        levels,
+        rows,
+        energies,
+        start,
+    }
+}
+
+fn table_answer(a: ReadAnswer) -> TableAnswer
+    ensures { λ r. ⌜ r ≡ tableAnswer a ⌝ }
+{
+    match a {
+        ReadAnswer::Accepted(t) => table_with(0, t),
+        ReadAnswer::Refused(number) => TableAnswer {
+            number,
+            grid: no_grid(),
+            levels: 0,
+            rows: 0,
+            energies: 0,
+            start: [0; 5],
+        },
+    }
+}
+
+#[no_mangle]
+pub extern "C" fn icotable_fresh(
+    grid: Grid,
+    top: u64,
+    store: &mut [f64],
+    kinds: &mut [u8],
+    levels: &mut [u8],
+    values: &mut [u32],
+    vertices: &[f64],
+    neighbour_counts: &[u8],
+    neighbours: &[u16],
+    angles: &[f64],
+) -> BuildAnswer
+    ensures { λ r. ⌜ _≡_ {A = BuildOut}
+        (record { answer = r; lists = record { store = now (store .exit); rows = record { kinds = now (kinds .exit); levels = now (levels .exit); values = now (values .exit) } } })
+        (buildOut noBuilder (freshOut grid top (record { vertices = now (vertices .entry); counts = now («neighbour_counts» .entry); neighbours = now (neighbours .entry); angles = now (angles .entry) })
+        (record { store = now (store .entry); rows = record { kinds = now (kinds .entry); levels = now (levels .entry); values = now (values .entry) } }))) ⌝ }
+{
+    let none = no_builder();
+    let a = builder::fresh(
+        grid,
+        top,
+        store,
+        kinds,
+        levels,
+        values,
+        vertices,
+        neighbour_counts,
+        neighbours,
+        angles,
+    );
+    built_answer(none, a)
+}
+
+#[no_mangle]
+pub extern "C" fn icotable_set(
+    builder: Builder,
+    store: &mut [f64],
+    kinds: &mut [u8],
+    levels: &mut [u8],
+    values: &mut [u32],
+    ri: u64,
+    oi: u64,
+    energies: &[f64],
+) -> BuildAnswer
+    ensures { λ r. ⌜ _≡_ {A = BuildOut}
+        (record { answer = r; lists = record { store = now (store .exit); rows = record { kinds = now (kinds .exit); levels = now (levels .exit); values = now (values .exit) } } })
+        (buildOut builder (setOut builder (record { store = now (store .entry); rows = record { kinds = now (kinds .entry); levels = now (levels .entry); values = now (values .entry) } }) ri oi (now (energies .entry)))) ⌝ }
+{
+    let a = builder::set(builder, store, kinds, levels, values, ri, oi, energies);
+    built_answer(builder, a)
+}
+
+#[no_mangle]
+pub extern "C" fn icotable_settle(
+    builder: Builder,
+    store: &[f64],
+    kinds: &mut [u8],
+    levels: &mut [u8],
+    values: &mut [u32],
+    vertices: &[f64],
+    neighbour_counts: &[u8],
+    neighbours: &[u16],
+    angles: &[f64],
+    ri: u64,
+) -> SettleAnswer
+    ensures { λ r. ⌜ _≡_ {A = SettledOut}
+        (record { answer = r; lists = record { store = now (store .entry); rows = record { kinds = now (kinds .exit); levels = now (levels .exit); values = now (values .exit) } } })
+        (settledOut builder (settleOut builder (record { vertices = now (vertices .entry); counts = now («neighbour_counts» .entry); neighbours = now (neighbours .entry); angles = now (angles .entry) })
+        (record { store = now (store .entry); rows = record { kinds = now (kinds .entry); levels = now (levels .entry); values = now (values .entry) } }) ri)) ⌝ }
+{
+    let a = builder::settle(
+        builder,
+        store,
+        kinds,
+        levels,
+        values,
+        vertices,
+        neighbour_counts,
+        neighbours,
+        angles,
+        ri,
+    );
+    settle_answer(builder, a)
+}
+
+#[no_mangle]
+pub extern "C" fn icotable_write(
+    builder: Builder,
+    store: &[f64],
+    kinds: &[u8],
+    levels: &[u8],
+    values: &[u32],
+    vertices: &[f64],
+    neighbour_counts: &[u8],
+    neighbours: &[u16],
+    angles: &[f64],
+    output: &mut [u8],
+) -> WriteAnswer
+    ensures { λ r. ⌜ _≡_ {A = WrittenOut}
+        (record { answer = r; builder = builder; lists = record { store = now (store .entry); rows = record { kinds = now (kinds .entry); levels = now (levels .entry); values = now (values .entry) } }; output = now (output .exit) })
+        (writtenOut (writeOut builder (record { vertices = now (vertices .entry); counts = now («neighbour_counts» .entry); neighbours = now (neighbours .entry); angles = now (angles .entry) })
+        (record { store = now (store .entry); rows = record { kinds = now (kinds .entry); levels = now (levels .entry); values = now (values .entry) } }) (now (output .entry)))) ⌝ }
+{
+    let a = writer::write(
+        builder,
+        store,
+        kinds,
+        levels,
+        values,
+        vertices,
+        neighbour_counts,
+        neighbours,
+        angles,
+        output,
+    );
+    write_answer(a)
+}
+
+#[no_mangle]
+pub extern "C" fn icotable_read(file: &[u8]) -> TableAnswer
+    ensures { λ r. ⌜ r ≡ tableAnswer (readOut (now (file .entry))) ⌝ }
+{
+    let a = table::read(file);
+    table_answer(a)
+}
+
+#[no_mangle]
+pub extern "C" fn icotable_locator(
+    level: u64,
+    vertices: &[f64],
+    neighbour_counts: &[u8],
+    neighbours: &[u16],
+    angles: &[f64],
+    cell_offsets: &mut [u32],
+    cell_vertices: &mut [u16],
+    face_offsets: &mut [u32],
+    faces: &mut [u16],
+) -> u64
+    ensures { λ r. ⌜ _≡_ {A = LocatorOut}
+        (record { number = r; lists = record { cellOffsets = now («cell_offsets» .exit); cellVertices = now («cell_vertices» .exit); faceOffsets = now («face_offsets» .exit); faces = now (faces .exit) } })
+        (locatorOut level (record { vertices = now (vertices .entry); counts = now («neighbour_counts» .entry); neighbours = now (neighbours .entry); angles = now (angles .entry) })
+        (record { cellOffsets = now («cell_offsets» .entry); cellVertices = now («cell_vertices» .entry); faceOffsets = now («face_offsets» .entry); faces = now (faces .entry) })) ⌝ }
+{
+    locator::locator(
+        level,
+        vertices,
+        neighbour_counts,
+        neighbours,
+        angles,
+        cell_offsets,
+        cell_vertices,
+        face_offsets,
+        faces,
+    )
+}
+
+// The vertices of a level; 0 above level 15.
+#[no_mangle]
+pub extern "C" fn icotable_vertices(level: u64) -> u64
+    ensures { λ r. ⌜ r ≡ heldVertices level ⌝ }
+{
+    if level <= 15 {
+        return mesh::vertex_count(level as u8);
+    }
+    0
+}
+
+// The cell offsets of a level; 0 above level 15.
+#[no_mangle]
+pub extern "C" fn icotable_cells(level: u64) -> u64
+    ensures { λ r. ⌜ r ≡ heldCells level ⌝ }
+{
+    if level <= 15 {
+        let m = level as u8;
+        return mesh::cell_offsets_below(m + 1) - mesh::cell_offsets_below(m);
+    }
+    0
+}
+
+#[no_mangle]
+pub extern "C" fn icotable_root(x: f64) -> f64
+    ensures { λ r. ⌜ r ≡ root x ⌝ }
+{
+    ieee::root(x)
+}
+
+#[no_mangle]
+pub extern "C" fn icotable_exp(y: f64) -> f64
+    ensures { λ r. ⌜ r ≡ exponential y ⌝ }
+{
+    float::exp(y)
+}
+
+#[no_mangle]
+pub extern "C" fn icotable_mul_add(a: f64, b: f64, c: f64) -> f64
+    ensures { λ r. ⌜ r ≡ fused a b c ⌝ }
+{
+    ieee::mul_add(a, b, c)
+}
+
+#[no_mangle]
+pub extern "C" fn icotable_narrow(x: f64) -> f32
+    ensures { λ r. ⌜ r ≡ narrowed x ⌝ }
+{
+    ieee::narrow(x)
+}

@@ -1,0 +1,204 @@
+/* A host in C: an empty table of level 0 from its settings, written, printed and read back; a slab set and settled; calls that are
+ * refused; the locator of the icosahedron; sizes and numbers. Every answer is compared with what document 01 says, and the status is 1 where one differs. */
+#include "icotable.h"
+
+#include <stdio.h>
+#include <string.h>
+
+enum { N = 12, PER = N * N };
+
+#define X 0.5257311121191336
+#define Y 0.85065080835204
+
+/* the icosahedron; a sixth place of a vertex is not read */
+static const double vertices[3 * N] = {
+    -X, 0, Y, X, 0, Y, -X, 0, -Y, X, 0, -Y, 0, Y, X, 0, Y, -X, 0, -Y, X, 0, -Y, -X, Y, X, 0, -Y, X, 0, Y, -X, 0, -Y, -X, 0,
+};
+
+static uint8_t neighbour_counts[N];
+static uint16_t neighbours[6 * N];
+static double angles[6 * N];
+
+static double store[PER];
+static uint8_t kinds[1], levels[1];
+static uint32_t values[1];
+
+static int differing = 0;
+
+static void expect(const char *what, uint64_t got, uint64_t wanted) {
+    printf("%s: %llu", what, (unsigned long long)got);
+    if (got == wanted) {
+        printf(", as it should be\n");
+    } else {
+        printf(", but it should be %llu\n", (unsigned long long)wanted);
+        differing++;
+    }
+}
+
+/* Two vertices are neighbours where their distance is the edge's. */
+static void mesh(void) {
+    for (int i = 0; i < N; i++) {
+        int count = 0;
+        for (int j = 0; j < N; j++) {
+            double d = 0;
+            for (int k = 0; k < 3; k++) {
+                double e = vertices[3 * i + k] - vertices[3 * j + k];
+                d += e * e;
+            }
+            if (i != j && d < 1.2) {
+                if (count < 6) {
+                    neighbours[6 * i + count] = (uint16_t)j;
+                    angles[6 * i + count] = 1.1071487177940904;
+                }
+                count++;
+            }
+        }
+        neighbour_counts[i] = (uint8_t)count;
+    }
+}
+
+static const icotable_grid settings = {
+    .rmin = 0, .rmax = 1, .dr = 1, .omega_step = 6, .threshold = 0.1, .beta = 1, .n_r = 77, .n_omega = 77,
+};
+
+static icotable_built fresh(icotable_grid grid, uint64_t top) {
+    return icotable_fresh(grid, top, store, PER, kinds, 1, levels, 1, values, 1, vertices, 3 * N, neighbour_counts, N, neighbours, 6 * N, angles, 6 * N);
+}
+
+static icotable_settled settle(icotable_builder b, uint64_t ri) {
+    return icotable_settle(b, store, PER, kinds, 1, levels, 1, values, 1, vertices, 3 * N, neighbour_counts, N, neighbours, 6 * N, angles, 6 * N, ri);
+}
+
+static icotable_written written(icotable_builder b, uint8_t *output, size_t count) {
+    return icotable_write(b, store, PER, kinds, 1, levels, 1, values, 1, vertices, 3 * N, neighbour_counts, N, neighbours, 6 * N, angles, 6 * N, output, count);
+}
+
+/* The bytes in hexadecimal, grouped as document 01 has them; how many differ from its own. */
+static uint64_t print(const uint8_t *file) {
+    static const char wanted[] =
+        "03000000 0000000000000000 000000000000F03F 0000000000001840 02000000 01000000 01000000 01000000 0C000000 "
+        "01000000 00 00 FFFFFFFF 00000000 00000000";
+    static const int groups[] = {4, 8, 8, 8, 4, 4, 4, 4, 4, 4, 1, 1, 4, 4, 4};
+    char text[sizeof wanted];
+    int at = 0, byte = 0;
+    for (size_t g = 0; g < sizeof groups / sizeof groups[0]; g++) {
+        for (int i = 0; i < groups[g]; i++)
+            at += sprintf(text + at, "%02X", file[byte++]);
+        if (g + 1 < sizeof groups / sizeof groups[0])
+            text[at++] = ' ';
+    }
+    text[at] = 0;
+    puts(text);
+    uint64_t n = 0;
+    for (size_t i = 0; i < sizeof wanted; i++)
+        n += text[i] != wanted[i];
+    return n;
+}
+
+static void empty_table(void) {
+    uint8_t output[70];
+    memset(output, 0xAB, sizeof output);
+    memset(store, 0x7F, sizeof store);
+    icotable_built f = fresh(settings, 0);
+    expect("fresh", f.number, 0);
+    expect("distance bins", f.builder.grid.n_r, 1);
+    expect("dihedral bins", f.builder.grid.n_omega, 1);
+    icotable_written w = written(f.builder, output, sizeof output);
+    expect("write", w.number, 0);
+    expect("bytes", w.length, 66);
+    expect("places that differ from document 01's bytes", print(output), 0);
+    expect("the byte behind the file", output[66], 0xAB);
+    icotable_table t = icotable_read(output, w.length);
+    expect("read", t.number, 0);
+    expect("rmax is 1", t.grid.rmax == 1, 1);
+    expect("levels", t.levels, 1);
+    expect("rows", t.rows, 1);
+    expect("energies", t.energies, 0);
+    static const uint64_t start[5] = {4, 32, 44, 52, 66};
+    for (int i = 0; i < 5; i++)
+        expect("start of a section", t.start[i], start[i]);
+    t = icotable_read(output, 67);
+    expect("read of a byte more", t.number, 13);
+    expect("its rows", t.rows, 0);
+    expect("write to 65 bytes", written(f.builder, output, 65).number, 12);
+}
+
+static void one_slab(void) {
+    double energies[PER];
+    uint8_t output[700];
+    icotable_builder b = fresh(settings, 0).builder;
+    for (int i = 0; i < PER; i++)
+        energies[i] = i == 0 ? 1000 : 0; /* Boltzmann weights 0 and 1 */
+    icotable_built s = icotable_set(b, store, PER, kinds, 1, levels, 1, values, 1, 0, 1, energies, PER);
+    expect("set of a bin beyond the last", s.number, 8);
+    expect("the builder's bins after it", s.builder.grid.n_r, 1);
+    s = icotable_set(b, store, PER, kinds, 1, levels, 1, values, 1, 0, 0, energies, PER);
+    expect("set", s.number, 0);
+    expect("kind", kinds[0], 3);
+    icotable_written w = written(s.builder, output, sizeof output);
+    expect("bytes", w.length, 642);
+    icotable_settled a = settle(s.builder, 0);
+    expect("settle", a.number, 0);
+    expect("gradient is 1 over the angle", a.gradient == 1 / angles[0], 1);
+    a = settle(s.builder, 1);
+    expect("settle of a bin beyond the last", a.number, 8);
+    expect("its gradient is 0", a.gradient == 0, 1);
+    expect("the builder's bins after it", a.builder.grid.n_r, 1);
+    for (int i = 0; i < PER; i++)
+        energies[i] = 10;
+    expect("set of tens", icotable_set(b, store, PER, kinds, 1, levels, 1, values, 1, 0, 0, energies, PER).number, 0);
+    expect("settle", settle(b, 0).number, 0);
+    expect("kind", kinds[0], 1);
+}
+
+static void refused(void) {
+    icotable_grid g = settings;
+    g.dr = -1;
+    icotable_built f = fresh(g, 0);
+    expect("fresh with dr below 0", f.number, 1);
+    expect("its distance bins", f.builder.grid.n_r, 0);
+    expect("fresh with top level 16", fresh(settings, 16).number, 2);
+    f = icotable_fresh(settings, 0, NULL, 0, kinds, 1, levels, 1, values, 1, vertices, 3 * N, neighbour_counts, N, neighbours, 6 * N, angles, 6 * N);
+    expect("fresh with no store", f.number, 6);
+    expect("read of no bytes", icotable_read(NULL, 0).number, 13);
+}
+
+static void locator(void) {
+    enum { CELLS = 25 };
+    uint32_t cell_offsets[CELLS], face_offsets[N + 1];
+    uint16_t cell_vertices[27 * N], faces[45 * N];
+    uint64_t number = icotable_locator(0, vertices, 3 * N, neighbour_counts, N, neighbours, 6 * N, angles, 6 * N, cell_offsets, CELLS, cell_vertices, 27 * N, face_offsets, N + 1, faces, 45 * N);
+    expect("locator", number, 0);
+    expect("faces by vertex", face_offsets[N], 60);
+    number = icotable_locator(0, vertices, 3 * N, neighbour_counts, N, neighbours, 6 * N, angles, 6 * N, cell_offsets, CELLS, cell_vertices, 27 * N, face_offsets, N, faces, 45 * N);
+    expect("locator with a list too short", number, 6);
+}
+
+static void sizes_and_numbers(void) {
+    expect("vertices of level 15", icotable_vertices(15), 2562);
+    expect("cell offsets of level 15", icotable_cells(15), 3751);
+    expect("cell offsets of level 0", icotable_cells(0), 25);
+    expect("vertices of level 16", icotable_vertices(16), 0);
+    expect("cell offsets of level 16", icotable_cells(16), 0);
+    double x = icotable_root(2);
+    uint64_t bits;
+    memcpy(&bits, &x, sizeof bits);
+    expect("bits of the root of 2", bits, 0x3FF6A09E667F3BCD);
+    expect("E(0) is 1", icotable_exp(0) == 1, 1);
+    expect("E(-709) is 0", icotable_exp(-709) == 0, 1);
+    double tiny = 1.0 / (1 << 30);
+    expect("fused (1 + 2^-30)(1 - 2^-30) - 1 is -2^-60", icotable_mul_add(1 + tiny, 1 - tiny, -1) == -tiny * tiny, 1);
+    expect("16777217, narrowed", (uint64_t)icotable_narrow(16777217), 16777216);
+    expect("16777219, narrowed", (uint64_t)icotable_narrow(16777219), 16777220);
+}
+
+int main(void) {
+    mesh();
+    empty_table();
+    one_slab();
+    refused();
+    locator();
+    sizes_and_numbers();
+    printf("%d answers differ\n", differing);
+    return differing != 0;
+}

@@ -1,0 +1,171 @@
+/* Pair-energy tables over distance, dihedral angle and two orientations: build, write, read.
+ *
+ * Link with libicotable.a (`rt staticlib icotable` writes it to target/staticlib). Nothing checks these declarations
+ * against the library's source: they are written by hand and tried by hosts/c.
+ *
+ * Answers. Every function returns a number, or a struct whose first field is `number`: 0 where the call was accepted,
+ * else the number of the first question that was answered no (see below). A refused call changes nothing. All other
+ * fields of a refused answer are 0, except that a refused set or settle hands the builder back as it came, so that
+ * `b = icotable_set(b, ..).builder` never loses it.
+ *
+ * Lists. A list is a pointer and the count of its entries. It may be longer than needed: entries beyond what is needed
+ * stay as they are. A pointer may be null where its count is 0. Lists must not overlap. The library keeps no state and
+ * allocates nothing, so calls on different lists may run in different threads.
+ *
+ * Sizes. Level m has n = 10*(m+1)*(m+1)+2 vertices, m from 0 to 15. A slab is one distance bin and one dihedral bin, slab
+ * (ri, oi) is number ri*n_omega+oi, and a slab at a level holds n*n energies. A builder with S slabs and top level T
+ * needs: store, S times n*n of level T; kinds, levels and values, S each. A level's mesh is 3n vertices (x, y, z), n
+ * neighbour_counts (5 or 6), 6n neighbours and 6n angles, six places a vertex, of which a sixth is not read where the count
+ * is 5. fresh, settle and write take the meshes of all levels from 0 to the top, one after another in each list; locator
+ * takes one level's parts; set takes no mesh. locator needs, with g = max(2, ceiling(sqrt(n/6)*1.2)): 6*g*g+1
+ * cell_offsets, 27n cell_vertices, n+1 face_offsets and 45n faces.
+ *
+ * Numbers.
+ *    1  rmin is not finite, rmax not above it, dr, omega_step or beta not finite and above 0, or threshold not finite or below 0
+ *    2  the top level is above 15, or the current level above the top
+ *    3  a bin count is not from 1 to 65535, or in a builder not the one that its settings give
+ *    4  the distance count does not come out the same with the table's own rmax
+ *    5  slabs times n*n of the top level is above 4294967295
+ *    6  a list is shorter than needed
+ *    7  a mesh does not keep the mesh rule: finite vertices; 5 or 6 distinct neighbours each, other vertices of the level that
+ *       list it in turn; angles finite and not below 0
+ *    8  a bin number is not below its count
+ *    9  there are not exactly n*n energies, n of the current level
+ *   10  an energy is a NaN
+ *   11  a slab of the slice holds energies of another level than the current one
+ *   12  the output is shorter than the file
+ *   13  the file's sections do not follow their counts, or do not end with its last byte
+ *   14  the file's grid, bin counts, level count, row count or vertex counts are not those of a table
+ *   15  a row has an unknown kind, a Mesh row a level above the top; or, in a file, an unused field that is used, or a
+ *       scalar NaN other than 0x7FC00000
+ *   16  the rows' offsets do not tile the energies in row order
+ *   17  an energy of the file is a NaN
+ */
+#ifndef ICOTABLE_H
+#define ICOTABLE_H
+
+#include <stddef.h>
+#include <stdint.h>
+
+#ifdef __cplusplus
+extern "C" {
+#endif
+
+/* The settings and the bin counts that they give. fresh takes no notice of the two counts handed in; read fills rmax with
+ * the table's own, and threshold and beta with 0. */
+typedef struct icotable_grid {
+    double rmin, rmax, dr, omega_step, threshold, beta;
+    uint64_t n_r, n_omega;
+} icotable_grid;
+
+/* The settings, the top level and the current one. */
+typedef struct icotable_builder {
+    icotable_grid grid;
+    uint64_t top, level;
+} icotable_builder;
+
+typedef struct icotable_built {
+    uint64_t number;
+    icotable_builder builder;
+} icotable_built;
+
+/* gradient: the largest one of the slabs that still hold energies. */
+typedef struct icotable_settled {
+    uint64_t number;
+    double gradient;
+    icotable_builder builder;
+} icotable_settled;
+
+/* length: the file's, in bytes. */
+typedef struct icotable_written {
+    uint64_t number, length;
+} icotable_written;
+
+/* What a file holds. start: for each of the five sections, grid, bins, levels, rows and energies, the byte after its count. */
+typedef struct icotable_table {
+    uint64_t number;
+    icotable_grid grid;
+    uint64_t levels, rows, energies;
+    uint64_t start[5];
+} icotable_table;
+
+/* A builder with no slab set. Fills the store with 0.0 and every row with the scalar 0.0. Questions 1 to 7. */
+icotable_built icotable_fresh(
+    icotable_grid grid,
+    uint64_t top,
+    double *store, size_t store_count,
+    uint8_t *kinds, size_t kinds_count,
+    uint8_t *levels, size_t levels_count,
+    uint32_t *values, size_t values_count,
+    const double *vertices, size_t vertices_count,
+    const uint8_t *neighbour_counts, size_t neighbour_counts_count,
+    const uint16_t *neighbours, size_t neighbours_count,
+    const double *angles, size_t angles_count);
+
+/* Gives slab (ri, oi) its energies, n*n of the current level. Questions 1 to 6, 8, 9, 10. */
+icotable_built icotable_set(
+    icotable_builder builder,
+    double *store, size_t store_count,
+    uint8_t *kinds, size_t kinds_count,
+    uint8_t *levels, size_t levels_count,
+    uint32_t *values, size_t values_count,
+    uint64_t ri,
+    uint64_t oi,
+    const double *energies, size_t energies_count);
+
+/* Settles the slabs of distance bin ri, and may lower the builder's level. Questions 1 to 8, 15, 11. */
+icotable_settled icotable_settle(
+    icotable_builder builder,
+    const double *store, size_t store_count,
+    uint8_t *kinds, size_t kinds_count,
+    uint8_t *levels, size_t levels_count,
+    uint32_t *values, size_t values_count,
+    const double *vertices, size_t vertices_count,
+    const uint8_t *neighbour_counts, size_t neighbour_counts_count,
+    const uint16_t *neighbours, size_t neighbours_count,
+    const double *angles, size_t angles_count,
+    uint64_t ri);
+
+/* Writes the table file to the first bytes of output. Questions 1 to 7, 15, 12. */
+icotable_written icotable_write(
+    icotable_builder builder,
+    const double *store, size_t store_count,
+    const uint8_t *kinds, size_t kinds_count,
+    const uint8_t *levels, size_t levels_count,
+    const uint32_t *values, size_t values_count,
+    const double *vertices, size_t vertices_count,
+    const uint8_t *neighbour_counts, size_t neighbour_counts_count,
+    const uint16_t *neighbours, size_t neighbours_count,
+    const double *angles, size_t angles_count,
+    uint8_t *output, size_t output_count);
+
+/* Looks over a file, all of it. Questions 13 to 17. */
+icotable_table icotable_read(const uint8_t *file, size_t file_count);
+
+/* The locator of one level's mesh. Questions 2, 6, 7. */
+uint64_t icotable_locator(
+    uint64_t level,
+    const double *vertices, size_t vertices_count,
+    const uint8_t *neighbour_counts, size_t neighbour_counts_count,
+    const uint16_t *neighbours, size_t neighbours_count,
+    const double *angles, size_t angles_count,
+    uint32_t *cell_offsets, size_t cell_offsets_count,
+    uint16_t *cell_vertices, size_t cell_vertices_count,
+    uint32_t *face_offsets, size_t face_offsets_count,
+    uint16_t *faces, size_t faces_count);
+
+/* n of a level, and 6*g*g+1: what a host sizes its lists with. 0 for a level above 15. */
+uint64_t icotable_vertices(uint64_t level);
+uint64_t icotable_cells(uint64_t level);
+
+/* The square root, a*b+c rounded once and the nearest float, as IEEE 754 has them; and the exponential that settling uses. */
+double icotable_root(double x);
+double icotable_exp(double y);
+double icotable_mul_add(double a, double b, double c);
+float icotable_narrow(double x);
+
+#ifdef __cplusplus
+}
+#endif
+
+#endif
