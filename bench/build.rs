@@ -17,7 +17,6 @@ mod plain;
 use icotable::{Builder, Grid, Lists, Meshes};
 use meshes::{icosphere, vertex_count, Random};
 use oracle::{AdaptiveBuilder, MeshLevel, SlabResolution};
-use plain::exponential;
 use std::hint::black_box;
 
 // The angle between two directions.
@@ -44,7 +43,7 @@ fn meshes(top: usize) -> (Meshes, Vec<MeshLevel>) {
                 lent.angles.push(*by.get(k).unwrap_or(&f64::NAN));
             }
         }
-        levels.push(MeshLevel { n_vertices: vertex_count(m), neighbors: mesh.neighbours, angles });
+        levels.push(MeshLevel { n_div: m, n_vertices: vertex_count(m), neighbors: mesh.neighbours, angles });
     }
     (lent, levels)
 }
@@ -116,15 +115,8 @@ fn slice(top: usize, n_omega: usize, rounds: usize, random: &mut Random) {
     let per = vertex_count(top).pow(2);
     let mut l = lists(n_omega, top);
     let b = begun(settings(1, n_omega as u64), top, &mut l, &lent);
-    let mut rust = AdaptiveBuilder {
-        n_omega,
-        gradient_threshold: b.grid.threshold,
-        beta: b.grid.beta,
-        levels,
-        current_level: top,
-        slab_res: (0..n_omega).map(|_| SlabResolution::Scalar(0.0)).collect(),
-        slab_data: vec![None; n_omega],
-    };
+    let g = b.grid;
+    let mut rust = AdaptiveBuilder::with_subdivision(levels, g.rmin, g.rmax, g.dr, g.omega_step, top, g.threshold, g.beta);
     let given: Vec<Vec<f64>> = (0..n_omega).map(|_| energies(per, random)).collect();
     let t = medians(
         rounds,

@@ -1,44 +1,4 @@
-// What the Rust side needs beside the Rust's own text: document 01's exponential E, and a plain writer and checker of the table file (docs/FORMAT.md).
-
-// E(y)
-pub fn exponential(y: f64) -> f64 {
-    if y.is_nan() {
-        return y;
-    }
-    if y < -708.0 {
-        return 0.0;
-    }
-    if y > 709.0 {
-        return f64::INFINITY;
-    }
-    let l = f64::from_bits(0x3FF71547652B82FE);
-    let h = f64::from_bits(0x3FE62E42FEE00000);
-    let w = f64::from_bits(0x3DEA39EF35793C76);
-    let k = (y * l + 0.5).floor();
-    let r = (y - k * h) - k * w;
-    let mut p = f64::from_bits(0x3DE6124613A86D09);
-    for c in INVERSE_FACTORIALS {
-        p = p * r + f64::from_bits(c);
-    }
-    p * f64::from_bits(((k as i64 + 1023) as u64) << 52)
-}
-
-// 1/j! for j from 12 down to 0
-const INVERSE_FACTORIALS: [u64; 13] = [
-    0x3E21EED8EFF8D898,
-    0x3E5AE64567F544E4,
-    0x3E927E4FB7789F5C,
-    0x3EC71DE3A556C734,
-    0x3EFA01A01A01A01A,
-    0x3F2A01A01A01A01A,
-    0x3F56C16C16C16C17,
-    0x3F81111111111111,
-    0x3FA5555555555555,
-    0x3FC5555555555555,
-    0x3FE0000000000000,
-    0x3FF0000000000000,
-    0x3FF0000000000000,
-];
+// A plain writer and checker of the table file (docs/FORMAT.md).
 
 fn per_level(level: u8) -> usize {
     let m = level as usize + 1;
