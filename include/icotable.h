@@ -1,4 +1,4 @@
-/* Pair-energy tables over distance, dihedral angle and two orientations: build, write, read.
+/* Pair-energy tables over distance, dihedral angle and two orientations: build, write, read, look up.
  *
  * Link with libicotable.a (`rt staticlib icotable` writes it to target/staticlib). Nothing checks these declarations
  * against the library's source: they are written by hand and tried by hosts/c.
@@ -40,6 +40,10 @@
  *       scalar NaN other than 0x7FC00000
  *   16  the rows' offsets do not tile the energies in row order
  *   17  an energy of the file is a NaN
+ *   18  r is a NaN, omega not finite, or the length of a direction not finite or 0
+ *   19  a bin count is 0, a row's kind is unknown or its level not held, or a row, energy, cell or mesh entry that the reading
+ *       touches is not inside what was lent, an end offset is below its start, or a vertex number not below n
+ *   20  the cell that a direction falls into lists no vertex
  */
 #ifndef ICOTABLE_H
 #define ICOTABLE_H
@@ -88,6 +92,12 @@ typedef struct icotable_table {
     uint64_t levels, rows, energies;
     uint64_t start[5];
 } icotable_table;
+
+/* energy: what a reading gives; infinity inside a repulsive wall, 0 outside the table's distances. */
+typedef struct icotable_value {
+    uint64_t number;
+    double energy;
+} icotable_value;
 
 /* A builder with no slab set. Fills the store with 0.0 and every row with the scalar 0.0. Questions 1 to 7. */
 icotable_built icotable_fresh(
@@ -153,6 +163,23 @@ uint64_t icotable_locator(
     uint16_t *cell_vertices, size_t cell_vertices_count,
     uint32_t *face_offsets, size_t face_offsets_count,
     uint16_t *faces, size_t faces_count);
+
+/* The energy at distance r, dihedral angle omega and two directions of any length, from a file, what read answered for it, the
+ * vertices of all its levels and their locators, each level's at its needed lengths, one after another. Takes no notice of the
+ * table's number, nor of its rmax, threshold and beta. Question 18; then 0 for a distance outside the table; then 19, 20. What
+ * concerns meshes and locators is asked only where a Mesh row is read, and of what is touched alone. */
+icotable_value icotable_reading(
+    icotable_table table,
+    const uint8_t *file, size_t file_count,
+    const double *vertices, size_t vertices_count,
+    const uint32_t *cell_offsets, size_t cell_offsets_count,
+    const uint16_t *cell_vertices, size_t cell_vertices_count,
+    const uint32_t *face_offsets, size_t face_offsets_count,
+    const uint16_t *faces, size_t faces_count,
+    double r,
+    double omega,
+    double ax, double ay, double az,
+    double bx, double by, double bz);
 
 /* n of a level, and 6*g*g+1: what a host sizes its lists with. 0 for a level above 15. */
 uint64_t icotable_vertices(uint64_t level);

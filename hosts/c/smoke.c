@@ -1,5 +1,5 @@
 /* A host in C: an empty table of level 0 from its settings, written, printed and read back; a slab set and settled; calls that are
- * refused; the locator of the icosahedron; sizes and numbers. Every answer is compared with what document 01 says, and the status is 1 where one differs. */
+ * refused; the locator of the icosahedron; readings; sizes and numbers. Every answer is compared with what document 01 says, and the status is 1 where one differs. */
 #include "icotable.h"
 
 #include <stdio.h>
@@ -174,6 +174,42 @@ static void locator(void) {
     expect("locator with a list too short", number, 6);
 }
 
+/* A table whose one slab holds the energy 100 i + j of vertices i and j, read at its vertices, between them and outside. */
+static void readings(void) {
+    enum { CELLS = 25 };
+    uint32_t cell_offsets[CELLS], face_offsets[N + 1];
+    uint16_t cell_vertices[27 * N], faces[45 * N];
+    double energies[PER];
+    uint8_t output[700];
+    for (int i = 0; i < PER; i++)
+        energies[i] = 100 * (i / N) + i % N;
+    icotable_builder b = fresh(settings, 0).builder;
+    expect("set", icotable_set(b, store, PER, kinds, 1, levels, 1, values, 1, 0, 0, energies, PER).number, 0);
+    icotable_written w = written(b, output, sizeof output);
+    icotable_table t = icotable_read(output, w.length);
+    expect("read", t.number, 0);
+    icotable_locator(0, vertices, 3 * N, neighbour_counts, N, neighbours, 6 * N, angles, 6 * N, cell_offsets, CELLS, cell_vertices, 27 * N, face_offsets, N + 1, faces, 45 * N);
+#define READING(r, p, q) \
+    icotable_reading(t, output, w.length, vertices, 3 * N, cell_offsets, CELLS, cell_vertices, 27 * N, face_offsets, N + 1, faces, 45 * N, (r), 0.1, (p)[0], (p)[1], (p)[2], (q)[0], (q)[1], (q)[2])
+    int far = 0;
+    for (int i = 0; i < N; i++)
+        for (int j = 0; j < N; j++) {
+            icotable_value v = READING(0.5, vertices + 3 * i, vertices + 3 * j);
+            double d = v.energy - (100 * i + j);
+            if (v.number != 0 || d * d > 1e-12)
+                far++;
+        }
+    expect("readings at vertices that are not the energy there", far, 0);
+    static const double none[3] = {0, 0, 0};
+    icotable_value v = READING(1.5, vertices, vertices);
+    expect("reading beyond rmax", v.number, 0);
+    expect("its energy is 0", v.energy == 0, 1);
+    expect("reading of no direction", READING(0.5, none, vertices).number, 18);
+    t.rows = 0;
+    expect("reading of a table that says it has no rows", READING(0.5, vertices, vertices).number, 19);
+#undef READING
+}
+
 static void sizes_and_numbers(void) {
     expect("vertices of level 15", icotable_vertices(15), 2562);
     expect("cell offsets of level 15", icotable_cells(15), 3751);
@@ -198,6 +234,7 @@ int main(void) {
     one_slab();
     refused();
     locator();
+    readings();
     sizes_and_numbers();
     printf("%d answers differ\n", differing);
     return differing != 0;

@@ -2,6 +2,7 @@
 -- Definitions only.
 use mathlib.Core.List.{List, [], _∷_}
 use Prim.Native.Nat.{ℕ}
+use lib.ListN.{getD}
 use lib.Ieee.{binary64, ofBits}
 use Rattle.questions.specs.declared.Builder.{Builder}
 use Rattle.builder.specs.declared.Built.{Built}
@@ -16,7 +17,10 @@ use Rattle.table.specs.Read.{readNumber, readTable}
 use Rattle.icotable.specs.declared.BuildAnswer.{BuildAnswer}
 use Rattle.icotable.specs.declared.SettleAnswer.{SettleAnswer}
 use Rattle.icotable.specs.declared.WriteAnswer.{WriteAnswer}
+use Rattle.reading.specs.declared.Reading.{Reading}
+use Rattle.reading.specs.Resolve.{readingNumber, readingEnergy}
 use Rattle.icotable.specs.declared.TableAnswer.{TableAnswer}
+use Rattle.icotable.specs.declared.ValueAnswer.{ValueAnswer}
 
 -- ---- fresh and set
 
@@ -79,3 +83,23 @@ tableWith n t =
 
 unfoldable pub tableAnswer : ReadAnswer → TableAnswer
 tableAnswer a = tableWith (readNumber a) (readTable a)
+
+-- ---- reading
+
+-- read's answer as a host hands it back: its number is not looked at, and its fields may be any
+unfoldable pub tableFrom : TableAnswer → Table
+tableFrom t =
+    record {
+      grid = t .grid;
+      levels = t .levels;
+      rows = t .rows;
+      energies = t .energies;
+      «grid_start» = getD (t .start) 0 0;
+      «bins_start» = getD (t .start) 1 0;
+      «levels_start» = getD (t .start) 2 0;
+      «rows_start» = getD (t .start) 3 0;
+      «energies_start» = getD (t .start) 4 0;
+    }
+
+unfoldable pub valueAnswer : Reading → ValueAnswer
+valueAnswer a = record { number = readingNumber a; energy = readingEnergy a }

@@ -8,12 +8,15 @@ ghost use Rattle.builder.specs.Calls.{freshOut, setOut, settleOut};
 ghost use Rattle.writer.specs.Write.{writeOut};
 ghost use Rattle.table.specs.Read.{readOut};
 ghost use Rattle.locator.specs.Locator.{LocatorOut, locatorOut};
+ghost use Rattle.reading.specs.Reading.{readingOut};
 ghost use Rattle.icotable.specs.Sizes.{heldVertices, heldCells};
-ghost use Rattle.icotable.specs.Answers.{BuildOut, SettledOut, WrittenOut, noBuilder, builtAnswer, buildOut, settleAnswer, settledOut, writeAnswer, writtenOut, tableWith, tableAnswer};
+ghost use Rattle.icotable.specs.Answers.{BuildOut, SettledOut, WrittenOut, noBuilder, builtAnswer, buildOut, settleAnswer, settledOut, writeAnswer, writtenOut, tableWith, tableAnswer, tableFrom, valueAnswer};
 use builder::Built;
 use builder::Settled;
 use grid::Grid;
 use questions::Builder;
+use reading::Reading;
+use search::Vector3;
 use table::ReadAnswer;
 use table::Table;
 use writer::Written;
@@ -47,6 +50,12 @@ pub struct TableAnswer {
     pub rows: u64,
     pub energies: u64,
     pub start: [u64; 5],
+}
+
+#[repr(C)]
+pub struct ValueAnswer {
+    pub number: u64,
+    pub energy: f64,
 }
 
 fn no_grid() -> Grid
@@ -148,6 +157,40 @@ fn table_answer(a: ReadAnswer) -> TableAnswer
             rows: 0,
             energies: 0,
             start: [0; 5],
+        },
+    }
+}
+
+// Read's answer as it is handed back to a reading, whatever it holds by then.
+fn table_from(t: TableAnswer) -> Table
+    ensures { λ r. ⌜ r ≡ tableFrom t ⌝ }
+{
+    let grid = t.grid;
+    let levels = t.levels;
+    let rows = t.rows;
+    let energies = t.energies;
+    let start = t.start;
+    Table {
+        grid,
+        levels,
+        rows,
+        energies,
+        grid_start: start[0],
+        bins_start: start[1],
+        levels_start: start[2],
+        rows_start: start[3],
+        energies_start: start[4],
+    }
+}
+
+fn value_answer(a: Reading) -> ValueAnswer
+    ensures { λ r. ⌜ r ≡ valueAnswer a ⌝ }
+{
+    match a {
+        Reading::Energy(energy) => ValueAnswer { number: 0, energy },
+        Reading::Refused(number) => ValueAnswer {
+            number,
+            energy: 0.0,
         },
     }
 }
@@ -307,6 +350,55 @@ pub extern "C" fn icotable_locator(
         face_offsets,
         faces,
     )
+}
+
+#[no_mangle]
+pub extern "C" fn icotable_reading(
+    table: TableAnswer,
+    file: &[u8],
+    vertices: &[f64],
+    cell_offsets: &[u32],
+    cell_vertices: &[u16],
+    face_offsets: &[u32],
+    faces: &[u16],
+    r: f64,
+    omega: f64,
+    ax: f64,
+    ay: f64,
+    az: f64,
+    bx: f64,
+    by: f64,
+    bz: f64,
+) -> ValueAnswer
+    ensures { λ z. ⌜ z ≡ valueAnswer (readingOut (now (file .entry)) (tableFrom table) (now (vertices .entry))
+        (record { cellOffsets = now («cell_offsets» .entry); cellVertices = now («cell_vertices» .entry); faceOffsets = now («face_offsets» .entry); faces = now (faces .entry) })
+        (record { r = r; omega = omega; a = record { x = ax; y = ay; z = az }; b = record { x = bx; y = by; z = bz } })) ⌝ }
+{
+    let t = table_from(table);
+    let a = Vector3 {
+        x: ax,
+        y: ay,
+        z: az,
+    };
+    let b = Vector3 {
+        x: bx,
+        y: by,
+        z: bz,
+    };
+    let answer = reading::lookup(
+        t,
+        file,
+        vertices,
+        cell_offsets,
+        cell_vertices,
+        face_offsets,
+        faces,
+        r,
+        omega,
+        a,
+        b,
+    );
+    value_answer(answer)
 }
 
 // The vertices of a level; 0 above level 15.

@@ -1,4 +1,11 @@
-// The reading of a table file.
+// The reading of a table file, in stages: the slab's row is resolved, energies are gathered by a search of both directions, and combined.
+mod combine;
+mod gather;
+mod places;
+mod resolve;
+mod stages;
+
+pub use stages::lookup;
 
 // What a reading answers.
 pub enum Reading {

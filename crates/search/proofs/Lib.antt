@@ -1,3 +1,5 @@
 -- Laws that belong to no one function.
 pub mod Bounds
 pub mod Laws
+pub mod Lengths
+pub mod Below

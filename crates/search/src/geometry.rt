@@ -1,7 +1,10 @@
 // Directions, and their projection to the cube and its cells.
 ghost use mathlib.Core.Path.{_≡_};
+ghost use mathlib.Core.Bool.{_&&_};
+ghost use lib.Ieee.{lt};
+ghost use lib.Ieee.Scale.{finite};
 ghost use Rattle.mesh.specs.Levels.{vertexCount, gridSize};
-ghost use Rattle.search.specs.Geometry.{over, dot, norm, unit, difference, cubeFaceProject, cubeProject, inCells, clamp, cellCoordinate, cellIndex};
+ghost use Rattle.search.specs.Geometry.{zero, over, dot, norm, unit, difference, cubeFaceProject, cubeProject, inCells, clamp, cellCoordinate, cellIndex};
 use crate::Projected;
 use crate::Seen;
 use crate::Vector3;
@@ -16,6 +19,14 @@ pub fn norm(a: Vector3) -> f64
     ensures { λ r. ⌜ r ≡ norm a ⌝ }
 {
     ieee::root(dot(a, a))
+}
+
+// A length that is finite and above 0. It is so where its square is, so no root is taken.
+pub fn length_held(a: Vector3) -> bool
+    ensures { λ r. ⌜ r ≡ (finite (norm a) && lt zero (norm a)) ⌝ }
+{
+    let d = dot(a, a);
+    ieee::is_finite(d) & (0.0 < d)
 }
 
 // A direction divided by its length.

@@ -1,0 +1,199 @@
+-- Which rows and energies are inside a file, and where a slab's row starts. Assumes nothing.
+use mathlib.Core.Path.{_≡_, refl, sym, ap, _∙_}
+use mathlib.Core.Bool.{Bool, true, false, not, cond, _&&_, _||_}
+use mathlib.Core.List.{List}
+use mathlib.Core.Logic.{⊎-elim}
+use Prim.Native.Nat.{ℕ, suc, _+_, _-_, _*_, _/_, _≤_, _<_, min}
+use native.Mathlib.Nat.{le-div-iff-mul-le, mul-le-mul}
+use native.Mathlib.Omega.{arith}
+use lib.ListN.{length, take, drop}
+use lib.Dec.{leb, ltb, eqb}
+use lib.Ieee.{Float, inf, binary32, ofBits}
+use borrow.Author.Tests.{lt-ltb, le-ltb, le-leb, lt-leb, leb-true, eqb-true, eqb-false, ne-eqb}
+use Rattle.ieee.proofs.Pack.{le-or-lt}
+use Rattle.mesh.proofs.Counting.{and-yes, or-none}
+use Rattle.rows.specs.Rows.{resolutionOf}
+use Rattle.rows.specs.declared.SlabResolution.{SlabResolution}
+use Rattle.rows.specs.declared.SlabResolution.the-variants.{Scalar, Mesh, Repulsive}
+use Rattle.search.specs.Search.{Locator}
+use Rattle.table.specs.File.{Entry, entryOf}
+use Rattle.table.specs.declared.Table.{Table}
+use Rattle.reading.specs.Resolve.{Query, Resolved, unresolved, beyond, slabAt, queryHeld, outside, resolve, widened}
+use Rattle.reading.specs.Reading.{rowInside, energyInside, entryAt, readEntry, readSlab, readingOut, searchIn, readPicks}
+use Rattle.reading.specs.Steps.{itemsInside, slabOf, rowPlace, toward, readPlaced, readResolution}
+use Rattle.reading.specs.declared.Reading.{Reading}
+use Rattle.reading.specs.declared.Reading.the-variants.{Energy, Refused}
+use Rattle.reading.specs.declared.resolve.RowPlace.{RowPlace}
+use Rattle.reading.specs.declared.resolve.RowPlace.the-variants.{At, Outside, NoRow}
+
+-- ---- the items of a section
+
+module _ (start w count n : ℕ) (W : 1 ≤ w) where
+  reaches : (k : ℕ) → k < (n - start) / w → start + k * w + w ≤ n
+  reaches k h = let m : (k + 1) * w ≤ n - start = le-div-iff-mul-le W .0 (omega arith) in omega arith
+
+  past : (k : ℕ) → (n - start) / w ≤ k → n < start + k * w + w
+  past k h =
+      ⊎-elim
+      (λ l. let f : (k + 1) * w ≤ n - start = omega arith in let m : k + 1 ≤ (n - start) / w = le-div-iff-mul-le W .1 f in absurd (omega arith))
+      (λ l. l)
+      (le-or-lt (start + k * w + w) n)
+
+  -- below the count, with its bytes inside: below the number of those that are
+  pub items-inside : (k : ℕ) → (ltb k count && leb (start + k * w + w) n) ≡ ltb k (itemsInside start w count n)
+  unfolding itemsInside
+  items-inside k =
+      ⊎-elim
+      (λ h. rw (le-ltb k count h, le-ltb k (min count ((n - start) / w)) (omega arith)))
+      (λ h. ⊎-elim
+      (λ g. rw (lt-ltb k count h, lt-leb (start + k * w + w) n (past k g), le-ltb k (min count ((n - start) / w)) (omega arith)))
+      (λ g. rw (lt-ltb k count h, le-leb (start + k * w + w) n (reaches k g), lt-ltb k (min count ((n - start) / w)) (omega arith)))
+      (le-or-lt ((n - start) / w) k))
+      (le-or-lt count k)
+
+-- a product that the limit is far above
+pub not-past : (ri n oi limit : ℕ) → 1 ≤ n → oi < limit → ri ≤ (limit - oi - 1) / n → ri * n + oi < limit
+not-past ri n oi limit N h l = let m : ri * n ≤ limit - oi - 1 = le-div-iff-mul-le N .0 l in omega arith
+
+pub quite-past : (ri n oi limit : ℕ) → 1 ≤ n → oi < limit → (limit - oi - 1) / n < ri → limit ≤ ri * n + oi
+quite-past ri n oi limit N h l =
+    ⊎-elim
+    (λ g. g)
+    (λ g. let f : ri * n ≤ limit - oi - 1 = omega arith in let m : ri ≤ (limit - oi - 1) / n = le-div-iff-mul-le N .1 f in absurd (omega arith))
+    (le-or-lt limit (ri * n + oi))
+
+-- ---- rows
+
+module _ (file : List ℕ) (t : Table) where
+  row-held : (s held : ℕ) → held ≡ itemsInside (t .«rows_start») 10 (t .rows) (length file) → rowInside file t s ≡ ltb s held
+  unfolding rowInside
+  row-held s held h = rw h (items-inside (t .«rows_start») 10 (t .rows) (length file) (omega arith) s)
+
+  pub row-at : (s r held : ℕ) → held ≡ itemsInside (t .«rows_start») 10 (t .rows) (length file) → r ≡ min s held → r < held
+      → At (t .«rows_start» + r * 10) ≡ rowPlace file t (slabAt s)
+  row-at s r held h e l = let z : r ≡ s = omega arith in rw (row-held s held h, lt-ltb s held (omega arith), z)
+
+  pub row-none : (s r held : ℕ) → held ≡ itemsInside (t .«rows_start») 10 (t .rows) (length file) → r ≡ min s held → held ≤ r
+      → NoRow 19 ≡ rowPlace file t (slabAt s)
+  row-none s r held h e l = rw (row-held s held h, le-ltb s held (omega arith))
+
+  -- the bytes of a row that was placed
+  pub row-fits : (r held : ℕ) → held ≡ itemsInside (t .«rows_start») 10 (t .rows) (length file) → r < held → t .«rows_start» + r * 10 + 10 ≤ length file
+  unfolding rowInside
+  row-fits r held h l = leb-true _ _ (and-yes (ltb r (t .rows)) (leb (t .«rows_start» + r * 10 + 10) (length file)) (row-held r held h ∙ lt-ltb r held l) .1)
+
+  place : RowPlace → ℕ
+  place (At a) = suc a
+  place Outside = 0
+  place (NoRow n) = 0
+
+  pub placed-fits : (x : Resolved) (at : ℕ) → rowPlace file t x ≡ At at → at + 10 ≤ length file
+  unfolding rowInside place
+  placed-fits (unresolved n) at e = absurd (let z : 0 ≡ suc at = ap place e in omega arith)
+  placed-fits beyond at e = absurd (let z : 0 ≡ suc at = ap place e in omega arith)
+  placed-fits (slabAt s) at e = by (rowInside file t s) (λ h. leb-true _ _ (and-yes (ltb s (t .rows)) (leb (t .«rows_start» + s * 10 + 10) (length file)) h .1)) e
+    where
+      by : (b : Bool) → (b ≡ true → t .«rows_start» + s * 10 + 10 ≤ length file) → cond b (At (t .«rows_start» + s * 10)) (NoRow 19) ≡ At at → at + 10 ≤ length file
+      by true h e = let z : suc (t .«rows_start» + s * 10) ≡ suc at = ap place e in omega (arith, h refl)
+      by false h e = absurd (let z : 0 ≡ suc at = ap place e in omega arith)
+
+module _ (file : List ℕ) (t : Table) (vs : List Float) (l : Locator) (q : Query) where
+  placed-slab : (x : Resolved) → readSlab file t vs l q x ≡ readPlaced file t vs l q (rowPlace file t x)
+  unfolding entryAt
+  placed-slab (unresolved n) = refl
+  placed-slab beyond = refl
+  placed-slab (slabAt s) = by (rowInside file t s)
+    where
+      by : (b : Bool) → cond b (readEntry file t vs l q (entryAt file t s)) (Refused 19) ≡ readPlaced file t vs l q (cond b (At (t .«rows_start» + s * 10)) (NoRow 19))
+      by true = refl
+      by false = refl
+
+  -- the answer by the row's place
+  pub reading-by : (p r : RowPlace) → p ≡ rowPlace file t (resolve (t .grid) q) → p ≡ r → readPlaced file t vs l q r ≡ readingOut file t vs l q
+  unfolding readingOut
+  reading-by p r e h = ap (λ (z : RowPlace). readPlaced file t vs l q z) (sym h ∙ e) ∙ sym (placed-slab (resolve (t .grid) q))
+
+  -- a row's answer has no use for the distance and the angle
+  pub entry-toward : (e : Entry) → readEntry file t vs l (toward (q .a) (q .b)) e ≡ readEntry file t vs l q e
+  unfolding readEntry searchIn
+  entry-toward e = refl
+
+  -- the answer by the row as the enum
+  pub entry-by : (e : Entry) → readResolution file t vs l q (e .kind) (e .offset) (resolutionOf (e .kind) (e .level) (e .scalar)) ≡ readEntry file t vs l q e
+  unfolding readEntry resolutionOf
+  entry-by e = by (eqb (e .kind) 0) (eqb (e .kind) 1)
+    where
+      by : (a b : Bool)
+          → readResolution file t vs l q (e .kind) (e .offset) (cond a (Scalar (ofBits binary32 (e .scalar))) (cond b Repulsive (Mesh (e .level) (eqb (e .kind) 3))))
+          ≡ cond a (Energy (widened (e .scalar)))
+          (cond b (Energy (inf false))
+          (cond (leb (e .kind) 3 && ltb (e .level) (t .levels)) (readPicks file t (eqb (e .kind) 3) (e .offset) (searchIn vs l q (e .level) (eqb (e .kind) 3))) (Refused 19)))
+      by true b = refl
+      by false true = refl
+      by false false = refl
+
+-- ---- the first stage, question by question
+
+pub row-place-le : (v n : ℕ) → v < 655362 → n ≤ 655362 → v * n ≤ 429499351044
+row-place-le v n h k = let l : v ≤ 655362 = omega arith in mul-le-mul l k
+
+pub bins-some : (a b : ℕ) → (eqb a 0 || eqb b 0) ≡ false → (1 ≤ a) × (1 ≤ b)
+bins-some a b h = let k = or-none (eqb a 0) (eqb b 0) h in (some a (eqb-false a 0 (k .0)), some b (eqb-false b 0 (k .1)))
+  where
+    some : (n : ℕ) → (n ≡ 0 → ⊥) → 1 ≤ n
+    some n h = ⊎-elim (λ l. absurd (h (omega arith))) (λ l. l) (le-or-lt n 0)
+
+bins-none : (a b : ℕ) → (eqb a 0 || eqb b 0) ≡ true → (ltb 0 a && ltb 0 b) ≡ false
+bins-none a b h =
+    ⊎-elim
+    (λ l. rw (le-ltb 0 a l))
+    (λ l. let n : (a ≡ 0 → ⊥) = λ z. omega arith in
+    let e : eqb b 0 ≡ true = sym (ap (λ (t : Bool). t || eqb b 0) (ne-eqb a 0 n)) ∙ h in
+    let z : b ≡ 0 = eqb-true b 0 e in
+    rw (lt-ltb 0 a l, z))
+    (le-or-lt a 0)
+
+module _ (file : List ℕ) (t : Table) (q : Query) where
+  pub refused-18 : queryHeld q ≡ false → NoRow 18 ≡ rowPlace file t (resolve (t .grid) q)
+  unfolding resolve
+  refused-18 h = rw h
+
+  module _ (h : queryHeld q ≡ true) where
+    pub beyond-out : outside (t .grid) (q .r) ≡ true → Outside ≡ rowPlace file t (resolve (t .grid) q)
+    unfolding resolve
+    beyond-out k = rw (h, k)
+
+    pub no-bins : outside (t .grid) (q .r) ≡ false → (eqb (t .grid .«n_r») 0 || eqb (t .grid .«n_omega») 0) ≡ true → NoRow 19 ≡ rowPlace file t (resolve (t .grid) q)
+    unfolding resolve
+    no-bins k e = rw (h, k, bins-none (t .grid .«n_r») (t .grid .«n_omega») e)
+
+    pub some-bins : outside (t .grid) (q .r) ≡ false → (eqb (t .grid .«n_r») 0 || eqb (t .grid .«n_omega») 0) ≡ false
+        → rowPlace file t (slabAt (slabOf (t .grid) (q .r) (q .omega))) ≡ rowPlace file t (resolve (t .grid) q)
+    unfolding resolve
+    some-bins k e = let b = bins-some (t .grid .«n_r») (t .grid .«n_omega») e in rw (h, k, lt-ltb 0 (t .grid .«n_r») (b .0), lt-ltb 0 (t .grid .«n_omega») (b .1))
+
+-- ---- the row as the enum
+
+-- a kind that is known and a level that is held, or not
+kept : (k v n : ℕ) → (leb k 3 && ltb v n) ≡ not (ltb 3 k || leb n v)
+kept k v n =
+    ⊎-elim
+    (λ h. ⊎-elim
+    (λ g. rw (le-leb k 3 h, le-ltb 3 k h, le-ltb v n g, le-leb n v g))
+    (λ g. rw (le-leb k 3 h, le-ltb 3 k h, lt-ltb v n g, lt-leb n v g))
+    (le-or-lt n v))
+    (λ h. rw (lt-leb k 3 h, lt-ltb 3 k h))
+    (le-or-lt k 3)
+
+module _ (file : List ℕ) (t : Table) (vs : List Float) (l : Locator) (q : Query) (kind o : ℕ) (row : SlabResolution) where
+  pub row-scalar : (x : Float) → row ≡ Scalar x → Energy x ≡ readResolution file t vs l q kind o row
+  row-scalar x e = rw e
+
+  pub row-repulsive : row ≡ Repulsive → Energy (inf false) ≡ readResolution file t vs l q kind o row
+  row-repulsive e = rw e
+
+  pub row-unknown : (v : ℕ) (b : Bool) → row ≡ Mesh v b → (ltb 3 kind || leb (t .levels) v) ≡ true → Refused 19 ≡ readResolution file t vs l q kind o row
+  row-unknown v b e h = rw (e, kept kind v (t .levels), h)
+
+  pub row-mesh : (v : ℕ) (b i : Bool) → row ≡ Mesh v b → b ≡ i → (ltb 3 kind || leb (t .levels) v) ≡ false → readPicks file t i o (searchIn vs l q v i) ≡ readResolution file t vs l q kind o row
+  row-mesh v b i e z h = rw (e, z, kept kind v (t .levels), h)

@@ -1,0 +1,60 @@
+-- `interpolated_in` meets its contract. Assumes nothing.
+use borrow.Author.Needs.{needs}
+use Prim.Native.Nat.{ℕ, _<_}
+use native.Mathlib.Omega.{arith}
+use mathlib.Core.Path.{_≡_}
+use Rattle.mesh.specs.Levels.{vertexCount, gridSize}
+use Rattle.mesh.proofs.Laws.{count-le}
+use Rattle.search.specs.Search.{Locator}
+use Rattle.search.proofs.Below.{located-below}
+use Rattle.reading.proofs.gather.interpolated_in.Statement.{statement}
+use Rattle.reading.proofs.gather.interpolated_in.Tie as tie
+
+abbrev lists : tie.Start → Locator
+lists s = record { cellOffsets = s .args .cell-offsets .now; cellVertices = s .args .cell-vertices .now; faceOffsets = s .args .face-offsets .now; faces = s .args .faces .now }
+
+some : (m : ℕ) → 0 < vertexCount m
+unfolding vertexCount
+some m = omega arith
+
+vertex-count-requires : tie.Need-vertex-count-requires
+vertex-count-requires c κs = search needs
+
+unit-requires : tie.Need-unit-requires
+unit-requires c κs = search needs
+
+unit-requires-2 : tie.Need-unit-requires-2
+unit-requires-2 c κs = search needs
+
+locate-requires : tie.Need-locate-requires
+locate-requires c κs = search needs
+
+locate-requires-2 : tie.Need-locate-requires-2
+locate-requires-2 c κs = search needs
+
+interpolated-requires : tie.Need-interpolated-requires
+interpolated-requires c κs =
+    let x = c .before in
+    let n = x .before .before .before in
+    let s = n .before .before .before .before .before .before .before in
+    let a = s .args in (
+      s .pre,
+      rw (n .vertex-count .ensures) (count-le (a .level) 256 (omega arith)),
+      rw (n .vertex-count .ensures, x .locate .ensures) (located-below (a .vertices .now) (vertexCount (a .level)) (x .before .before .unit .result) (some (a .level)) (lists s) (gridSize (vertexCount (a .level)))),
+      rw (n .vertex-count .ensures, c .locate2 .ensures) (located-below (a .vertices .now) (vertexCount (a .level)) (x .before .unit2 .result) (some (a .level)) (lists s) (gridSize (vertexCount (a .level)))),
+    )
+
+returns : tie.Need-returns
+returns c = rw (c .interpolated .ensures, c .before .locate2 .ensures, c .before .before .locate .ensures, c .before .before .before .unit2 .ensures, c .before .before .before .before .unit .ensures, c .before .before .before .before .before .vertex-count .ensures)
+
+pub interpolated-in-spec : {M : Type 1} → statement M
+interpolated-in-spec =
+    tie.close
+    (tie.spec
+    vertex-count-requires
+    unit-requires
+    unit-requires-2
+    locate-requires
+    locate-requires-2
+    interpolated-requires
+    returns)

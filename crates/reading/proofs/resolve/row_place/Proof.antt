@@ -1,0 +1,61 @@
+-- `row_place` meets its contract. Assumes nothing.
+use borrow.Author.Needs.{needs}
+use mathlib.Core.Path.{_≡_, sym, _∙_}
+use Rattle.mesh.proofs.Counting.{yes, no}
+use mathlib.Core.Bool.{true, false}
+use Rattle.reading.specs.Resolve.{Query, queryHeld, outside}
+use Rattle.reading.proofs.Inside.{refused-18, beyond-out, no-bins, some-bins, bins-some}
+use Rattle.reading.proofs.resolve.row_place.Statement.{statement}
+use Rattle.reading.proofs.resolve.row_place.Tie as tie
+
+abbrev query : tie.Start → Query
+query s = record { r = s .args .r; omega = s .args .omega; a = s .args .a; b = s .args .b }
+
+asked : (c : tie.Else1) → queryHeld (query (c .before .before .before .before)) ≡ true
+asked c = yes (c .before .query-held .ensures) (c .if1 .left)
+
+inner : (c : tie.Else2) → outside (c .before .before .before .before .before .before .args .t .grid) (c .before .before .before .before .before .before .args .r) ≡ false
+inner c = sym (c .before .outside .ensures) ∙ c .if2 .left
+
+query-held-requires : tie.Need-query-held-requires
+query-held-requires c κs = search needs
+
+returns : tie.Need-returns
+returns c =
+    let a = c .before .before .before .before .args in
+    refused-18 (a .file .now) (a .t) (query (c .before .before .before .before)) (no (c .before .query-held .ensures) (c .if1 .taken))
+
+outside-requires : tie.Need-outside-requires
+outside-requires c κs = search needs
+
+returns-2 : tie.Need-returns-2
+returns-2 c =
+    let s = c .before .before .before .before .before .before in
+    beyond-out (s .args .file .now) (s .args .t) (query s) (asked (c .before .before)) (sym (c .before .outside .ensures) ∙ c .if2 .taken)
+
+returns-3 : tie.Need-returns-3
+returns-3 c =
+    let s = c .before .before .before .before .before .before .before in
+    no-bins (s .args .file .now) (s .args .t) (query s) (asked (c .before .before .before)) (inner (c .before)) (c .if3 .taken)
+
+slab-row-requires : tie.Need-slab-row-requires
+slab-row-requires c κs =
+    let a = c .before .before .before .before .before .before .before .args in
+    bins-some (a .t .grid .«n_r») (a .t .grid .«n_omega») (c .if3 .left)
+
+returns-4 : tie.Need-returns-4
+returns-4 c =
+    let s = c .before .before .before .before .before .before .before .before in
+    c .slab-row .ensures ∙ some-bins (s .args .file .now) (s .args .t) (query s) (asked (c .before .before .before .before)) (inner (c .before .before)) (c .before .if3 .left)
+
+pub row-place-spec : {M : Type 1} → statement M
+row-place-spec =
+    tie.close
+    (tie.spec
+    query-held-requires
+    returns
+    outside-requires
+    returns-2
+    returns-3
+    slab-row-requires
+    returns-4)

@@ -1,0 +1,64 @@
+-- `lookup` meets its contract. Assumes nothing.
+use borrow.Author.Needs.{needs}
+use mathlib.Core.Path.{_≡_, sym, _∙_}
+use Rattle.search.specs.Search.{Locator}
+use Rattle.reading.specs.Resolve.{Query, resolve}
+use Rattle.reading.specs.Steps.{toward}
+use Rattle.reading.proofs.Inside.{placed-fits, reading-by, entry-toward}
+use Rattle.reading.proofs.stages.lookup.Statement.{statement}
+use Rattle.reading.proofs.stages.lookup.Tie as tie
+
+abbrev lists : tie.Start → Locator
+lists s = record { cellOffsets = s .args .cell-offsets .now; cellVertices = s .args .cell-vertices .now; faceOffsets = s .args .face-offsets .now; faces = s .args .faces .now }
+
+abbrev query : tie.Start → Query
+query s = record { r = s .args .r; omega = s .args .omega; a = s .args .a; b = s .args .b }
+
+row-place-requires : tie.Need-row-place-requires
+row-place-requires c κs = search needs
+
+enum-known-n : tie.Need-enum-known-n
+enum-known-n c = search needs
+
+enum-told : tie.Need-enum-told
+enum-told c = search needs
+
+enum-known-at : tie.Need-enum-known-at
+enum-known-at c = search needs
+
+read-row-requires : tie.Need-read-row-requires
+read-row-requires c κs =
+    let p = c .before .before .before in
+    let s = p .before .before .before .before .before .before .before in
+    placed-fits (s .args .file .now) (s .args .t) (resolve (s .args .t .grid) (query s)) _ (sym (p .row-place .ensures) ∙ c .before .at .given .1)
+
+returns : tie.Need-returns
+returns c =
+    let p = c .before .before .before in
+    let s = p .before .before .before .before .before .before .before in
+    reading-by (s .args .file .now) (s .args .t) (s .args .vertices .now) (lists s) (query s) (p .row-place .result) _ (p .row-place .ensures) (c .before .n .given .1)
+
+returns-2 : tie.Need-returns-2
+returns-2 c =
+    let p = c .before .before in
+    let s = p .before .before .before .before .before .before .before in
+    reading-by (s .args .file .now) (s .args .t) (s .args .vertices .now) (lists s) (query s) (p .row-place .result) _ (p .row-place .ensures) (c .enum-told .given .1)
+
+returns-3 : tie.Need-returns-3
+returns-3 c =
+    let p = c .before .before .before .before in
+    let s = p .before .before .before .before .before .before .before in
+    c .read-row .ensures ∙ entry-toward (s .args .file .now) (s .args .t) (s .args .vertices .now) (lists s) (query s) _ ∙ reading-by (s .args .file .now) (s .args .t) (s .args .vertices .now) (lists s) (query s) (p .row-place .result) _ (p .row-place .ensures) (c .before .before .at .given .1)
+
+pub lookup-spec : {M : Type 1} → statement M
+lookup-spec =
+    tie.close
+    (tie.spec
+    row-place-requires
+    enum-known-n
+    enum-told
+    enum-known-at
+    read-row-requires
+    returns
+    returns-2
+    returns-3)
