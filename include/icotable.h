@@ -1,7 +1,7 @@
 /* Pair-energy tables over distance, dihedral angle and two orientations: build, write, read, look up.
  *
- * Link with libicotable.a (`rt staticlib icotable` writes it to target/staticlib). Nothing checks these declarations
- * against the library's source: they are written by hand and tried by hosts/c.
+ * Link with libicotable.a (`rt staticlib icotable` writes it to target/staticlib) and the C library's mathematics (-lm).
+ * Nothing checks these declarations against the library's source: they are written by hand and tried by hosts/c.
  *
  * Answers. Every function returns a number, or a struct whose first field is `number`: 0 where the call was accepted,
  * else the number of the first question that was answered no (see below). A refused call changes nothing. All other
