@@ -1,46 +1,35 @@
 -- The lists of a builder hold the ledger's rows, through every list of calls, refused ones included. Assumes nothing.
-use mathlib.Core.Path.{_≡_, refl, sym, ap, _∙_, subst}
-use mathlib.Core.Bool.{Bool, true, false, cond, not, _&&_, _||_}
-use mathlib.Core.List.{List, [], _∷_, map}
-use mathlib.Core.Logic.{_⊎_, inl, inr}
+use mathlib.Core.Path.{_≡_, refl, _∙_}
+use mathlib.Core.Bool.{Bool, true, false, cond}
+use mathlib.Core.List.{List, map}
 use Prim.Native.Nat.{ℕ, zero, suc, _+_, _*_, _-_, _≤_, _<_}
-use native.Mathlib.Nat.{add-zero}
 use native.Mathlib.Omega.{arith}
-use lib.ListN.{length, getD, set, take, drop, replicate, length-set, length-replicate, length-drop, getD-replicate}
-use lib.Seq.{sets, getD-set-same, getD-set-other, set-getD, drop-set-lt, drop-cons, length-take-le}
-use lib.Dec.{T, eqb, ltb, leb, lit<}
-use lib.Ieee.{Float, binary32, binary64, isNan, fits, ofBits, toBits, lt, div}
-use borrow.Author.Tests.{eqb-true, eqb-false, ltb-true, le-leb}
-use Rattle.ieee.proofs.Pack.{le-or-lt}
+use lib.ListN.{length, getD, set, take, drop, length-set}
+use lib.Seq.{sets, getD-set-same, getD-set-other, set-getD, drop-set-lt, drop-cons}
+use lib.Dec.{T}
+use lib.Ieee.{Float, binary32, binary64, fits, ofBits, lt, div}
+use borrow.Author.Tests.{eqb-true, le-leb}
 use Rattle.ieee.proofs.Fields.{both-true}
-use Rattle.mesh.specs.Questions.{ask, first}
-use Rattle.mesh.specs.Lists.{every, allUpTo, put}
-use Rattle.mesh.specs.Levels.{per, vertexCount, verticesBelow}
-use Rattle.mesh.specs.Mesh.{Mesh, levelPart, meshHeld, meshesKeep}
+use Rattle.mesh.specs.Lists.{every}
+use Rattle.mesh.specs.Levels.{per}
+use Rattle.mesh.specs.Mesh.{Mesh}
 use Rattle.mesh.proofs.Sizes.{per-mono}
-use Rattle.mesh.proofs.Written.{length-put}
-use Rattle.grid.specs.Settings.{inRange, levelsHeld, countsHeld, ownCount, slabsHeld, question}
 use Rattle.grid.specs.declared.Grid.{Grid}
 use Rattle.rows.specs.declared.SlabResolution.{SlabResolution}
 use Rattle.rows.specs.declared.SlabResolution.the-variants.{Scalar, Mesh as OnMesh, Repulsive}
-use Rattle.rows.specs.Rows.{Rows, kindOf, levelOf, valueOf, resolutionOf, resolutionAt, replaced, known, rowRoom, Row, scalar, repulsive, mesh, rowWith}
+use Rattle.rows.specs.Rows.{Rows, kindOf, levelOf, valueOf, resolutionAt, replaced, known, Row, scalar, repulsive, mesh, rowWith}
 use Rattle.rows.proofs.Replaced.{Held, numbers-back}
 use Rattle.rows.proofs.Compared.{narrowed-fits}
-use Rattle.locator.proofs.Entries.{getD-put}
-use Rattle.builder.specs.Gradient.{zero as nought, allRepulsive, gradient, meanNarrowed}
-use Rattle.builder.specs.Settling.{byGradient, verdict, verdictOf, verdicts, newRow, inPlaceOf, settledRows, settledSlice, drops, fromLevel, energiesOf}
-use Rattle.builder.specs.Lists.{Lists, slabs, slab, rowAt, rowsFrom, sliceAt, replacedBy, settledLists, listRoom, listsHeld, rowsKnown}
-use Rattle.builder.specs.Calls.{BuiltOut, SettleOut, builtNumber, builderAfter, settledBuilder, meshedRefusal, freshBuilder, filled, freshOut, setQuestion, setRefusal, setLists, setOut, settleRefusal, settleAccepted, settleOut}
-use Rattle.builder.specs.declared.Builder.{Builder}
+use Rattle.builder.specs.Gradient.{allRepulsive, gradient, meanNarrowed}
+use Rattle.builder.specs.Settling.{byGradient, verdict, verdictOf, newRow, inPlaceOf, settledRows, fromLevel, energiesOf}
+use Rattle.builder.specs.Lists.{slabs, slab, rowAt, rowsFrom, replacedBy, settledLists, rowsKnown}
 use Rattle.builder.specs.declared.Verdict.{Verdict}
 use Rattle.builder.specs.declared.Verdict.the-variants.{Empty as empty, Blocked as blocked, Isotropic as isotropic, Smooth as smooth, Rough as rough}
-use Rattle.builder.proofs.Laws.{ask-yes, first-yes, place, Roomy}
-use Rattle.table.specs.Write.{WriteOut, writeRefusal, writeOut}
+use Rattle.builder.proofs.Laws.{Roomy}
 use Rattle.table.proofs.Accepts.{all-is}
 use Rattle.table.proofs.Back.{All}
 use Rattle.table.proofs.OfRows.{Good}
-use Rattle.ledger.specs.Ledger.{Call, set-call, settle-call, write-call, State, called, run, Ledger, opened, ledgerSlice, settleQuestion, setEntered, settleEntered, entered, ledger}
-use Rattle.ledger.proofs.Store.{put-same, other-slab, put-sets, all-set, all-at, all-replicate}
+use Rattle.ledger.proofs.Store.{all-set, all-at}
 
 -- ---- a row of the ledger, and where the lists hold it
 

@@ -1,24 +1,21 @@
 -- A reading of the file of rows is what the reading rule gives from these rows. Assumes nothing.
-use mathlib.Core.Path.{_≡_, refl, sym, ap, _∙_}
+use mathlib.Core.Path.{_≡_, refl}
 use mathlib.Core.Bool.{Bool, true, false, cond, _&&_, _||_}
 use mathlib.Core.List.{List, [], _∷_, map}
 use Prim.Native.Nat.{ℕ, suc, _+_, _*_, _≤_, _<_}
 use native.Mathlib.Omega.{arith}
 use lib.ListN.{length, getD}
-use lib.Dec.{leb, ltb, eqb}
-use lib.Ieee.{Float, lt}
+use lib.Dec.{ltb, eqb}
 use borrow.Author.Tests.{eqb-true, eqb-false, lt-ltb, le-leb}
 use Rattle.mesh.specs.Lists.{every}
-use Rattle.mesh.specs.Levels.{vertexCount, per, gridSize, verticesBelow}
-use Rattle.mesh.specs.Mesh.{Mesh, levelPart, meshHeld, meshesKeep}
-use Rattle.mesh.specs.declared.Face.{Face}
+use Rattle.mesh.specs.Levels.{vertexCount, per, verticesBelow}
+use Rattle.mesh.specs.Mesh.{Mesh, meshHeld, meshesKeep}
 use Rattle.grid.specs.Bins.{distanceBin, dihedralBin}
 use Rattle.grid.specs.declared.Grid.{Grid}
 use Rattle.grid.proofs.Tables.{some-bins, distance-below, dihedral-below}
 use Rattle.rows.specs.Rows.{Row, scalar, repulsive, mesh}
 use Rattle.search.specs.Geometry.{unit}
-use Rattle.search.specs.Search.{Locator, nearestOf, locate}
-use Rattle.search.specs.declared.Weights.{Weights}
+use Rattle.search.specs.Search.{Locator}
 use Rattle.search.specs.declared.Nearest.{Nearest}
 use Rattle.search.specs.declared.Located.{Located}
 use Rattle.locator.specs.Several.{locators, Roomy}
@@ -26,17 +23,15 @@ use Rattle.locator.proofs.Laid.{nearest-at, locate-at}
 use Rattle.locator.proofs.Picked.{FaceBelow, nearest-vertex, located-face}
 use Rattle.builder.specs.Lists.{slabs}
 use Rattle.builder.proofs.Laws.{place}
-use Rattle.table.specs.Bytes.{numberAt}
-use Rattle.table.specs.File.{Entry, energiesIn, energiesOf, entry, fileOf}
+use Rattle.table.specs.File.{energiesIn, energiesOf, entry, fileOf}
 use Rattle.table.specs.declared.Table.{Table}
 use Rattle.table.proofs.Back.{All}
 use Rattle.table.proofs.Sound.{Fine}
 use Rattle.table.proofs.OfRows.{before}
 use Rattle.table.proofs.OfFile.{Filable, gridIn, tableIn, file-length, entry-of, energy-of}
-use Rattle.reading.specs.Resolve.{Query, queryHeld, outside, Resolved, unresolved, beyond, slabAt, resolve, Picks, unpicked, picked, joint, pairPlace, nearestPick, facePick, combined}
+use Rattle.reading.specs.Resolve.{Query, queryHeld, outside, Resolved, unresolved, beyond, slabAt, resolve, Picks, unpicked, picked, joint, pairPlace, nearestPick, facePick}
 use Rattle.reading.specs.Reading.{rowInside, energyInside, entryAt, energyAt, searchIn, readPicks, readEntry, readSlab, readingOut}
 use Rattle.reading.specs.Rule.{search, rulePicks, ruleRow, ruleSlab, ruled}
-use Rattle.reading.specs.declared.Reading.{Reading}
 use Rattle.ledger.proofs.Store.{all-at}
 
 -- ---- a slab that a reading asks for is one of the grid's

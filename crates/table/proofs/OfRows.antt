@@ -1,6 +1,6 @@
 -- Rows in a file: which a table can hold, where each stands, and that they can be told from their entries and energies. Assumes nothing.
 use mathlib.Core.Path.{_≡_, refl, sym, ap, _∙_}
-use mathlib.Core.Bool.{Bool, true, false, cond, not}
+use mathlib.Core.Bool.{true, false, cond, not}
 use mathlib.Core.List.{List, [], _∷_, _++_, map, map-append}
 use mathlib.Core.Logic.{_⊎_, inl, inr}
 use Prim.Native.Nat.{ℕ, zero, suc, _+_, _*_, _-_, _^_, _≤_, _<_}
@@ -9,7 +9,7 @@ use native.Mathlib.Omega.{arith}
 use lib.ListN.{length, getD, take, drop, length-append, length-map, List·getD-append}
 use lib.Seq.{take-at, drop-at, getD-at, getD-append-add}
 use lib.Dec.{T, leb, eqb}
-use lib.Ieee.{Float, nan, inf, fin, binary32, isNan, fits, nanBits, toBits}
+use lib.Ieee.{Float, nan, inf, fin, binary32, isNan, fits, toBits}
 use borrow.Author.Tests.{not-true}
 use Rattle.ieee.proofs.Pack.{le-or-lt}
 use Rattle.mesh.specs.Lists.{below, every}
