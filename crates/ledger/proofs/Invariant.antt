@@ -20,6 +20,7 @@ use Rattle.rows.specs.declared.SlabResolution.the-variants.{Scalar, Mesh as OnM
 use Rattle.rows.specs.Rows.{Rows, kindOf, levelOf, valueOf, resolutionAt, replaced, known, Row, scalar, repulsive, mesh, rowWith}
 use Rattle.rows.proofs.Replaced.{Held, numbers-back}
 use Rattle.rows.proofs.Compared.{narrowed-fits}
+use Rattle.locator.proofs.Picked.{chosen}
 use Rattle.builder.specs.Gradient.{allRepulsive, gradient, meanNarrowed}
 use Rattle.builder.specs.Settling.{byGradient, verdict, verdictOf, newRow, inPlaceOf, settledRows, fromLevel, energiesOf}
 use Rattle.builder.specs.Lists.{slabs, slab, rowAt, rowsFrom, replacedBy, settledLists, rowsKnown}
@@ -151,22 +152,18 @@ Fitting (isotropic x) = T (fits binary32 x)
 Fitting (smooth x) = Unit {0}
 Fitting (rough x) = Unit {0}
 
-chosen : (t : Bool) (v w : Verdict) → Fitting v → Fitting w → Fitting (cond t v w)
-chosen true v w h k = h
-chosen false v w h k = k
-
 gradient-fits : (threshold : Float) (e : List Float) (x : Float) → Fitting (byGradient threshold e x)
 unfolding byGradient meanNarrowed
 gradient-fits threshold e x =
-    chosen (lt x (div binary64 threshold (ofBits binary64 0x4024_0000_0000_0000))) (isotropic (meanNarrowed e)) (cond (lt x threshold) (smooth x) (rough x)) (narrowed-fits _)
-    (chosen (lt x threshold) (smooth x) (rough x) tt tt)
+    chosen Fitting (lt x (div binary64 threshold (ofBits binary64 0x4024_0000_0000_0000))) (isotropic (meanNarrowed e)) (cond (lt x threshold) (smooth x) (rough x)) (λ e. narrowed-fits _)
+    (chosen Fitting (lt x threshold) (smooth x) (rough x) (λ e. tt) tt)
 
 pub verdict-fits : (threshold beta : Float) (m : Mesh) (n : ℕ) (r : Row Float) → Fitting (verdictOf threshold beta m n r)
 unfolding verdict
 verdict-fits threshold beta m n (scalar x) = tt
 verdict-fits threshold beta m n repulsive = tt
 verdict-fits threshold beta m n (mesh v b e) =
-    chosen (allRepulsive beta e) blocked (byGradient threshold e (gradient m n beta e)) tt (gradient-fits threshold e (gradient m n beta e))
+    chosen Fitting (allRepulsive beta e) blocked (byGradient threshold e (gradient m n beta e)) (λ z. tt) (gradient-fits threshold e (gradient m n beta e))
 
 module _ (g : Grid) (top c : ℕ) (f : Row Float → Verdict) (plain : (x : Float) → f (scalar x) ≡ empty) (bare : f repulsive ≡ empty) (fitting : (r : Row Float) → Fitting (f r)) where
   module _ (store : List Float) (l : Rows) (rows : List (Row Float)) (a : Fit g top store l rows) (s : ℕ) (h : s < slabs g) where
