@@ -2,7 +2,7 @@
 use mathlib.Core.Path.{_≡_, refl, sym, ap, _∙_}
 use mathlib.Core.Bool.{Bool, true, false}
 use mathlib.Core.List.{List}
-use Prim.Native.Nat.{ℕ, suc, _+_}
+use Prim.Native.Nat.{ℕ, suc, _+_, _<_}
 use native.Mathlib.Omega.{arith}
 use lib.ListN.{length, getD, take, drop, length-map}
 use lib.Seq.{take-all, take-at, ext-getD}
@@ -13,7 +13,7 @@ use Rattle.mesh.specs.Lists.{put}
 use Rattle.mesh.specs.Mesh.{Mesh}
 use Rattle.grid.specs.Settings.{counted}
 use Rattle.grid.specs.declared.Grid.{Grid}
-use Rattle.grid.proofs.Tables.{table-held}
+use Rattle.grid.proofs.Tables.{table-held, some-bins}
 use Rattle.rows.specs.Rows.{Row, repulsive, compared}
 use Rattle.builder.specs.Lists.{Lists, slabs}
 use Rattle.builder.specs.Calls.{builtNumber, meshedRefusal, freshBuilder, filled, freshOut}
@@ -105,7 +105,11 @@ module _ (h : History) (ok : Accepted h) where
         fine = fine-rows (h .top) (last .rows) (agree .fit .good);
       }
 
-  kept : Kept h
+  -- both bin counts are above 0
+  pub some-slabs : (0 < g .«n_r») × (0 < g .«n_omega»)
+  some-slabs = some-bins g (suc (h .top)) (filable .held)
+
+  pub kept : Kept h
   kept =
       record {
         read = rw (file-is, file-accepted g (suc (h .top)) (rows h) filable) refl;
