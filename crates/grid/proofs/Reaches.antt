@@ -11,9 +11,7 @@ use lib.Ieee.{Float, nan, inf, fin, Format, binary64, prec, emax, low, up, down,
 use lib.Ieee.Fits.{up-pos, down-pos}
 use lib.Ieee.Order.{round-mono}
 use lib.Ieee.Scale.{finite, round-same}
-use borrow.Author.Tests.{ltb-true, ltb-false, lt-ltb, le-ltb, eqb-true, ne-eqb}
-use Rattle.ieee.proofs.Fields.{both-true}
-use Rattle.ieee.proofs.Pack.{le-or-lt}
+use borrow.Author.Tests.{ltb-true, ltb-false, le-ltb, eqb-true, ne-eqb}
 use Rattle.grid.specs.Bins.{nearestBin, distanceCount}
 use Rattle.grid.specs.Settings.{above}
 

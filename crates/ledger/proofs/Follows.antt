@@ -1,15 +1,14 @@
 -- After every call, accepted or refused, the builder's level and rows are the ledger's. Assumes nothing.
 use mathlib.Core.Path.{_≡_, refl, sym, ap, _∙_, subst}
-use mathlib.Core.Bool.{Bool, true, false, cond, not, _&&_}
+use mathlib.Core.Bool.{Bool, true, false, cond}
 use mathlib.Core.List.{List, [], _∷_, map}
 use mathlib.Core.Logic.{_⊎_, inl, inr}
-use Prim.Native.Nat.{ℕ, zero, suc, _+_, _*_, _-_, _≤_, _<_}
-use native.Mathlib.Nat.{add-zero}
+use Prim.Native.Nat.{ℕ, suc, _+_, _*_, _-_, _≤_, _<_}
 use native.Mathlib.Omega.{arith}
-use lib.ListN.{length, getD, set, take, drop, replicate, length-replicate, length-drop, getD-replicate}
-use lib.Seq.{sets, length-take-le}
-use lib.Dec.{T, eqb, ltb, leb, lit<}
-use lib.Ieee.{Float, binary32, binary64, isNan, fits, ofBits, toBits}
+use lib.ListN.{length, getD, set, drop, replicate, length-replicate, length-drop, getD-replicate}
+use lib.Seq.{length-take-le}
+use lib.Dec.{eqb, ltb, lit<}
+use lib.Ieee.{Float, fits, ofBits, toBits}
 use borrow.Author.Tests.{eqb-true, ltb-true, le-leb}
 use Rattle.ieee.proofs.Pack.{le-or-lt}
 use Rattle.ieee.proofs.Fields.{both-true}
@@ -26,14 +25,14 @@ use Rattle.rows.specs.declared.SlabResolution.the-variants.{Mesh as OnMesh}
 use Rattle.rows.specs.Rows.{Rows, replaced, rowRoom, Row, scalar, repulsive, mesh}
 use Rattle.locator.proofs.Entries.{getD-put}
 use Rattle.settling.specs.Gradient.{zero as nought}
-use Rattle.settling.specs.Settling.{verdictOf, verdicts, settledRows, settledSlice, drops, fromLevel}
-use Rattle.questions.specs.Lists.{Lists, slabs, slab, rowsFrom, sliceAt, listRoom, listsHeld, rowsKnown}
+use Rattle.settling.specs.Settling.{verdictOf, verdicts, settledRows, settledSlice, drops}
+use Rattle.questions.specs.Lists.{Lists, slabs, slab, sliceAt, listRoom, listsHeld}
 use Rattle.builder.specs.Calls.{settledLists, filled, setLists, setOut, settleAccepted, settleOut}
 use Rattle.questions.specs.Refusals.{meshedRefusal, setQuestion, setRefusal, settleRefusal}
 use Rattle.questions.specs.declared.Builder.{Builder}
 use Rattle.settling.specs.declared.Verdict.{Verdict}
 use Rattle.questions.proofs.Laws.{ask-yes, Roomy}
-use Rattle.writer.specs.Write.{WriteOut, fileFrom, writeRefusal, writeOut}
+use Rattle.writer.specs.Write.{writeRefusal, writeOut}
 use Rattle.table.proofs.OfRows.{Good}
 use Rattle.ledger.specs.Ledger.{Call, set-call, settle-call, write-call, State, called, run, Ledger, opened, ledgerSlice, settleQuestion, setEntered, settleEntered, entered, ledger}
 use Rattle.ledger.proofs.Store.{put-same, other-slab, put-sets, all-replicate}

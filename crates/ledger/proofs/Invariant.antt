@@ -1,47 +1,37 @@
 -- The lists of a builder hold the ledger's rows, through every list of calls, refused ones included. Assumes nothing.
-use mathlib.Core.Path.{_≡_, refl, sym, ap, _∙_, subst}
-use mathlib.Core.Bool.{Bool, true, false, cond, not, _&&_, _||_}
-use mathlib.Core.List.{List, [], _∷_, map}
-use mathlib.Core.Logic.{_⊎_, inl, inr}
+use mathlib.Core.Path.{_≡_, refl, _∙_}
+use mathlib.Core.Bool.{Bool, true, false, cond}
+use mathlib.Core.List.{List, map}
 use Prim.Native.Nat.{ℕ, zero, suc, _+_, _*_, _-_, _≤_, _<_}
-use native.Mathlib.Nat.{add-zero}
 use native.Mathlib.Omega.{arith}
-use lib.ListN.{length, getD, set, take, drop, replicate, length-set, length-replicate, length-drop, getD-replicate}
-use lib.Seq.{sets, getD-set-same, getD-set-other, set-getD, drop-set-lt, drop-cons, length-take-le}
-use lib.Dec.{T, eqb, ltb, leb, lit<}
-use lib.Ieee.{Float, binary32, binary64, isNan, fits, ofBits, toBits, lt, div}
-use borrow.Author.Tests.{eqb-true, eqb-false, ltb-true, le-leb}
-use Rattle.ieee.proofs.Pack.{le-or-lt}
+use lib.ListN.{length, getD, set, take, drop, length-set}
+use lib.Seq.{sets, getD-set-same, getD-set-other, set-getD, drop-set-lt, drop-cons}
+use lib.Dec.{T}
+use lib.Ieee.{Float, binary32, binary64, fits, ofBits, lt, div}
+use borrow.Author.Tests.{eqb-true, le-leb}
 use Rattle.ieee.proofs.Fields.{both-true}
-use Rattle.mesh.specs.Questions.{ask, first}
-use Rattle.mesh.specs.Lists.{every, allUpTo, put}
-use Rattle.mesh.specs.Levels.{per, vertexCount, verticesBelow}
-use Rattle.mesh.specs.Mesh.{Mesh, levelPart, meshHeld, meshesKeep}
-use Rattle.mesh.proofs.Sizes.{per-mono, place}
-use Rattle.mesh.proofs.Written.{length-put}
-use Rattle.grid.specs.Settings.{inRange, levelsHeld, countsHeld, ownCount, slabsHeld, question}
+use Rattle.mesh.specs.Lists.{every}
+use Rattle.mesh.specs.Levels.{per}
+use Rattle.mesh.specs.Mesh.{Mesh}
+use Rattle.mesh.proofs.Sizes.{per-mono}
 use Rattle.grid.specs.declared.Grid.{Grid}
 use Rattle.rows.specs.declared.SlabResolution.{SlabResolution}
 use Rattle.rows.specs.declared.SlabResolution.the-variants.{Scalar, Mesh as OnMesh, Repulsive}
-use Rattle.rows.specs.Rows.{Rows, kindOf, levelOf, valueOf, resolutionOf, resolutionAt, replaced, known, rowRoom, Row, scalar, repulsive, mesh, rowWith}
+use Rattle.rows.specs.Rows.{Rows, kindOf, levelOf, valueOf, resolutionAt, replaced, known, Row, scalar, repulsive, mesh, rowWith}
 use Rattle.rows.proofs.Replaced.{Held, numbers-back}
 use Rattle.rows.proofs.Compared.{narrowed-fits}
-use Rattle.locator.proofs.Entries.{getD-put}
-use Rattle.settling.specs.Gradient.{zero as nought, allRepulsive, gradient, meanNarrowed}
-use Rattle.settling.specs.Settling.{byGradient, verdict, verdictOf, verdicts, newRow, inPlaceOf, settledRows, settledSlice, drops, fromLevel, energiesOf, replacedBy}
-use Rattle.questions.specs.Lists.{Lists, slabs, slab, rowAt, rowsFrom, sliceAt, listRoom, listsHeld, rowsKnown}
-use Rattle.builder.specs.Calls.{settledLists, BuiltOut, SettleOut, builtNumber, builderAfter, settledBuilder, freshBuilder, filled, freshOut, setLists, setOut, settleAccepted, settleOut}
-use Rattle.questions.specs.Refusals.{meshedRefusal, setQuestion, setRefusal, settleRefusal}
-use Rattle.questions.specs.declared.Builder.{Builder}
+use Rattle.locator.proofs.Picked.{chosen}
+use Rattle.settling.specs.Gradient.{allRepulsive, gradient, meanNarrowed}
+use Rattle.settling.specs.Settling.{byGradient, verdict, verdictOf, newRow, inPlaceOf, settledRows, fromLevel, energiesOf, replacedBy}
+use Rattle.questions.specs.Lists.{slabs, slab, rowAt, rowsFrom, rowsKnown}
+use Rattle.builder.specs.Calls.{settledLists}
 use Rattle.settling.specs.declared.Verdict.{Verdict}
 use Rattle.settling.specs.declared.Verdict.the-variants.{Empty as empty, Blocked as blocked, Isotropic as isotropic, Smooth as smooth, Rough as rough}
-use Rattle.questions.proofs.Laws.{ask-yes, first-yes, Roomy}
-use Rattle.writer.specs.Write.{WriteOut, writeRefusal, writeOut}
+use Rattle.questions.proofs.Laws.{Roomy}
 use Rattle.table.proofs.Accepts.{all-is}
 use Rattle.table.proofs.Back.{All}
 use Rattle.table.proofs.OfRows.{Good}
-use Rattle.ledger.specs.Ledger.{Call, set-call, settle-call, write-call, State, called, run, Ledger, opened, ledgerSlice, settleQuestion, setEntered, settleEntered, entered, ledger}
-use Rattle.ledger.proofs.Store.{put-same, other-slab, put-sets, all-set, all-at, all-replicate}
+use Rattle.ledger.proofs.Store.{all-set, all-at}
 
 -- ---- a row of the ledger, and where the lists hold it
 
@@ -163,22 +153,18 @@ Fitting (isotropic x) = T (fits binary32 x)
 Fitting (smooth x) = Unit {0}
 Fitting (rough x) = Unit {0}
 
-chosen : (t : Bool) (v w : Verdict) → Fitting v → Fitting w → Fitting (cond t v w)
-chosen true v w h k = h
-chosen false v w h k = k
-
 gradient-fits : (threshold : Float) (e : List Float) (x : Float) → Fitting (byGradient threshold e x)
 unfolding byGradient meanNarrowed
 gradient-fits threshold e x =
-    chosen (lt x (div binary64 threshold (ofBits binary64 0x4024_0000_0000_0000))) (isotropic (meanNarrowed e)) (cond (lt x threshold) (smooth x) (rough x)) (narrowed-fits _)
-    (chosen (lt x threshold) (smooth x) (rough x) tt tt)
+    chosen Fitting (lt x (div binary64 threshold (ofBits binary64 0x4024_0000_0000_0000))) (isotropic (meanNarrowed e)) (cond (lt x threshold) (smooth x) (rough x)) (λ e. narrowed-fits _)
+    (chosen Fitting (lt x threshold) (smooth x) (rough x) (λ e. tt) tt)
 
 pub verdict-fits : (threshold beta : Float) (m : Mesh) (n : ℕ) (r : Row Float) → Fitting (verdictOf threshold beta m n r)
 unfolding verdict
 verdict-fits threshold beta m n (scalar x) = tt
 verdict-fits threshold beta m n repulsive = tt
 verdict-fits threshold beta m n (mesh v b e) =
-    chosen (allRepulsive beta e) blocked (byGradient threshold e (gradient m n beta e)) tt (gradient-fits threshold e (gradient m n beta e))
+    chosen Fitting (allRepulsive beta e) blocked (byGradient threshold e (gradient m n beta e)) (λ z. tt) (gradient-fits threshold e (gradient m n beta e))
 
 module _ (g : Grid) (top c : ℕ) (f : Row Float → Verdict) (plain : (x : Float) → f (scalar x) ≡ empty) (bare : f repulsive ≡ empty) (fitting : (r : Row Float) → Fitting (f r)) where
   module _ (store : List Float) (l : Rows) (rows : List (Row Float)) (a : Fit g top store l rows) (s : ℕ) (h : s < slabs g) where

@@ -4,3 +4,4 @@ pub mod Invariant
 pub mod Follows
 pub mod Readings
 pub mod Theorem
+pub mod Admitted

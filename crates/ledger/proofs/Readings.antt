@@ -1,42 +1,37 @@
 -- A reading of the file of rows is what the reading rule gives from these rows. Assumes nothing.
-use mathlib.Core.Path.{_≡_, refl, sym, ap, _∙_}
+use mathlib.Core.Path.{_≡_, refl}
 use mathlib.Core.Bool.{Bool, true, false, cond, _&&_, _||_}
 use mathlib.Core.List.{List, [], _∷_, map}
 use Prim.Native.Nat.{ℕ, suc, _+_, _*_, _≤_, _<_}
 use native.Mathlib.Omega.{arith}
 use lib.ListN.{length, getD}
-use lib.Dec.{leb, ltb, eqb}
-use lib.Ieee.{Float, lt}
+use lib.Dec.{ltb, eqb}
 use borrow.Author.Tests.{eqb-true, eqb-false, lt-ltb, le-leb}
 use Rattle.mesh.specs.Lists.{every}
-use Rattle.mesh.specs.Levels.{vertexCount, per, gridSize, verticesBelow}
-use Rattle.mesh.specs.Mesh.{Mesh, levelPart, meshHeld, meshesKeep}
-use Rattle.mesh.specs.declared.Face.{Face}
+use Rattle.mesh.specs.Levels.{vertexCount, per, verticesBelow}
+use Rattle.mesh.specs.Mesh.{Mesh, meshHeld, meshesKeep}
 use Rattle.grid.specs.Bins.{distanceBin, dihedralBin}
 use Rattle.grid.specs.declared.Grid.{Grid}
 use Rattle.grid.proofs.Tables.{some-bins, distance-below, dihedral-below}
 use Rattle.rows.specs.Rows.{Row, scalar, repulsive, mesh}
 use Rattle.search.specs.Geometry.{unit}
-use Rattle.search.specs.Search.{Locator, nearestOf, locate}
-use Rattle.search.specs.declared.Weights.{Weights}
+use Rattle.search.specs.Search.{Locator}
 use Rattle.search.specs.declared.Nearest.{Nearest}
 use Rattle.search.specs.declared.Located.{Located}
 use Rattle.locator.specs.Several.{locators, Roomy}
 use Rattle.locator.proofs.Laid.{nearest-at, locate-at}
-use Rattle.locator.proofs.Picked.{FaceBelow, nearest-vertex, located-face}
+use Rattle.locator.proofs.Picked.{chosen, FaceBelow, nearest-vertex, located-face}
 use Rattle.questions.specs.Lists.{slabs}
 use Rattle.mesh.proofs.Sizes.{place}
-use Rattle.table.specs.Bytes.{numberAt}
-use Rattle.table.specs.File.{Entry, energiesIn, energiesOf, entry, fileOf}
+use Rattle.table.specs.File.{energiesIn, energiesOf, entry, fileOf}
 use Rattle.table.specs.declared.Table.{Table}
 use Rattle.table.proofs.Back.{All}
 use Rattle.table.proofs.Sound.{Fine}
 use Rattle.table.proofs.OfRows.{before}
 use Rattle.table.proofs.OfFile.{Filable, gridIn, tableIn, file-length, entry-of, energy-of}
-use Rattle.reading.specs.Resolve.{Query, queryHeld, outside, Resolved, unresolved, beyond, slabAt, resolve, Picks, unpicked, picked, joint, pairPlace, nearestPick, facePick, combined}
+use Rattle.reading.specs.Resolve.{Query, queryHeld, outside, Resolved, unresolved, beyond, slabAt, resolve, Picks, unpicked, picked, joint, pairPlace, nearestPick, facePick}
 use Rattle.reading.specs.Reading.{rowInside, energyInside, entryAt, energyAt, searchIn, readPicks, readEntry, readSlab, readingOut}
 use Rattle.reading.specs.Rule.{search, rulePicks, ruleRow, ruleSlab, ruled}
-use Rattle.reading.specs.declared.Reading.{Reading}
 use Rattle.ledger.proofs.Store.{all-at}
 
 -- ---- a slab that a reading asks for is one of the grid's
@@ -45,10 +40,6 @@ abbrev SlabBelow : ℕ → Resolved → Type 0
 SlabBelow n (unresolved k) = Unit {0}
 SlabBelow n beyond = Unit {0}
 SlabBelow n (slabAt s) = s < n
-
-resolved-by : (n : ℕ) (t : Bool) (x y : Resolved) → (t ≡ true → SlabBelow n x) → SlabBelow n y → SlabBelow n (cond t x y)
-resolved-by n true x y h k = h refl
-resolved-by n false x y h k = k
 
 resolve-below : (g : Grid) (q : Query) → 0 < g .«n_r» → 0 < g .«n_omega» → SlabBelow (slabs g) (resolve g q)
 unfolding resolve
@@ -62,18 +53,14 @@ resolve-below g q a b =
           (omega (arith, dihedral-below (q .omega) (g .«omega_step») n b)),
     ) in
     let some = ltb 0 (g .«n_r») && ltb 0 n in
-    resolved-by (slabs g) (queryHeld q) (cond (outside g (q .r)) beyond (cond some (slabAt s) (unresolved 19))) (unresolved 18)
-    (λ e. resolved-by (slabs g) (outside g (q .r)) beyond (cond some (slabAt s) (unresolved 19)) (λ f. tt) (resolved-by (slabs g) some (slabAt s) (unresolved 19) (λ f. h) tt)) tt
+    chosen (SlabBelow (slabs g)) (queryHeld q) (cond (outside g (q .r)) beyond (cond some (slabAt s) (unresolved 19))) (unresolved 18)
+    (λ e. chosen (SlabBelow (slabs g)) (outside g (q .r)) beyond (cond some (slabAt s) (unresolved 19)) (λ f. tt) (chosen (SlabBelow (slabs g)) some (slabAt s) (unresolved 19) (λ f. h) tt)) tt
 
 -- ---- places that a search picks are a slab's
 
 abbrev PicksBelow : ℕ → Picks → Type 0
 PicksBelow n (unpicked k) = Unit {0}
 PicksBelow n (picked ks a b) = All (λ k. k < n) ks
-
-picked-by : (n : ℕ) (t : Bool) (x y : Picks) → (t ≡ true → PicksBelow n x) → PicksBelow n y → PicksBelow n (cond t x y)
-picked-by n true x y h k = h refl
-picked-by n false x y h k = k
 
 pair-below : (n a b : ℕ) → a < n → b < n → pairPlace n a b < n * n
 pair-below n a b h k = omega (arith, place a n (b + 1) n h (omega arith))
@@ -90,13 +77,13 @@ joint-none a b e = by (eqb a 19 || eqb b 19) (eqb a 0) refl e
 nearest-picks : (n : ℕ) (a b : Nearest) → (a .number ≡ 0 → a .vertex < n) → (b .number ≡ 0 → b .vertex < n) → PicksBelow (n * n) (nearestPick n a b)
 unfolding nearestPick
 nearest-picks n a b h k =
-    picked-by (n * n) (eqb (joint (a .number) (b .number)) 0) _ _
+    chosen (PicksBelow (n * n)) (eqb (joint (a .number) (b .number)) 0) _ _
     (λ e. let z = joint-none (a .number) (b .number) (eqb-true (joint (a .number) (b .number)) 0 e) in (pair-below n (a .vertex) (b .vertex) (h (z .0)) (k (z .1)), tt)) tt
 
 face-picks : (n : ℕ) (a b : Located) → FaceBelow n (a .face) → FaceBelow n (b .face) → PicksBelow (n * n) (facePick n a b)
 unfolding facePick
 face-picks n a b h k =
-    picked-by (n * n) (eqb (joint (a .number) (b .number)) 0) _ _
+    chosen (PicksBelow (n * n)) (eqb (joint (a .number) (b .number)) 0) _ _
     (λ e. (
       pair-below n _ _ (h .0) (k .0),
       (
@@ -144,7 +131,7 @@ module _ (top : ℕ) (m : Mesh) (l : Locator) (low : top ≤ 15) (held : meshHel
   search-below : (v : ℕ) (b : Bool) → v ≤ top → PicksBelow (per v) (search m q v b)
   unfolding search per
   search-below v b h =
-      picked-by (per v) b _ _
+      chosen (PicksBelow (per v)) b _ _
       (λ e. face-picks (vertexCount v) _ _ (located-face top m l low held kept roomy v h (unit (q .a))) (located-face top m l low held kept roomy v h (unit (q .b))))
       (nearest-picks (vertexCount v) _ _ (nearest-vertex top m l low held kept roomy v h (unit (q .a))) (nearest-vertex top m l low held kept roomy v h (unit (q .b))))
 

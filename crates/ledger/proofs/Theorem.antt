@@ -1,8 +1,8 @@
 -- Demand 3. Assumes nothing.
 use mathlib.Core.Path.{_≡_, refl, sym, ap, _∙_}
-use mathlib.Core.Bool.{Bool, true, false, cond}
-use mathlib.Core.List.{List, map}
-use Prim.Native.Nat.{ℕ, suc, _+_, _*_, _≤_, _<_}
+use mathlib.Core.Bool.{Bool, true, false}
+use mathlib.Core.List.{List}
+use Prim.Native.Nat.{ℕ, suc, _+_, _<_}
 use native.Mathlib.Omega.{arith}
 use lib.ListN.{length, getD, take, drop, length-map}
 use lib.Seq.{take-all, take-at, ext-getD}
@@ -13,23 +13,21 @@ use Rattle.mesh.specs.Lists.{put}
 use Rattle.mesh.specs.Mesh.{Mesh}
 use Rattle.grid.specs.Settings.{counted}
 use Rattle.grid.specs.declared.Grid.{Grid}
-use Rattle.grid.proofs.Tables.{table-held}
+use Rattle.grid.proofs.Tables.{table-held, some-bins}
 use Rattle.rows.specs.Rows.{Row, repulsive, compared}
-use Rattle.questions.specs.Lists.{Lists, slabs, rowsFrom}
-use Rattle.builder.specs.Calls.{BuiltOut, builtNumber, builderAfter, freshBuilder, filled, freshOut}
+use Rattle.questions.specs.Lists.{Lists, slabs}
+use Rattle.builder.specs.Calls.{builtNumber, freshBuilder, filled, freshOut}
 use Rattle.questions.specs.Refusals.{meshedRefusal}
 use Rattle.questions.specs.declared.Builder.{Builder}
 use Rattle.builder.specs.declared.Built.the-variants.{Accepted as Builds}
 use Rattle.questions.proofs.Laws.{first-yes, Meshed, meshed}
 use Rattle.table.specs.File.{fileOf}
 use Rattle.writer.specs.Write.{writtenNumber, writtenLength, fileFrom, writeRefusal, writeOut}
-use Rattle.table.specs.Read.{readNumber, readTable, readOut}
-use Rattle.table.specs.declared.ReadAnswer.{ReadAnswer}
 use Rattle.table.proofs.OfRows.{fine-rows}
-use Rattle.table.proofs.OfFile.{Filable, Holds, file-accepted, file-holds}
+use Rattle.table.proofs.OfFile.{Filable, file-accepted, file-holds}
 use Rattle.ledger.specs.Ledger.{Ledger, opened, ledger}
-use Rattle.ledger.specs.Promise.{History, fresh, ended, lastWrite, file, Accepted, rows, Same, Kept, Promise}
-use Rattle.ledger.proofs.Invariant.{Fit, rows-are}
+use Rattle.ledger.specs.Promise.{History, fresh, ended, file, Accepted, rows, Same, Kept, Promise}
+use Rattle.ledger.proofs.Invariant.{rows-are}
 use Rattle.ledger.proofs.Follows.{Basis, builderAt, Agree, follows, starts}
 use Rattle.ledger.proofs.Readings.{reads}
 
@@ -108,7 +106,11 @@ module _ (h : History) (ok : Accepted h) where
         fine = fine-rows (h .top) (last .rows) (agree .fit .good);
       }
 
-  kept : Kept h
+  -- both bin counts are above 0
+  pub some-slabs : (0 < g .«n_r») × (0 < g .«n_omega»)
+  some-slabs = some-bins g (suc (h .top)) (filable .held)
+
+  pub kept : Kept h
   kept =
       record {
         read = rw (file-is, file-accepted g (suc (h .top)) (rows h) filable) refl;

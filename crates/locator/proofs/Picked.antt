@@ -36,8 +36,9 @@ keeps {A} {B} q F f P n c s b (x ∷ l) e h =
     let a = and-yes (q x) (every q l) e in
     rw (c b x l) (keeps q F f P n c s (f b x) l (a .1) (s b x h (a .0)))
 
-chosen : {B : Type 0} (P : B → Type 0) (t : Bool) (x y : B) → P x → P y → P (cond t x y)
-chosen P true x y h k = h
+-- of two answers, the one that a test chooses
+pub chosen : {B : Type 0} (P : B → Type 0) (t : Bool) (x y : B) → (t ≡ true → P x) → P y → P (cond t x y)
+chosen P true x y h k = h refl
 chosen P false x y h k = k
 
 module _ (vs : List Float) (p : Vector3) (n : ℕ) where
@@ -58,7 +59,7 @@ module _ (vs : List Float) (p : Vector3) (n : ℕ) where
       (λ b x k q.
       let w = projectedBarycentric p (vertexAt vs (x .a)) (vertexAt vs (x .b)) (vertexAt vs (x .c)) in
       let m = smaller (smaller (w .a) (w .b)) (w .c) in
-      chosen (λ r. FaceBelow n (r .face)) (lt (b .least) m) (record { face = x; weights = w; least = m }) b (lent-below x q) k)
+      chosen (λ r. FaceBelow n (r .face)) (lt (b .least) m) (record { face = x; weights = w; least = m }) b (λ e. lent-below x q) k)
       noFit l e (h, h, h)
 
 some-vertices : (v : ℕ) → 0 < vertexCount v
@@ -83,6 +84,6 @@ module _ (top : ℕ) (ms : Mesh) (l : Locator) (low : top ≤ 15) (held : meshHe
   unfolding locate bestFace
   located-face =
       chosen (λ (r : Located). FaceBelow n (r .face)) (eqb (nearestOf m n g p .number) 0) (bestFace (m .vertices) p (facesOf m n (nearestOf m n g p .vertex))) (notLocated (nearestOf m n g p .number))
-      (fit-below (m .vertices) p n (facesOf m n (nearestOf m n g p .vertex)) (some-vertices v)
+      (λ e. fit-below (m .vertices) p n (facesOf m n (nearestOf m n g p .vertex)) (some-vertices v)
       (faces-in n g m (locatorPart v l) (ok top ms l low held kept roomy v h) [] (locatorPart v l) (m .vertices) (nearestOf m n g p .vertex) (omega arith)))
       (some-vertices v, some-vertices v, some-vertices v)

@@ -1,17 +1,16 @@
 -- A file that the reader accepts passes the Rust's own checks. Assumes nothing.
-use mathlib.Core.Path.{_≡_, refl, sym, ap, _∙_, subst}
-use mathlib.Core.Bool.{Bool, true, false, cond, not, _&&_, _||_}
+use mathlib.Core.Path.{_≡_, refl, ap, _∙_}
+use mathlib.Core.Bool.{Bool, true, false}
 use mathlib.Core.List.{List, [], _∷_}
 use Prim.Native.Nat.{ℕ, zero, suc, _+_, _*_, _-_, _≤_, _<_}
 use native.Mathlib.Nat.{suc-mul, mul-le-mul, mul-pos}
 use native.Mathlib.Omega.{arith}
-use lib.ListN.{length, take, drop}
+use lib.ListN.{length}
 use lib.Dec.{leb, ltb, eqb, lit<}
 use lib.Ieee.Scale.{finite}
-use borrow.Author.Tests.{leb-true, leb-false, ltb-true, eqb-true, eqb-false, le-leb, lt-ltb, eq-eqb, ne-eqb}
+use borrow.Author.Tests.{leb-true, leb-false, ltb-true, eqb-true, eqb-false, le-leb, lt-ltb, ne-eqb}
 use Rattle.ieee.proofs.Fields.{both-true}
-use Rattle.mesh.specs.Questions.{ask}
-use Rattle.mesh.specs.Lists.{allUpTo, every}
+use Rattle.mesh.specs.Lists.{every}
 use Rattle.mesh.specs.Levels.{vertexCount, per}
 use Rattle.mesh.proofs.Asking.{ask-yes}
 use Rattle.mesh.proofs.Counting.{all-at}
@@ -27,7 +26,7 @@ use Rattle.table.specs.Read.{layout, laidOut, gridOf, tableOf, rowItems,
 use Rattle.table.specs.Checks.{checkGrid, slabChecked, checkSlabs}
 use Rattle.table.specs.declared.Layout.{Layout}
 use Rattle.table.specs.declared.Table.{Table}
-use Rattle.table.specs.declared.ReadAnswer.the-variants.{Accepted as Reads, Refused as NotRead}
+use Rattle.table.specs.declared.ReadAnswer.the-variants.{Accepted as Reads}
 use Rattle.table.proofs.Accepted.{held-ranged}
 
 -- ---- the grid

@@ -1,13 +1,13 @@
 -- The file of a grid and rows: the reader accepts it, what stands where in it, and that it is one to one. Assumes nothing.
 use mathlib.Core.Path.{_≡_, refl, sym, ap, _∙_}
-use mathlib.Core.Bool.{true, _&&_}
+use mathlib.Core.Bool.{true}
 use mathlib.Core.List.{List, map}
 use Prim.Native.Nat.{ℕ, _+_, _*_, _-_, _^_, _≤_, _<_}
 use native.Mathlib.Nat.{mul-le-mul, zero-add}
 use native.Mathlib.Omega.{arith}
 use lib.ListN.{length, getD, take, drop}
 use lib.Dec.{T, leb, eqb}
-use lib.Ieee.{Float, binary64, fits, toBits, ofBits}
+use lib.Ieee.{binary64, fits, toBits, ofBits}
 use lib.Ieee.Bits.{ofBits-toBits, toBits-lt}
 use borrow.Author.Tests.{leb-true, eqb-true}
 use Rattle.mesh.specs.Lists.{below}
@@ -22,7 +22,6 @@ use Rattle.table.specs.Bytes.{numberOf, numberAt, items}
 use Rattle.table.specs.File.{Entry, entryOf, entry, entries, energiesIn, energiesOf, fileOf}
 use Rattle.table.specs.Read.{layout, laidOut, countAt, readTable, readOut}
 use Rattle.table.specs.declared.Table.{Table}
-use Rattle.table.specs.declared.ReadAnswer.{ReadAnswer}
 use Rattle.table.specs.declared.ReadAnswer.the-variants.{Accepted as Reads}
 use Rattle.table.proofs.Back.{All, Fitting, item-at}
 use Rattle.table.proofs.Parsed.{laid, laid-out, rows-back, energies-back}

@@ -1,6 +1,6 @@
 -- Rows in a file: which a table can hold, where each stands, and that they can be told from their entries and energies. Assumes nothing.
 use mathlib.Core.Path.{_≡_, refl, sym, ap, _∙_}
-use mathlib.Core.Bool.{Bool, true, false, cond, not}
+use mathlib.Core.Bool.{true, false, cond, not}
 use mathlib.Core.List.{List, [], _∷_, _++_, map, map-append}
 use mathlib.Core.Logic.{_⊎_, inl, inr}
 use Prim.Native.Nat.{ℕ, zero, suc, _+_, _*_, _-_, _^_, _≤_, _<_}
@@ -9,7 +9,7 @@ use native.Mathlib.Omega.{arith}
 use lib.ListN.{length, getD, take, drop, length-append, length-map, List·getD-append}
 use lib.Seq.{take-at, drop-at, getD-at, getD-append-add}
 use lib.Dec.{T, leb, eqb}
-use lib.Ieee.{Float, nan, inf, fin, binary32, isNan, fits, nanBits, toBits}
+use lib.Ieee.{Float, nan, inf, fin, binary32, isNan, fits, toBits}
 use borrow.Author.Tests.{not-true}
 use Rattle.ieee.proofs.Pack.{le-or-lt}
 use Rattle.mesh.specs.Lists.{below, every}
@@ -23,7 +23,7 @@ use Rattle.table.specs.File.{Entry, energyCount, energiesIn, entry, entr
 use Rattle.table.specs.Read.{scalarHeld}
 use Rattle.table.proofs.Back.{All}
 use Rattle.table.proofs.Lengths.{below-length}
-use Rattle.table.proofs.Sound.{Number, Fine}
+use Rattle.table.proofs.Sound.{Number, Fine, all-append, count-is}
 
 -- ---- rows of floats, as they compare
 
@@ -76,10 +76,6 @@ counts-at (suc n) k h = rw (counts-more n) (by (le-or-lt n k) (counts-at n k))
     by (inl l) r = let e : k ≡ n = omega arith in rw e (getD-at (map vertexCount (below n)) (vertexCount n) [] 0 n (counts-many n))
     by (inr l) r = List·getD-append (map vertexCount (below n)) (vertexCount n ∷ []) 0 k (omega (arith, counts-many n)) ∙ r l
 
-all-append : {A : Type 0} (P : A → Type 0) (a b : List A) → All P a → All P b → All P (a ++ b)
-all-append P [] b p q = q
-all-append P (x ∷ a) b p q = (p .0, all-append P a b (p .1) q)
-
 pub counts-fit : (n : ℕ) → n ≤ 16 → All (λ k. k < 256 ^ 4) (map vertexCount (below n))
 unfolding below
 counts-fit zero h = tt
@@ -94,11 +90,6 @@ numbers-fit [] a = tt
 numbers-fit (x ∷ l) a = (a .0 .0, numbers-fit l (a .1))
 
 module _ (levels : ℕ) where
-  size-is : (r : Row ℕ) → Fine levels r → length (energiesIn r) ≡ energyCount r
-  size-is (scalar x) f = refl
-  size-is repulsive f = refl
-  size-is (mesh v b e) f = f .1
-
   size-le : (r : Row ℕ) → Fine levels r → length (energiesIn r) ≤ per (levels - 1)
   size-le (scalar x) f = omega arith
   size-le repulsive f = omega arith
@@ -126,7 +117,7 @@ module _ (levels : ℕ) where
   unfolding energiesOf
   energies-in [] s f h = absurd (omega arith)
   energies-in (r ∷ rows) zero f h = rw length-append (omega arith)
-  energies-in (r ∷ rows) (suc s) f h = rw length-append (omega (arith, size-is r (f .0), energies-in rows s (f .1) (omega arith)))
+  energies-in (r ∷ rows) (suc s) f h = rw length-append (omega (arith, count-is levels r (f .0), energies-in rows s (f .1) (omega arith)))
 
   pub energy-is : (rows : List (Row ℕ)) (s k : ℕ) → All (Fine levels) rows → s < length rows → k < length (energiesIn (getD rows s repulsive))
       → getD (energiesOf rows) (before rows s + k) 0 ≡ getD (energiesIn (getD rows s repulsive)) k 0
@@ -134,7 +125,7 @@ module _ (levels : ℕ) where
   energy-is [] s k f h i = absurd (omega arith)
   energy-is (r ∷ rows) zero k f h i = rw zero-add (List·getD-append (energiesIn r) (energiesOf rows) 0 k i)
   energy-is (r ∷ rows) (suc s) k f h i =
-      rw (add-assoc, ← size-is r (f .0))
+      rw (add-assoc, ← count-is levels r (f .0))
       (getD-append-add (energiesIn r) (energiesOf rows) (before rows s + k) 0 ∙ energy-is rows s k (f .1) (omega arith) i)
 
 -- ---- rows from entries and energies

@@ -31,10 +31,14 @@ unfolding entries
 entries-length o [] = refl
 entries-length o (r ∷ rows) = ap suc (entries-length (o + energyCount r) rows)
 
-count-is : (levels : ℕ) (r : Row ℕ) → Fine levels r → length (energiesIn r) ≡ energyCount r
+pub count-is : (levels : ℕ) (r : Row ℕ) → Fine levels r → length (energiesIn r) ≡ energyCount r
 count-is levels (scalar x) f = refl
 count-is levels repulsive f = refl
 count-is levels (mesh v b e) f = f .1
+
+pub all-append : {A : Type 0} (P : A → Type 0) (l m : List A) → All P l → All P m → All P (l ++ m)
+all-append P [] m a b = b
+all-append P (x ∷ l) m a b = (a .0, all-append P l m (a .1) b)
 
 module _ (levels : ℕ) where
   entry-held : (o : ℕ) (r : Row ℕ) → Fine levels r → entryHeld levels (entry o r) ≡ true
@@ -61,10 +65,6 @@ module _ (levels : ℕ) where
   entries-tiled o n (mesh v false e ∷ rows) f h =
       rw (eq-eqb o o refl) (entries-tiled (o + per v) n rows (f .1) (omega (arith, f .0 .1, length-append e (energiesOf rows))))
 
-  all-append : (l m : List ℕ) → All Number l → All Number m → All Number (l ++ m)
-  all-append [] m a b = b
-  all-append (x ∷ l) m a b = (a .0, all-append l m (a .1) b)
-
   numbers-in : (r : Row ℕ) → Fine levels r → All Number (energiesIn r)
   numbers-in (scalar x) f = tt
   numbers-in repulsive f = tt
@@ -73,7 +73,7 @@ module _ (levels : ℕ) where
   pub numbers : (rows : List (Row ℕ)) → All (Fine levels) rows → All Number (energiesOf rows)
   unfolding energiesOf
   numbers [] f = tt
-  numbers (r ∷ rows) f = all-append (energiesIn r) (energiesOf rows) (numbers-in r (f .0)) (numbers rows (f .1))
+  numbers (r ∷ rows) f = all-append Number (energiesIn r) (energiesOf rows) (numbers-in r (f .0)) (numbers rows (f .1))
 
   -- the rows' fields fit, as long as the last offset does
   fitting : (o : ℕ) (r : Row ℕ) → levels < 257 → Fine levels r → o < 256 ^ 4 → Fitting (entry o r)

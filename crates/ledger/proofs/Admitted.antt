@@ -1,0 +1,116 @@
+-- Readings in demand 3 are refused with 18 and 20 alone: 19 is never the answer. Assumes nothing.
+use mathlib.Core.Path.{_≡_, refl}
+use mathlib.Core.Bool.{Bool, cond, _&&_}
+use mathlib.Core.List.{List, [], _∷_}
+use mathlib.Core.Logic.{_⊎_, inl, inr}
+use Prim.Native.Nat.{ℕ, _+_, _*_, _<_}
+use lib.ListN.{getD}
+use lib.Dec.{eqb}
+use lib.Ieee.{Float}
+use borrow.Author.Tests.{lt-ltb}
+use Rattle.float.specs.Order.{ordered}
+use Rattle.mesh.specs.Levels.{vertexCount, gridSize}
+use Rattle.mesh.specs.Mesh.{Mesh, levelPart}
+use Rattle.grid.specs.Bins.{distanceBin, dihedralBin}
+use Rattle.grid.specs.Settings.{counted}
+use Rattle.grid.specs.declared.Grid.{Grid}
+use Rattle.rows.specs.Rows.{Row, scalar, repulsive, mesh}
+use Rattle.search.specs.Geometry.{vertexAt, cellIndex, unit}
+use Rattle.search.specs.Cells.{cell, facesOf}
+use Rattle.search.specs.Search.{Locator, squared, notNearest, nearer, nearestFrom, nearestAmong, nearestOf, locate, bestFace, notLocated}
+use Rattle.search.specs.declared.Vector3.{Vector3}
+use Rattle.search.specs.declared.Nearest.{Nearest}
+use Rattle.search.specs.declared.Located.{Located}
+use Rattle.locator.specs.Several.{locators, Roomy}
+use Rattle.locator.proofs.Picked.{chosen}
+use Rattle.table.specs.Read.{readTable, readOut}
+use Rattle.reading.specs.Resolve.{Query, readingNumber, queryHeld, outside, Resolved, unresolved, beyond, slabAt, resolve, Picks, unpicked, picked, joint, nearestPick, facePick}
+use Rattle.reading.specs.Reading.{readingOut}
+use Rattle.reading.specs.Rule.{search, rulePicks, ruleRow, ruleSlab, ruled}
+use Rattle.ledger.specs.Promise.{History, file, rows, Accepted}
+use Rattle.ledger.proofs.Theorem.{kept, some-slabs}
+
+-- 20 or nothing, of a search; 18, 20 or nothing, of a reading
+abbrev Searched : ℕ → Type 0
+Searched n = (n ≡ 0) ⊎ (n ≡ 20)
+
+abbrev pub Answered : ℕ → Type 0
+Answered n = (n ≡ 18) ⊎ Searched n
+
+-- ---- a search over a mesh
+
+nearest-number : (vs : List Float) (p : Vector3) (best : Nearest) (l : List ℕ) → Searched (best .number) → Searched (nearestFrom vs p best l .number)
+unfolding nearestFrom nearer
+nearest-number vs p best [] h = h
+nearest-number vs p best (v ∷ l) h =
+    let d = squared p (vertexAt vs v) in
+    nearest-number vs p (nearer vs p best v) l
+    (chosen (λ (r : Nearest). Searched (r .number)) (eqb (best .number) 0 && ordered (best .distance) d) best (record { number = 0; vertex = v; distance = d }) (λ e. h) (inl refl))
+
+nearest-searched : (m : Mesh) (n g : ℕ) (p : Vector3) → Searched (nearestOf m n g p .number)
+unfolding nearestOf nearestAmong
+nearest-searched m n g p = nearest-number (m .vertices) p (notNearest 20) (cell (m .vertices) n g (cellIndex g p)) (inr refl)
+
+locate-searched : (m : Mesh) (n g : ℕ) (p : Vector3) → Searched (locate m n g p .number)
+unfolding locate bestFace
+locate-searched m n g p =
+    let v = nearestOf m n g p in
+    chosen (λ (r : Located). Searched (r .number)) (eqb (v .number) 0) (bestFace (m .vertices) p (facesOf m n (v .vertex))) (notLocated (v .number)) (λ e. inl refl) (nearest-searched m n g p)
+
+joint-searched : (a b : ℕ) → Searched a → Searched b → Searched (joint a b)
+unfolding joint
+joint-searched a b (inl p) (inl q) = rw (p, q) (inl refl)
+joint-searched a b (inl p) (inr q) = rw (p, q) (inr refl)
+joint-searched a b (inr p) (inl q) = rw (p, q) (inr refl)
+joint-searched a b (inr p) (inr q) = rw (p, q) (inr refl)
+
+-- ---- the rule
+
+abbrev PicksSearched : Picks → Type 0
+PicksSearched (unpicked n) = Searched n
+PicksSearched (picked ks a b) = Unit {0}
+
+nearest-picks : (n : ℕ) (a b : Nearest) → Searched (a .number) → Searched (b .number) → PicksSearched (nearestPick n a b)
+unfolding nearestPick
+nearest-picks n a b h k = chosen PicksSearched (eqb (joint (a .number) (b .number)) 0) _ _ (λ e. tt) (joint-searched (a .number) (b .number) h k)
+
+face-picks : (n : ℕ) (a b : Located) → Searched (a .number) → Searched (b .number) → PicksSearched (facePick n a b)
+unfolding facePick
+face-picks n a b h k = chosen PicksSearched (eqb (joint (a .number) (b .number)) 0) _ _ (λ e. tt) (joint-searched (a .number) (b .number) h k)
+
+search-searched : (m : Mesh) (q : Query) (v : ℕ) (b : Bool) → PicksSearched (search m q v b)
+unfolding search
+search-searched m q v b =
+    let n = vertexCount v in
+    let g = gridSize n in
+    let l = levelPart v m in
+    chosen PicksSearched b _ _
+    (λ e. face-picks n (locate l n g (unit (q .a))) (locate l n g (unit (q .b))) (locate-searched l n g (unit (q .a))) (locate-searched l n g (unit (q .b))))
+    (nearest-picks n (nearestOf l n g (unit (q .a))) (nearestOf l n g (unit (q .b))) (nearest-searched l n g (unit (q .a))) (nearest-searched l n g (unit (q .b))))
+
+picks-answered : (b : Bool) (es : List ℕ) (x : Picks) → PicksSearched x → Answered (readingNumber (rulePicks b es x))
+picks-answered b es (unpicked n) h = inr h
+picks-answered b es (picked ks x y) h = inr (inl refl)
+
+row-answered : (m : Mesh) (q : Query) (r : Row ℕ) → Answered (readingNumber (ruleRow m q r))
+row-answered m q (scalar x) = inr (inl refl)
+row-answered m q repulsive = inr (inl refl)
+row-answered m q (mesh v b es) = picks-answered b es (search m q v b) (search-searched m q v b)
+
+-- over a grid with bins
+pub rule-answered : (g : Grid) (rs : List (Row ℕ)) (m : Mesh) (q : Query) → 0 < g .«n_r» → 0 < g .«n_omega» → Answered (readingNumber (ruled g rs m q))
+unfolding ruled resolve
+rule-answered g rs m q a b =
+    let P : Resolved → Type 0 = λ w. Answered (readingNumber (ruleSlab rs m q w)) in
+    let s = distanceBin (q .r) (g .rmin) (g .dr) (g .«n_r») * g .«n_omega» + dihedralBin (q .omega) (g .«omega_step») (g .«n_omega») in
+    rw (lt-ltb 0 (g .«n_r») a, lt-ltb 0 (g .«n_omega») b)
+    (chosen P (queryHeld q) (cond (outside g (q .r)) beyond (slabAt s)) (unresolved 18)
+    (λ e. chosen P (outside g (q .r)) beyond (slabAt s) (λ f. inr (inl refl)) (row-answered m q (getD rs s repulsive))) (inl refl))
+
+-- ---- readings of an accepted list's file
+
+pub answered : (h : History) → Accepted h → (l : Locator) → Roomy (h .top) l → (q : Query)
+    → Answered (readingNumber (readingOut (file h) (readTable (readOut (file h))) (h .meshes .vertices) (locators (h .top) (h .meshes) l) q))
+answered h ok l r q =
+    let n = some-slabs h ok in
+    rw (kept h ok .readings l r q) (rule-answered (counted (h .grid)) (rows h) (h .meshes) q (n .0) (n .1))
