@@ -6,7 +6,7 @@ use mathlib.Core.Logic.{⊎-elim}
 use Prim.Native.Nat.{ℕ, suc, _+_, _-_, _*_, _/_, _≤_, _<_, min}
 use native.Mathlib.Nat.{le-div-iff-mul-le, mul-le-mul}
 use native.Mathlib.Omega.{arith}
-use lib.ListN.{length, take, drop}
+use lib.ListN.{length}
 use lib.Dec.{leb, ltb, eqb}
 use lib.Ieee.{Float, inf, binary32, ofBits}
 use borrow.Author.Tests.{lt-ltb, le-ltb, le-leb, lt-leb, leb-true, eqb-true, eqb-false, ne-eqb}
@@ -16,12 +16,11 @@ use Rattle.rows.specs.Rows.{resolutionOf}
 use Rattle.rows.specs.declared.SlabResolution.{SlabResolution}
 use Rattle.rows.specs.declared.SlabResolution.the-variants.{Scalar, Mesh, Repulsive}
 use Rattle.search.specs.Search.{Locator}
-use Rattle.table.specs.File.{Entry, entryOf}
+use Rattle.table.specs.File.{Entry}
 use Rattle.table.specs.declared.Table.{Table}
 use Rattle.reading.specs.Resolve.{Query, Resolved, unresolved, beyond, slabAt, queryHeld, outside, resolve, widened}
-use Rattle.reading.specs.Reading.{rowInside, energyInside, entryAt, readEntry, readSlab, readingOut, searchIn, readPicks}
+use Rattle.reading.specs.Reading.{rowInside, entryAt, readEntry, readSlab, readingOut, searchIn, readPicks}
 use Rattle.reading.specs.Steps.{itemsInside, slabOf, rowPlace, toward, readPlaced, readResolution}
-use Rattle.reading.specs.declared.Reading.{Reading}
 use Rattle.reading.specs.declared.Reading.the-variants.{Energy, Refused}
 use Rattle.reading.specs.declared.resolve.RowPlace.{RowPlace}
 use Rattle.reading.specs.declared.resolve.RowPlace.the-variants.{At, Outside, NoRow}

@@ -1,11 +1,11 @@
 -- The energies that a search picked. Assumes nothing.
-use mathlib.Core.Path.{_≡_, refl, sym, ap, _∙_}
+use mathlib.Core.Path.{_≡_, refl, ap, _∙_}
 use mathlib.Core.Bool.{Bool, true, false, cond, _&&_, _||_}
 use mathlib.Core.List.{List, [], _∷_, map}
 use Prim.Native.Nat.{ℕ, _+_, _*_, _≤_, _<_}
 use native.Mathlib.Nat.{mul-le-mul}
 use native.Mathlib.Omega.{arith}
-use lib.ListN.{length, getD}
+use lib.ListN.{length}
 use lib.Dec.{leb, ltb, eqb}
 use borrow.Author.Tests.{lt-ltb, le-ltb, ltb-true, leb-true, eqb-true, eqb-false, ne-eqb}
 use Rattle.mesh.specs.Lists.{every, forEach}
@@ -19,7 +19,6 @@ use Rattle.table.specs.declared.Table.{Table}
 use Rattle.reading.specs.Resolve.{joint, nearestPick, facePick, combined, nineTerms, widened}
 use Rattle.reading.specs.Reading.{energyInside, energyAt, readPicks}
 use Rattle.reading.specs.Steps.{Small, itemsInside, rowHeld, faceHeld, PlaceInside, RowInside, rowTerms, faceTerms}
-use Rattle.reading.specs.declared.Reading.{Reading}
 use Rattle.reading.specs.declared.Reading.the-variants.{Energy, Refused}
 use Rattle.reading.proofs.Inside.{items-inside}
 

@@ -6,7 +6,7 @@ ghost use lib.ListN.{length};
 ghost use Rattle.table.specs.Bytes.{numberAt};
 ghost use Rattle.reading.specs.Resolve.{joint, nearestPick, facePick, widened};
 ghost use Rattle.reading.specs.Reading.{readPicks};
-ghost use Rattle.reading.specs.Steps.{NearestBelow, LocatedBelow, Small, RowInside, itemsInside, rowHeld, faceHeld, rowTerms, faceTerms};
+ghost use Rattle.reading.specs.Steps.{NearestBelow, LocatedBelow, Small, RowInside, rowHeld, faceHeld, rowTerms, faceTerms};
 use crate::Reading;
 use crate::places::items_inside;
 use mesh::Face;

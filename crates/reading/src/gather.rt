@@ -5,7 +5,7 @@ ghost use Prim.Native.Nat.{_*_, _≤_, _<_};
 ghost use lib.ListN.{drop};
 ghost use Rattle.mesh.specs.Levels.{vertexCount, gridSize, verticesBelow, cellOffsetsBelow};
 ghost use Rattle.search.specs.Geometry.{unit};
-ghost use Rattle.search.specs.Search.{nearestInCells, locateIn, verticesFrom, locatorFrom};
+ghost use Rattle.search.specs.Search.{nearestInCells, locateIn, verticesFrom};
 ghost use Rattle.reading.specs.Resolve.{nearestPick, facePick};
 ghost use Rattle.reading.specs.Reading.{readPicks, searchIn};
 ghost use Rattle.reading.specs.Steps.{toward, partFrom};

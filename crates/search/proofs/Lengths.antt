@@ -7,7 +7,7 @@ use native.Mathlib.Omega.{arith}
 use lib.Dec.{T, leb, ltb, eqb, leb→le, ltb→lt, lt→ltb}
 use lib.IntN.{ℤ}
 use lib.Pow.{pow-pos, pow-mono, pow-add}
-use lib.Ieee.{Float, nan, inf, fin, binary64, ofBits, up, down, round, lt, fits, add}
+use lib.Ieee.{Float, nan, inf, fin, binary64, ofBits, up, down, round, lt, fits}
 use lib.Ieee.Fits.{and-l, and-r, up-pos, add-fits}
 use lib.Ieee.Scale.{finite}
 use lib.Ieee.Positive.{positive, between}

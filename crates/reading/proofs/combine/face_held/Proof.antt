@@ -1,7 +1,5 @@
 -- `face_held` meets its contract. Assumes nothing.
 use native.Mathlib.Omega.{arith}
-use Prim.Native.Nat.{_*_, _≤_}
-use native.Mathlib.Nat.{mul-le-mul}
 use Rattle.reading.proofs.Inside.{row-place-le}
 use Rattle.reading.proofs.combine.face_held.Statement.{statement}
 use Rattle.reading.proofs.combine.face_held.Tie as tie

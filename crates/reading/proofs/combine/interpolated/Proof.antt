@@ -1,6 +1,5 @@
 -- `interpolated` meets its contract. Assumes nothing.
 use borrow.Author.Needs.{needs}
-use native.Mathlib.Omega.{arith}
 use mathlib.Core.Path.{_≡_, sym, _∙_}
 use Rattle.mesh.proofs.Counting.{yes, no}
 use Rattle.reading.specs.Resolve.{joint}

@@ -2,7 +2,7 @@
 use borrow.Author.Needs.{needs}
 use Prim.Native.Nat.{_+_, _*_, _≤_}
 use native.Mathlib.Omega.{arith}
-use mathlib.Core.Path.{_≡_, sym, ap, _∙_}
+use mathlib.Core.Path.{_≡_, sym, _∙_}
 use Rattle.reading.specs.Resolve.{joint}
 use Rattle.reading.proofs.Picked.{both-found, nearest-none, nearest-out, nearest-in, energy-fits, pair-le}
 use Rattle.reading.proofs.combine.nearest.Statement.{statement}

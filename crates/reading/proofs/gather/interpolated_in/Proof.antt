@@ -2,7 +2,6 @@
 use borrow.Author.Needs.{needs}
 use Prim.Native.Nat.{ℕ, _<_}
 use native.Mathlib.Omega.{arith}
-use mathlib.Core.Path.{_≡_}
 use Rattle.mesh.specs.Levels.{vertexCount, gridSize}
 use Rattle.mesh.proofs.Laws.{count-le}
 use Rattle.search.specs.Search.{Locator}

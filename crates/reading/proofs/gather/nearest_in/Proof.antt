@@ -1,7 +1,6 @@
 -- `nearest_in` meets its contract. Assumes nothing.
 use borrow.Author.Needs.{needs}
 use native.Mathlib.Omega.{arith}
-use mathlib.Core.Path.{_≡_}
 use Rattle.mesh.specs.Levels.{vertexCount, gridSize}
 use Rattle.mesh.proofs.Laws.{count-le}
 use Rattle.search.proofs.Below.{nearest-below}

@@ -1,7 +1,7 @@
 -- `read_nearest` meets its contract. Assumes nothing.
 use borrow.Author.Needs.{needs}
 use native.Mathlib.Omega.{arith}
-use mathlib.Core.Path.{_≡_, _∙_}
+use mathlib.Core.Path.{_∙_}
 use Prim.Native.Nat.{_*_}
 use Rattle.mesh.specs.Levels.{verticesBelow, cellOffsetsBelow}
 use Rattle.mesh.proofs.Laws.{below-few}

@@ -1,9 +1,8 @@
 -- `lookup` meets its contract. Assumes nothing.
 use borrow.Author.Needs.{needs}
-use mathlib.Core.Path.{_≡_, sym, _∙_}
+use mathlib.Core.Path.{sym, _∙_}
 use Rattle.search.specs.Search.{Locator}
 use Rattle.reading.specs.Resolve.{Query, resolve}
-use Rattle.reading.specs.Steps.{toward}
 use Rattle.reading.proofs.Inside.{placed-fits, reading-by, entry-toward}
 use Rattle.reading.proofs.stages.lookup.Statement.{statement}
 use Rattle.reading.proofs.stages.lookup.Tie as tie

@@ -1,6 +1,6 @@
 -- `read_resolution` meets its contract. Assumes nothing.
 use borrow.Author.Needs.{needs}
-use mathlib.Core.Path.{_≡_, sym, ap, _∙_}
+use mathlib.Core.Path.{ap, _∙_}
 use mathlib.Core.Bool.{true, false}
 use lib.Ieee.{ofBits, div}
 use Rattle.search.specs.Search.{Locator}

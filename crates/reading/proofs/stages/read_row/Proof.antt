@@ -1,6 +1,5 @@
 -- `read_row` meets its contract. Assumes nothing.
 use borrow.Author.Needs.{needs}
-use mathlib.Core.Path.{_≡_, sym, _∙_}
 use Rattle.search.specs.Search.{Locator}
 use Rattle.reading.specs.Steps.{toward}
 use Rattle.table.proofs.Items.{entryAt, entry-at}
