@@ -41,7 +41,7 @@ rowPlace file t (unresolved n) = NoRow n
 rowPlace file t beyond = Outside
 rowPlace file t (slabAt s) = cond (rowInside file t s) (At (t .«rows_start» + s * 10)) (NoRow 19)
 
--- the directions of a reading, whose distance and angle are done with
+-- the two directions alone: neither a row nor a search asks for the distance and the angle
 abbrev pub toward : Vector3 → Vector3 → Query
 toward a b = record { r = ofBits binary64 0; omega = ofBits binary64 0; a = a; b = b }
 
@@ -57,7 +57,7 @@ readPlaced file t vertices l q (NoRow n) = Refused n
 readPlaced file t vertices l q Outside = Energy (ofBits binary64 0)
 readPlaced file t vertices l q (At at) = readEntry file t vertices l q (entryOf (take 10 (drop at file)))
 
--- where a level's part of a list begins, its first entry standing at a place that the list may not reach
+-- where a level's part of a list of n entries begins: at the list's end, where the list is shorter
 unfoldable pub partFrom : ℕ → ℕ → ℕ
 partFrom at n = min at n
 
