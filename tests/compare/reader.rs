@@ -69,6 +69,7 @@ pub struct Reader {
     pub table: Table,
     // what the program holds
     held: Table,
+    file_length: usize,
     pub rust: Option<Table6DAdaptive<f32>>,
     pub out: Vec<u8>,
     pub cases: BTreeMap<String, usize>,
@@ -98,6 +99,7 @@ impl Reader {
             lists: Lists(lengths.map(|n| vec![0; n])),
             table: Table::default(),
             held: Table::default(),
+            file_length: 0,
             rust: None,
             out: Vec::new(),
             cases: BTreeMap::new(),
@@ -117,8 +119,9 @@ impl Reader {
         *self.counts.get_mut(words).unwrap() += 1;
     }
 
+    // All of each list, and of the file what the table has.
     pub fn lengths(&self) -> [usize; 6] {
-        [0, 1, 2, 3, 4, 5].map(|k| self.lists.0[k].len())
+        [0, 1, 2, 3, 4, 5].map(|k| if k == 0 { self.file_length } else { self.lists.0[k].len() })
     }
 
     // Meshes of levels 0 and 1; the locator call is made for each.
@@ -181,7 +184,7 @@ impl Reader {
         line.put(26, 4, file.len() as u64);
         self.out.extend(line.0);
         self.count("files read");
-        (self.table, self.held, self.rust) = (table, table, Some(rust));
+        (self.table, self.held, self.rust, self.file_length) = (table, table, Some(rust), file.len());
     }
 
     fn hold(&mut self, t: Table) {

@@ -45,13 +45,16 @@ const INTERPOLATED: [Row; 2] = [Row::Mesh(0, true), Row::Mesh(1, true)];
 fn energies(n: usize, random: &mut Random) -> Vec<f64> {
     let some = [0.0, -0.0, f64::INFINITY, f64::NEG_INFINITY, 1e300, 1e-42, -1e-60, 3.4028235e38];
     let odd = random.below(3);
-    (0..n * n)
+    let mut list: Vec<f64> = (0..n * n)
         .map(|_| match random.below(30) {
             0 if odd == 0 => some[random.below(8)],
             1 if odd == 0 => random.finite(),
             _ => random.unit() * 20.0,
         })
-        .collect()
+        .collect();
+    // where no face fits, weights of 0 times this one: terms of -0.0
+    list[0] = -1.25;
+    list
 }
 
 fn bytes(t: &Table6DAdaptive<f32>) -> (Vec<u8>, Table) {
@@ -410,6 +413,53 @@ fn hosts(reader: &mut Reader, random: &mut Random, meshes: [&Mesh; 2]) {
     }
 }
 
+// As little as a reading needs, and one less: of each list, of each count.
+fn edges(reader: &mut Reader, random: &mut Random, meshes: [&Mesh; 2]) {
+    let t = reader.table;
+    for s in 0..5 {
+        let q = query_at(&t, s, meshes, random);
+        if reader.answer(&reader.undamaged(), &q).number != 0 {
+            continue;
+        }
+        for k in 0..9 {
+            let with = |n: usize, reader: &Reader| {
+                let mut d = reader.undamaged();
+                match k {
+                    6 => d.table.levels = n as u64,
+                    7 => d.table.rows = n as u64,
+                    8 => d.table.energies = n as u64,
+                    _ => d.lent[k] = n,
+                }
+                d
+            };
+            let all = if k < 6 { reader.lengths()[k] } else { [t.levels, t.rows, t.energies][k - 6] as usize };
+            // nothing short of it is enough
+            let (mut short, mut enough) = (0, all);
+            while short < enough {
+                let n = (short + enough) / 2;
+                if reader.answer(&with(n, reader), &q).number == 0 { enough = n } else { short = n + 1 }
+            }
+            if enough > 0 {
+                for n in [enough - 1, enough] {
+                    let d = with(n, reader);
+                    reader.damaged(&d, &[q]);
+                }
+            }
+        }
+    }
+}
+
+// An angle that the remainder makes TAU is not in bin 0 of every grid that a host may make.
+fn near_tau(reader: &mut Reader, random: &mut Random, meshes: [&Mesh; 2]) {
+    let t = reader.table;
+    for (omega_step, n_omega, omega) in [(2.0, 2, -1e-20), (2.0, 4, -5e-324), (2.0, 4, TAU), (4.0, 3, -1e-17), (1e-3, 12, -1e-30)] {
+        let mut d = reader.undamaged();
+        (d.table.omega_step, d.table.n_omega) = (omega_step, n_omega);
+        let q = Query { omega, ..query_at(&t, 0, meshes, random) };
+        reader.damaged(&d, &[q]);
+    }
+}
+
 // Cells without a vertex: 20, unless something of the other direction's cell is 19's.
 fn empty_cells(reader: &mut Reader, random: &mut Random, meshes: [&Mesh; 2]) {
     let t = reader.table;
@@ -492,9 +542,11 @@ fn main() {
     let lent = [&spheres[0], &spheres[1]];
     let rows = [n0, i0, n1, i1, scalar(-1.5), Row::Repulsive, scalar(f32::NAN), scalar(-0.0), i0, Row::Repulsive, scalar(f32::INFINITY), scalar(TINY)];
     table(&mut reader, &mut random, lent, 1, [1.5, 2.4, 0.3, TAU / 4.0], &rows);
-    readings(&mut reader, &mut random, lent, 260);
+    readings(&mut reader, &mut random, lent, 200);
     refused_queries(&mut reader, &mut random, lent);
     hosts(&mut reader, &mut random, lent);
+    edges(&mut reader, &mut random, lent);
+    near_tau(&mut reader, &mut random, lent);
     empty_cells(&mut reader, &mut random, lent);
     damages(&mut reader, &mut random, lent, 6);
 
