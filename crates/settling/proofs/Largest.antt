@@ -183,6 +183,11 @@ number : (s v : Float) → isNan s ≡ false → larger s v ≡ pick s v
 unfolding farther pick
 number s v e = rw e
 
+-- beside a number one comparison finds the larger one
+pub compared : (s v : Float) (b : Bool) → isNan s ≡ false → lt s v ≡ b → larger s v ≡ cond b v s
+unfolding pick
+compared s v b e h = number s v e ∙ rw h
+
 of-nan : (s v : Float) → isNan s ≡ true → larger s v ≡ v
 unfolding farther
 of-nan s v e = rw e
@@ -203,7 +208,7 @@ past-nan s v false e h = number s v e ∙ skip
     skip = rw (nan-is v h) (rw (below-nan s) refl)
 
 -- a number and a slope: the larger one is a number, and by `pick`
-larger-number : (s v : Float) (t : Bool) → isNan s ≡ false → isNan v ≡ t → isNan (larger s v) ≡ false
+pub larger-number : (s v : Float) (t : Bool) → isNan s ≡ false → isNan v ≡ t → isNan (larger s v) ≡ false
 larger-number s v true a b = ap isNan (past-nan s v false a b) ∙ a
 larger-number s v false a b = ap isNan (number s v a) ∙ pick-number s v (lt s v) refl a b
 

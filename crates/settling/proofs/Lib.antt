@@ -3,5 +3,6 @@ pub mod Sums
 pub mod Lines
 pub mod Orders
 pub mod Largest
+pub mod Numbers
 pub mod Slopes
 pub mod Changes

@@ -42,3 +42,9 @@ module _ {S : Type 0} where
   unfolding forEach
   each-same zero f g h s = refl
   each-same (suc n) f g h s = ap (f n) (each-same n f g (λ k t l. h k t (omega arith)) s) ∙ h n (forEach n g s) (omega arith)
+
+  -- what every turn keeps the loop keeps
+  pub each-keeps : (P : S → Type 0) (n : ℕ) (f : ℕ → S → S) → ((k : ℕ) (s : S) → P s → P (f k s)) → (s : S) → P s → P (forEach n f s)
+  unfolding forEach
+  each-keeps P zero f h s p = p
+  each-keeps P (suc n) f h s p = h n (forEach n f s) (each-keeps P n f h s p)

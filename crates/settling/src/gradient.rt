@@ -3,7 +3,8 @@ ghost use mathlib.Core.Path.{_≡_};
 ghost use mathlib.Core.List.{[]};
 ghost use Prim.Native.Nat.{_+_, _*_, _≤_};
 ghost use lib.ListN.{length, getD};
-ghost use lib.Ieee.{nan};
+ghost use mathlib.Core.Bool.{false};
+ghost use lib.Ieee.{nan, isNan};
 ghost use Rattle.mesh.specs.Lists.{put};
 ghost use Rattle.settling.specs.Gradient.{weight, steeper, alongNeighbours};
 ghost use Rattle.settling.specs.Steps.{lineWeights, lineGradient, linesGradient, byLines};
@@ -15,12 +16,16 @@ pub(crate) fn weight(beta: f64, e: f64) -> f64
     float::exp(-beta * e)
 }
 
-// The larger of g and the slope between two weights; a pair at a smaller angle is passed over.
+// The larger of g and the slope between two weights; a pair at a smaller angle is passed over. g is a number, so that one comparison finds the larger one.
 fn steeper(x: f64, y: f64, angle: f64, g: f64) -> f64
+    requires { ⌜ isNan g ≡ false ⌝ }
     ensures { λ r. ⌜ r ≡ steeper x y angle g ⌝ }
 {
     if 1e-12 < angle {
-        return float::max(g, float::abs(x - y) / angle);
+        let q = float::abs(x - y) / angle;
+        if q > g {
+            return q;
+        }
     }
     g
 }
@@ -46,6 +51,7 @@ fn along_neighbours(
     v: u32,
     g: f64,
 ) -> f64
+    requires { ⌜ isNan g ≡ false ⌝ }
     ensures { λ r. ⌜ r ≡ alongNeighbours (record { vertices = []; counts = now (counts .entry); neighbours = now (neighbours .entry); angles = now (angles .entry) }) v
         (λ k. getD (now (weights .entry)) k nan) (getD (now (weights .entry)) v nan) g ⌝ }
 {
@@ -70,6 +76,7 @@ fn line_gradient(
     n: u32,
     g: f64,
 ) -> f64
+    requires { ⌜ isNan g ≡ false ⌝ }
     ensures { λ r. ⌜ r ≡ lineGradient (record { vertices = []; counts = now (counts .entry); neighbours = now (neighbours .entry); angles = now (angles .entry) }) n (now (weights .entry)) g ⌝ }
 {
     let mut h = g;
@@ -93,7 +100,7 @@ fn line(
     n: u32,
     g: f64,
 ) -> f64
-    requires { ⌜ (n ≤ 2562) × (step ≤ 2562) × (from ≤ 6563844) ⌝ }
+    requires { ⌜ (n ≤ 2562) × (step ≤ 2562) × (from ≤ 6563844) × (isNan g ≡ false) ⌝ }
     ensures { λ r. ⌜ r ≡ lineGradient (record { vertices = []; counts = now (counts .entry); neighbours = now (neighbours .entry); angles = now (angles .entry) }) n
         (lineWeights beta (now (energies .entry)) from step n) g ⌝ }
 {
@@ -115,7 +122,7 @@ fn lines(
     n: u32,
     g: f64,
 ) -> f64
-    requires { ⌜ (n ≤ 2562) × (step ≤ 2562) × (apart ≤ 2562) ⌝ }
+    requires { ⌜ (n ≤ 2562) × (step ≤ 2562) × (apart ≤ 2562) × (isNan g ≡ false) ⌝ }
     ensures { λ r. ⌜ r ≡ linesGradient (record { vertices = []; counts = now (counts .entry); neighbours = now (neighbours .entry); angles = now (angles .entry) }) n beta (now (energies .entry)) apart step g ⌝ }
 {
     let mut h = g;

@@ -9,6 +9,7 @@ use borrow.Author.Needs.{needs}
 use Rattle.mesh.specs.Lists.{forEach}
 use Rattle.settling.specs.Gradient.{steeper, alongNeighbours}
 use Rattle.mesh.proofs.Loops.{each-turn}
+use Rattle.settling.proofs.Numbers.{Number, steeper-number}
 use Rattle.settling.proofs.gradient.along_neighbours.Statement.{statement}
 use Rattle.settling.proofs.gradient.along_neighbours.Tie as tie
 
@@ -17,7 +18,7 @@ abbrev turn : List ℕ → List ℕ → List Float → List Float → ℕ → �
 turn counts neighbours angles weights v k h = steeper (getD weights v nan) (getD weights (getD neighbours (6 * v + k) 0) nan) (getD angles (6 * v + k) nan) h
 
 abbrev Inv-loop : tie.InvT-loop
-Inv-loop counts neighbours angles weights v g d x h₀ k₀ h k = (k ≤ d) × (h ≡ forEach k (turn counts neighbours angles weights v) g)
+Inv-loop counts neighbours angles weights v g d x h₀ k₀ h k = (k ≤ d) × (h ≡ forEach k (turn counts neighbours angles weights v) g) × Number h
 
 abbrev μ-loop : tie.MeasureT-loop
 μ-loop counts neighbours angles weights v g d x h₀ k₀ h k = d - k
@@ -30,7 +31,7 @@ entry-requires c κs = search needs
 
 loop-holds : tie.Need-loop-holds Inv-loop μ-loop
 unfolding forEach
-loop-holds c = (omega arith, refl)
+loop-holds c = (omega arith, refl, search needs)
 
 neighbour-requires : tie.Need-neighbour-requires Inv-loop μ-loop
 neighbour-requires c κs = search needs
@@ -69,6 +70,7 @@ loop-again c =
       omega arith,
       rw (c .steeper .ensures, l .before .entry .ensures, c .before .before .entry2 .ensures, c .before .entry3 .ensures, c .before .before .before .neighbour .ensures)
           (each-turn (turn (a .counts .now) (a .neighbours .now) (a .angles .now) (a .weights .now) (a .v)) (l .loop .k) (a .g) (l .loop .h) (l .loop .inv .1)),
+      rw (c .steeper .ensures) (steeper-number _ _ _ (l .loop .h) (l .loop .inv .2)),
     )
 
 returns : tie.Need-returns Inv-loop μ-loop

@@ -10,6 +10,7 @@ use Rattle.mesh.specs.Lists.{forEach}
 use Rattle.settling.specs.Gradient.{alongNeighbours}
 use Rattle.settling.specs.Steps.{lineGradient}
 use Rattle.mesh.proofs.Loops.{each-turn}
+use Rattle.settling.proofs.Numbers.{Number, neighbours-number}
 use Rattle.settling.proofs.gradient.line_gradient.Statement.{statement}
 use Rattle.settling.proofs.gradient.line_gradient.Tie as tie
 
@@ -19,14 +20,14 @@ turn counts neighbours angles weights v =
     alongNeighbours (record { vertices = []; counts = counts; neighbours = neighbours; angles = angles }) v (λ k. getD weights k nan) (getD weights v nan)
 
 abbrev Inv-loop : tie.InvT-loop
-Inv-loop counts neighbours angles weights n g h₀ v₀ h v = (v ≤ n) × (h ≡ forEach v (turn counts neighbours angles weights) g)
+Inv-loop counts neighbours angles weights n g h₀ v₀ h v = (v ≤ n) × (h ≡ forEach v (turn counts neighbours angles weights) g) × Number h
 
 abbrev μ-loop : tie.MeasureT-loop
 μ-loop counts neighbours angles weights n g h₀ v₀ h v = n - v
 
 loop-holds : tie.Need-loop-holds Inv-loop μ-loop
 unfolding forEach
-loop-holds c = (omega arith, refl)
+loop-holds c = (omega arith, refl, search needs)
 
 along-neighbours-requires : tie.Need-along-neighbours-requires Inv-loop μ-loop
 along-neighbours-requires c κs = search needs
@@ -40,8 +41,11 @@ loop-less c = omega arith
 loop-again : tie.Need-loop-again Inv-loop μ-loop
 loop-again c =
     let l = c .before .before in
-    let a = l .before .before .before .before .before .args in
-    (omega arith, rw (c .along-neighbours .ensures) (each-turn (turn (a .counts .now) (a .neighbours .now) (a .angles .now) (a .weights .now)) (l .loop .v) (a .g) (l .loop .h) (l .loop .inv .1)))
+    let a = l .before .before .before .before .before .args in (
+      omega arith,
+      rw (c .along-neighbours .ensures) (each-turn (turn (a .counts .now) (a .neighbours .now) (a .angles .now) (a .weights .now)) (l .loop .v) (a .g) (l .loop .h) (l .loop .inv .1)),
+      rw (c .along-neighbours .ensures) (neighbours-number _ (l .loop .v) _ _ (l .loop .h) (l .loop .inv .2)),
+    )
 
 returns : tie.Need-returns Inv-loop μ-loop
 unfolding lineGradient

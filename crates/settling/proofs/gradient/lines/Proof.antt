@@ -9,6 +9,7 @@ use borrow.Author.Needs.{needs}
 use Rattle.mesh.specs.Lists.{forEach}
 use Rattle.settling.specs.Steps.{lineWeights, lineGradient, linesGradient}
 use Rattle.mesh.proofs.Loops.{each-turn}
+use Rattle.settling.proofs.Numbers.{Number, line-number}
 use Rattle.settling.proofs.gradient.lines.Statement.{statement}
 use Rattle.settling.proofs.gradient.lines.Tie as tie
 
@@ -18,7 +19,7 @@ turn counts neighbours angles energies beta apart step n t =
     lineGradient (record { vertices = []; counts = counts; neighbours = neighbours; angles = angles }) n (lineWeights beta energies (apart * t) step n)
 
 abbrev Inv-loop : tie.InvT-loop
-Inv-loop counts neighbours angles energies beta apart step n g h₀ t₀ h t = (t ≤ n) × (h ≡ forEach t (turn counts neighbours angles energies beta apart step n) g)
+Inv-loop counts neighbours angles energies beta apart step n g h₀ t₀ h t = (t ≤ n) × (h ≡ forEach t (turn counts neighbours angles energies beta apart step n) g) × Number h
 
 abbrev μ-loop : tie.MeasureT-loop
 μ-loop counts neighbours angles energies beta apart step n g h₀ t₀ h t = n - t
@@ -32,7 +33,7 @@ place c =
 
 loop-holds : tie.Need-loop-holds Inv-loop μ-loop
 unfolding forEach
-loop-holds c = (omega arith, refl)
+loop-holds c = (omega arith, refl, search needs)
 
 cast-line : tie.Need-cast-line Inv-loop μ-loop
 cast-line c = search needs
@@ -41,7 +42,7 @@ mul-line : tie.Need-mul-line Inv-loop μ-loop
 mul-line c = omega (arith, place c)
 
 line-requires : tie.Need-line-requires Inv-loop μ-loop
-line-requires c κs = let a = c .before .before .before .before .before .before in (a .pre .0, a .pre .1, place c)
+line-requires c κs = let a = c .before .before .before .before .before .before in (a .pre .0, a .pre .1, place c, c .before .loop .inv .2)
 
 add-t : tie.Need-add-t Inv-loop μ-loop
 add-t c = omega arith
@@ -56,6 +57,7 @@ loop-again c =
       omega arith,
       rw (c .line .ensures)
           (each-turn (turn (a .counts .now) (a .neighbours .now) (a .angles .now) (a .energies .now) (a .beta) (a .apart) (a .step) (a .n)) (l .loop .t) (a .g) (l .loop .h) (l .loop .inv .1)),
+      rw (c .line .ensures) (line-number _ (a .n) _ (l .loop .h) (l .loop .inv .2)),
     )
 
 returns : tie.Need-returns Inv-loop μ-loop
