@@ -7,48 +7,8 @@ mod meshes;
 mod oracle {
     include!(concat!(env!("COMPARE"), "/oracle.rs"));
 }
-#[allow(clippy::all)]
+#[allow(dead_code, clippy::all)]
 mod table {
-    use super::oracle::{FaceGrid, Vector3};
-
-    type Face = [usize; 3];
-
-    // A level with its locator made: the Rust makes it at the first use.
-    pub struct MeshLevel {
-        pub n_vertices: usize,
-        pub grid: FaceGrid,
-    }
-
-    impl MeshLevel {
-        fn locate(&self, dir: &Vector3) -> (Face, [f64; 3]) {
-            self.grid.locate(dir)
-        }
-
-        fn find_nearest_vertex(&self, dir: &Vector3) -> usize {
-            self.grid.find_nearest_vertex(dir)
-        }
-    }
-
-    pub enum SlabResolution {
-        Mesh { level: u8, interpolate: bool },
-        Scalar(f32),
-        #[allow(dead_code)]
-        Repulsive,
-    }
-
-    pub struct Table {
-        pub rmin: f64,
-        pub rmax: f64,
-        pub dr: f64,
-        pub n_r: usize,
-        pub omega_step: f64,
-        pub n_omega: usize,
-        pub levels: Vec<MeshLevel>,
-        pub slab_res: Vec<SlabResolution>,
-        pub slab_offsets: Vec<u32>,
-        pub data: Vec<f32>,
-    }
-
     include!(concat!(env!("COMPARE"), "/lookup.rs"));
 }
 
@@ -56,7 +16,9 @@ use meshes::{icosphere, Random};
 use oracle::{FaceGrid, Vector3};
 use std::hint::black_box;
 use std::time::Instant;
-use table::{MeshLevel, SlabResolution, Table};
+use table::{MeshLevel, SlabResolution};
+
+type Table = table::Table6DAdaptive<f32>;
 
 const LEVEL: usize = 3;
 
@@ -186,6 +148,7 @@ fn made(n_r: usize, random: &mut Random, slab: impl Fn(usize) -> SlabResolution)
     }
     let per = levels[LEVEL].n_vertices * levels[LEVEL].n_vertices;
     let mut t = Table {
+        metadata: None,
         rmin: 10.0,
         rmax: f64::mul_add(n_r as f64, 0.5, 10.0),
         dr: 0.5,
