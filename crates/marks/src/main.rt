@@ -19,7 +19,7 @@ fn mark(what: &[u8], got: u64, marked: u64) {
     }
 }
 
-fn main() {
+fn numbers() {
     mark(
         b"root of 2",
         bits::bits64(ieee::root(2.0)),
@@ -47,6 +47,9 @@ fn main() {
         bits::bits64(float::exp(-709.0)),
         bits::bits64(0.0),
     );
+}
+
+fn bins() {
     mark(
         b"rmin 0, dr 1, four bins: bin of r 0.5",
         grid::distance_bin(0.5, 0.0, 1.0, 4),
@@ -70,4 +73,9 @@ fn main() {
         grid::fresh_question(g, 0),
         4,
     );
+}
+
+fn main() {
+    numbers();
+    bins();
 }
