@@ -1,16 +1,18 @@
 -- The gradient so far stays a number. Assumes nothing.
-use mathlib.Core.Path.{_≡_, refl}
+use mathlib.Core.Path.{_≡_, refl, sym, ap}
 use mathlib.Core.Bool.{Bool, true, false, cond}
 use mathlib.Core.List.{List}
-use Prim.Native.Nat.{ℕ, _*_}
+use Prim.Native.Nat.{ℕ, _+_, _*_}
+use native.Mathlib.Nat.{one-mul}
 use lib.ListN.{getD}
 use lib.Ieee.{Float, nan, binary64, ofBits, sub, div, lt, isNan}
 use Rattle.float.specs.Order.{magnitude, larger}
+use Rattle.mesh.proofs.Loops.{each-turn}
 use Rattle.mesh.specs.Mesh.{Mesh, degree, neighbour, angleTo}
 use Rattle.settling.specs.Gradient.{zero, steeper, alongNeighbours}
-use Rattle.settling.specs.Steps.{lineWeights, lineGradient, linesGradient}
+use Rattle.settling.specs.Steps.{lineWeights, lineGradient, columnGradient, fourColumns, firstColumns, linesGradient}
 use Rattle.settling.proofs.Largest.{larger-number}
-use Rattle.settling.proofs.Orders.{each-keeps}
+use Rattle.settling.proofs.Orders.{each-same, each-keeps, each-four}
 
 abbrev pub Number : Float → Type 0
 Number x = isNan x ≡ false
@@ -40,7 +42,25 @@ module _ (m : Mesh) where
   line-number n ws g =
       each-keeps Number n (λ v. alongNeighbours m v (λ k. getD ws k nan) (getD ws v nan)) (λ v. neighbours-number v (λ k. getD ws k nan) (getD ws v nan)) g
 
-  pub lines-number : (n : ℕ) (beta : Float) (e : List Float) (apart step : ℕ) (g : Float) → Number g → Number (linesGradient m n beta e apart step g)
-  unfolding linesGradient
-  lines-number n beta e apart step g =
-      each-keeps Number n (λ t. lineGradient m n (lineWeights beta e (apart * t) step n)) (λ t. line-number n (lineWeights beta e (apart * t) step n)) g
+  pub column-number : (n : ℕ) (beta : Float) (e : List Float) (t : ℕ) (g : Float) → Number g → Number (columnGradient m n beta e t g)
+  unfolding columnGradient
+  column-number n beta e t g = line-number n (lineWeights beta e t n n) g
+
+  pub columns-number : (n : ℕ) (beta : Float) (e : List Float) (k : ℕ) → Number (firstColumns m n beta e k)
+  unfolding firstColumns
+  columns-number n beta e k = each-keeps Number k (columnGradient m n beta e) (column-number n beta e) zero zero-number
+
+  -- all columns are lines that begin one place after another
+  pub columns-are : (n : ℕ) (beta : Float) (e : List Float) → firstColumns m n beta e n ≡ linesGradient m n beta e 1 n zero
+  unfolding firstColumns columnGradient linesGradient
+  columns-are n beta e =
+      each-same n (columnGradient m n beta e) (λ t. lineGradient m n (lineWeights beta e (1 * t) n n)) (λ t s h. ap (λ (z : ℕ). lineGradient m n (lineWeights beta e z n n) s) (sym (one-mul t))) zero
+
+  -- one column more, and four
+  pub columns-one : (n : ℕ) (beta : Float) (e : List Float) (k : ℕ) → columnGradient m n beta e k (firstColumns m n beta e k) ≡ firstColumns m n beta e (k + 1)
+  unfolding firstColumns
+  columns-one n beta e k = each-turn (columnGradient m n beta e) k zero (firstColumns m n beta e k) refl
+
+  pub columns-four : (n : ℕ) (beta : Float) (e : List Float) (k : ℕ) → fourColumns m n beta e k (firstColumns m n beta e k) ≡ firstColumns m n beta e (k + 4)
+  unfolding firstColumns fourColumns
+  columns-four n beta e k = each-four (columnGradient m n beta e) k zero (firstColumns m n beta e k) refl

@@ -1,8 +1,9 @@
 -- Loops whose turns commute may be taken in another order. Assumes nothing.
 use mathlib.Core.Path.{_≡_, refl, sym, ap, _∙_}
-use Prim.Native.Nat.{ℕ, zero, suc, _<_}
+use Prim.Native.Nat.{ℕ, zero, suc, _+_, _<_}
 use native.Mathlib.Omega.{arith}
 use Rattle.mesh.specs.Lists.{forEach}
+use Rattle.mesh.proofs.Loops.{each-turn}
 
 module _ {S : Type 0} where
   abbrev pub Commute : (S → S) → (S → S) → Type 0
@@ -48,3 +49,11 @@ module _ {S : Type 0} where
   unfolding forEach
   each-keeps P zero f h s p = p
   each-keeps P (suc n) f h s p = h n (forEach n f s) (each-keeps P n f h s p)
+
+  -- four turns
+  pub each-four : (f : ℕ → S → S) (k : ℕ) (s t : S) → t ≡ forEach k f s → f (k + 3) (f (k + 2) (f (k + 1) (f k t))) ≡ forEach (k + 4) f s
+  each-four f k s t e =
+      let a : k + 2 ≡ k + 1 + 1 = omega arith in
+      let b : k + 3 ≡ k + 1 + 1 + 1 = omega arith in
+      let c : k + 4 ≡ k + 1 + 1 + 1 + 1 = omega arith in
+      rw (a, b, c) (each-turn f (k + 1 + 1 + 1) s _ (each-turn f (k + 1 + 1) s _ (each-turn f (k + 1) s _ (each-turn f k s t e))))

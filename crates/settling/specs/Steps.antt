@@ -27,6 +27,17 @@ lineWeights beta e from step (suc n) = lineWeights beta e from step n ++ (weight
 unfoldable pub lineGradient : Mesh → ℕ → List Float → Float → Float
 lineGradient m n ws g = forEach n (λ v. alongNeighbours m v (λ k. getD ws k nan) (getD ws v nan)) g
 
+-- along a column, four columns side by side, and the first k columns
+unfoldable pub columnGradient : Mesh → ℕ → Float → List Float → ℕ → Float → Float
+columnGradient m n beta e t = lineGradient m n (lineWeights beta e t n n)
+
+unfoldable pub fourColumns : Mesh → ℕ → Float → List Float → ℕ → Float → Float
+fourColumns m n beta e t g =
+    columnGradient m n beta e (t + 3) (columnGradient m n beta e (t + 2) (columnGradient m n beta e (t + 1) (columnGradient m n beta e t g)))
+
+unfoldable pub firstColumns : Mesh → ℕ → Float → List Float → ℕ → Float
+firstColumns m n beta e k = forEach k (columnGradient m n beta e) Gradient.zero
+
 -- along n lines, each `step` places apart, that begin `apart` places after one another
 unfoldable pub linesGradient : Mesh → ℕ → Float → List Float → ℕ → ℕ → Float → Float
 linesGradient m n beta e apart step g = forEach n (λ t. lineGradient m n (lineWeights beta e (apart * t) step n)) g

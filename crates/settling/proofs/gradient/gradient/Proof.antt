@@ -1,19 +1,19 @@
 -- `gradient` meets its contract. Assumes nothing.
-use Rattle.settling.proofs.Numbers.{zero-number, lines-number}
 use borrow.Author.Needs.{needs}
 use Rattle.settling.specs.Steps.{byLines}
+use Rattle.settling.proofs.Numbers.{columns-number, columns-are}
 use Rattle.settling.proofs.gradient.gradient.Statement.{statement}
 use Rattle.settling.proofs.gradient.gradient.Tie as tie
 
-lines-requires : tie.Need-lines-requires
-lines-requires c κs = (search needs, search needs, search needs, zero-number)
+columns-requires : tie.Need-columns-requires
+columns-requires c κs = search needs
 
-lines-requires-2 : tie.Need-lines-requires-2
-lines-requires-2 c κs = (search needs, search needs, search needs, rw (c .lines .ensures) (lines-number _ _ _ _ _ _ _ zero-number))
+lines-requires : tie.Need-lines-requires
+lines-requires c κs = (search needs, search needs, search needs, rw (c .columns .ensures) (columns-number _ _ _ _ _))
 
 returns : tie.Need-returns
 unfolding byLines
-returns c = rw (c .lines2 .ensures, c .before .lines .ensures)
+returns c = rw (c .lines .ensures, c .before .columns .ensures, columns-are)
 
 pub gradient-spec : {M : Type 1} → statement M
-gradient-spec = tie.close (tie.spec lines-requires lines-requires-2 returns)
+gradient-spec = tie.close (tie.spec columns-requires lines-requires returns)

@@ -1,0 +1,67 @@
+-- `columns` meets its contract. Assumes nothing.
+use mathlib.Core.Path.{_≡_, refl, _∙_}
+use mathlib.Core.List.{[]}
+use Prim.Native.Nat.{_+_, _*_, _/_, _-_, _≤_}
+use native.Mathlib.Omega.{arith}
+use borrow.Author.Needs.{needs}
+use Rattle.settling.specs.Steps.{columnGradient, firstColumns}
+use Rattle.settling.proofs.Numbers.{columns-number, columns-one}
+use Rattle.settling.proofs.gradient.columns.Statement.{statement}
+use Rattle.settling.proofs.gradient.columns.Tie as tie
+
+abbrev Inv-loop : tie.InvT-loop
+Inv-loop counts neighbours angles energies beta n m h₀ t₀ h t =
+    (t ≤ n) × (h ≡ firstColumns (record { vertices = []; counts = counts; neighbours = neighbours; angles = angles }) n beta energies t)
+
+abbrev μ-loop : tie.MeasureT-loop
+μ-loop counts neighbours angles energies beta n m h₀ t₀ h t = n - t
+
+fours-requires : tie.Need-fours-requires Inv-loop μ-loop
+fours-requires c κs = search needs
+
+mul-t : tie.Need-mul-t Inv-loop μ-loop
+mul-t c = omega arith
+
+loop-holds : tie.Need-loop-holds Inv-loop μ-loop
+loop-holds c = (omega arith, c .fours .ensures)
+
+cast-line : tie.Need-cast-line Inv-loop μ-loop
+cast-line c = search needs
+
+line-requires : tie.Need-line-requires Inv-loop μ-loop
+line-requires c κs = (search needs, search needs, omega arith, rw (c .before .loop .inv .1) (columns-number _ _ _ _ _))
+
+add-t : tie.Need-add-t Inv-loop μ-loop
+add-t c = omega arith
+
+loop-less : tie.Need-loop-less Inv-loop μ-loop
+loop-less c = omega arith
+
+loop-again : tie.Need-loop-again Inv-loop μ-loop
+unfolding columnGradient
+loop-again c =
+    let l = c .before .before in
+    let a = l .before .before .before .before .before .before .args in
+    (omega arith, rw (c .line .ensures, l .loop .inv .1) (columns-one _ (a .n) (a .beta) (a .energies .now) (l .loop .t)))
+
+returns : tie.Need-returns Inv-loop μ-loop
+returns c =
+    let l = c .before in
+    let full : l .loop .t ≡ l .before .before .before .before .before .before .args .n = omega arith in
+    l .loop .inv .1 ∙ rw full
+
+pub columns-spec : {M : Type 1} → statement M
+columns-spec =
+    tie.close
+    (tie.spec
+    Inv-loop
+    μ-loop
+    fours-requires
+    mul-t
+    loop-holds
+    cast-line
+    line-requires
+    add-t
+    loop-less
+    loop-again
+    returns)

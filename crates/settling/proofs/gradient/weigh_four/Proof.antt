@@ -1,0 +1,153 @@
+-- `weigh_four` meets its contract. Assumes nothing.
+use mathlib.Core.Path.{_≡_, refl, sym, _∙_}
+use Prim.Native.Nat.{_+_, _-_, _≤_}
+use native.Mathlib.Omega.{arith}
+use lib.ListN.{length, length-set}
+use borrow.Author.Needs.{needs}
+use Rattle.mesh.specs.Lists.{put}
+use Rattle.mesh.proofs.Written.{put-nil}
+use Rattle.settling.specs.Steps.{lineWeights}
+use Rattle.settling.proofs.Lines.{weigh-turn}
+use Rattle.settling.proofs.gradient.weigh_four.Statement.{statement}
+use Rattle.settling.proofs.gradient.weigh_four.Tie as tie
+
+abbrev Inv-loop : tie.InvT-loop
+Inv-loop beta energies from step n first₀ second₀ third₀ fourth₀ i₀ first second third fourth i =
+    (i ≤ n) × (length first ≡ length first₀) × (length second ≡ length second₀) × (length third ≡ length third₀) × (length fourth ≡ length fourth₀)
+    × (first ≡ put first₀ 0 (lineWeights beta energies from step i))
+    × (second ≡ put second₀ 0 (lineWeights beta energies (from + 1) step i))
+    × (third ≡ put third₀ 0 (lineWeights beta energies (from + 2) step i))
+    × (fourth ≡ put fourth₀ 0 (lineWeights beta energies (from + 3) step i))
+
+abbrev μ-loop : tie.MeasureT-loop
+μ-loop beta energies from step n first₀ second₀ third₀ fourth₀ i₀ first second third fourth i = n - i
+
+loop-holds : tie.Need-loop-holds Inv-loop μ-loop
+unfolding lineWeights
+loop-holds c =
+    let a = c .before .before .before .before .before .args in (
+      search needs,
+      refl,
+      refl,
+      refl,
+      refl,
+      sym (put-nil (a .first .now) 0),
+      sym (put-nil (a .second .now) 0),
+      sym (put-nil (a .third .now) 0),
+      sym (put-nil (a .fourth .now) 0),
+    )
+
+weight-at-requires : tie.Need-weight-at-requires Inv-loop μ-loop
+weight-at-requires c κs = (omega arith, search needs, omega arith)
+
+mul-first : tie.Need-mul-first Inv-loop μ-loop
+mul-first c = omega arith
+
+slice-write-first : tie.Need-slice-write-first Inv-loop μ-loop
+slice-write-first c = omega arith
+
+add-weight-at : tie.Need-add-weight-at Inv-loop μ-loop
+add-weight-at c = omega arith
+
+weight-at-requires-2 : tie.Need-weight-at-requires-2 Inv-loop μ-loop
+weight-at-requires-2 c κs = (omega arith, search needs, omega arith)
+
+mul-second : tie.Need-mul-second Inv-loop μ-loop
+mul-second c = omega arith
+
+slice-write-second : tie.Need-slice-write-second Inv-loop μ-loop
+slice-write-second c = omega arith
+
+add-weight-at-2 : tie.Need-add-weight-at-2 Inv-loop μ-loop
+add-weight-at-2 c = omega arith
+
+weight-at-requires-3 : tie.Need-weight-at-requires-3 Inv-loop μ-loop
+weight-at-requires-3 c κs = (omega arith, search needs, omega arith)
+
+mul-third : tie.Need-mul-third Inv-loop μ-loop
+mul-third c = omega arith
+
+slice-write-third : tie.Need-slice-write-third Inv-loop μ-loop
+slice-write-third c = omega arith
+
+add-weight-at-3 : tie.Need-add-weight-at-3 Inv-loop μ-loop
+add-weight-at-3 c = omega arith
+
+weight-at-requires-4 : tie.Need-weight-at-requires-4 Inv-loop μ-loop
+weight-at-requires-4 c κs = (omega arith, search needs, omega arith)
+
+mul-fourth : tie.Need-mul-fourth Inv-loop μ-loop
+mul-fourth c = omega arith
+
+slice-write-fourth : tie.Need-slice-write-fourth Inv-loop μ-loop
+slice-write-fourth c = omega arith
+
+add-i : tie.Need-add-i Inv-loop μ-loop
+add-i c = omega arith
+
+loop-less : tie.Need-loop-less Inv-loop μ-loop
+loop-less c = omega arith
+
+loop-again : tie.Need-loop-again Inv-loop μ-loop
+loop-again c =
+    let l = c .before .before .before .before .before in
+    let a = l .before .before .before .before .before .before .args in (
+      omega arith,
+      simp length-set (l .loop .inv .1),
+      simp length-set (l .loop .inv .2),
+      simp length-set (l .loop .inv .3),
+      simp length-set (l .loop .inv .4),
+      rw (c .before .before .before .weight-at .ensures) (weigh-turn (a .beta) (a .energies .now) (a .from) (a .step) (a .first .now) (l .loop .first) (l .loop .i) (l .loop .inv .5) (omega arith)),
+      rw (c .before .before .weight-at2 .ensures) (weigh-turn (a .beta) (a .energies .now) (a .from + 1) (a .step) (a .second .now) (l .loop .second) (l .loop .i) (l .loop .inv .6) (omega arith)),
+      rw (c .before .weight-at3 .ensures) (weigh-turn (a .beta) (a .energies .now) (a .from + 2) (a .step) (a .third .now) (l .loop .third) (l .loop .i) (l .loop .inv .7) (omega arith)),
+      rw (c .weight-at4 .ensures) (weigh-turn (a .beta) (a .energies .now) (a .from + 3) (a .step) (a .fourth .now) (l .loop .fourth) (l .loop .i) (l .loop .inv .8) (omega arith)),
+    )
+
+same-length : tie.Need-same-length Inv-loop μ-loop
+same-length c = search needs
+
+same-length-2 : tie.Need-same-length-2 Inv-loop μ-loop
+same-length-2 c = search needs
+
+same-length-3 : tie.Need-same-length-3 Inv-loop μ-loop
+same-length-3 c = search needs
+
+same-length-4 : tie.Need-same-length-4 Inv-loop μ-loop
+same-length-4 c = search needs
+
+returns : tie.Need-returns Inv-loop μ-loop
+returns c =
+    let l = c .before in
+    let full : l .loop .i ≡ l .before .before .before .before .before .before .args .n = omega arith in
+    (l .loop .inv .5 ∙ rw full, l .loop .inv .6 ∙ rw full, l .loop .inv .7 ∙ rw full, l .loop .inv .8 ∙ rw full)
+
+pub weigh-four-spec : {M : Type 1} → statement M
+weigh-four-spec =
+    tie.close
+    (tie.spec
+    Inv-loop
+    μ-loop
+    loop-holds
+    weight-at-requires
+    mul-first
+    slice-write-first
+    add-weight-at
+    weight-at-requires-2
+    mul-second
+    slice-write-second
+    add-weight-at-2
+    weight-at-requires-3
+    mul-third
+    slice-write-third
+    add-weight-at-3
+    weight-at-requires-4
+    mul-fourth
+    slice-write-fourth
+    add-i
+    loop-less
+    loop-again
+    same-length
+    same-length-2
+    same-length-3
+    same-length-4
+    returns)

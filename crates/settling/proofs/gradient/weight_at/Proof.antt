@@ -1,0 +1,25 @@
+-- `weight_at` meets its contract. Assumes nothing.
+use Prim.Native.Nat.{_*_, _≤_}
+use native.Mathlib.Nat.{mul-le-mul}
+use native.Mathlib.Omega.{arith}
+use borrow.Author.Needs.{needs}
+use Rattle.settling.proofs.gradient.weight_at.Statement.{statement}
+use Rattle.settling.proofs.gradient.weight_at.Tie as tie
+
+mul-entry : tie.Need-mul-entry
+mul-entry c = let p : c .before .args .step * c .before .args .i ≤ 2562 * 2562 = mul-le-mul (c .before .pre .1) (c .before .pre .2) in omega (arith, p)
+
+add-entry : tie.Need-add-entry
+add-entry c = let p : c .before .args .step * c .before .args .i ≤ 2562 * 2562 = mul-le-mul (c .before .pre .1) (c .before .pre .2) in omega (arith, p)
+
+entry-requires : tie.Need-entry-requires
+entry-requires c κs = search needs
+
+weight-requires : tie.Need-weight-requires
+weight-requires c κs = search needs
+
+returns : tie.Need-returns
+returns c = rw (c .weight .ensures, c .before .entry .ensures)
+
+pub weight-at-spec : {M : Type 1} → statement M
+weight-at-spec = tie.close (tie.spec mul-entry add-entry entry-requires weight-requires returns)
