@@ -30,6 +30,14 @@ fn steeper(x: f64, y: f64, angle: f64, g: f64) -> f64
     g
 }
 
+// The weight at place i of a line.
+fn weight_at(beta: f64, energies: &[f64], from: usize, step: usize, i: usize) -> f64
+    requires { ⌜ (from ≤ 6563844) × (step ≤ 2562) × (i ≤ 2562) ⌝ }
+    ensures { λ r. ⌜ r ≡ weight beta (getD (now (energies .entry)) (from + step * i) nan) ⌝ }
+{
+    weight(beta, mesh::entry(energies, from + step * i))
+}
+
 // The weights of a line.
 fn weigh(beta: f64, energies: &[f64], from: usize, step: usize, n: usize, weights: &mut [f64])
     requires { ⌜ (n ≤ length (now weights)) × (n ≤ 2562) × (step ≤ 2562) × (from ≤ 6563844) ⌝ }
@@ -37,17 +45,9 @@ fn weigh(beta: f64, energies: &[f64], from: usize, step: usize, n: usize, weight
 {
     let mut i = 0;
     while i < n {
-        weights[i] = weight(beta, mesh::entry(energies, from + step * i));
+        weights[i] = weight_at(beta, energies, from, step, i);
         i += 1;
     }
-}
-
-// The weight at place i of a line.
-fn weight_at(beta: f64, energies: &[f64], from: usize, step: usize, i: usize) -> f64
-    requires { ⌜ (from ≤ 6563844) × (step ≤ 2562) × (i ≤ 2562) ⌝ }
-    ensures { λ r. ⌜ r ≡ weight beta (getD (now (energies .entry)) (from + step * i) nan) ⌝ }
-{
-    weight(beta, mesh::entry(energies, from + step * i))
 }
 
 // The weights of four lines that begin side by side, so that what is read for one serves the others.

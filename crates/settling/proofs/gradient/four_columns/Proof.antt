@@ -1,5 +1,4 @@
 -- `four_columns` meets its contract. Assumes nothing.
-use mathlib.Core.Path.{_≡_}
 use Prim.Native.Nat.{_+_}
 use Rattle.settling.specs.Steps.{lineWeights, columnGradient, fourColumns}
 use Rattle.settling.proofs.Lines.{length-line, head-part}

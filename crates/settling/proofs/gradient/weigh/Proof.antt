@@ -1,7 +1,6 @@
 -- `weigh` meets its contract. Assumes nothing.
 use mathlib.Core.Path.{_≡_, refl, sym, _∙_}
-use Prim.Native.Nat.{_*_, _-_, _≤_}
-use native.Mathlib.Nat.{mul-le-mul}
+use Prim.Native.Nat.{_-_, _≤_}
 use native.Mathlib.Omega.{arith}
 use lib.ListN.{length, length-set}
 use borrow.Author.Needs.{needs}
@@ -18,28 +17,12 @@ Inv-loop beta energies from step n weights₀ i₀ weights i = (i ≤ n) × (len
 abbrev μ-loop : tie.MeasureT-loop
 μ-loop beta energies from step n weights₀ i₀ weights i = n - i
 
--- the place of an entry is small
-place : (c : tie.In-loop Inv-loop μ-loop) → c .before .before .before .before .args .step * c .before .loop .i ≤ 2562 * 2562
-place c =
-    let a = c .before .before .before .before in
-    let i : c .before .loop .i ≤ 2562 = omega arith in
-    mul-le-mul (a .pre .2) i
-
 loop-holds : tie.Need-loop-holds Inv-loop μ-loop
 unfolding lineWeights
 loop-holds c = (search needs, refl, sym (put-nil (c .before .before .args .weights .now) 0))
 
-mul-entry : tie.Need-mul-entry Inv-loop μ-loop
-mul-entry c = omega (arith, place c)
-
-add-entry : tie.Need-add-entry Inv-loop μ-loop
-add-entry c = omega (arith, place c)
-
-entry-requires : tie.Need-entry-requires Inv-loop μ-loop
-entry-requires c κs = search needs
-
-weight-requires : tie.Need-weight-requires Inv-loop μ-loop
-weight-requires c κs = search needs
+weight-at-requires : tie.Need-weight-at-requires Inv-loop μ-loop
+weight-at-requires c κs = (search needs, search needs, omega arith)
 
 mul-weights : tie.Need-mul-weights Inv-loop μ-loop
 mul-weights c = omega arith
@@ -55,11 +38,11 @@ loop-less c = omega arith
 
 loop-again : tie.Need-loop-again Inv-loop μ-loop
 loop-again c =
-    let l = c .before .before .before in
+    let l = c .before .before in
     let a = l .before .before .before .args in (
       omega arith,
       simp length-set (l .loop .inv .1),
-      rw (c .weight .ensures, c .before .entry .ensures) (weigh-turn (a .beta) (a .energies .now) (a .from) (a .step) (a .weights .now) (l .loop .weights) (l .loop .i) (l .loop .inv .2) (omega arith)),
+      rw (c .weight-at .ensures) (weigh-turn (a .beta) (a .energies .now) (a .from) (a .step) (a .weights .now) (l .loop .weights) (l .loop .i) (l .loop .inv .2) (omega arith)),
     )
 
 same-length : tie.Need-same-length Inv-loop μ-loop
@@ -78,10 +61,7 @@ weigh-spec =
     Inv-loop
     μ-loop
     loop-holds
-    mul-entry
-    add-entry
-    entry-requires
-    weight-requires
+    weight-at-requires
     mul-weights
     slice-write-weights
     add-i

@@ -1,5 +1,4 @@
 -- `weight_at` meets its contract. Assumes nothing.
-use Prim.Native.Nat.{_*_, _≤_}
 use native.Mathlib.Nat.{mul-le-mul}
 use native.Mathlib.Omega.{arith}
 use borrow.Author.Needs.{needs}
@@ -7,10 +6,10 @@ use Rattle.settling.proofs.gradient.weight_at.Statement.{statement}
 use Rattle.settling.proofs.gradient.weight_at.Tie as tie
 
 mul-entry : tie.Need-mul-entry
-mul-entry c = let p : c .before .args .step * c .before .args .i ≤ 2562 * 2562 = mul-le-mul (c .before .pre .1) (c .before .pre .2) in omega (arith, p)
+mul-entry c = omega (arith, mul-le-mul (c .before .pre .1) (c .before .pre .2))
 
 add-entry : tie.Need-add-entry
-add-entry c = let p : c .before .args .step * c .before .args .i ≤ 2562 * 2562 = mul-le-mul (c .before .pre .1) (c .before .pre .2) in omega (arith, p)
+add-entry c = omega (arith, mul-le-mul (c .before .pre .1) (c .before .pre .2))
 
 entry-requires : tie.Need-entry-requires
 entry-requires c κs = search needs
