@@ -1,4 +1,5 @@
 // The caller of a list of calls: the lent lists, the builder as the calls left it, and the Rust's builder. Every call is made here, and its line written.
+use crate::lines::{bits, Fixed};
 use crate::oracle::{AdaptiveBuilder, MeshLevel, SlabResolution};
 use crate::refusals::{self, vertices_below, vertices_of, Held, Lists, Settings};
 use std::collections::BTreeMap;
@@ -7,14 +8,6 @@ const LINE: usize = 574;
 pub const PRIME: u64 = 2_147_483_647;
 // a place that no energy has
 pub const NOWHERE: usize = 0xffff;
-
-pub fn bits(x: f64) -> u64 {
-    if x.is_nan() {
-        0x7ff8 << 48
-    } else {
-        x.to_bits()
-    }
-}
 
 #[derive(Clone, Copy)]
 pub struct Rule {
@@ -44,22 +37,9 @@ impl Rule {
     }
 }
 
-struct Line([u8; LINE]);
+type Line = Fixed<LINE>;
 
-impl Line {
-    fn new(what: u64) -> Line {
-        let mut line = Line([b' '; LINE]);
-        line.0[LINE - 1] = b'\n';
-        line.put(0, 2, what);
-        line
-    }
-
-    fn put(&mut self, at: usize, width: usize, n: u64) {
-        let text = format!("{n:0width$X}");
-        assert_eq!(text.len(), width);
-        self.0[at..at + width].copy_from_slice(text.as_bytes());
-    }
-
+impl Fixed<LINE> {
     fn builder(&mut self, b: &Held) {
         let s = b.settings;
         let floats = [s.rmin, s.rmax, s.dr, s.omega_step, s.threshold, s.beta];

@@ -1,6 +1,7 @@
 // Writes the lists of calls that the program `calls` replays, with the answers, gradients, levels and rows that the Rust gives; a refused call's number is document 01's (refusals.rs). The
 // first argument names the file, and what the program writes where all agrees goes to the second. Prints which cases occur, and fails where one is missing. A third argument, a number, gives
 // other lists of the same kinds.
+mod lines;
 #[allow(dead_code)]
 mod meshes;
 mod refusals;
@@ -14,7 +15,8 @@ use meshes::{icosphere, Mesh, Random};
 use oracle::SlabResolution;
 use refusals::{dihedral_count, distance_count, vertices_below, vertices_of, Held, Settings};
 use std::f64::consts::TAU;
-use caller::{bits, Rule, Caller, NOWHERE, PRIME};
+use caller::{Rule, Caller, NOWHERE, PRIME};
+use lines::bits;
 
 const HEAD: &[&str] = &[
     "Lists of calls of fresh, set and settle, 574 letters a line; numbers in hexadecimal, floats by their bits. A line that starts so is passed over.",

@@ -1,26 +1,21 @@
 // Writes the blocks that the program `searches` replays: meshes of levels 0 and 1, the lists and answers that the Rust gives for them, and
 // 200 directions each. Numbers are in upper-case hexadecimal of fixed widths, one letter apart; every NaN has one pattern.
 #[allow(dead_code)]
+mod lines;
+#[allow(dead_code)]
 mod meshes;
 #[allow(dead_code, clippy::all)]
 mod oracle {
     include!(concat!(env!("COMPARE"), "/oracle.rs"));
 }
 
+use lines::bits;
 use meshes::{icosphere, scaled, sevens, without_faces, Mesh, Random};
 use oracle::{FaceGrid, Vector3};
 
 const DIRECTIONS: usize = 200;
 // what the lists hold before the call
 const CANARY: u64 = 0xabab_abab;
-
-fn bits(x: f64) -> u64 {
-    if x.is_nan() {
-        0x7ff8 << 48
-    } else {
-        x.to_bits()
-    }
-}
 
 // A list in `count` places of a width, `across` to a line; what is beyond the list is filled up.
 fn put(list: &[u64], width: usize, count: usize, filler: u64, across: usize, out: &mut String) {

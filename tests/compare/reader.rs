@@ -1,5 +1,6 @@
 // The reader of tables: the lent lists, the table that is held, and the Rust's table. Every line of the input is written here; a reading's line has the Rust's energy where nothing was damaged or
 // made by a host, and that of document 01's text (reading.rs) where something was.
+use crate::lines::{bits, Fixed};
 use crate::meshes::Mesh;
 use crate::oracle::{FaceGrid, Vector3};
 use crate::reading::{cell_offsets_below, reading, vertices_below, Answer, Lent, Query, Table};
@@ -10,30 +11,9 @@ const LINE: usize = 192;
 const MESHES: usize = 24 * LINE;
 pub const FILE: usize = 16384;
 
-pub fn bits(x: f64) -> u64 {
-    if x.is_nan() {
-        0x7ff8 << 48
-    } else {
-        x.to_bits()
-    }
-}
+type Line = Fixed<LINE>;
 
-struct Line([u8; LINE]);
-
-impl Line {
-    fn new(what: u64) -> Line {
-        let mut line = Line([b' '; LINE]);
-        line.0[LINE - 1] = b'\n';
-        line.put(0, 2, what);
-        line
-    }
-
-    fn put(&mut self, at: usize, width: usize, n: u64) {
-        let text = format!("{n:0width$X}");
-        assert_eq!(text.len(), width);
-        self.0[at..at + width].copy_from_slice(text.as_bytes());
-    }
-
+impl Fixed<LINE> {
     fn words(&mut self, words: [u64; 8]) {
         for (k, n) in words.into_iter().enumerate() {
             self.put(56 + 17 * k, 16, n);

@@ -1,6 +1,7 @@
 // Writes the readings that the program `readings` replays: tables that the Rust's `build` packs, with what its `lookup` answers; then damaged files, meshes and locators, and tables made by a host, with the
 // answers of document 01's text (reading.rs). The first argument names the file, and what the program writes where all agrees goes to the second. Prints which cases occur, and fails where one is missing.
 // A third argument, a number, gives other readings of the same kinds.
+mod lines;
 #[allow(dead_code)]
 mod meshes;
 #[allow(dead_code, clippy::all)]
@@ -273,7 +274,7 @@ fn damaged_list(reader: &Reader, random: &mut Random) -> (usize, usize, u64) {
     let at = random.below(reader.lists.0[list].len());
     let now = reader.lists.0[list][at];
     let n = match list {
-        1 => reader::bits(odd_float(random)),
+        1 => lines::bits(odd_float(random)),
         2 | 4 => [now.saturating_sub(1), now + 1, 0, 0xffff_ffff, 0x8000_0000, 0x5555_5556, now + 40][random.below(7)],
         _ => [12, 41, 42, 65535, random.below(12) as u64][random.below(5)],
     };
@@ -373,7 +374,7 @@ fn damages(reader: &mut Reader, random: &mut Random, meshes: [&Mesh; 2], most: u
             d.entries.push(damaged_list(reader, random));
         }
         let (sound, a) = (reader.answer(&reader.undamaged(), &q), reader.answer(&d, &q));
-        let altered = sound.number != a.number || reader::bits(sound.energy) != reader::bits(a.energy);
+        let altered = sound.number != a.number || lines::bits(sound.energy) != lines::bits(a.energy);
         let n = seen.entry((what, a.words)).or_default();
         // a damage that shows is worth more than one that does not
         if *n < if altered || a.number > 0 { most } else { 1 } {
@@ -487,13 +488,8 @@ fn empty_cells(reader: &mut Reader, random: &mut Random, meshes: [&Mesh; 2]) {
     }
 }
 
-// Cases that the readings are to have.
-const NEEDED: &[&str] = &[
-    "18 r is a NaN",
-    "18 omega is not finite",
-    "18 the length of the first direction",
-    "18 the length of the second direction",
-    "20 an empty cell",
+// Cases that the readings are to have: of both kinds, of those that nothing was done to, and of damaged ones.
+const ANSWERED: &[&str] = &[
     " 0 below rmin",
     " 0 above rmax",
     " 0 Scalar",
@@ -501,13 +497,14 @@ const NEEDED: &[&str] = &[
     " 0 nearest",
     " 0 interpolated",
 ];
+const NEEDED: &[&str] = &[
+    "18 r is a NaN",
+    "18 omega is not finite",
+    "18 the length of the first direction",
+    "18 the length of the second direction",
+    "20 an empty cell",
+];
 const NEEDED_DAMAGED: &[&str] = &[
-    " 0 below rmin",
-    " 0 above rmax",
-    " 0 Scalar",
-    " 0 Repulsive",
-    " 0 nearest",
-    " 0 interpolated",
     "19 no bins",
     "19 a row beyond the count",
     "19 a row beyond the file",
@@ -576,10 +573,10 @@ fn main() {
     for (words, n) in &reader.cases {
         println!("{n:5} {words}");
     }
-    for words in NEEDED {
+    for words in ANSWERED.iter().chain(NEEDED) {
         assert!(seed != 0 || reader.cases.contains_key(*words), "no reading has this case: {words}");
     }
-    for words in NEEDED_DAMAGED {
+    for words in ANSWERED.iter().chain(NEEDED_DAMAGED) {
         let words = format!("{words}, damaged or by a host");
         assert!(seed != 0 || reader.cases.contains_key(&words), "no reading has this case: {words}");
     }

@@ -1,0 +1,27 @@
+// The lines that data files for the programs of the gate are made of: a fixed number of letters, with numbers in upper-case hexadecimal at fixed places.
+pub struct Fixed<const N: usize>(pub [u8; N]);
+
+// The bits of a float; every NaN has one pattern.
+pub fn bits(x: f64) -> u64 {
+    if x.is_nan() {
+        0x7ff8 << 48
+    } else {
+        x.to_bits()
+    }
+}
+
+impl<const N: usize> Fixed<N> {
+    // Blank but for what it is.
+    pub fn new(what: u64) -> Self {
+        let mut line = Fixed([b' '; N]);
+        line.0[N - 1] = b'\n';
+        line.put(0, 2, what);
+        line
+    }
+
+    pub fn put(&mut self, at: usize, width: usize, n: u64) {
+        let text = format!("{n:0width$X}");
+        assert_eq!(text.len(), width);
+        self.0[at..at + width].copy_from_slice(text.as_bytes());
+    }
+}
