@@ -5,10 +5,10 @@ use crate::words::float;
 use crate::words::more;
 use crate::words::word;
 
-pub(crate) fn fill_vertices(text: &[u8], at: usize, out: &mut [f64; 126]) {
+pub(crate) fn fill_vertices(text: &[u8], at: usize, out: &mut [f64; 486]) {
     let mut p = at;
     let mut i = 0;
-    while i < 126 {
+    while i < 486 {
         out[i] = float(text, p);
         p = more(p, 17);
         i += 1;
@@ -19,10 +19,10 @@ fn short(n: u64) -> u16 {
     (n % 65536) as u16
 }
 
-pub(crate) fn fill_neighbours(text: &[u8], at: usize, out: &mut [u16; 252]) {
+pub(crate) fn fill_neighbours(text: &[u8], at: usize, out: &mut [u16; 972]) {
     let mut p = at;
     let mut i = 0;
-    while i < 252 {
+    while i < 972 {
         out[i] = short(word(text, p, 4));
         p = more(p, 5);
         i += 1;
@@ -33,10 +33,10 @@ fn byte(n: u64) -> u8 {
     (n % 256) as u8
 }
 
-pub(crate) fn fill_counts(text: &[u8], at: usize, out: &mut [u8; 42]) {
+pub(crate) fn fill_counts(text: &[u8], at: usize, out: &mut [u8; 162]) {
     let mut p = at;
     let mut i = 0;
-    while i < 42 {
+    while i < 162 {
         out[i] = byte(word(text, p, 2));
         p = more(p, 3);
         i += 1;

@@ -1,6 +1,6 @@
 // Compares the locator call and the search with the Rust's answers, which its standard input holds, and writes how many agree. A mesh is a
-// block of 64,142 letters: its level; vertices, neighbour counts and neighbours; the locator call's answer and its four lists; then 200
-// directions, a line each. Every list has the length that level 1 needs, and a call at level 0 leaves what is beyond its own.
+// block of 98,184 letters: its level; vertices, neighbour counts and neighbours; the locator call's answer and its four lists; then 100
+// directions, a line each. Every list has the length that level 3 needs, and a call at a level below leaves what is beyond its own.
 use libc::STDIN_FILENO;
 use search::Vector3;
 
@@ -14,28 +14,26 @@ use words::float;
 use words::more;
 use words::word;
 
-const BLOCK: usize = 64142;
-
 // Where each part of a block begins.
 const VERTICES: usize = 17;
 
-const COUNTS: usize = 2159;
+const COUNTS: usize = 8279;
 
-const NEIGHBOURS: usize = 2285;
+const NEIGHBOURS: usize = 8765;
 
-const NUMBER: usize = 3545;
+const NUMBER: usize = 13625;
 
-const CELL_OFFSETS: usize = 3562;
+const CELL_OFFSETS: usize = 13642;
 
-const CELL_VERTICES: usize = 4435;
+const CELL_VERTICES: usize = 16297;
 
-const FACE_OFFSETS: usize = 10105;
+const FACE_OFFSETS: usize = 38167;
 
-const FACES: usize = 10492;
+const FACES: usize = 39634;
 
-const FIRST: usize = 19942;
+const FIRST: usize = 76084;
 
-const DIRECTIONS: usize = 200;
+const DIRECTIONS: usize = 100;
 
 // A line of a direction: its coordinates; number, vertex and distance; number, face and weights.
 const LINE: usize = 221;
@@ -118,11 +116,11 @@ fn judge_direction(
     text: &[u8],
     at: usize,
     level: u8,
-    cell_offsets: &[u32; 97],
-    cell_vertices: &[u16; 1134],
-    face_offsets: &[u32; 43],
-    faces: &[u16; 1890],
-    vertices: &[f64; 126],
+    cell_offsets: &[u32; 295],
+    cell_vertices: &[u16; 4374],
+    face_offsets: &[u32; 163],
+    faces: &[u16; 7290],
+    vertices: &[f64; 486],
     t: Tally,
 ) -> Tally {
     let a = nearest_agrees(text, at, level, cell_offsets, cell_vertices, vertices);
@@ -143,11 +141,11 @@ fn judge_direction(
 fn judge_directions(
     text: &[u8],
     level: u8,
-    cell_offsets: &[u32; 97],
-    cell_vertices: &[u16; 1134],
-    face_offsets: &[u32; 43],
-    faces: &[u16; 1890],
-    vertices: &[f64; 126],
+    cell_offsets: &[u32; 295],
+    cell_vertices: &[u16; 4374],
+    face_offsets: &[u32; 163],
+    faces: &[u16; 7290],
+    vertices: &[f64; 486],
     before: Tally,
 ) -> Tally {
     let mut t = before;
@@ -174,15 +172,15 @@ fn judge_directions(
 // The locator call, with angles that keep the mesh rule.
 fn call(
     level: u64,
-    vertices: &[f64; 126],
-    counts: &[u8; 42],
-    neighbours: &[u16; 252],
-    cell_offsets: &mut [u32; 97],
-    cell_vertices: &mut [u16; 1134],
-    face_offsets: &mut [u32; 43],
-    faces: &mut [u16; 1890],
+    vertices: &[f64; 486],
+    counts: &[u8; 162],
+    neighbours: &[u16; 972],
+    cell_offsets: &mut [u32; 295],
+    cell_vertices: &mut [u16; 4374],
+    face_offsets: &mut [u32; 163],
+    faces: &mut [u16; 7290],
 ) -> u64 {
-    let angles: [f64; 252] = [1.0; 252];
+    let angles: [f64; 972] = [1.0; 972];
     locator::locator(
         level,
         vertices,
@@ -199,10 +197,10 @@ fn call(
 // The entries of the four lists.
 fn entries(
     text: &[u8],
-    cell_offsets: &[u32; 97],
-    cell_vertices: &[u16; 1134],
-    face_offsets: &[u32; 43],
-    faces: &[u16; 1890],
+    cell_offsets: &[u32; 295],
+    cell_vertices: &[u16; 4374],
+    face_offsets: &[u32; 163],
+    faces: &[u16; 7290],
 ) -> Count {
     let a = lists::agree32(text, CELL_OFFSETS, cell_offsets);
     let b = lists::agree16(text, CELL_VERTICES, cell_vertices);
@@ -214,16 +212,16 @@ fn entries(
 // A block. The lists are lent as arrays, whose lengths need no proof.
 fn judge_mesh(text: &[u8], before: Tally) -> Tally {
     let level = word(text, 0, 16);
-    let mut vertices: [f64; 126] = [0.0; 126];
+    let mut vertices: [f64; 486] = [0.0; 486];
     lists::fill_vertices(text, VERTICES, &mut vertices);
-    let mut counts: [u8; 42] = [0; 42];
+    let mut counts: [u8; 162] = [0; 162];
     lists::fill_counts(text, COUNTS, &mut counts);
-    let mut neighbours: [u16; 252] = [0; 252];
+    let mut neighbours: [u16; 972] = [0; 972];
     lists::fill_neighbours(text, NEIGHBOURS, &mut neighbours);
-    let mut cell_offsets: [u32; 97] = [0xABAB_ABAB; 97];
-    let mut cell_vertices: [u16; 1134] = [0xABAB; 1134];
-    let mut face_offsets: [u32; 43] = [0xABAB_ABAB; 43];
-    let mut faces: [u16; 1890] = [0xABAB; 1890];
+    let mut cell_offsets: [u32; 295] = [0xABAB_ABAB; 295];
+    let mut cell_vertices: [u16; 4374] = [0xABAB; 4374];
+    let mut face_offsets: [u32; 163] = [0xABAB_ABAB; 163];
+    let mut faces: [u16; 7290] = [0xABAB; 7290];
     let number = call(
         level,
         &vertices,
@@ -265,6 +263,6 @@ fn judge_input(piece: &mut [u8]) -> Tally {
 }
 
 fn main() {
-    let mut piece = io::large_buffer();
-    tally::report(judge_input(&mut piece[..BLOCK]));
+    let mut piece: [u8; 98184] = [0; 98184];
+    tally::report(judge_input(&mut piece));
 }

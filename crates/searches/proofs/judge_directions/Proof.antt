@@ -5,7 +5,7 @@ use Rattle.searches.proofs.judge_directions.Statement.{statement}
 use Rattle.searches.proofs.judge_directions.Tie as tie
 
 abbrev Inv-loop : tie.InvT-loop
-Inv-loop text level cell-offsets cell-vertices face-offsets faces vertices t₀ at₀ left₀ t at left = left ≤ 200
+Inv-loop text level cell-offsets cell-vertices face-offsets faces vertices t₀ at₀ left₀ t at left = left ≤ 100
 
 abbrev μ-loop : tie.MeasureT-loop
 μ-loop text level cell-offsets cell-vertices face-offsets faces vertices t₀ at₀ left₀ t at left = left

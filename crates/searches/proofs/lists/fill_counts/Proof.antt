@@ -5,10 +5,10 @@ use Rattle.searches.proofs.lists.fill_counts.Statement.{statement}
 use Rattle.searches.proofs.lists.fill_counts.Tie as tie
 
 abbrev Inv-loop : tie.InvT-loop
-Inv-loop text at out₀ p₀ i₀ out p i = i ≤ 42
+Inv-loop text at out₀ p₀ i₀ out p i = i ≤ 162
 
 abbrev μ-loop : tie.MeasureT-loop
-μ-loop text at out₀ p₀ i₀ out p i = 42 - i
+μ-loop text at out₀ p₀ i₀ out p i = 162 - i
 
 loop-holds : tie.Need-loop-holds Inv-loop μ-loop
 loop-holds c = search needs

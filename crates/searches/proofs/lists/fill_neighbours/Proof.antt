@@ -5,10 +5,10 @@ use Rattle.searches.proofs.lists.fill_neighbours.Statement.{statement}
 use Rattle.searches.proofs.lists.fill_neighbours.Tie as tie
 
 abbrev Inv-loop : tie.InvT-loop
-Inv-loop text at out₀ p₀ i₀ out p i = i ≤ 252
+Inv-loop text at out₀ p₀ i₀ out p i = i ≤ 972
 
 abbrev μ-loop : tie.MeasureT-loop
-μ-loop text at out₀ p₀ i₀ out p i = 252 - i
+μ-loop text at out₀ p₀ i₀ out p i = 972 - i
 
 loop-holds : tie.Need-loop-holds Inv-loop μ-loop
 loop-holds c = search needs
