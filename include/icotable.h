@@ -4,7 +4,7 @@
  * Nothing checks these declarations against the library's source: they are written by hand and tried by hosts/c.
  *
  * Answers. Every function returns a number, or a struct whose first field is `number`: 0 where the call was accepted,
- * else the number of the first question that was answered no (see below). A refused call changes nothing. All other
+ * else the number of the first question that was answered no. A refused call changes nothing. All other
  * fields of a refused answer are 0, except that a refused set or settle hands the builder back as it came, so that
  * `b = icotable_set(b, ..).builder` never loses it.
  *
@@ -20,36 +20,55 @@
  * takes one level's parts; set takes no mesh. locator needs, with g = max(2, ceiling(sqrt(n/6)*1.2)): 6*g*g+1
  * cell_offsets, 27n cell_vertices, n+1 face_offsets and 45n faces.
  *
- * Numbers.
- *    1  rmin is not finite, rmax not above it, dr, omega_step or beta not finite and above 0, or threshold not finite or below 0
- *    2  the top level is above 15, or the current level above the top
- *    3  a bin count is not from 1 to 65535, or in a builder not the one that its settings give
- *    4  the distance count does not come out the same with the table's own rmax
- *    5  slabs times n*n of the top level is above 4294967295
- *    6  a list is shorter than needed
- *    7  a mesh does not keep the mesh rule: finite vertices; 5 or 6 distinct neighbours each, other vertices of the level that
- *       list it in turn; angles finite and not below 0
- *    8  a bin number is not below its count
- *    9  there are not exactly n*n energies, n of the current level
- *   10  an energy is a NaN
- *   11  a slab of the slice holds energies of another level than the current one
- *   12  the output is shorter than the file
- *   13  the file's sections do not follow their counts, or do not end with its last byte
- *   14  the file's grid, bin counts, level count, row count or vertex counts are not those of a table
- *   15  a row has an unknown kind, a Mesh row a level above the top; or, in a file, an unused field that is used, or a
- *       scalar NaN other than 0x7FC00000
- *   16  the rows' offsets do not tile the energies in row order
- *   17  an energy of the file is a NaN
- *   18  r is a NaN, omega not finite, or the length of a direction not finite or 0
- *   19  a bin count is 0, a row's kind is unknown or its level not held, or a row, energy, cell or mesh entry that the reading
- *       touches is not inside what was lent, an end offset is below its start, or a vertex number not below n
- *   20  the cell that a direction falls into lists no vertex
+ * Numbers. ICOTABLE_REFUSALS below has each one in words, and docs/REFUSALS.md an example of each.
  */
 #ifndef ICOTABLE_H
 #define ICOTABLE_H
 
 #include <stddef.h>
 #include <stdint.h>
+
+/* Every number that a call can be refused with: the question that was answered no, its name and its words. */
+#define ICOTABLE_REFUSALS(X) \
+    X(1, SETTINGS, "rmin is not finite, rmax not above it, dr, omega_step or beta not finite and above 0, or threshold not finite or below 0") \
+    X(2, LEVEL, "the top level is above 15, or the current level above the top") \
+    X(3, BIN_COUNT, "a bin count is not from 1 to 65535, or in a builder not the one that its settings give") \
+    X(4, OWN_COUNT, "the distance count does not come out the same with the table's own rmax") \
+    X(5, TOO_MANY_ENERGIES, "slabs times n*n of the top level is above 4294967295") \
+    X(6, SHORT_LIST, "a list is shorter than needed") \
+    X(7, MESH, "a mesh does not keep the mesh rule: finite vertices; 5 or 6 distinct neighbours each, other vertices of the level that list it in turn; angles finite and not below 0") \
+    X(8, BIN, "a bin number is not below its count") \
+    X(9, ENERGY_COUNT, "there are not exactly n*n energies, n of the current level") \
+    X(10, NAN_ENERGY, "an energy is a NaN") \
+    X(11, OTHER_LEVEL, "a slab of the slice holds energies of another level than the current one") \
+    X(12, SHORT_OUTPUT, "the output is shorter than the file") \
+    X(13, SECTIONS, "the file's sections do not follow their counts, or do not end with its last byte") \
+    X(14, FILE_GRID, "the file's grid, bin counts, level count, row count or vertex counts are not those of a table") \
+    X(15, ROW, "a row has an unknown kind, a Mesh row a level above the top; or, in a file, an unused field that is used, or a scalar NaN other than 0x7FC00000") \
+    X(16, TILING, "the rows' offsets do not tile the energies in row order") \
+    X(17, FILE_NAN, "an energy of the file is a NaN") \
+    X(18, QUERY, "r is a NaN, omega not finite, or the length of a direction not finite or 0") \
+    X(19, NOT_LENT, "a bin count is 0, a row's kind is unknown or its level not held, or a row, energy, cell or mesh entry that the reading touches is not inside what was lent, an end offset is below its start, or a vertex number not below n") \
+    X(20, EMPTY_CELL, "the cell that a direction falls into lists no vertex")
+
+#define ICOTABLE_REFUSAL_(number, name, words) ICOTABLE_##name = number,
+enum icotable_refusal { ICOTABLE_REFUSALS(ICOTABLE_REFUSAL_) ICOTABLE_ACCEPTED = 0 };
+#undef ICOTABLE_REFUSAL_
+
+/* A number in words. */
+static inline const char *icotable_words(uint64_t number) {
+    switch (number) {
+    case ICOTABLE_ACCEPTED:
+        return "accepted";
+#define ICOTABLE_REFUSAL_(number, name, words) \
+    case number: \
+        return words;
+        ICOTABLE_REFUSALS(ICOTABLE_REFUSAL_)
+#undef ICOTABLE_REFUSAL_
+    default:
+        return "not a number of this library";
+    }
+}
 
 #ifdef __cplusplus
 extern "C" {

@@ -1,0 +1,228 @@
+/* The demonstration: builds the table of two small molecules from their energies, slice by slice, writes it, reads it
+ * back and looks up energies. demo FILE writes the table there; the status is 1 where something is not as it should be. */
+#include "mesh.h"
+#include "molecules.h"
+
+#include <math.h>
+#include <stdio.h>
+#include <stdlib.h>
+#include <string.h>
+
+enum { TOP = 3, N_R = 32, N_OMEGA = 12, SLABS = N_R * N_OMEGA, LOOKUPS = 20000 };
+
+/* The distances go from contact to where the molecules hardly feel each other. */
+static const icotable_grid settings = {
+    .rmin = 1, .rmax = 25, .dr = 0.75, .omega_step = 0.5235987755982988, .threshold = 0.5, .beta = BETA,
+};
+
+/* What a host holds while it builds. */
+typedef struct work {
+    meshes meshes;
+    icotable_builder builder;
+    double *store, *energies;
+    size_t store_count, per;
+    pose *first, *second;
+    uint8_t kinds[SLABS], levels[SLABS];
+    uint32_t values[SLABS];
+} work;
+
+#define ROWS(w) (w)->kinds, SLABS, (w)->levels, SLABS, (w)->values, SLABS
+
+static void stop(const char *what, uint64_t number) {
+    fprintf(stderr, "demo: %s was refused with %llu: %s\n", what, (unsigned long long)number, icotable_words(number));
+    exit(1);
+}
+
+static void *memory(size_t count, size_t size) {
+    void *p = calloc(count, size);
+    if (p == NULL) {
+        fprintf(stderr, "demo: no memory\n");
+        exit(1);
+    }
+    return p;
+}
+
+static void start(work *w) {
+    uint64_t number = make_meshes(&w->meshes, TOP);
+    if (number != 0)
+        stop("a mesh", number);
+    size_t n = icotable_vertices(TOP);
+    w->per = n * n;
+    w->store_count = SLABS * w->per;
+    w->store = memory(w->store_count, sizeof *w->store);
+    w->energies = memory(w->per, sizeof *w->energies);
+    w->first = memory(n, sizeof *w->first);
+    w->second = memory(n, sizeof *w->second);
+    icotable_built b = icotable_fresh(settings, TOP, w->store, w->store_count, ROWS(w), MESHES(&w->meshes));
+    if (b.number != 0)
+        stop("fresh", b.number);
+    w->builder = b.builder;
+    printf("Meshes of levels 0 to %d, and a builder of %llu distances by %llu dihedral angles\n", TOP, (unsigned long long)b.builder.grid.n_r,
+           (unsigned long long)b.builder.grid.n_omega);
+}
+
+/* A slab's energies: the first molecule at each vertex of the current level, the second at each. */
+static void set_slab(work *w, uint64_t ri, uint64_t oi) {
+    size_t n = icotable_vertices(w->builder.level);
+    const double *v = level_vertices(&w->meshes, w->builder.level);
+    double r = settings.rmin + (double)ri * settings.dr, omega = (double)oi * settings.omega_step;
+    for (size_t i = 0; i < n; i++) {
+        w->first[i] = first_pose(v + 3 * i);
+        w->second[i] = second_pose(v + 3 * i, omega);
+    }
+    for (size_t i = 0; i < n; i++)
+        for (size_t j = 0; j < n; j++)
+            w->energies[i * n + j] = pair_energy(&w->first[i], &w->second[j], r);
+    icotable_built b = icotable_set(w->builder, w->store, w->store_count, ROWS(w), ri, oi, w->energies, n * n);
+    if (b.number != 0)
+        stop("set", b.number);
+    w->builder = b.builder;
+}
+
+static icotable_settled settle(work *w, uint64_t ri) {
+    return icotable_settle(w->builder, w->store, w->store_count, ROWS(w), MESHES(&w->meshes), ri);
+}
+
+/* A slice's rows, one letter a slab: # Repulsive, . Scalar, a digit for the level of a Mesh row. */
+static void show_slice(const work *w, uint64_t ri) {
+    for (int oi = 0; oi < N_OMEGA; oi++) {
+        size_t s = ri * N_OMEGA + (size_t)oi;
+        putchar(w->kinds[s] == 0 ? '.' : w->kinds[s] == 1 ? '#' : '0' + w->levels[s]);
+    }
+}
+
+/* Every slice, from contact outwards: its slabs are set, then it is settled, which may lower the level. */
+static void build(work *w) {
+    puts("\nslice  distance  level  largest gradient  slabs (# wall, . one number, digit: mesh of that level)");
+    for (uint64_t ri = 0; ri < N_R; ri++) {
+        uint64_t level = w->builder.level;
+        for (uint64_t oi = 0; oi < N_OMEGA; oi++)
+            set_slab(w, ri, oi);
+        icotable_settled s = settle(w, ri);
+        if (s.number != 0)
+            stop("settle", s.number);
+        w->builder = s.builder;
+        printf("%5llu  %8g  %5llu  %16.4g  ", (unsigned long long)ri, settings.rmin + (double)ri * settings.dr, (unsigned long long)level, s.gradient);
+        show_slice(w, ri);
+        puts(s.builder.level < level ? "  the level drops" : "");
+        fflush(stdout);
+    }
+}
+
+/* The file in memory; its length is asked for by a write to nothing, which is refused with 12, from a bound on it. */
+static uint8_t *written(work *w, size_t *length) {
+    size_t room = 52 + 4 * (TOP + 1) + 10 * SLABS + 4 * w->store_count;
+    uint8_t *file = memory(room, 1);
+    icotable_written f = icotable_write(w->builder, w->store, w->store_count, ROWS(w), MESHES(&w->meshes), file, room);
+    if (f.number != 0)
+        stop("write", f.number);
+    *length = f.length;
+    return file;
+}
+
+/* A slice that was settled at a level that has gone is settled again, as by a job that is restarted. */
+static int restarted(work *w, const uint8_t *file, size_t length) {
+    uint64_t ri = 0;
+    while (ri < N_R && (w->kinds[ri * N_OMEGA] < 2 || w->levels[ri * N_OMEGA] == w->builder.level))
+        ri++;
+    icotable_settled s = settle(w, ri);
+    size_t again;
+    uint8_t *after = written(w, &again);
+    int same = again == length && memcmp(file, after, length) == 0;
+    free(after);
+    printf("\nA restarted job settles slice %llu again: refused with %llu (%s); the table is %s\n", (unsigned long long)ri, (unsigned long long)s.number,
+           icotable_words(s.number), same ? "the same, byte for byte" : "ANOTHER ONE");
+    return s.number == ICOTABLE_OTHER_LEVEL && same;
+}
+
+static void save(const char *name, const uint8_t *file, size_t length) {
+    FILE *f = fopen(name, "wb");
+    if (f == NULL || fwrite(file, 1, length, f) != length || fclose(f) != 0) {
+        perror(name);
+        exit(1);
+    }
+    printf("\nWrote %s, %zu bytes\n", name, length);
+}
+
+static uint8_t *load(const char *name, size_t length) {
+    uint8_t *file = memory(length + 1, 1);
+    FILE *f = fopen(name, "rb");
+    if (f == NULL || fread(file, 1, length + 1, f) != length) {
+        fprintf(stderr, "demo: %s was not read back\n", name);
+        exit(1);
+    }
+    fclose(f);
+    return file;
+}
+
+/* Numbers from -1 to 1, the same in each run. */
+static double drawn(uint64_t *state) {
+    *state = *state * 6364136223846793005u + 1442695040888963407u;
+    return (double)(*state >> 11) / 4503599627370496.0 - 1;
+}
+
+static void direction(uint64_t *state, double v[3]) {
+    double squared;
+    do {
+        squared = 0;
+        for (int k = 0; k < 3; k++) {
+            v[k] = drawn(state);
+            squared += v[k] * v[k];
+        }
+    } while (squared > 1 || squared < 0.01);
+    for (int k = 0; k < 3; k++)
+        v[k] /= sqrt(squared);
+}
+
+/* What a simulation does: readings at any distance and orientation, here beside the energy worked out directly at the middle
+ * of the bins. */
+static int look_up(const work *w, const char *name, size_t length) {
+    uint8_t *file = load(name, length);
+    icotable_table t = icotable_read(file, length);
+    if (t.number != 0)
+        stop("read", t.number);
+    puts("\n distance  dihedral    direct energy     from the table  (kJ/mol)");
+    uint64_t state = 1;
+    int answered = 0, near = 0, refused = 0;
+    for (int i = 0; i < LOOKUPS; i++) {
+        double a[3], b[3];
+        uint64_t ri = (uint64_t)((drawn(&state) + 1) * 0.5 * N_R), oi = (uint64_t)((drawn(&state) + 1) * 0.5 * N_OMEGA);
+        double r = settings.rmin + (double)ri * settings.dr, omega = (double)oi * settings.omega_step;
+        direction(&state, a);
+        direction(&state, b);
+        icotable_value v = icotable_reading(t, file, length, LOCATORS(&w->meshes), r, omega, a[0], a[1], a[2], b[0], b[1], b[2]);
+        pose first = first_pose(a), second = second_pose(b, omega);
+        double direct = pair_energy(&first, &second, r);
+        refused += v.number != 0;
+        answered += v.number == 0;
+        near += v.number == 0 && fabs(exp(-BETA * v.energy) - exp(-BETA * direct)) < 0.25;
+        if (i % (LOOKUPS / 10) == 0)
+            printf("%9.3g  %8.4g  %15.5g  %17.5g\n", r, omega, direct, v.energy);
+    }
+    printf("%d readings, %d refused; the Boltzmann weight is within 0.25 of the direct one in %.1f %%\n", answered + refused, refused, 100.0 * near / LOOKUPS);
+    free(file);
+    return refused == 0 && near > LOOKUPS * 9 / 10;
+}
+
+int main(int count, char **names) {
+    if (count != 2) {
+        fprintf(stderr, "usage: demo FILE\n");
+        return 2;
+    }
+    work *w = memory(1, sizeof *w);
+    start(w);
+    build(w);
+    size_t length;
+    uint8_t *file = written(w, &length);
+    int safe = restarted(w, file, length);
+    save(names[1], file, length);
+    int good = look_up(w, names[1], length);
+    free(file);
+    free_meshes(&w->meshes);
+    free(w->store);
+    free(w->energies);
+    free(w->first);
+    free(w->second);
+    free(w);
+    return !(safe && good);
+}

@@ -1,0 +1,82 @@
+#include "molecules.h"
+
+#include <math.h>
+
+typedef struct site {
+    double at[3], charge, sigma;
+} site;
+
+/* an ampholyte: a positive head, a negative tail, two neutral sites between */
+static const site first[SITES] = {
+    {{0.0, 0.0, 2.6}, 1.0, 3.2},
+    {{0.9, 0.0, 0.8}, 0.0, 3.8},
+    {{-0.9, 0.4, -0.8}, 0.0, 3.8},
+    {{0.0, 0.3, -2.6}, -1.0, 3.2},
+};
+/* an anion with a polar end */
+static const site second[SITES] = {
+    {{0.0, 0.0, 2.0}, -1.0, 3.0},
+    {{0.6, 0.5, 0.4}, 0.0, 3.6},
+    {{-0.6, 0.4, -1.0}, 0.4, 3.4},
+    {{0.2, -0.7, -2.0}, -0.4, 3.2},
+};
+
+static const double EPSILON = 0.8;        /* of Lennard-Jones */
+static const double COULOMB = 17.7;       /* 1389.35 kJ angstrom / mol over water's 78.5 */
+static const double SCREENING = 1.0 / 9.6; /* Debye length at 0.1 mol/l */
+static const double NEAREST = 0.25;       /* squared; sites that are nearer count as this far, so that no energy is a NaN */
+
+/* Turns p so that the unit direction d comes to lie up the axis: around the axis first, then down the meridian. */
+static void up(const double d[3], const double p[3], double out[3]) {
+    double across = sqrt(d[0] * d[0] + d[1] * d[1]);
+    double c = across > 0 ? d[0] / across : 1, s = across > 0 ? d[1] / across : 0;
+    double x = c * p[0] + s * p[1], y = c * p[1] - s * p[0];
+    out[0] = d[2] * x - across * p[2];
+    out[1] = y;
+    out[2] = across * x + d[2] * p[2];
+}
+
+pose first_pose(const double a[3]) {
+    pose turned;
+    for (int k = 0; k < SITES; k++)
+        up(a, first[k].at, turned.at[k]);
+    return turned;
+}
+
+pose second_pose(const double b[3], double omega) {
+    pose turned;
+    double c = cos(omega), s = sin(omega);
+    for (int k = 0; k < SITES; k++) {
+        double p[3];
+        up(b, second[k].at, p);
+        /* half a turn around x brings up to down; then omega around the axis */
+        double y = -p[1];
+        turned.at[k][0] = c * p[0] - s * y;
+        turned.at[k][1] = s * p[0] + c * y;
+        turned.at[k][2] = -p[2];
+    }
+    return turned;
+}
+
+static double site_energy(const site *a, const site *b, double squared) {
+    double near = squared < NEAREST ? NEAREST : squared;
+    double sigma = 0.5 * (a->sigma + b->sigma);
+    double ratio = sigma * sigma / near, sixth = ratio * ratio * ratio;
+    double energy = 4 * EPSILON * (sixth * sixth - sixth);
+    double charges = a->charge * b->charge;
+    if (charges != 0) {
+        double distance = sqrt(near);
+        energy += COULOMB * charges * exp(-SCREENING * distance) / distance;
+    }
+    return energy;
+}
+
+double pair_energy(const pose *a, const pose *b, double r) {
+    double energy = 0;
+    for (int i = 0; i < SITES; i++)
+        for (int j = 0; j < SITES; j++) {
+            double x = b->at[j][0] - a->at[i][0], y = b->at[j][1] - a->at[i][1], z = b->at[j][2] + r - a->at[i][2];
+            energy += site_energy(&first[i], &second[j], x * x + y * y + z * z);
+        }
+    return energy;
+}

@@ -1,0 +1,110 @@
+#include "tools.h"
+
+#include <errno.h>
+#include <stdlib.h>
+#include <string.h>
+#include <sys/stat.h>
+
+static int trouble(const char *name, const char *why) {
+    fprintf(stderr, "icotable: %s: %s\n", name, why);
+    return TROUBLE;
+}
+
+static int read_whole(table_file *f, FILE *in) {
+    size_t room = 1 << 16;
+    for (;;) {
+        uint8_t *grown = realloc(f->bytes, room);
+        if (grown == NULL)
+            return trouble(f->name, "does not fit into memory");
+        f->bytes = grown;
+        f->count += fread(f->bytes + f->count, 1, room - f->count, in);
+        if (ferror(in))
+            return trouble(f->name, strerror(errno));
+        if (f->count < room)
+            return GOOD;
+        room *= 2;
+    }
+}
+
+int open_table(table_file *f, const char *name) {
+    *f = (table_file){.name = name};
+    struct stat what;
+    if (stat(name, &what) != 0)
+        return trouble(name, strerror(errno));
+    if (S_ISDIR(what.st_mode))
+        return trouble(name, "is a directory");
+    FILE *in = fopen(name, "rb");
+    if (in == NULL)
+        return trouble(name, strerror(errno));
+    int status = read_whole(f, in);
+    fclose(in);
+    if (status == GOOD)
+        f->table = icotable_read(f->bytes, f->count);
+    return status;
+}
+
+void close_table(table_file *f) {
+    free(f->bytes);
+    *f = (table_file){0};
+}
+
+uint32_t u32_of(const uint8_t *b) {
+    return (uint32_t)b[0] | (uint32_t)b[1] << 8 | (uint32_t)b[2] << 16 | (uint32_t)b[3] << 24;
+}
+
+double f64_of(const uint8_t *b) {
+    uint64_t bits = u32_of(b) | (uint64_t)u32_of(b + 4) << 32;
+    double x;
+    memcpy(&x, &bits, sizeof x);
+    return x;
+}
+
+float f32_of(uint32_t bits) {
+    float x;
+    memcpy(&x, &bits, sizeof x);
+    return x;
+}
+
+row row_of(const table_file *f, uint64_t slab) {
+    const uint8_t *b = f->bytes + f->table.start[3] + 10 * slab;
+    return (row){b[0], b[1], u32_of(b + 2), u32_of(b + 6)};
+}
+
+uint64_t per_row(const row *r) {
+    uint64_t n = icotable_vertices(r->level);
+    return r->kind < NEAREST ? 0 : n * n;
+}
+
+float energy_of(const table_file *f, const row *r, uint64_t i) {
+    return f32_of(u32_of(f->bytes + f->table.start[4] + 4 * (r->offset + i)));
+}
+
+/* As document 01 compares rows: kind, level, flag, scalar bits and each energy's bits. */
+bool same_row(const table_file *f, const table_file *g, uint64_t slab) {
+    row r = row_of(f, slab), s = row_of(g, slab);
+    if (r.kind != s.kind || r.level != s.level || r.scalar != s.scalar)
+        return false;
+    if (r.kind < NEAREST)
+        return true;
+    return memcmp(f->bytes + f->table.start[4] + 4 * (size_t)r.offset, g->bytes + g->table.start[4] + 4 * (size_t)s.offset, 4 * per_row(&r)) == 0;
+}
+
+const char *kind_words(unsigned kind) {
+    static const char *const words[] = {"Scalar", "Repulsive", "Mesh nearest", "Mesh interpolated"};
+    return kind <= INTERPOLATED ? words[kind] : "unknown";
+}
+
+void print_row(FILE *out, const table_file *f, const row *r) {
+    fputs(kind_words(r->kind), out);
+    if (r->kind == SCALAR)
+        fprintf(out, " %g", (double)f32_of(r->scalar));
+    if (r->kind < NEAREST)
+        return;
+    float least = energy_of(f, r, 0), most = least;
+    for (uint64_t i = 1; i < per_row(r); i++) {
+        float e = energy_of(f, r, i);
+        least = e < least ? e : least;
+        most = e > most ? e : most;
+    }
+    fprintf(out, " level %u, energies from %g to %g", r->level, (double)least, (double)most);
+}

@@ -1,0 +1,96 @@
+/* inspect FILE: what a table holds, in words, or what refuses it. */
+#include "tools.h"
+
+#include <math.h>
+
+enum { LEVELS = 16, SHOWN = 400 };
+
+typedef struct tally {
+    uint64_t kind[4], level[LEVELS][4], infinite;
+    double least, most;
+} tally;
+
+static void count_energies(const table_file *f, const row *r, tally *t) {
+    for (uint64_t i = 0; i < per_row(r); i++) {
+        double e = energy_of(f, r, i);
+        if (isinf(e)) {
+            t->infinite++;
+            continue;
+        }
+        t->least = e < t->least ? e : t->least;
+        t->most = e > t->most ? e : t->most;
+    }
+}
+
+static tally count_rows(const table_file *f) {
+    tally t = {.least = INFINITY, .most = -INFINITY};
+    for (uint64_t s = 0; s < f->table.rows; s++) {
+        row r = row_of(f, s);
+        t.kind[r.kind]++;
+        t.level[r.level][r.kind]++;
+        count_energies(f, &r, &t);
+    }
+    return t;
+}
+
+static void print_rows(const table_file *f, const tally *t) {
+    printf("rows        %llu:\n", (unsigned long long)f->table.rows);
+    printf("  %10llu  Repulsive (a wall: every orientation is forbidden)\n", (unsigned long long)t->kind[REPULSIVE]);
+    printf("  %10llu  Scalar (one number for all orientations)\n", (unsigned long long)t->kind[SCALAR]);
+    for (unsigned kind = NEAREST; kind <= INTERPOLATED; kind++) {
+        printf("  %10llu  %s", (unsigned long long)t->kind[kind], kind_words(kind));
+        const char *before = " (";
+        for (unsigned m = 0; m < LEVELS; m++)
+            if (t->level[m][kind] > 0) {
+                printf("%s%llu of level %u", before, (unsigned long long)t->level[m][kind], m);
+                before = ", ";
+            }
+        puts(t->kind[kind] > 0 ? ")" : "");
+    }
+}
+
+static char letter(const row *r) {
+    return r->kind == SCALAR ? '.' : r->kind == REPULSIVE ? '#' : r->kind == NEAREST ? (char)('a' + r->level) : (char)('A' + r->level);
+}
+
+/* A line for each distance, a letter for each dihedral bin. */
+static void print_slabs(const icotable_table *t, const table_file *f) {
+    puts("\nslabs, a letter for each dihedral bin: # Repulsive, . Scalar, A Mesh interpolated of level 0, B of level 1 and so on, a, b, .. Mesh nearest");
+    for (uint64_t ri = 0; ri < t->grid.n_r; ri++) {
+        printf("%10g  ", t->grid.rmin + (double)ri * t->grid.dr);
+        for (uint64_t oi = 0; oi < t->grid.n_omega; oi++) {
+            row r = row_of(f, ri * t->grid.n_omega + oi);
+            putchar(letter(&r));
+        }
+        putchar('\n');
+    }
+}
+
+int inspect_tool(int count, char **names) {
+    table_file f;
+    (void)count;
+    if (open_table(&f, names[0]) != GOOD)
+        return TROUBLE;
+    const icotable_table *t = &f.table;
+    if (t->number != 0) {
+        print_verdict(stdout, &f);
+        close_table(&f);
+        return FOUND;
+    }
+    tally seen = count_rows(&f);
+    printf("%s: a table, %zu bytes\n", f.name, f.count);
+    printf("distance    from %.17g to %.17g by %.17g: %llu bins\n", t->grid.rmin, t->grid.rmax, t->grid.dr, (unsigned long long)t->grid.n_r);
+    printf("dihedral    %llu bins, step %.17g\n", (unsigned long long)t->grid.n_omega, t->grid.omega_step);
+    printf("levels      %llu, the top one with %llu vertices\n", (unsigned long long)t->levels, (unsigned long long)icotable_vertices(t->levels - 1));
+    print_rows(&f, &seen);
+    printf("energies    %llu", (unsigned long long)t->energies);
+    if (seen.least <= seen.most)
+        printf(", from %g to %g", seen.least, seen.most);
+    if (seen.infinite > 0)
+        printf(", %llu infinite", (unsigned long long)seen.infinite);
+    putchar('\n');
+    if (t->grid.n_r <= SHOWN && t->grid.n_omega <= SHOWN)
+        print_slabs(t, &f);
+    close_table(&f);
+    return GOOD;
+}

@@ -1,0 +1,36 @@
+/* Tools for table files: icotable inspect FILE, verify FILE.., diff A B, map [-o OUT] FILE [FILE]. */
+#include "tools.h"
+
+#include <string.h>
+
+typedef struct tool {
+    const char *name, *usage;
+    int least, most;
+    int (*run)(int count, char **names);
+} tool;
+
+static const tool tools[] = {
+    {"inspect", "inspect FILE            what a table holds, or what refuses it", 1, 1, inspect_tool},
+    {"verify", "verify FILE..           accepted, or the number, its words and the byte", 1, 1 << 20, verify_tool},
+    {"diff", "diff FILE FILE          why two tables differ", 2, 2, diff_tool},
+    {"map", "map [-o OUT] FILE       a picture of the slabs (SVG) to OUT or to standard output;\n"
+            "  icotable map [-o OUT] FILE FILE  two tables side by side, the slabs that differ marked", 1, 4, map_tool},
+};
+
+static int usage(void) {
+    fputs("usage:\n", stderr);
+    for (size_t i = 0; i < sizeof tools / sizeof tools[0]; i++)
+        fprintf(stderr, "  icotable %s\n", tools[i].usage);
+    fputs("The status is 0 for good or equal, 1 for refused or different, 2 for trouble. No input is ever written to.\n", stderr);
+    return TROUBLE;
+}
+
+int main(int count, char **names) {
+    for (size_t i = 0; count > 1 && i < sizeof tools / sizeof tools[0]; i++)
+        if (strcmp(names[1], tools[i].name) == 0) {
+            if (count - 2 < tools[i].least || count - 2 > tools[i].most)
+                return usage();
+            return tools[i].run(count - 2, names + 2);
+        }
+    return usage();
+}

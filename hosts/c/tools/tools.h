@@ -1,0 +1,60 @@
+/* What the tools share: a table file with the library's verdict on it, its rows, and where a refused file goes wrong.
+ * The status of every tool is diff's: 0 for good or equal, 1 for refused or different, 2 for trouble. */
+#ifndef TOOLS_H
+#define TOOLS_H
+
+#include "icotable.h"
+
+#include <stdbool.h>
+#include <stdio.h>
+
+enum { GOOD = 0, FOUND = 1, TROUBLE = 2 };
+
+/* A file in memory; the number is the library's. */
+typedef struct table_file {
+    const char *name;
+    uint8_t *bytes;
+    size_t count;
+    icotable_table table;
+} table_file;
+
+enum { SCALAR = 0, REPULSIVE = 1, NEAREST = 2, INTERPOLATED = 3 };
+
+/* A slab's row as the file has it. */
+typedef struct row {
+    unsigned kind, level;
+    uint32_t offset, scalar;
+} row;
+
+/* Where and why a file is refused. */
+typedef struct place {
+    uint64_t number;
+    size_t byte;
+    char why[200];
+} place;
+
+/* file.c: reads the whole file and has the library look it over. TROUBLE, with a line to standard error, where it cannot
+ * be read; GOOD otherwise, whatever the verdict. */
+int open_table(table_file *f, const char *name);
+void close_table(table_file *f);
+uint32_t u32_of(const uint8_t *bytes);
+double f64_of(const uint8_t *bytes);
+float f32_of(uint32_t bits);
+row row_of(const table_file *f, uint64_t slab);
+bool same_row(const table_file *f, const table_file *g, uint64_t slab);
+float energy_of(const table_file *f, const row *r, uint64_t i);
+uint64_t per_row(const row *r);
+const char *kind_words(unsigned kind);
+void print_row(FILE *out, const table_file *f, const row *r);
+
+/* walk.c: document 01's questions 13 to 17 once more, by the host, for the byte alone: a hint. */
+place find_place(const uint8_t *bytes, size_t count);
+/* The library's number in words, and the byte where the walk agrees with it. */
+void print_verdict(FILE *out, const table_file *f);
+
+int inspect_tool(int count, char **names);
+int verify_tool(int count, char **names);
+int diff_tool(int count, char **names);
+int map_tool(int count, char **names);
+
+#endif

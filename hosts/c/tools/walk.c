@@ -1,0 +1,174 @@
+/* The questions that read puts, walked once more to name the byte. The verdict and its number are the library's; this is a
+ * hint, and it is shown only where it comes to the same number. */
+#include "tools.h"
+
+#include <math.h>
+#include <stdarg.h>
+#include <string.h>
+
+static const double TAU = 6.283185307179586;
+static const uint32_t UNUSED = 0xFFFFFFFF;
+
+/* Where each section's items begin, and how many there are. */
+typedef struct sections {
+    size_t at[5], count[5];
+} sections;
+
+__attribute__((format(printf, 3, 4))) static place found(uint64_t number, size_t byte, const char *why, ...) {
+    place p = {.number = number, .byte = byte};
+    va_list more;
+    va_start(more, why);
+    vsnprintf(p.why, sizeof p.why, why, more);
+    va_end(more);
+    return p;
+}
+
+static const place nothing = {0};
+
+static place walk_sections(const uint8_t *bytes, size_t count, sections *s) {
+    static const size_t width[5] = {8, 4, 4, 10, 4};
+    static const char *const name[5] = {"grid", "bins", "levels", "rows", "energies"};
+    size_t at = 0;
+    place second = nothing;
+    if (count == 0)
+        return found(13, 0, "the file is empty");
+    for (int k = 0; k < 5; k++) {
+        if (count - at < 4)
+            return found(13, at, "the file ends before the count of section %d (%s)", k + 1, name[k]);
+        size_t items = u32_of(bytes + at);
+        if (k < 2 && items != (k == 0 ? 3 : 2) && second.number == 0)
+            second = found(13, at, "the count of section %d (%s) is %zu, where a table has %d: not a table of this library, or damaged", k + 1, name[k], items, 3 - k);
+        s->at[k] = at + 4;
+        s->count[k] = items;
+        if ((count - at - 4) / width[k] < items)
+            return second.number != 0 ? second
+                                      : found(13, at, "section %d (%s) has %zu items of %zu bytes by its count, and the file ends %zu bytes behind it", k + 1, name[k], items,
+                                              width[k], count - at - 4);
+        at += 4 + width[k] * items;
+    }
+    if (second.number != 0)
+        return second;
+    if (at != count)
+        return found(13, at, "%zu bytes follow the last section", count - at);
+    return nothing;
+}
+
+/* To a u64: toward zero, saturating, a NaN to 0. */
+static uint64_t truncated(double x) {
+    return !(x > 0) ? 0 : x >= 18446744073709551616.0 ? UINT64_MAX : (uint64_t)x;
+}
+
+static place walk_bins(const uint8_t *bytes, const sections *s) {
+    double rmin = f64_of(bytes + s->at[0]), dr = f64_of(bytes + s->at[0] + 8), step = f64_of(bytes + s->at[0] + 16);
+    uint32_t n_r = u32_of(bytes + s->at[1]), n_omega = u32_of(bytes + s->at[1] + 4);
+    if (n_r < 1 || n_r > 65535)
+        return found(14, s->at[1], "%u distance bins", n_r);
+    if (n_omega < 1 || n_omega > 65535)
+        return found(14, s->at[1] + 4, "%u dihedral bins", n_omega);
+    if (n_omega != truncated(TAU / step + 0.5))
+        return found(14, s->at[1] + 4, "%u dihedral bins, where the step %g gives %llu", n_omega, step, (unsigned long long)truncated(TAU / step + 0.5));
+    double rmax = fma(n_r, dr, rmin);
+    if (n_r != truncated((rmax - rmin) / dr + 0.5))
+        return found(14, s->at[1], "%u distance bins, which do not come out the same with the table's own rmax %g", n_r, rmax);
+    uint64_t n = icotable_vertices(s->count[2] - 1), slabs = (uint64_t)n_r * n_omega;
+    if (slabs > 4294967295 / (n * n))
+        return found(14, s->at[1], "%llu slabs of the top level hold too many energies", (unsigned long long)slabs);
+    if (s->count[3] != slabs)
+        return found(14, s->at[3] - 4, "%zu rows, where the bins give %llu", s->count[3], (unsigned long long)slabs);
+    return nothing;
+}
+
+static place walk_grid(const uint8_t *bytes, const sections *s) {
+    static const char *const name[3] = {"rmin", "dr", "the omega step"};
+    for (int k = 0; k < 3; k++) {
+        double x = f64_of(bytes + s->at[0] + 8 * (size_t)k);
+        if (!isfinite(x) || (k > 0 && !(x > 0)))
+            return found(14, s->at[0] + 8 * (size_t)k, "%s is %g", name[k], x);
+    }
+    if (s->count[2] < 1 || s->count[2] > 16)
+        return found(14, s->at[2] - 4, "%zu levels", s->count[2]);
+    place p = walk_bins(bytes, s);
+    if (p.number != 0)
+        return p;
+    for (size_t m = 0; m < s->count[2]; m++) {
+        uint32_t n = u32_of(bytes + s->at[2] + 4 * m);
+        if (n != icotable_vertices(m))
+            return found(14, s->at[2] + 4 * m, "level %zu has %u vertices, where it is to have %llu", m, n, (unsigned long long)icotable_vertices(m));
+    }
+    return nothing;
+}
+
+static bool is_nan(uint32_t bits) {
+    return (bits & 0x7FFFFFFF) > 0x7F800000;
+}
+
+static place walk_row(const uint8_t *bytes, size_t at, size_t slab, size_t levels) {
+    unsigned kind = bytes[at], level = bytes[at + 1];
+    uint32_t offset = u32_of(bytes + at + 2), scalar = u32_of(bytes + at + 6);
+    if (kind > INTERPOLATED)
+        return found(15, at, "row %zu has the unknown kind %u", slab, kind);
+    if (kind >= NEAREST && level >= levels)
+        return found(15, at + 1, "row %zu has level %u, and the table has %zu levels", slab, level, levels);
+    if (kind < NEAREST && level != 0)
+        return found(15, at + 1, "row %zu (%s) has level %u in a field that is not used", slab, kind_words(kind), level);
+    if (kind < NEAREST && offset != UNUSED)
+        return found(15, at + 2, "row %zu (%s) has an offset in a field that is not used", slab, kind_words(kind));
+    if (kind != SCALAR && scalar != 0)
+        return found(15, at + 6, "row %zu (%s) has a scalar in a field that is not used", slab, kind_words(kind));
+    if (kind == SCALAR && is_nan(scalar) && scalar != 0x7FC00000)
+        return found(15, at + 6, "row %zu has the NaN %08X, and 7FC00000 is the one that a table holds", slab, scalar);
+    return nothing;
+}
+
+static place walk_rows(const uint8_t *bytes, const sections *s) {
+    for (size_t i = 0; i < s->count[3]; i++) {
+        place p = walk_row(bytes, s->at[3] + 10 * i, i, s->count[2]);
+        if (p.number != 0)
+            return p;
+    }
+    return nothing;
+}
+
+static place walk_tiling(const uint8_t *bytes, const sections *s) {
+    uint64_t next = 0;
+    for (size_t i = 0; i < s->count[3]; i++) {
+        size_t at = s->at[3] + 10 * i;
+        if (bytes[at] < NEAREST)
+            continue;
+        if (u32_of(bytes + at + 2) != next)
+            return found(16, at + 2, "row %zu has offset %u, where the rows before it end at %llu", i, u32_of(bytes + at + 2), (unsigned long long)next);
+        uint64_t n = icotable_vertices(bytes[at + 1]);
+        next += n * n;
+    }
+    if (next != s->count[4])
+        return found(16, s->at[4] - 4, "%zu energies, where the rows hold %llu", s->count[4], (unsigned long long)next);
+    return nothing;
+}
+
+static place walk_energies(const uint8_t *bytes, const sections *s) {
+    for (size_t i = 0; i < s->count[4]; i++)
+        if (is_nan(u32_of(bytes + s->at[4] + 4 * i)))
+            return found(17, s->at[4] + 4 * i, "energy %zu is a NaN", i);
+    return nothing;
+}
+
+place find_place(const uint8_t *bytes, size_t count) {
+    static place (*const walks[])(const uint8_t *, const sections *) = {walk_grid, walk_rows, walk_tiling, walk_energies};
+    sections s;
+    place p = walk_sections(bytes, count, &s);
+    for (size_t k = 0; p.number == 0 && k < sizeof walks / sizeof walks[0]; k++)
+        p = walks[k](bytes, &s);
+    return p;
+}
+
+void print_verdict(FILE *out, const table_file *f) {
+    uint64_t number = f->table.number;
+    if (number == 0) {
+        fprintf(out, "%s: a table, accepted\n", f->name);
+        return;
+    }
+    fprintf(out, "%s: refused with %llu: %s\n", f->name, (unsigned long long)number, icotable_words(number));
+    place p = find_place(f->bytes, f->count);
+    if (p.number == number)
+        fprintf(out, "%s: at byte %zu: %s\n", f->name, p.byte, p.why);
+}
