@@ -1,0 +1,79 @@
+//! The two molecules of the demonstration, with the same operations in the same order as hosts/c/molecules.c, so that both hosts
+//! give the same bytes. Lengths are in angstrom and energies in kJ/mol.
+
+struct Site {
+    at: [f64; 3],
+    charge: f64,
+    sigma: f64,
+}
+
+const fn site(at: [f64; 3], charge: f64, sigma: f64) -> Site {
+    Site { at, charge, sigma }
+}
+
+// an ampholyte: a positive head, a negative tail, two neutral sites between
+const FIRST: [Site; 4] =
+    [site([0.0, 0.0, 2.6], 1.0, 3.2), site([0.9, 0.0, 0.8], 0.0, 3.8), site([-0.9, 0.4, -0.8], 0.0, 3.8), site([0.0, 0.3, -2.6], -1.0, 3.2)];
+// an anion with a polar end
+const SECOND: [Site; 4] =
+    [site([0.0, 0.0, 2.0], -1.0, 3.0), site([0.6, 0.5, 0.4], 0.0, 3.6), site([-0.6, 0.4, -1.0], 0.4, 3.4), site([0.2, -0.7, -2.0], -0.4, 3.2)];
+
+// 1 / RT at 298.15 K
+pub const BETA: f64 = 0.40339;
+const EPSILON: f64 = 0.8;
+const COULOMB: f64 = 17.7;
+const SCREENING: f64 = 1.0 / 9.6;
+// squared; sites that are nearer count as this far, so that no energy is a NaN
+const NEAREST: f64 = 0.25;
+
+/// Where the sites of a molecule are once it is turned.
+pub type Pose = [[f64; 3]; 4];
+
+// Turns p so that the unit direction d comes to lie up the axis.
+fn up(d: [f64; 3], p: [f64; 3]) -> [f64; 3] {
+    let across = (d[0] * d[0] + d[1] * d[1]).sqrt();
+    let (c, s) = if across > 0.0 { (d[0] / across, d[1] / across) } else { (1.0, 0.0) };
+    let (x, y) = (c * p[0] + s * p[1], c * p[1] - s * p[0]);
+    [d[2] * x - across * p[2], y, across * x + d[2] * p[2]]
+}
+
+/// The first molecule with direction a up the axis.
+pub fn first_pose(a: [f64; 3]) -> Pose {
+    [0, 1, 2, 3].map(|k| up(a, FIRST[k].at))
+}
+
+/// The second with direction b down it, then turned by omega around it.
+pub fn second_pose(b: [f64; 3], omega: f64) -> Pose {
+    let (c, s) = (omega.cos(), omega.sin());
+    [0, 1, 2, 3].map(|k| {
+        let p = up(b, SECOND[k].at);
+        let y = -p[1];
+        [c * p[0] - s * y, s * p[0] + c * y, -p[2]]
+    })
+}
+
+fn site_energy(a: &Site, b: &Site, squared: f64) -> f64 {
+    let near = if squared < NEAREST { NEAREST } else { squared };
+    let sigma = 0.5 * (a.sigma + b.sigma);
+    let ratio = sigma * sigma / near;
+    let sixth = ratio * ratio * ratio;
+    let mut energy = 4.0 * EPSILON * (sixth * sixth - sixth);
+    let charges = a.charge * b.charge;
+    if charges != 0.0 {
+        let distance = near.sqrt();
+        energy += COULOMB * charges * (-SCREENING * distance).exp() / distance;
+    }
+    energy
+}
+
+/// The energy with the second molecule r up the axis.
+pub fn pair_energy(a: &Pose, b: &Pose, r: f64) -> f64 {
+    let mut energy = 0.0;
+    for (i, p) in a.iter().enumerate() {
+        for (j, q) in b.iter().enumerate() {
+            let (x, y, z) = (q[0] - p[0], q[1] - p[1], q[2] + r - p[2]);
+            energy += site_energy(&FIRST[i], &SECOND[j], x * x + y * y + z * z);
+        }
+    }
+    energy
+}

@@ -1,0 +1,75 @@
+// The numbers that a call can be refused with, as include/icotable.h has them; a test compares the two.
+
+macro_rules! refusals {
+    ($($number:literal $name:ident $words:literal),* $(,)?) => {
+        /// Why a call was refused: the first question of document 01 that was answered no.
+        #[derive(Clone, Copy, Debug, PartialEq, Eq, Hash)]
+        #[non_exhaustive]
+        pub enum Refusal {
+            $(#[doc = $words] $name = $number,)*
+        }
+
+        impl Refusal {
+            /// Every one, in the order of its number.
+            pub const ALL: &'static [Refusal] = &[$(Refusal::$name),*];
+
+            pub(crate) fn of(number: u64) -> Option<Refusal> {
+                match number {
+                    $($number => Some(Refusal::$name),)*
+                    _ => None,
+                }
+            }
+
+            /// Document 01's number.
+            pub fn number(self) -> u64 {
+                self as u64
+            }
+
+            /// What was answered no.
+            pub fn words(self) -> &'static str {
+                match self {
+                    $(Refusal::$name => $words,)*
+                }
+            }
+        }
+    };
+}
+
+refusals! {
+    1 Settings "rmin is not finite, rmax not above it, dr, omega_step or beta not finite and above 0, or threshold not finite or below 0",
+    2 Level "the top level is above 15, or the current level above the top",
+    3 BinCount "a bin count is not from 1 to 65535, or in a builder not the one that its settings give",
+    4 OwnCount "the distance count does not come out the same with the table's own rmax",
+    5 TooManyEnergies "slabs times n*n of the top level is above 4294967295",
+    6 ShortList "a list is shorter than needed",
+    7 Mesh "a mesh does not keep the mesh rule: finite vertices; 5 or 6 distinct neighbours each, other vertices of the level that list it in turn; angles finite and not below 0",
+    8 Bin "a bin number is not below its count",
+    9 EnergyCount "there are not exactly n*n energies, n of the current level",
+    10 NanEnergy "an energy is a NaN",
+    11 OtherLevel "a slab of the slice holds energies of another level than the current one",
+    12 ShortOutput "the output is shorter than the file",
+    13 Sections "the file's sections do not follow their counts, or do not end with its last byte",
+    14 FileGrid "the file's grid, bin counts, level count, row count or vertex counts are not those of a table",
+    15 Row "a row has an unknown kind, a Mesh row a level above the top; or, in a file, an unused field that is used, or a scalar NaN other than 0x7FC00000",
+    16 Tiling "the rows' offsets do not tile the energies in row order",
+    17 FileNan "an energy of the file is a NaN",
+    18 Query "r is a NaN, omega not finite, or the length of a direction not finite or 0",
+    19 NotLent "a bin count is 0, a row's kind is unknown or its level not held, or a row, energy, cell or mesh entry that the reading touches is not inside what was lent, an end offset is below its start, or a vertex number not below n",
+    20 EmptyCell "the cell that a direction falls into lists no vertex",
+}
+
+/// What an accepted call gives, or why it was refused.
+pub(crate) fn answer<T>(number: u64, value: T) -> Result<T, Refusal> {
+    match number {
+        0 => Ok(value),
+        n => Err(Refusal::of(n).unwrap_or_else(|| panic!("{n} is no number of the library"))),
+    }
+}
+
+impl std::fmt::Display for Refusal {
+    fn fmt(&self, f: &mut std::fmt::Formatter<'_>) -> std::fmt::Result {
+        write!(f, "refused with {}: {}", self.number(), self.words())
+    }
+}
+
+impl std::error::Error for Refusal {}
