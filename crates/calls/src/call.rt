@@ -1,10 +1,10 @@
 // The calls, with as much of each list lent as the line says.
 use crate::line;
 use crate::line::lent;
-use crate::words::word;
 use builder::Built;
 use builder::Settled;
 use questions::Builder;
+use words::word;
 
 // What a call answers.
 pub(crate) struct Outcome {

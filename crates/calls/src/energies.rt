@@ -1,9 +1,9 @@
 // The energies of a set, by a rule: base + step * (x % modulus), x being Park and Miller's minimal standard generator; then two places are given values of their own.
 use crate::line;
-use crate::words::float;
-use crate::words::more;
-use crate::words::place;
-use crate::words::word;
+use words::float;
+use words::more;
+use words::place;
+use words::word;
 
 fn next(x: u64) -> u64 {
     x % 2147483647 * 16807 % 2147483647

@@ -2,10 +2,10 @@
 use crate::line;
 use crate::tally;
 use crate::tally::Count;
-use crate::words::float;
-use crate::words::more;
-use crate::words::place;
-use crate::words::word;
+use words::float;
+use words::more;
+use words::place;
+use words::word;
 
 // An entry beyond the end is left out.
 fn put_float(list: &mut [f64], i: usize, x: f64) {

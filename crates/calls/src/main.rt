@@ -9,7 +9,6 @@ mod energies;
 mod line;
 mod lists;
 mod tally;
-mod words;
 
 use tally::Tally;
 use words::word;

@@ -4,11 +4,13 @@ use libc::STDIN_FILENO;
 use table::ReadAnswer;
 
 mod tally;
-mod words;
 
 use tally::Tally;
-use words::byte;
 use words::word;
+
+fn byte(n: u64) -> u8 {
+    (n % 256) as u8
+}
 
 // The letters of the file's line, with its end, and of a copy's.
 const FILE: usize = 2545;

@@ -1,10 +1,10 @@
 // A reading, with as much of each list lent as the line says, and what it is to answer.
 use crate::line;
 use crate::line::lent;
-use crate::words::word;
 use reading::Reading;
 use table::ReadAnswer;
 use table::Table;
+use words::word;
 
 fn answer(
     line: &[u8],

@@ -1,11 +1,11 @@
 // What a line of the input holds, and where. Every number is in hexadecimal of a fixed width, a float by its bits.
 ghost use Prim.Native.Nat.{_≤_};
-use crate::words::float;
-use crate::words::place;
-use crate::words::word;
 use grid::Grid;
 use search::Vector3;
 use table::Table;
+use words::float;
+use words::place;
+use words::word;
 
 pub(crate) const LETTERS: usize = 192;
 

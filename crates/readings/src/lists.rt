@@ -1,9 +1,9 @@
 // The lent lists: meshes and entries that the input gives.
 use crate::line;
-use crate::words::float;
-use crate::words::more;
-use crate::words::place;
-use crate::words::word;
+use words::float;
+use words::more;
+use words::place;
+use words::word;
 
 pub(crate) fn fill_vertices(text: &[u8], at: usize, out: &mut [f64; 162]) {
     let mut p = at;

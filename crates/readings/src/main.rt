@@ -9,7 +9,6 @@ mod line;
 mod lists;
 mod meshes;
 mod tally;
-mod words;
 
 use tally::Tally;
 use words::word;

@@ -1,7 +1,7 @@
 // How many answers there were and how many agreed.
 use crate::line;
-use crate::words::word;
 use libc::STDOUT_FILENO;
+use words::word;
 
 // How many lines with an answer that differs are written out.
 const SHOWN: u64 = 8;

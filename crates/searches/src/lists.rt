@@ -1,9 +1,9 @@
 // Lists in the input: to fill one from it, and to count the entries that agree with it.
 use crate::tally;
 use crate::tally::Count;
-use crate::words::float;
-use crate::words::more;
-use crate::words::word;
+use words::float;
+use words::more;
+use words::word;
 
 pub(crate) fn fill_vertices(text: &[u8], at: usize, out: &mut [f64; 486]) {
     let mut p = at;

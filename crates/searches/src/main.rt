@@ -6,7 +6,6 @@ use search::Vector3;
 
 mod lists;
 mod tally;
-mod words;
 
 use tally::Count;
 use tally::Tally;
