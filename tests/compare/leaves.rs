@@ -6,7 +6,7 @@ mod lines;
 #[allow(dead_code)]
 mod meshes;
 #[allow(dead_code, clippy::all)]
-mod oracle {
+mod builder {
     include!(concat!(env!("COMPARE"), "/builder.rs"));
 }
 mod samples;
@@ -226,7 +226,7 @@ fn main() {
         wrong += unary("abs", n, r, some, |x| bits(float_abs(x)), |x| bits(x.abs()));
         wrong += unary("is_finite", n, r, some, |x| float_is_finite(x) as u64, |x| x.is_finite() as u64);
         wrong += unary("rem_tau", n, r, near_multiple, |x| bits(float_rem_tau(x)), |x| bits(rem_tau(x)));
-        wrong += unary("E", n, r, samples::exponent, |x| bits(float_exp(x)), |x| bits(oracle::exponential(x)));
+        wrong += unary("E", n, r, samples::exponent, |x| bits(float_exp(x)), |x| bits(builder::exponential(x)));
     }
     println!("leaves: {wrong} differences");
     std::process::exit((wrong > 0) as i32);

@@ -219,3 +219,24 @@ pub fn without_faces() -> Mesh {
 pub fn sevens() -> Mesh {
     Mesh::graph("six complete graphs on seven", 1, icosphere(1).vertices, |i, j| i % 6 == j % 6)
 }
+
+// Graphs over points of many kinds.
+pub const STRANGE: usize = 12;
+
+pub fn strange_points(base: &Mesh, kind: usize, random: &mut Random) -> Mesh {
+    let at = base.vertices.clone();
+    match kind {
+        0 => base.over("every coordinate any finite number", |_| [random.finite(), random.finite(), random.finite()]),
+        1 => base.over("whole numbers from -1 to 1", |_| [random.whole(1), random.whole(1), random.whole(1)]),
+        2 => base.over("distorted to whole numbers", |i| normal(at[i]).map(|x| (x * 1000.0).round() + random.whole(200))),
+        3 => base.over("lengths from 1e-300 to 1e300", |i| scaled(at[i], 10f64.powi(random.below(601) as i32 - 300))),
+        4 => base.over("a coordinate in three made tiny", |i| at[i].map(|x| if random.below(3) == 0 { x * 1e-300 } else { x })),
+        5 => base.over("near the largest", |i| at[i].map(|x| if random.below(2) == 0 { x * f64::MAX } else { x })),
+        6 => base.over("subnormal", |_| [random.whole(4) * 5e-324, random.whole(4) * 5e-324, random.whole(4) * 5e-324]),
+        7 => base.over("all in one octant", |_| random.direction().map(|x| x.abs())),
+        8 => base.over("on one line", |_| scaled([1.0, 2.0, -3.0], random.unit())),
+        9 => base.over("on a plane through the middle", |_| [random.unit(), random.unit(), 0.0]),
+        10 => base.over("large and small in turn", |_| [0, 1, 2].map(|_| random.unit() * [1e-170, 1.0, 1e170][random.below(3)])),
+        _ => base.over("random directions", |_| normal(random.direction())),
+    }
+}
