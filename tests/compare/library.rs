@@ -68,17 +68,7 @@ pub struct Library {
 
 impl Library {
     pub fn new() -> Library {
-        let lists = Lists {
-            store: Vec::new(),
-            kinds: Vec::new(),
-            levels: Vec::new(),
-            values: Vec::new(),
-            vertices: Vec::new(),
-            counts: Vec::new(),
-            neighbours: Vec::new(),
-            angles: Vec::new(),
-        };
-        Library { lists, calls: 0, refused: 0, entries: 0 }
+        Library { lists: Lists::default(), calls: 0, refused: 0, entries: 0 }
     }
 }
 
@@ -175,6 +165,18 @@ pub fn locator(mesh: &Mesh, grid: &FaceGrid, lists: &mut reader::Lists) -> u64 {
         + same_list("cell vertex", mesh, grid.vertex_ids.clone(), &before.cell_vertices, &lists.cell_vertices)
         + same_list("face offset", mesh, grid.adj_offsets.clone(), &before.face_offsets, &lists.face_offsets)
         + same_list("face entry", mesh, faces, &before.faces, &lists.faces)
+}
+
+// The same, behind the meshes and locators of the levels below; `more` entries beyond the needed ones are compared and left out.
+pub fn add_level(mesh: &Mesh, grid: &FaceGrid, more: usize, entry: impl FnMut() -> u64, lists: &mut reader::Lists) -> u64 {
+    let mut made = locator_lists(mesh.level, more, entry);
+    let entries = locator(mesh, grid, &mut made);
+    lists.vertices.extend(mesh.vertices.concat());
+    lists.cell_offsets.extend(&made.cell_offsets[..made.cell_offsets.len() - more]);
+    lists.cell_vertices.extend(&made.cell_vertices[..made.cell_vertices.len() - more]);
+    lists.face_offsets.extend(&made.face_offsets[..made.face_offsets.len() - more]);
+    lists.faces.extend(&made.faces[..made.faces.len() - more]);
+    entries
 }
 
 // A reading, and the file that it is of.

@@ -21,7 +21,7 @@ pub struct Held {
     pub level: u64,
 }
 
-#[derive(Clone)]
+#[derive(Clone, Default)]
 pub struct Lists {
     pub store: Vec<f64>,
     pub kinds: Vec<u8>,

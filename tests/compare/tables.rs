@@ -39,7 +39,7 @@ use library::{builder_of, differ, lists_of, same_reading, same_table, Library, R
 use lines::bits;
 use lists::{list, needed_lengths, wrong, wrong_mesh, WRONG, WRONG_MESH};
 use meshes::Random;
-use oracle::Vector3;
+use oracle::{FaceGrid, Vector3};
 use pack::packed;
 use queries::{asked, query, query_at};
 use reader::Reader;
@@ -161,13 +161,49 @@ fn damaged(file: &[u8], t: &Table, random: &mut Random) -> Vec<u8> {
     copy
 }
 
+// "An accepted file also passes `check_grid` and `check_slabs`": the Rust's, over the file's table.
+fn checked(file: &[u8], t: &Table) {
+    let part = |start: u64, width: u64, i: u64| &file[(start + width * i) as usize..][..width as usize];
+    let word = |bytes: &[u8]| u32::from_le_bytes(bytes.try_into().unwrap());
+    let rows: Vec<&[u8]> = (0..t.rows).map(|s| part(t.start[3], 10, s)).collect();
+    let row = |bytes: &&[u8]| match bytes[0] {
+        0 => rust::SlabResolution::Scalar(f32::from_bits(word(&bytes[6..]))),
+        1 => rust::SlabResolution::Repulsive,
+        kind => rust::SlabResolution::Mesh { level: bytes[1], interpolate: kind == 3 },
+    };
+    let level = |m: u64| rust::MeshLevel { n_vertices: word(part(t.start[2], 4, m)) as usize, grid: FaceGrid::new(&[], &[]) };
+    let table = rust::Table6DAdaptive {
+        rmin: t.grid.rmin,
+        rmax: t.grid.rmax,
+        dr: t.grid.dr,
+        n_r: t.grid.n_r as usize,
+        omega_step: t.grid.omega_step,
+        n_omega: t.grid.n_omega as usize,
+        levels: (0..t.levels).map(level).collect(),
+        slab_res: rows.iter().map(row).collect(),
+        slab_offsets: rows.iter().map(|bytes| word(&bytes[2..6])).collect(),
+        data: vec![0f32; t.energies as usize],
+        metadata: None,
+    };
+    if let Err(words) = table.check_grid().and(table.check_slabs()) {
+        differ("read", format!("{file:02X?}"), "accepted".into(), format!("the Rust's check: {words}"));
+    }
+}
+
 fn reads(file: &[u8], t: &Table, random: &mut Random, tally: &mut Tally) {
     same_table(file, t);
+    checked(file, t);
     tally.add("read, files as written", 1);
     for _ in 0..20 {
         let copy = damaged(file, t, random);
         let number = plain::read(&copy);
-        same_table(&copy, &if number == 0 { accepted(&copy) } else { Table { number, ..Table::default() } });
+        if number == 0 {
+            let t = accepted(&copy);
+            same_table(&copy, &t);
+            checked(&copy, &t);
+        } else {
+            same_table(&copy, &Table { number, ..Table::default() });
+        }
         tally.add(&format!("read, damaged copies answered {number}"), 1);
     }
 }

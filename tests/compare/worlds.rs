@@ -1,12 +1,12 @@
 // Meshes of the levels from 0 to a top, with the Rust's locators and those that the library made of them.
 use crate::builder;
 use crate::caller::Caller;
-use crate::library::{locator, locator_lists};
+use crate::library::add_level;
 use crate::lists::lend;
 use crate::meshes::{icosphere, sevens, strange_points, without_faces, Mesh, Random, STRANGE};
 use crate::oracle::FaceGrid;
 use crate::reader;
-use crate::refusals::{vertices_below, vertices_of, Lists};
+use crate::refusals::{vertices_below, vertices_of, Lists, Settings};
 use crate::rust::{AdaptiveBuilder, MeshLevel, SlabResolution, Table6DAdaptive};
 
 pub struct World {
@@ -35,6 +35,23 @@ fn mesh(level: usize, random: &mut Random) -> Mesh {
     }
 }
 
+// The table that the Rust builds of its builder, with the locators of its levels.
+pub fn table_of(s: Settings, levels: Vec<MeshLevel>, rust: &builder::AdaptiveBuilder) -> Table6DAdaptive<f32> {
+    let top = levels.len() - 1;
+    let mut b = AdaptiveBuilder::with_subdivision(levels, s.rmin, s.rmax, s.dr, s.omega_step, top, s.threshold, s.beta);
+    b.slab_data = rust.slab_data.clone();
+    b.slab_res = rust
+        .slab_res
+        .iter()
+        .map(|row| match *row {
+            builder::SlabResolution::Scalar(x) => SlabResolution::Scalar(x),
+            builder::SlabResolution::Repulsive => SlabResolution::Repulsive,
+            builder::SlabResolution::Mesh { level, interpolate } => SlabResolution::Mesh { level, interpolate },
+        })
+        .collect();
+    b.build()
+}
+
 impl World {
     // Low levels more often, since a slab of level 5 has 131,044 energies.
     pub fn new(random: &mut Random) -> World {
@@ -51,14 +68,7 @@ impl World {
             let mesh = mesh(level, random);
             let grid = FaceGrid::new(&mesh.vertices, &mesh.neighbours);
             let more = random.below(3);
-            let mut made = locator_lists(level, more, || random.bits());
-            world.entries += locator(&mesh, &grid, &mut made);
-            let lists = &mut world.lists;
-            lists.vertices.extend(mesh.vertices.concat());
-            lists.cell_offsets.extend(&made.cell_offsets[..made.cell_offsets.len() - more]);
-            lists.cell_vertices.extend(&made.cell_vertices[..made.cell_vertices.len() - more]);
-            lists.face_offsets.extend(&made.face_offsets[..made.face_offsets.len() - more]);
-            lists.faces.extend(&made.faces[..made.faces.len() - more]);
+            world.entries += add_level(&mesh, &grid, more, || random.bits(), &mut world.lists);
             world.levels.push(MeshLevel { n_vertices: mesh.vertices.len(), grid });
             world.meshes.push(mesh);
         }
@@ -101,21 +111,8 @@ impl World {
 
     // The Rust's table of what a list of calls left.
     pub fn built(&mut self, caller: &Caller) -> Table6DAdaptive<f32> {
-        let (held, rust) = (caller.held, caller.rust.as_ref().unwrap());
-        let s = held.settings;
         let levels = std::mem::take(&mut self.levels);
-        let mut b = AdaptiveBuilder::with_subdivision(levels, s.rmin, s.rmax, s.dr, s.omega_step, self.top, s.threshold, s.beta);
-        b.slab_data = rust.slab_data.clone();
-        b.slab_res = rust
-            .slab_res
-            .iter()
-            .map(|row| match *row {
-                builder::SlabResolution::Scalar(x) => SlabResolution::Scalar(x),
-                builder::SlabResolution::Repulsive => SlabResolution::Repulsive,
-                builder::SlabResolution::Mesh { level, interpolate } => SlabResolution::Mesh { level, interpolate },
-            })
-            .collect();
-        b.build()
+        table_of(caller.held.settings, levels, caller.rust.as_ref().unwrap())
     }
 
     // The levels went into the table.
