@@ -1,16 +1,10 @@
 // Lists of calls of fresh, set and settle: made by hand for what has to occur, and at random with refused calls of each kind among them.
 use crate::caller::{Caller, Rule, NOWHERE, PRIME};
 use crate::lines::bits;
-use crate::meshes::{Mesh, Random};
+use crate::meshes::{angle, Mesh, Random};
 use crate::builder::SlabResolution;
 use crate::refusals::{self, dihedral_count, distance_count, vertices_below, vertices_of, Held, Settings};
 use std::f64::consts::TAU;
-
-fn angle(a: &[f64], b: &[f64]) -> f64 {
-    let dot: f64 = (0..3).map(|k| a[k] * b[k]).sum();
-    let cross = [a[1] * b[2] - a[2] * b[1], a[2] * b[0] - a[0] * b[2], a[0] * b[1] - a[1] * b[0]];
-    cross.iter().map(|x| x * x).sum::<f64>().sqrt().atan2(dot)
-}
 
 // Lends meshes of the levels from 0 on, with angles as a function has them.
 pub fn lend(caller: &mut Caller, meshes: &[Mesh], mut angle_of: impl FnMut(f64) -> f64) {
@@ -208,7 +202,9 @@ fn odd_call(caller: &mut Caller, random: &mut Random) {
         }
         1 | 2 => {
             if !caller.altered || refusals::set(&caller.held, &lent, ri, oi, &rule.energies()) != 0 {
-                caller.set(ri, oi, rule, lent);
+                let accepted = caller.set(ri, oi, rule, lent) == 0;
+                // what was altered of this slab's row is gone
+                undo.retain(|u| !(accepted && u.0 < 3 && u.1 as u64 == ri * good.n_omega + oi));
             }
         }
         _ => {

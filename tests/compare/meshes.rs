@@ -139,6 +139,13 @@ pub fn normal(v: [f64; 3]) -> [f64; 3] {
     [v[0] / l, v[1] / l, v[2] / l]
 }
 
+// The angle between two directions.
+pub fn angle(a: &[f64], b: &[f64]) -> f64 {
+    let dot: f64 = (0..3).map(|k| a[k] * b[k]).sum();
+    let cross = [a[1] * b[2] - a[2] * b[1], a[2] * b[0] - a[0] * b[2], a[0] * b[1] - a[1] * b[0]];
+    cross.iter().map(|x| x * x).sum::<f64>().sqrt().atan2(dot)
+}
+
 fn squared(a: [f64; 3], b: [f64; 3]) -> f64 {
     (0..3).map(|k| (a[k] - b[k]) * (a[k] - b[k])).sum()
 }
