@@ -1,10 +1,8 @@
-// The caller of a list of calls: the lent lists, the builder as the calls left it, and the Rust's builder. Every call is made here, and its line written.
-use crate::lines::{bits, Fixed};
-use crate::oracle::{AdaptiveBuilder, MeshLevel, SlabResolution};
+// The caller of a list of calls: the lent lists, the builder as the calls left it, and the Rust's builder. Every call is answered here, by the Rust and by refusals.rs, and handed on with its answer.
+use crate::builder::{AdaptiveBuilder, MeshLevel, SlabResolution};
 use crate::refusals::{self, vertices_below, vertices_of, Held, Lists, Settings};
 use std::collections::BTreeMap;
 
-const LINE: usize = 574;
 pub const PRIME: u64 = 2_147_483_647;
 // a place that no energy has
 pub const NOWHERE: usize = 0xffff;
@@ -37,76 +35,61 @@ impl Rule {
     }
 }
 
-type Line = Fixed<LINE>;
-
-impl Fixed<LINE> {
-    fn builder(&mut self, b: &Held) {
-        let s = b.settings;
-        let floats = [s.rmin, s.rmax, s.dr, s.omega_step, s.threshold, s.beta];
-        let words = floats.map(bits).into_iter().chain([b.n_r, b.n_omega, b.top, b.level]);
-        for (k, n) in words.enumerate() {
-            self.put(269 + 17 * k, 16, n);
-        }
-    }
-
-    fn rule(&mut self, r: &Rule) {
-        self.put(473, 4, r.count as u64);
-        self.put(478, 8, r.modulus);
-        self.put(487, 8, r.seed);
-        self.put(496, 16, bits(r.base));
-        self.put(513, 16, bits(r.step));
-        for (k, (place, e)) in r.places.into_iter().enumerate() {
-            self.put(530 + 22 * k, 4, place as u64);
-            self.put(535 + 22 * k, 16, bits(e));
-        }
-    }
+// A call: what is handed in. For fresh `held` has the two counts that it takes no notice of.
+pub enum What<'a> {
+    Fresh,
+    Set(u64, u64, &'a Rule, &'a [f64]),
+    Settle(u64),
 }
 
-pub struct Caller {
+pub struct Call<'a> {
+    pub what: What<'a>,
+    pub held: Held,
+    pub lent: [usize; 8],
+}
+
+// Its answer; the lists afterwards are the caller's.
+pub struct Answer {
+    pub number: u64,
+    pub gradient: f64,
+    pub held: Held,
+}
+
+// Where the calls go: to a file for a program of the gate, or to the static library.
+pub trait Sink {
+    // The lists as they are lent at first.
+    fn lend(&mut self, lists: &Lists);
+    // Entries that are altered by hand.
+    fn entries(&mut self, list: usize, start: usize, words: &[u64]);
+    // A builder that is held from here on.
+    fn hold(&mut self, b: &Held);
+    fn call(&mut self, call: &Call, answer: &Answer, lists: &Lists);
+}
+
+pub struct Caller<'a> {
+    pub sink: &'a mut dyn Sink,
     pub lists: Lists,
     pub held: Held,
     pub rust: Option<AdaptiveBuilder>,
     // the builder was altered by hand, and every call with it is to be refused
     pub altered: bool,
-    pub out: Vec<u8>,
     pub cases: BTreeMap<String, usize>,
     pub gradients: usize,
 }
 
-impl Caller {
-    pub fn new() -> Caller {
+impl<'a> Caller<'a> {
+    pub fn new(lists: Lists, sink: &'a mut dyn Sink) -> Self {
         let settings = Settings { rmin: 0.0, rmax: 0.0, dr: 0.0, omega_step: 0.0, threshold: 0.0, beta: 0.0 };
-        let n = vertices_below(3);
+        sink.lend(&lists);
         Caller {
-            lists: Lists {
-                store: vec![1.0; 25392],
-                kinds: vec![9; 12],
-                levels: vec![9; 12],
-                values: vec![9; 12],
-                vertices: vec![0.0; 3 * n],
-                counts: vec![0; n],
-                neighbours: vec![0; 6 * n],
-                angles: vec![0.0; 6 * n],
-            },
+            sink,
+            lists,
             held: Held { settings, n_r: 0, n_omega: 0, top: 0, level: 0 },
             rust: None,
             altered: false,
-            out: Vec::new(),
             cases: BTreeMap::new(),
             gradients: 0,
         }
-    }
-
-    // A line that is passed over.
-    pub fn remark(&mut self, words: &str) {
-        let mut line = Line::new(0);
-        line.0[..2].copy_from_slice(b"# ");
-        line.0[2..2 + words.len()].copy_from_slice(words.as_bytes());
-        self.out.extend(line.0);
-    }
-
-    pub fn lines(&self) -> usize {
-        self.out.len() / LINE
     }
 
     fn case(&mut self, words: &str) {
@@ -114,55 +97,27 @@ impl Caller {
     }
 
     pub fn entries(&mut self, list: usize, start: usize, words: &[u64]) {
-        for (k, part) in words.chunks(32).enumerate() {
-            let mut line = Line::new(4);
-            line.put(3, 2, list as u64);
-            line.put(6, 4, (start + 32 * k) as u64);
-            line.put(11, 2, part.len() as u64);
-            for (i, &n) in part.iter().enumerate() {
-                line.put(14 + 17 * i, 16, n);
-                let at = start + 32 * k + i;
-                match list {
-                    0 => self.lists.kinds[at] = n as u8,
-                    1 => self.lists.levels[at] = n as u8,
-                    2 => self.lists.values[at] = n as u32,
-                    3 => self.lists.vertices[at] = f64::from_bits(n),
-                    4 => self.lists.counts[at] = n as u8,
-                    5 => self.lists.neighbours[at] = n as u16,
-                    _ => self.lists.angles[at] = f64::from_bits(n),
-                }
-            }
-            self.out.extend(line.0);
+        for (i, &n) in words.iter().enumerate() {
+            self.lists.put(list, start + i, n);
         }
+        self.sink.entries(list, start, words);
     }
 
     pub fn hold(&mut self, b: Held) {
-        let mut line = Line::new(5);
-        line.builder(&b);
-        self.out.extend(line.0);
+        self.sink.hold(&b);
         self.held = b;
     }
 
-    fn stamp(&self) -> u64 {
-        self.lists.store.iter().fold(1, |h, &e| (h * 16807 + bits(e) % PRIME + 1) % PRIME)
-    }
-
-    // Writes a call's line, once the call is done.
-    fn finish(&mut self, mut line: Line, what: &str, number: u64, gradient: f64, lent: &[usize; 8]) {
-        line.put(3, 2, number);
-        line.put(6, 16, self.held.level);
-        line.put(23, 16, bits(gradient));
-        line.put(40, 8, self.stamp());
-        for i in 0..12 {
-            line.put(49 + 15 * i, 2, self.lists.kinds[i] as u64);
-            line.put(52 + 15 * i, 2, self.lists.levels[i] as u64);
-            line.put(55 + 15 * i, 8, self.lists.values[i] as u64);
-        }
-        for (k, &n) in lent.iter().enumerate() {
-            line.put(229 + 5 * k, 4, n as u64);
-        }
-        self.out.extend(line.0);
-        self.case(&format!("{what} {number}"));
+    // Hands a call on, once it is answered.
+    fn finish(&mut self, what: What, held: Held, lent: [usize; 8], number: u64, gradient: f64) {
+        let name = match what {
+            What::Fresh => "fresh",
+            What::Set(..) => "set",
+            What::Settle(_) => "settle",
+        };
+        let answer = Answer { number, gradient, held: self.held };
+        self.sink.call(&Call { what, held, lent }, &answer, &self.lists);
+        self.case(&format!("{name} {number}"));
     }
 
     fn mesh(&self, level: u64) -> MeshLevel {
@@ -190,9 +145,6 @@ impl Caller {
 
     pub fn fresh(&mut self, settings: Settings, top: u64, counts: [u64; 2], lent: [usize; 8]) -> u64 {
         let (b, number) = refusals::fresh(settings, top, &lent, &self.lists);
-        let mut line = Line::new(1);
-        // fresh ignores the counts that it is handed, and is handed no level
-        line.builder(&Held { n_r: counts[0], n_omega: counts[1], level: 77, ..b });
         if number == 0 {
             let s = settings;
             let levels = (0..=top).map(|m| self.mesh(m)).collect();
@@ -206,18 +158,15 @@ impl Caller {
             self.lists.store[..slabs * n * n].fill(0.0);
             (0..slabs).for_each(|s| self.take_row(s));
         }
-        self.finish(line, "fresh", number, 0.0, &lent);
+        // fresh ignores the counts that it is handed, and is handed no level
+        let handed = Held { n_r: counts[0], n_omega: counts[1], level: 77, ..b };
+        self.finish(What::Fresh, handed, lent, number, 0.0);
         number
     }
 
     pub fn set(&mut self, ri: u64, oi: u64, rule: Rule, lent: [usize; 8]) -> u64 {
         let energies = rule.energies();
         let number = refusals::set(&self.held, &lent, ri, oi, &energies);
-        let mut line = Line::new(2);
-        line.builder(&self.held);
-        line.put(439, 16, ri);
-        line.put(456, 16, oi);
-        line.rule(&rule);
         if number == 0 {
             assert!(!self.altered);
             let s = (ri * self.held.n_omega + oi) as usize;
@@ -226,29 +175,27 @@ impl Caller {
             self.lists.store[s * n * n..][..energies.len()].copy_from_slice(&energies);
             self.take_row(s);
         }
-        self.finish(line, "set", number, 0.0, &lent);
+        self.finish(What::Set(ri, oi, &rule, &energies), self.held, lent, number, 0.0);
         number
     }
 
     pub fn settle(&mut self, ri: u64, lent: [usize; 8]) -> u64 {
         let number = refusals::settle(&self.held, &lent, &self.lists, ri);
-        let mut line = Line::new(3);
-        line.builder(&self.held);
-        line.put(439, 16, ri);
+        let before = self.held;
         let mut gradient = 0.0;
         if number == 0 {
             assert!(!self.altered);
             self.gradients += 1;
             let slice = (ri * self.held.n_omega) as usize..((ri + 1) * self.held.n_omega) as usize;
-            let before = self.lists.kinds[slice.clone()].to_vec();
+            let kinds = self.lists.kinds[slice.clone()].to_vec();
             let rust = self.rust.as_mut().unwrap();
             gradient = rust.finish_r_slice(ri as usize);
             let level = rust.current_level as u64;
             slice.clone().for_each(|s| self.take_row(s));
-            self.settled(&before, slice, level, gradient);
+            self.settled(&kinds, slice, level, gradient);
             self.held.level = level;
         }
-        self.finish(line, "settle", number, gradient, &lent);
+        self.finish(What::Settle(ri), before, lent, number, gradient);
         number
     }
 
@@ -295,19 +242,6 @@ impl Caller {
         }
         if gradient > 0.0 && gradient.is_subnormal() {
             self.case("a subnormal gradient");
-        }
-    }
-
-    // An entry of a lent list, as a line has it.
-    pub fn word(&self, list: usize, at: usize) -> u64 {
-        match list {
-            0 => self.lists.kinds[at] as u64,
-            1 => self.lists.levels[at] as u64,
-            2 => self.lists.values[at] as u64,
-            3 => bits(self.lists.vertices[at]),
-            4 => self.lists.counts[at] as u64,
-            5 => self.lists.neighbours[at] as u64,
-            _ => bits(self.lists.angles[at]),
         }
     }
 }

@@ -139,6 +139,13 @@ pub fn normal(v: [f64; 3]) -> [f64; 3] {
     [v[0] / l, v[1] / l, v[2] / l]
 }
 
+// The angle between two directions.
+pub fn angle(a: &[f64], b: &[f64]) -> f64 {
+    let dot: f64 = (0..3).map(|k| a[k] * b[k]).sum();
+    let cross = [a[1] * b[2] - a[2] * b[1], a[2] * b[0] - a[0] * b[2], a[0] * b[1] - a[1] * b[0]];
+    cross.iter().map(|x| x * x).sum::<f64>().sqrt().atan2(dot)
+}
+
 fn squared(a: [f64; 3], b: [f64; 3]) -> f64 {
     (0..3).map(|k| (a[k] - b[k]) * (a[k] - b[k])).sum()
 }
@@ -218,4 +225,25 @@ pub fn without_faces() -> Mesh {
 // Forty-two vertices, in sevens that are all tied: the most faces that the mesh rule allows, 15 a vertex.
 pub fn sevens() -> Mesh {
     Mesh::graph("six complete graphs on seven", 1, icosphere(1).vertices, |i, j| i % 6 == j % 6)
+}
+
+// Graphs over points of many kinds.
+pub const STRANGE: usize = 12;
+
+pub fn strange_points(base: &Mesh, kind: usize, random: &mut Random) -> Mesh {
+    let at = base.vertices.clone();
+    match kind {
+        0 => base.over("every coordinate any finite number", |_| [random.finite(), random.finite(), random.finite()]),
+        1 => base.over("whole numbers from -1 to 1", |_| [random.whole(1), random.whole(1), random.whole(1)]),
+        2 => base.over("distorted to whole numbers", |i| normal(at[i]).map(|x| (x * 1000.0).round() + random.whole(200))),
+        3 => base.over("lengths from 1e-300 to 1e300", |i| scaled(at[i], 10f64.powi(random.below(601) as i32 - 300))),
+        4 => base.over("a coordinate in three made tiny", |i| at[i].map(|x| if random.below(3) == 0 { x * 1e-300 } else { x })),
+        5 => base.over("near the largest", |i| at[i].map(|x| if random.below(2) == 0 { x * f64::MAX } else { x })),
+        6 => base.over("subnormal", |_| [random.whole(4) * 5e-324, random.whole(4) * 5e-324, random.whole(4) * 5e-324]),
+        7 => base.over("all in one octant", |_| random.direction().map(|x| x.abs())),
+        8 => base.over("on one line", |_| scaled([1.0, 2.0, -3.0], random.unit())),
+        9 => base.over("on a plane through the middle", |_| [random.unit(), random.unit(), 0.0]),
+        10 => base.over("large and small in turn", |_| [0, 1, 2].map(|_| random.unit() * [1e-170, 1.0, 1e170][random.below(3)])),
+        _ => base.over("random directions", |_| normal(random.direction())),
+    }
 }

@@ -1,39 +1,65 @@
-// The reader of tables: the lent lists, the table that is held, and the Rust's table. Every line of the input is written here; a reading's line has the Rust's energy where nothing was damaged or
+// The reader of tables: the lent lists, the table that is held, and the Rust's table. Every reading is answered here and handed on with its answer: the Rust's energy where nothing was damaged or
 // made by a host, and that of document 01's text (reading.rs) where something was.
-use crate::lines::{bits, Fixed};
+use crate::icotable::{Lent, Query, Table};
+use crate::lines::bits;
 use crate::meshes::Mesh;
 use crate::oracle::{FaceGrid, Vector3};
-use crate::reading::{cell_offsets_below, reading, vertices_below, Answer, Lent, Query, Table};
+use crate::reading::{cell_offsets_below, reading, vertices_below, Answer};
 use crate::rust::Table6DAdaptive;
 use std::collections::BTreeMap;
 
-const LINE: usize = 192;
-const MESHES: usize = 24 * LINE;
 pub const FILE: usize = 16384;
 
-type Line = Fixed<LINE>;
+// Lists, by their numbers: 0 file, 1 vertices, 2 cell offsets, 3 cell vertices, 4 face offsets, 5 faces.
+#[derive(Clone, Default)]
+pub struct Lists {
+    pub file: Vec<u8>,
+    pub vertices: Vec<f64>,
+    pub cell_offsets: Vec<u32>,
+    pub cell_vertices: Vec<u16>,
+    pub face_offsets: Vec<u32>,
+    pub faces: Vec<u16>,
+}
 
-impl Fixed<LINE> {
-    fn words(&mut self, words: [u64; 8]) {
-        for (k, n) in words.into_iter().enumerate() {
-            self.put(56 + 17 * k, 16, n);
+impl Lists {
+    pub fn lengths(&self) -> [usize; 6] {
+        [self.file.len(), self.vertices.len(), self.cell_offsets.len(), self.cell_vertices.len(), self.face_offsets.len(), self.faces.len()]
+    }
+
+    pub fn word(&self, list: usize, at: usize) -> u64 {
+        match list {
+            0 => self.file[at] as u64,
+            1 => bits(self.vertices[at]),
+            2 => self.cell_offsets[at] as u64,
+            3 => self.cell_vertices[at] as u64,
+            4 => self.face_offsets[at] as u64,
+            _ => self.faces[at] as u64,
+        }
+    }
+
+    fn put(&mut self, list: usize, at: usize, n: u64) {
+        match list {
+            0 => self.file[at] = n as u8,
+            1 => self.vertices[at] = f64::from_bits(n),
+            2 => self.cell_offsets[at] = n as u32,
+            3 => self.cell_vertices[at] = n as u16,
+            4 => self.face_offsets[at] = n as u32,
+            _ => self.faces[at] = n as u16,
+        }
+    }
+
+    // The first entries of each.
+    pub fn lent(&self, n: &[usize; 6]) -> Lent<'_> {
+        Lent {
+            file: &self.file[..n[0]],
+            vertices: &self.vertices[..n[1]],
+            cell_offsets: &self.cell_offsets[..n[2]],
+            cell_vertices: &self.cell_vertices[..n[3]],
+            face_offsets: &self.face_offsets[..n[4]],
+            faces: &self.faces[..n[5]],
         }
     }
 }
-
-fn settings(t: &Table) -> [u64; 8] {
-    let floats = [t.rmin, t.rmax, t.dr, t.omega_step, t.threshold, t.beta].map(bits);
-    [floats[0], floats[1], floats[2], floats[3], floats[4], floats[5], t.n_r, t.n_omega]
-}
-
-fn sections(t: &Table) -> [u64; 8] {
-    let s = t.starts;
-    [t.levels, t.rows, t.energies, s[0], s[1], s[2], s[3], s[4]]
-}
-
-// Lists, by their numbers: 0 file, 1 vertices, 2 cell offsets, 3 cell vertices, 4 face offsets, 5 faces. Entries are held as words.
-#[derive(Clone, PartialEq)]
-pub struct Lists(pub [Vec<u64>; 6]);
 
 // Something damaged: entries altered, fewer of them lent, another table.
 #[derive(Clone)]
@@ -43,15 +69,29 @@ pub struct Damage {
     pub table: Table,
 }
 
-pub struct Reader {
+// Where the readings go: to a file for a program of the gate, or to the static library.
+pub trait Sink {
+    // Meshes of levels 0 and 1, and the lists with their locators.
+    fn lend(&mut self, meshes: [&Mesh; 2], lists: &Lists);
+    // Entries that are altered by hand.
+    fn entries(&mut self, list: usize, start: usize, words: &[u64]);
+    // The file, and what read returns for it.
+    fn read(&mut self, file: &[u8], table: &Table);
+    // A table that takes the place of the one held.
+    fn hold(&mut self, held: &Table, table: &Table);
+    // A reading, its answer, and whose it is: 0 that of document 01's text, else the Rust's, by kind.
+    fn reading(&mut self, table: &Table, lists: &Lists, lent: &[usize; 6], q: &Query, a: &Answer, kind: usize);
+}
+
+pub struct Reader<'a> {
+    pub sink: &'a mut dyn Sink,
     pub lists: Lists,
     // what read returns for the file
     pub table: Table,
-    // what the program holds
+    // what is held
     held: Table,
     file_length: usize,
     pub rust: Option<Table6DAdaptive<f32>>,
-    pub out: Vec<u8>,
     pub cases: BTreeMap<String, usize>,
     pub counts: BTreeMap<&'static str, usize>,
 }
@@ -71,28 +111,27 @@ pub const COUNTED: [&str; 11] = [
     "refused with 20",
 ];
 
-impl Reader {
-    pub fn new() -> Reader {
+impl<'a> Reader<'a> {
+    pub fn new(sink: &'a mut dyn Sink) -> Self {
         let n = vertices_below(2) as usize;
-        let lengths = [FILE, 3 * n, cell_offsets_below(2) as usize, 27 * n, n + 2, 45 * n];
+        let lists = Lists {
+            file: vec![0; FILE],
+            vertices: vec![0.0; 3 * n],
+            cell_offsets: vec![0; cell_offsets_below(2) as usize],
+            cell_vertices: vec![0; 27 * n],
+            face_offsets: vec![0; n + 2],
+            faces: vec![0; 45 * n],
+        };
         Reader {
-            lists: Lists(lengths.map(|n| vec![0; n])),
+            sink,
+            lists,
             table: Table::default(),
             held: Table::default(),
             file_length: 0,
             rust: None,
-            out: Vec::new(),
             cases: BTreeMap::new(),
             counts: COUNTED.iter().map(|&words| (words, 0)).collect(),
         }
-    }
-
-    // A line that is passed over.
-    pub fn remark(&mut self, words: &str) {
-        let mut line = Line::new(0);
-        line.0[..2].copy_from_slice(b"# ");
-        line.0[2..2 + words.len()].copy_from_slice(words.as_bytes());
-        self.out.extend(line.0);
     }
 
     fn count(&mut self, words: &'static str) {
@@ -101,25 +140,13 @@ impl Reader {
 
     // All of each list, and of the file what the table has.
     pub fn lengths(&self) -> [usize; 6] {
-        [0, 1, 2, 3, 4, 5].map(|k| if k == 0 { self.file_length } else { self.lists.0[k].len() })
+        let mut n = self.lists.lengths();
+        n[0] = self.file_length;
+        n
     }
 
     // Meshes of levels 0 and 1; the locator call is made for each.
     pub fn lend(&mut self, meshes: [&Mesh; 2]) {
-        self.out.extend(Line::new(3).0);
-        let start = self.out.len();
-        let lent = meshes.map(|m| m.lent());
-        let mut put = |words: Vec<u64>, width: usize, across: usize| {
-            for (i, n) in words.iter().enumerate() {
-                self.out.extend(format!("{n:0width$X}").bytes());
-                self.out.push(if (i + 1) % across == 0 { b'\n' } else { b' ' });
-            }
-        };
-        put(lent.iter().flat_map(|l| l.vertices.iter().map(|&x| bits(x))).collect(), 16, 3);
-        put(lent.iter().flat_map(|l| l.counts.iter().map(|&x| x as u64)).collect(), 2, 54);
-        put(lent.iter().flat_map(|l| l.neighbours.iter().map(|&x| x as u64)).collect(), 4, 6);
-        self.out.resize(start + MESHES - 1, b' ');
-        self.out.push(b'\n');
         for (level, mesh) in meshes.into_iter().enumerate() {
             assert_eq!(mesh.level, level);
             let grid = FaceGrid::new(&mesh.vertices, &mesh.neighbours);
@@ -133,48 +160,29 @@ impl Reader {
                 (45 * below, faces),
             ];
             for (k, (at, words)) in parts.into_iter().enumerate() {
-                self.lists.0[k + 1][at..at + words.len()].copy_from_slice(&words);
+                words.into_iter().enumerate().for_each(|(i, n)| self.lists.put(k + 1, at + i, n));
             }
         }
+        self.sink.lend(meshes, &self.lists);
         self.count("meshes and their locators");
     }
 
-    // Entries of a list, in lines.
     fn entries(&mut self, list: usize, start: usize, words: &[u64]) {
-        let (across, width, apart) = if list == 0 { (88, 2, 2) } else { (10, 16, 17) };
-        for (k, part) in words.chunks(across).enumerate() {
-            let mut line = Line::new(2);
-            line.put(3, 2, list as u64);
-            line.put(6, 4, (start + across * k) as u64);
-            line.put(11, 2, part.len() as u64);
-            for (i, &n) in part.iter().enumerate() {
-                line.put(14 + apart * i, width, n);
-            }
-            self.out.extend(line.0);
-        }
-        self.lists.0[list][start..start + words.len()].copy_from_slice(words);
+        words.iter().enumerate().for_each(|(i, &n)| self.lists.put(list, start + i, n));
+        self.sink.entries(list, start, words);
     }
 
     // The table's file, and what read returns for it.
     pub fn read(&mut self, rust: Table6DAdaptive<f32>, file: &[u8], table: Table) {
         let words: Vec<u64> = file.iter().map(|&b| b as u64).collect();
         self.entries(0, 0, &words);
-        let mut line = Line::new(4);
-        line.put(6, 2, 0);
-        line.put(26, 4, file.len() as u64);
-        self.out.extend(line.0);
+        self.sink.read(file, &table);
         self.count("files read");
         (self.table, self.held, self.rust, self.file_length) = (table, table, Some(rust), file.len());
     }
 
     fn hold(&mut self, t: Table) {
-        for (what, words) in [(5, settings as fn(&Table) -> [u64; 8]), (6, sections)] {
-            if words(&t) != words(&self.held) {
-                let mut line = Line::new(what);
-                line.words(words(&t));
-                self.out.extend(line.0);
-            }
-        }
+        self.sink.hold(&self.held, &t);
         self.held = t;
     }
 
@@ -184,41 +192,22 @@ impl Reader {
 
     // Document 01's answer over damaged lists.
     pub fn answer(&self, d: &Damage, q: &Query) -> Answer {
+        if d.entries.is_empty() {
+            return reading(&d.table, self.lists.lent(&d.lent), q);
+        }
         let mut lists = self.lists.clone();
         for &(list, at, n) in &d.entries {
-            lists.0[list][at] = n;
+            lists.put(list, at, n);
         }
-        let part = |k: usize| &lists.0[k][..d.lent[k]];
-        let longs = |k: usize| part(k).iter().map(|&n| n as u32).collect::<Vec<u32>>();
-        let shorts = |k: usize| part(k).iter().map(|&n| n as u16).collect::<Vec<u16>>();
-        let file: Vec<u8> = part(0).iter().map(|&n| n as u8).collect();
-        let vertices: Vec<f64> = part(1).iter().map(|&n| f64::from_bits(n)).collect();
-        let (cell_offsets, cell_vertices, face_offsets, faces) = (longs(2), shorts(3), longs(4), shorts(5));
-        let lent = Lent {
-            file: &file,
-            vertices: &vertices,
-            cell_offsets: &cell_offsets,
-            cell_vertices: &cell_vertices,
-            face_offsets: &face_offsets,
-            faces: &faces,
-        };
-        reading(&d.table, lent, q)
+        reading(&d.table, lists.lent(&d.lent), q)
     }
 
-    // A reading's line.
-    fn line(&mut self, lent: &[usize; 6], q: &Query, a: &Answer, rust: bool) {
+    // Hands a reading on.
+    fn hand(&mut self, lent: &[usize; 6], q: &Query, a: &Answer, rust: bool) {
         let kinds = ["", "below rmin", "Scalar", "Repulsive", "nearest", "interpolated"];
         let words = if a.words == "above rmax" { "below rmin" } else { a.words };
         let kind = if rust { kinds.iter().position(|w| *w == words).unwrap_or(0) } else { 0 };
-        let mut line = Line::new(1);
-        line.put(3, 2, kind as u64);
-        line.put(6, 2, a.number);
-        line.put(9, 16, bits(a.energy));
-        for (k, &n) in lent.iter().enumerate() {
-            line.put(26 + 5 * k, 4, n as u64);
-        }
-        line.words([q.r, q.omega, q.a[0], q.a[1], q.a[2], q.b[0], q.b[1], q.b[2]].map(bits));
-        self.out.extend(line.0);
+        self.sink.reading(&self.held, &self.lists, lent, q, a, kind);
         let counted = match a.number {
             0 if kind == 0 => 7,
             0 => kind + 1,
@@ -239,19 +228,19 @@ impl Reader {
             assert_eq!(bits(energy), bits(a.energy), "{}: {q:?}", a.words);
         }
         self.hold(d.table);
-        self.line(&d.lent, q, &a, true);
+        self.hand(&d.lent, q, &a, true);
     }
 
     // Damages, reads, and puts it right again.
     pub fn damaged(&mut self, d: &Damage, queries: &[Query]) {
-        let before: Vec<(usize, usize, u64)> = d.entries.iter().map(|&(list, at, _)| (list, at, self.lists.0[list][at])).collect();
+        let before: Vec<(usize, usize, u64)> = d.entries.iter().map(|&(list, at, _)| (list, at, self.lists.word(list, at))).collect();
         let answers: Vec<Answer> = queries.iter().map(|q| self.answer(d, q)).collect();
         for &(list, at, n) in &d.entries {
             self.entries(list, at, &[n]);
         }
         self.hold(d.table);
         for (q, a) in queries.iter().zip(&answers) {
-            self.line(&d.lent, q, a, false);
+            self.hand(&d.lent, q, a, false);
         }
         for (list, at, n) in before.into_iter().rev() {
             self.entries(list, at, &[n]);

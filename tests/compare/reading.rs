@@ -1,44 +1,8 @@
 // The reading of a table file, from document 01's text and from nothing else: the number of the first question that is answered no, or 0 and the energy; and which case it is. What a host hands in may be
 // any number, so places are whole numbers of 128 bits. The projections of a direction are the oracle's, which 01 names as the references of a search.
+use crate::icotable::{Lent, Query, Table};
 use crate::oracle::{cube_project, projected_barycentric, Vector3};
 use std::f64::consts::TAU;
-
-// What read returned, or what a host made in its place.
-#[derive(Clone, Copy, Debug, Default)]
-pub struct Table {
-    pub rmin: f64,
-    pub rmax: f64,
-    pub dr: f64,
-    pub omega_step: f64,
-    pub threshold: f64,
-    pub beta: f64,
-    pub n_r: u64,
-    pub n_omega: u64,
-    pub levels: u64,
-    pub rows: u64,
-    pub energies: u64,
-    // of the sections: grid, bins, levels, rows, energies
-    pub starts: [u64; 5],
-}
-
-// What is lent to a reading.
-#[derive(Clone, Copy)]
-pub struct Lent<'a> {
-    pub file: &'a [u8],
-    pub vertices: &'a [f64],
-    pub cell_offsets: &'a [u32],
-    pub cell_vertices: &'a [u16],
-    pub face_offsets: &'a [u32],
-    pub faces: &'a [u16],
-}
-
-#[derive(Clone, Copy, Debug)]
-pub struct Query {
-    pub r: f64,
-    pub omega: f64,
-    pub a: [f64; 3],
-    pub b: [f64; 3],
-}
 
 #[derive(Clone, Copy)]
 pub struct Answer {
@@ -209,7 +173,7 @@ fn mesh_row(t: &Table, lent: Lent, q: &Query, level: u64, offset: u32, interpola
     let mut energies = Vec::new();
     for &i in &a.vertices {
         for &j in &b.vertices {
-            let bytes = item(lent.file, t.starts[4], t.energies, offset as u128 + i * n + j, 4, words)?;
+            let bytes = item(lent.file, t.start[4], t.energies, offset as u128 + i * n + j, 4, words)?;
             energies.push(f32::from_bits(u32_of(bytes)) as f64);
         }
     }
@@ -239,18 +203,18 @@ fn row(t: &Table, lent: Lent, q: &Query) -> Result<(f64, &'static str), Refusal>
     if !held(q.b) {
         return Err((18, "the length of the second direction"));
     }
-    if q.r < t.rmin || q.r > (t.n_r as f64).mul_add(t.dr, t.rmin) {
-        return Ok((0.0, if q.r < t.rmin { "below rmin" } else { "above rmax" }));
+    if q.r < t.grid.rmin || q.r > (t.grid.n_r as f64).mul_add(t.grid.dr, t.grid.rmin) {
+        return Ok((0.0, if q.r < t.grid.rmin { "below rmin" } else { "above rmax" }));
     }
-    if t.n_r == 0 || t.n_omega == 0 {
+    if t.grid.n_r == 0 || t.grid.n_omega == 0 {
         return Err((19, "no bins"));
     }
-    let ri = (((q.r - t.rmin) / t.dr + 0.5) as u64).min(t.n_r - 1);
+    let ri = (((q.r - t.grid.rmin) / t.grid.dr + 0.5) as u64).min(t.grid.n_r - 1);
     let angle = q.omega % TAU;
     let angle = if angle < 0.0 { angle + TAU } else { angle };
-    let oi = (angle / t.omega_step + 0.5) as u64 % t.n_omega;
-    let s = ri as u128 * t.n_omega as u128 + oi as u128;
-    let bytes = item(lent.file, t.starts[3], t.rows, s, 10, ["a row beyond the count", "a row beyond the file"])?;
+    let oi = (angle / t.grid.omega_step + 0.5) as u64 % t.grid.n_omega;
+    let s = ri as u128 * t.grid.n_omega as u128 + oi as u128;
+    let bytes = item(lent.file, t.start[3], t.rows, s, 10, ["a row beyond the count", "a row beyond the file"])?;
     let level = bytes[1] as u64;
     let interpolate = bytes[0] == 3;
     match bytes[0] {

@@ -12,15 +12,19 @@ mod oracle {
 mod rust {
     include!(concat!(env!("COMPARE"), "/lookup.rs"));
 }
+#[allow(dead_code)]
+mod icotable;
+mod pack;
+mod queries;
 mod reader;
 mod reading;
 
-use meshes::{icosphere, scaled, sevens, without_faces, Mesh, Random};
-use oracle::FaceGrid;
-use reader::{Damage, Reader, COUNTED, FILE};
-use reading::{cell_offset, Query, Table};
-use rust::{AdaptiveBuilder, MeshLevel, SlabResolution, Table6DAdaptive};
-use std::f64::consts::TAU;
+use icotable::{Query, Table};
+use lines::{bits, Fixed};
+use meshes::{Mesh, Random};
+use queries::asked;
+use reader::{Lists, Reader, Sink, COUNTED};
+use reading::Answer;
 
 const HEAD: &[&str] = &[
     "Readings of tables, 192 letters a line; numbers in hexadecimal, floats by their bits. A line that starts so is passed over.",
@@ -32,459 +36,94 @@ const HEAD: &[&str] = &[
     "05 rmin, rmax, dr, omega step, threshold, beta, both bin counts; 06 the counts of levels, rows and energies, and the starts of the five sections.",
 ];
 
-#[derive(Clone, Copy)]
-enum Row {
-    Scalar(f32),
-    Repulsive,
-    Mesh(u8, bool),
-}
+const LINE: usize = 192;
+const MESHES: usize = 24 * LINE;
 
-const TINY: f32 = 1e-40;
-const NEAREST: [Row; 2] = [Row::Mesh(0, false), Row::Mesh(1, false)];
-const INTERPOLATED: [Row; 2] = [Row::Mesh(0, true), Row::Mesh(1, true)];
+type Line = Fixed<LINE>;
 
-fn energies(n: usize, random: &mut Random) -> Vec<f64> {
-    let some = [0.0, -0.0, f64::INFINITY, f64::NEG_INFINITY, 1e300, 1e-42, -1e-60, 3.4028235e38];
-    let odd = random.below(3);
-    let mut list: Vec<f64> = (0..n * n)
-        .map(|_| match random.below(30) {
-            0 if odd == 0 => some[random.below(8)],
-            1 if odd == 0 => random.finite(),
-            _ => random.unit() * 20.0,
-        })
-        .collect();
-    // where no face fits, weights of 0 times this one: terms of -0.0
-    list[0] = -1.25;
-    list
-}
-
-fn bytes(t: &Table6DAdaptive<f32>) -> (Vec<u8>, Table) {
-    let mut file = Vec::new();
-    let mut starts = [0; 5];
-    let mut section = |k: usize, count: usize, items: Vec<u8>| {
-        file.extend((count as u32).to_le_bytes());
-        starts[k] = file.len() as u64;
-        file.extend(items);
-    };
-    let grid = [t.rmin, t.dr, t.omega_step];
-    section(0, 3, grid.iter().flat_map(|x| x.to_le_bytes()).collect());
-    section(1, 2, [t.n_r, t.n_omega].iter().flat_map(|&n| (n as u32).to_le_bytes()).collect());
-    section(2, t.levels.len(), t.levels.iter().flat_map(|l| (l.n_vertices as u32).to_le_bytes()).collect());
-    let mut rows = Vec::new();
-    for (res, offset) in t.slab_res.iter().zip(&t.slab_offsets) {
-        let (kind, level, scalar) = match *res {
-            SlabResolution::Scalar(x) => (0, 0, if x.is_nan() { 0x7fc0_0000 } else { x.to_bits() }),
-            SlabResolution::Repulsive => (1, 0, 0),
-            SlabResolution::Mesh { level, interpolate } => (2 + interpolate as u8, level, 0),
-        };
-        rows.extend([kind, level]);
-        rows.extend(offset.to_le_bytes());
-        rows.extend(u32::to_le_bytes(scalar));
+impl Fixed<LINE> {
+    fn words(&mut self, words: [u64; 8]) {
+        for (k, n) in words.into_iter().enumerate() {
+            self.put(56 + 17 * k, 16, n);
+        }
     }
-    section(3, t.slab_res.len(), rows);
-    section(4, t.data.len(), t.data.iter().flat_map(|x| x.to_bits().to_le_bytes()).collect());
-    let table = Table {
-        rmin: t.rmin,
-        rmax: t.rmax,
-        dr: t.dr,
-        omega_step: t.omega_step,
-        threshold: 0.0,
-        beta: 0.0,
-        n_r: t.n_r as u64,
-        n_omega: t.n_omega as u64,
-        levels: t.levels.len() as u64,
-        rows: t.slab_res.len() as u64,
-        energies: t.data.len() as u64,
-        starts,
-    };
-    (file, table)
 }
 
-// A table packed by the Rust, its file read.
-fn table(reader: &mut Reader, random: &mut Random, meshes: [&Mesh; 2], top: usize, grid: [f64; 4], rows: &[Row]) {
-    reader.lend(meshes);
-    let levels = meshes[..top + 1].iter().map(|m| MeshLevel { n_vertices: m.vertices.len(), grid: FaceGrid::new(&m.vertices, &m.neighbours) });
-    let [rmin, rmax, dr, step] = grid;
-    let mut b = AdaptiveBuilder::with_subdivision(levels.collect(), rmin, rmax, dr, step, top, 0.1, 1.0);
-    assert_eq!(b.slab_res.len(), rows.len());
-    for (s, row) in rows.iter().enumerate() {
-        (b.slab_res[s], b.slab_data[s]) = match *row {
-            Row::Scalar(x) => (SlabResolution::Scalar(x), None),
-            Row::Repulsive => (SlabResolution::Repulsive, None),
-            Row::Mesh(level, interpolate) => {
-                let n = meshes[level as usize].vertices.len();
-                (SlabResolution::Mesh { level, interpolate }, Some(energies(n, random)))
+fn settings(t: &Table) -> [u64; 8] {
+    let floats = [t.grid.rmin, t.grid.rmax, t.grid.dr, t.grid.omega_step, t.grid.threshold, t.grid.beta].map(bits);
+    [floats[0], floats[1], floats[2], floats[3], floats[4], floats[5], t.grid.n_r, t.grid.n_omega]
+}
+
+fn sections(t: &Table) -> [u64; 8] {
+    let s = t.start;
+    [t.levels, t.rows, t.energies, s[0], s[1], s[2], s[3], s[4]]
+}
+
+// The lines of the file.
+#[derive(Default)]
+struct Written {
+    out: Vec<u8>,
+}
+
+impl Sink for Written {
+    fn lend(&mut self, meshes: [&Mesh; 2], _: &Lists) {
+        self.out.extend(Line::new(3).0);
+        let start = self.out.len();
+        let lent = meshes.map(|m| m.lent());
+        let mut put = |words: Vec<u64>, width: usize, across: usize| {
+            for (i, n) in words.iter().enumerate() {
+                self.out.extend(format!("{n:0width$X}").bytes());
+                self.out.push(if (i + 1) % across == 0 { b'\n' } else { b' ' });
             }
         };
+        put(lent.iter().flat_map(|l| l.vertices.iter().map(|&x| bits(x))).collect(), 16, 3);
+        put(lent.iter().flat_map(|l| l.counts.iter().map(|&x| x as u64)).collect(), 2, 54);
+        put(lent.iter().flat_map(|l| l.neighbours.iter().map(|&x| x as u64)).collect(), 4, 6);
+        self.out.resize(start + MESHES - 1, b' ');
+        self.out.push(b'\n');
     }
-    let built = b.build();
-    let (file, t) = bytes(&built);
-    assert!(file.len() <= FILE);
-    reader.read(built, &file, t);
-}
 
-// ---- what is asked for
-
-fn step_of(x: f64, up: bool) -> f64 {
-    if up { x.next_up() } else { x.next_down() }
-}
-
-fn distance(t: &Table, random: &mut Random) -> f64 {
-    let k = random.below(t.n_r as usize + 1) as f64;
-    match random.below(13) {
-        0 => t.rmin,
-        1 => step_of(t.rmin, random.below(2) == 0),
-        2 => t.rmax,
-        3 => step_of(t.rmax, random.below(2) == 0),
-        4 => t.rmin + k * t.dr,
-        5 => t.rmin + (k + 0.5) * t.dr,
-        6 => step_of(t.rmin + (k + 0.5) * t.dr, random.below(2) == 0),
-        7 if random.below(3) == 0 => [f64::INFINITY, f64::NEG_INFINITY, t.rmin - t.dr, t.rmax + t.dr, f64::MAX, -0.0, 5e-324][random.below(7)],
-        _ => t.rmin + (t.rmax - t.rmin) * (0.5 + 0.5 * random.unit()),
-    }
-}
-
-fn angle(t: &Table, random: &mut Random) -> f64 {
-    let k = random.whole(2 * t.n_omega as usize);
-    let sign = if random.below(3) == 0 { -1.0 } else { 1.0 };
-    sign * match random.below(11) {
-        0 => [0.0, 5e-324, 1e-20, 1e-16, f64::MAX, 1e300][random.below(6)],
-        1 => [TAU, TAU.next_down(), TAU.next_up(), 2.0 * TAU, 1e6 * TAU][random.below(5)],
-        2 => k * t.omega_step,
-        3 => (k + 0.5) * t.omega_step,
-        4 => step_of((k + 0.5) * t.omega_step, random.below(2) == 0),
-        5 => random.finite(),
-        6 => random.unit() * 1e5,
-        _ => random.unit() * TAU,
-    }
-}
-
-fn direction(mesh: &Mesh, random: &mut Random) -> [f64; 3] {
-    let i = random.below(mesh.vertices.len());
-    let a = mesh.vertices[i];
-    let b = mesh.vertices[mesh.neighbours[i][random.below(5)] as usize];
-    let d = match random.below(12) {
-        0 => {
-            let mut d = [0.0, -0.0, 0.0];
-            d[random.below(3)] = [1.0, -1.0][random.below(2)];
-            d
-        }
-        1 => [0, 1, 2].map(|_| [1.0, -1.0][random.below(2)]),
-        2 => a,
-        3 => [a[0] + b[0], a[1] + b[1], a[2] + b[2]],
-        4 => [random.whole(2), random.whole(2), random.whole(2)],
-        5 => [random.unit(), random.unit() * 1e-9, random.unit()],
-        6 => scaled(random.direction(), [1e-160, 1e153, 1e-3, 7.0][random.below(4)]),
-        _ => random.direction(),
-    };
-    // few of what 18 refuses
-    if d.iter().map(|x| x * x).sum::<f64>() > 0.0 || random.below(8) == 0 { d } else { random.direction() }
-}
-
-fn query(t: &Table, meshes: [&Mesh; 2], random: &mut Random) -> Query {
-    let m = meshes[random.below(2)];
-    Query { r: distance(t, random), omega: angle(t, random), a: direction(m, random), b: direction(m, random) }
-}
-
-// A query that reads a slab of the table.
-fn query_at(t: &Table, s: u64, meshes: [&Mesh; 2], random: &mut Random) -> Query {
-    let m = meshes[random.below(2)];
-    let (ri, oi) = (s / t.n_omega, s % t.n_omega);
-    let (r, omega) = (t.rmin + ri as f64 * t.dr, oi as f64 * t.omega_step);
-    Query { r, omega, a: direction(m, random), b: direction(m, random) }
-}
-
-fn readings(reader: &mut Reader, random: &mut Random, meshes: [&Mesh; 2], how_many: usize) {
-    let t = reader.table;
-    for _ in 0..how_many {
-        let q = if random.below(3) == 0 { query(&t, meshes, random) } else { query_at(&t, random.below(t.rows as usize) as u64, meshes, random) };
-        reader.sound(&q);
-    }
-}
-
-// 18, at each slab's kind and outside the distances.
-fn refused_queries(reader: &mut Reader, random: &mut Random, meshes: [&Mesh; 2]) {
-    let t = reader.table;
-    let bad = [[0.0, -0.0, 0.0], [1e-200, 0.0, -1e-200], [1e200, 1.0, 1.0], [f64::NAN, 1.0, 0.0], [1.0, f64::INFINITY, 0.0], [0.0, 5e-324, 0.0]];
-    for (k, d) in bad.into_iter().enumerate() {
-        for which in 0..2 {
-            let mut q = query_at(&t, (2 * k + which) as u64 % t.rows, meshes, random);
-            if k == which {
-                q.r = t.rmax + t.dr;
+    fn entries(&mut self, list: usize, start: usize, words: &[u64]) {
+        let (across, width, apart) = if list == 0 { (88, 2, 2) } else { (10, 16, 17) };
+        for (k, part) in words.chunks(across).enumerate() {
+            let mut line = Line::new(2);
+            line.put(3, 2, list as u64);
+            line.put(6, 4, (start + across * k) as u64);
+            line.put(11, 2, part.len() as u64);
+            for (i, &n) in part.iter().enumerate() {
+                line.put(14 + apart * i, width, n);
             }
-            *[&mut q.a, &mut q.b][which] = d;
-            reader.sound(&q);
+            self.out.extend(line.0);
         }
     }
-    for x in [f64::NAN, f64::INFINITY, f64::NEG_INFINITY] {
-        for s in 0..3 {
-            let mut q = query_at(&t, s, meshes, random);
-            q.omega = x;
-            if s == 2 {
-                q.r = t.rmin - t.dr;
-            }
-            reader.sound(&q);
-        }
+
+    fn read(&mut self, file: &[u8], _: &Table) {
+        let mut line = Line::new(4);
+        line.put(6, 2, 0);
+        line.put(26, 4, file.len() as u64);
+        self.out.extend(line.0);
     }
-    for s in 0..4 {
-        let mut q = query_at(&t, s, meshes, random);
-        q.r = f64::NAN;
-        reader.sound(&q);
-    }
-}
 
-// ---- what is damaged
-
-fn wide(random: &mut Random) -> u64 {
-    let k = random.below(64);
-    let near = random.below(3) as u64;
-    match random.below(10) {
-        0 => near,
-        1 => u64::MAX - near,
-        2 => (1 << 32) - 1 + near,
-        3 => (1 << 63) - 1 + near,
-        4 => 1 << k,
-        5 => random.bits() >> k,
-        6 => 65536,
-        7 => (1 << 53) + near,
-        _ => u64::MAX - random.below(20000) as u64,
-    }
-}
-
-fn odd_float(random: &mut Random) -> f64 {
-    let sign = [1.0, -1.0][random.below(2)];
-    sign * [f64::NAN, f64::INFINITY, 0.0, 5e-324, 1e-310, 1.0, f64::MAX, f64::MIN_POSITIVE, random.finite()][random.below(9)]
-}
-
-// A byte of the file, among the rows more often than not.
-fn damaged_file(t: &Table, random: &mut Random) -> (usize, usize, u64) {
-    let row = t.starts[3] as usize + 10 * random.below(t.rows as usize);
-    match random.below(6) {
-        0 => (0, row, random.below(6) as u64),
-        1 => (0, row, 255),
-        2 => (0, row + 1, [1, 2, 3, 255][random.below(4)]),
-        3 => (0, row + 2 + random.below(4), [0, 1, 128, 255][random.below(4)]),
-        4 => (0, row + 6 + random.below(4), random.below(256) as u64),
-        _ => (0, random.below(t.starts[4] as usize), random.below(256) as u64),
-    }
-}
-
-fn damaged_list(reader: &Reader, random: &mut Random) -> (usize, usize, u64) {
-    let list = 1 + random.below(5);
-    let at = random.below(reader.lists.0[list].len());
-    let now = reader.lists.0[list][at];
-    let n = match list {
-        1 => lines::bits(odd_float(random)),
-        2 | 4 => [now.saturating_sub(1), now + 1, 0, 0xffff_ffff, 0x8000_0000, 0x5555_5556, now + 40][random.below(7)],
-        _ => [12, 41, 42, 65535, random.below(12) as u64][random.below(5)],
-    };
-    (list, at, n & if list == 2 || list == 4 { 0xffff_ffff } else { u64::MAX })
-}
-
-// How much is lent: of one list less.
-fn less(reader: &Reader, random: &mut Random) -> [usize; 6] {
-    let t = &reader.table;
-    let mut lent = reader.lengths();
-    let k = random.below(6);
-    let row = t.starts[3] as usize + 10 * random.below(t.rows as usize);
-    lent[k] = match (k, random.below(3)) {
-        (0, 0) => row + random.below(11),
-        (0, _) => t.starts[4] as usize + random.below(4 * t.energies as usize + 1),
-        (_, 0) => random.below(lent[k]),
-        _ => lent[k] - random.below(lent[k] / 8),
-    };
-    lent
-}
-
-// A table that a host made, from the one that read returned.
-fn host(t: &Table, random: &mut Random) -> Table {
-    let mut h = *t;
-    let start = |now: u64, items: u64, random: &mut Random| {
-        [wide(random), now.wrapping_sub(items * random.below(12) as u64), now + 1][random.below(3)]
-    };
-    for _ in 0..1 + random.below(2) {
-        match random.below(10) {
-            0 => h.dr = odd_float(random),
-            1 => h.omega_step = odd_float(random),
-            2 => h.rmin = odd_float(random),
-            3 => h.n_r = wide(random),
-            4 => h.n_omega = wide(random),
-            5 => h.levels = [wide(random), 1, 0][random.below(3)],
-            6 => h.rows = [wide(random), random.below(t.rows as usize) as u64][random.below(2)],
-            7 => h.energies = [wide(random), random.below(t.energies as usize) as u64][random.below(2)],
-            8 => h.starts[3] = start(h.starts[3], 10, random),
-            _ => h.starts[4] = start(h.starts[4], 4, random),
-        }
-    }
-    // nothing reads these
-    (h.rmax, h.threshold, h.beta) = (odd_float(random), odd_float(random), odd_float(random));
-    for k in 0..3 {
-        h.starts[k] = wide(random);
-    }
-    h
-}
-
-// Sums and products that come to what a file has once 2^64 is taken off: a product of bins, a row's place, an energy's place.
-fn wrapped(reader: &Reader, random: &mut Random) -> (Damage, Query) {
-    let mut d = reader.undamaged();
-    let t = reader.table;
-    let k = 1 + random.below(30);
-    let s = random.below(t.rows as usize) as u64;
-    let mut q = query_at(&t, s, [&icosphere(0), &icosphere(1)], random);
-    match random.below(5) {
-        // 2^(64 - k) distances and 2^k angles: row 2^64
-        0 => (q.r, q.omega) = (2f64.powi(64 - k as i32), 0.0),
-        // row 2^63, ten bytes each
-        1 => (q.r, q.omega) = (2f64.powi(63 - k as i32), 0.0),
-        // the row's place, and the energy's
-        2 => d.table.starts[3] = t.starts[3].wrapping_sub(10 * s),
-        3 => d.table.starts[3] = t.starts[3].wrapping_sub(10 * (s + 1)),
-        _ => d.table.starts[4] = t.starts[4].wrapping_sub(4 * random.below(2000) as u64),
-    }
-    if q.r > 1e9 {
-        (d.table.rmin, d.table.dr, d.table.n_r, d.table.n_omega) = (0.0, 1.0, 1 << 63, 1 << k);
-    }
-    (d.table.rows, d.table.energies) = (u64::MAX, u64::MAX);
-    (d, q)
-}
-
-// At most `most` readings of each case that damage leads to.
-fn damages(reader: &mut Reader, random: &mut Random, meshes: [&Mesh; 2], most: usize) {
-    let t = reader.table;
-    let mut seen: std::collections::BTreeMap<(usize, &str), usize> = std::collections::BTreeMap::new();
-    for _ in 0..12000 {
-        let what = random.below(5);
-        let mut d = reader.undamaged();
-        let s = random.below(t.rows as usize) as u64;
-        let mut q = query_at(&t, s, meshes, random);
-        match what {
-            0 => d.entries.push(damaged_file(&t, random)),
-            1 => d.entries.push(damaged_list(reader, random)),
-            2 => d.lent = less(reader, random),
-            3 => {
-                d.table = host(&t, random);
-                if random.below(2) == 0 {
-                    q = query(&t, meshes, random);
-                }
-            }
-            _ => (d, q) = wrapped(reader, random),
-        }
-        // an empty cell beside another damage: 19 before 20
-        if what < 3 && random.below(6) == 0 {
-            d.entries.push(damaged_list(reader, random));
-        }
-        let (sound, a) = (reader.answer(&reader.undamaged(), &q), reader.answer(&d, &q));
-        let altered = sound.number != a.number || lines::bits(sound.energy) != lines::bits(a.energy);
-        let n = seen.entry((what, a.words)).or_default();
-        // a damage that shows is worth more than one that does not
-        if *n < if altered || a.number > 0 { most } else { 1 } {
-            *n += 1;
-            reader.damaged(&d, &[q]);
-        }
-    }
-}
-
-// Each number that a host may hand in, at 0, 1 and beyond what 32 and 64 bits hold, and each float at its limits.
-fn hosts(reader: &mut Reader, random: &mut Random, meshes: [&Mesh; 2]) {
-    let t = reader.table;
-    let whole = [0, 1, (1 << 32) - 1, 1 << 32, 1 << 63, u64::MAX];
-    let floats = [f64::NAN, f64::INFINITY, f64::NEG_INFINITY, 0.0, -0.0, -1.0, 5e-324, -5e-324, 1e-310, f64::MAX];
-    for field in 0..10 {
-        for k in 0..if field < 3 { 10 } else { 6 } {
-            let mut h = t;
-            match field {
-                0 => h.dr = floats[k],
-                1 => h.omega_step = floats[k],
-                2 => h.rmin = floats[k],
-                3 => h.n_r = whole[k],
-                4 => h.n_omega = whole[k],
-                5 => h.levels = whole[k],
-                6 => h.rows = whole[k],
-                7 => h.energies = whole[k],
-                8 => h.starts[3] = whole[k],
-                _ => h.starts[4] = whole[k],
-            }
-            // rows that hold energies: the first four
-            let mut q = query_at(&t, random.below(4) as u64, meshes, random);
-            q.omega += 0.01;
-            let mut d = reader.undamaged();
-            d.table = h;
-            reader.damaged(&d, &[q]);
-        }
-    }
-}
-
-// As little as a reading needs, and one less: of each list, of each count.
-fn edges(reader: &mut Reader, random: &mut Random, meshes: [&Mesh; 2]) {
-    let t = reader.table;
-    for s in 0..5 {
-        let q = query_at(&t, s, meshes, random);
-        if reader.answer(&reader.undamaged(), &q).number != 0 {
-            continue;
-        }
-        for k in 0..9 {
-            let with = |n: usize, reader: &Reader| {
-                let mut d = reader.undamaged();
-                match k {
-                    6 => d.table.levels = n as u64,
-                    7 => d.table.rows = n as u64,
-                    8 => d.table.energies = n as u64,
-                    _ => d.lent[k] = n,
-                }
-                d
-            };
-            let all = if k < 6 { reader.lengths()[k] } else { [t.levels, t.rows, t.energies][k - 6] as usize };
-            // nothing short of it is enough
-            let (mut short, mut enough) = (0, all);
-            while short < enough {
-                let n = (short + enough) / 2;
-                if reader.answer(&with(n, reader), &q).number == 0 { enough = n } else { short = n + 1 }
-            }
-            if enough > 0 {
-                for n in [enough - 1, enough] {
-                    let d = with(n, reader);
-                    reader.damaged(&d, &[q]);
-                }
+    fn hold(&mut self, held: &Table, t: &Table) {
+        for (what, words) in [(5, settings as fn(&Table) -> [u64; 8]), (6, sections)] {
+            if words(t) != words(held) {
+                let mut line = Line::new(what);
+                line.words(words(t));
+                self.out.extend(line.0);
             }
         }
     }
-}
 
-// An angle that the remainder makes TAU is not in bin 0 of every grid that a host may make.
-fn near_tau(reader: &mut Reader, random: &mut Random, meshes: [&Mesh; 2]) {
-    let t = reader.table;
-    for (omega_step, n_omega, omega) in [(2.0, 2, -1e-20), (2.0, 4, -5e-324), (2.0, 4, TAU), (4.0, 3, -1e-17), (1e-3, 12, -1e-30)] {
-        let mut d = reader.undamaged();
-        (d.table.omega_step, d.table.n_omega) = (omega_step, n_omega);
-        let q = Query { omega, ..query_at(&t, 0, meshes, random) };
-        reader.damaged(&d, &[q]);
-    }
-}
-
-// Cells without a vertex: 20, unless something of the other direction's cell is 19's.
-fn empty_cells(reader: &mut Reader, random: &mut Random, meshes: [&Mesh; 2]) {
-    let t = reader.table;
-    let rows = [(0, 0), (1, 0), (2, 1), (3, 1)];
-    let mut done = 0;
-    while done < 16 {
-        let (s, level) = rows[done % 4];
-        let q = query_at(&t, s, meshes, random);
-        if reader.answer(&reader.undamaged(), &q).number != 0 {
-            continue;
+    fn reading(&mut self, _: &Table, _: &Lists, lent: &[usize; 6], q: &Query, a: &Answer, kind: usize) {
+        let mut line = Line::new(1);
+        line.put(3, 2, kind as u64);
+        line.put(6, 2, a.number);
+        line.put(9, 16, bits(a.energy));
+        for (k, &n) in lent.iter().enumerate() {
+            line.put(26 + 5 * k, 4, n as u64);
         }
-        let cells = [q.a, q.b].map(|d| cell_offset(level, d) as usize);
-        let which = done / 4 % 2;
-        let (empty, other) = (cells[which], cells[1 - which]);
-        let mut d = reader.undamaged();
-        d.entries.push((2, empty + 1, reader.lists.0[2][empty]));
-        if done >= 8 {
-            d.entries.push((2, other + 1, [0, 0xffff_ffff][done % 2]));
-        }
-        let wanted = if done >= 8 { 19 } else { 20 };
-        if empty + 1 != other && empty != other + 1 && empty != other && reader.answer(&d, &q).number == wanted {
-            reader.damaged(&d, &[q]);
-            done += 1;
-        }
+        line.words([q.r, q.omega, q.a[0], q.a[1], q.a[2], q.b[0], q.b[1], q.b[2]].map(bits));
+        self.out.extend(line.0);
     }
 }
 
@@ -528,48 +167,12 @@ fn main() {
     let paths: Vec<String> = std::env::args().skip(1).collect();
     let seed: u64 = paths.get(2).map_or(0, |n| n.parse().unwrap());
     let mut random = Random(0x9e3779b97f4a7c15 ^ seed);
-    let mut reader = Reader::new();
+    let mut written = Written::default();
     for words in HEAD {
-        reader.remark(words);
+        written.out.extend(Line::remark(words).0);
     }
-    let spheres = [icosphere(0), icosphere(1)];
-    let [n0, n1] = NEAREST;
-    let [i0, i1] = INTERPOLATED;
-    let scalar = |x: f32| Row::Scalar(x);
-    let lent = [&spheres[0], &spheres[1]];
-    let rows = [n0, i0, n1, i1, scalar(-1.5), Row::Repulsive, scalar(f32::NAN), scalar(-0.0), i0, Row::Repulsive, scalar(f32::INFINITY), scalar(TINY)];
-    table(&mut reader, &mut random, lent, 1, [1.5, 2.4, 0.3, TAU / 4.0], &rows);
-    readings(&mut reader, &mut random, lent, 200);
-    refused_queries(&mut reader, &mut random, lent);
-    hosts(&mut reader, &mut random, lent);
-    edges(&mut reader, &mut random, lent);
-    near_tau(&mut reader, &mut random, lent);
-    empty_cells(&mut reader, &mut random, lent);
-    damages(&mut reader, &mut random, lent, 6);
-
-    let shuffled = [0, 1].map(|k| spheres[k].shuffled(&mut random));
-    let at = [0, 1].map(|k| shuffled[k].vertices.clone());
-    let whole = [0, 1].map(|k| shuffled[k].over("whole numbers", |i| at[k][i].map(|x| (x * 1000.0).round() + random.whole(200))));
-    let lent = [&whole[0], &whole[1]];
-    table(&mut reader, &mut random, lent, 1, [-7.0, -6.998, 1e-3, TAU / 2.2], &[i1, scalar(7.0), n0, i0]);
-    readings(&mut reader, &mut random, lent, 120);
-
-    let any = [0, 1].map(|k| shuffled[k].over("any finite", |_| [random.finite(), random.finite(), random.finite()]));
-    let lent = [&any[0], &any[1]];
-    table(&mut reader, &mut random, lent, 0, [0.0, 4e300, 1e300, 6.0], &[i0, n0, scalar(2.5), Row::Repulsive]);
-    readings(&mut reader, &mut random, lent, 60);
-
-    let ones = [0, 1].map(|k| shuffled[k].over("whole numbers from -1 to 1", |_| [random.whole(1), random.whole(1), random.whole(1)]));
-    let lent = [&ones[0], &ones[1]];
-    table(&mut reader, &mut random, lent, 1, [2.0, 3.0, 0.5, TAU / 2.0], &[i0, n1, i1, n0]);
-    readings(&mut reader, &mut random, lent, 120);
-
-    let odd = [without_faces(), sevens()];
-    let lent = [&odd[0], &odd[1]];
-    table(&mut reader, &mut random, lent, 1, [1e-3, 1.0, 1.0 / 3.0, 6.0], &[i0, i1, n0]);
-    readings(&mut reader, &mut random, lent, 60);
-    damages(&mut reader, &mut random, lent, 1);
-
+    let mut reader = Reader::new(&mut written);
+    asked(&mut reader, &mut random, 1, 6);
     for (words, n) in &reader.cases {
         println!("{n:5} {words}");
     }
@@ -580,12 +183,12 @@ fn main() {
         let words = format!("{words}, damaged or by a host");
         assert!(seed != 0 || reader.cases.contains_key(&words), "no reading has this case: {words}");
     }
-    std::fs::write(&paths[0], &reader.out).unwrap();
     let mut text = String::new();
     for words in COUNTED {
         let n = reader.counts[words];
         text.push_str(&format!("{words}: {n} of {n} agree\n"));
     }
     std::fs::write(&paths[1], text).unwrap();
-    println!("{} letters, {} lines", reader.out.len(), reader.out.len() / 192);
+    std::fs::write(&paths[0], &written.out).unwrap();
+    println!("{} letters, {} lines", written.out.len(), written.out.len() / LINE);
 }

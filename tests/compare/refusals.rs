@@ -1,4 +1,5 @@
-// The questions that document 01 puts before fresh, set and settle, read from its text and from nothing else: each function gives the number of the first question that is answered no, or 0.
+// The questions that document 01 puts before fresh, set, settle and write, read from its text and from nothing else: each function gives the number of the first question that is answered no, or 0.
+use crate::lines::bits;
 use std::f64::consts::TAU;
 
 #[derive(Clone, Copy, Debug)]
@@ -20,7 +21,7 @@ pub struct Held {
     pub level: u64,
 }
 
-#[derive(Clone)]
+#[derive(Clone, Default)]
 pub struct Lists {
     pub store: Vec<f64>,
     pub kinds: Vec<u8>,
@@ -44,6 +45,31 @@ impl Lists {
             self.neighbours.len(),
             self.angles.len(),
         ]
+    }
+
+    // An entry by the number of its list: 0 kinds, 1 levels, 2 values, 3 vertices, 4 counts, 5 neighbours, 6 angles.
+    pub fn word(&self, list: usize, at: usize) -> u64 {
+        match list {
+            0 => self.kinds[at] as u64,
+            1 => self.levels[at] as u64,
+            2 => self.values[at] as u64,
+            3 => bits(self.vertices[at]),
+            4 => self.counts[at] as u64,
+            5 => self.neighbours[at] as u64,
+            _ => bits(self.angles[at]),
+        }
+    }
+
+    pub fn put(&mut self, list: usize, at: usize, n: u64) {
+        match list {
+            0 => self.kinds[at] = n as u8,
+            1 => self.levels[at] = n as u8,
+            2 => self.values[at] = n as u32,
+            3 => self.vertices[at] = f64::from_bits(n),
+            4 => self.counts[at] = n as u8,
+            5 => self.neighbours[at] = n as u16,
+            _ => self.angles[at] = f64::from_bits(n),
+        }
     }
 }
 
@@ -168,6 +194,15 @@ pub fn set(b: &Held, lent: &[usize; 8], ri: u64, oi: u64, energies: &[f64]) -> u
     0
 }
 
+fn is_mesh(lists: &Lists, s: usize) -> bool {
+    lists.kinds[s] == 2 || lists.kinds[s] == 3
+}
+
+// "Has each row a known kind, a held level if it is Mesh"
+fn row_held(b: &Held, lists: &Lists, s: usize) -> bool {
+    lists.kinds[s] <= 3 && (!is_mesh(lists, s) || lists.levels[s] as u64 <= b.top)
+}
+
 pub fn settle(b: &Held, lent: &[usize; 8], lists: &Lists, ri: u64) -> u64 {
     let number = with_meshes(b, lent, lists);
     if number != 0 {
@@ -178,14 +213,34 @@ pub fn settle(b: &Held, lent: &[usize; 8], lists: &Lists, ri: u64) -> u64 {
     }
     // the rows touched
     let slice = (ri * b.n_omega) as usize..((ri + 1) * b.n_omega) as usize;
-    let is_mesh = |s: usize| lists.kinds[s] == 2 || lists.kinds[s] == 3;
-    // "Has each row a known kind, a held level if it is Mesh"
-    if slice.clone().any(|s| lists.kinds[s] > 3 || (is_mesh(s) && lists.levels[s] as u64 > b.top)) {
+    if !slice.clone().all(|s| row_held(b, lists, s)) {
         return 15;
     }
     // "Do all slabs of the slice that hold energies hold them from the current level?"
-    if slice.clone().any(|s| is_mesh(s) && lists.levels[s] as u64 != b.level) {
+    if slice.clone().any(|s| is_mesh(lists, s) && lists.levels[s] as u64 != b.level) {
         return 11;
+    }
+    0
+}
+
+// The file's length by its sections: a count each, then 24 bytes, 8, 4 a level, 10 a row, 4 an energy.
+#[allow(dead_code)]
+pub fn file_length(b: &Held, lists: &Lists) -> usize {
+    let energies = |s: usize| if is_mesh(lists, s) { vertices_of(lists.levels[s] as u64).pow(2) } else { 0 };
+    52 + 4 * (b.top as usize + 1) + 10 * slabs(b) + 4 * (0..slabs(b)).map(energies).sum::<usize>()
+}
+
+#[allow(dead_code)]
+pub fn write(b: &Held, lent: &[usize; 8], lists: &Lists, output: usize) -> u64 {
+    let number = with_meshes(b, lent, lists);
+    if number != 0 {
+        return number;
+    }
+    if !(0..slabs(b)).all(|s| row_held(b, lists, s)) {
+        return 15;
+    }
+    if output < file_length(b, lists) {
+        return 12;
     }
     0
 }

@@ -1,5 +1,7 @@
 // Compares the search and the locator call of the static library with those of the Rust, on one input after another, and
 // ends at the first difference with its input. Any NaN is equal to any other. The Rust panics where a cell is empty; there the answer is to be 20.
+#[allow(dead_code)]
+mod lines;
 mod meshes;
 #[allow(dead_code, clippy::all)]
 mod oracle {
@@ -7,7 +9,8 @@ mod oracle {
 }
 mod ours;
 
-use meshes::{icosphere, normal, scaled, sevens, vertex_count, without_faces, Lent, Mesh, Random};
+use lines::bits;
+use meshes::{icosphere, scaled, sevens, strange_points, vertex_count, without_faces, Lent, Mesh, Random, STRANGE};
 use oracle::{FaceGrid, Vector3};
 use ours::{Lists, Located, Nearest};
 use std::process::exit;
@@ -31,14 +34,6 @@ impl Tally {
             Some(d) => d.1 += 1,
             None => self.directions.push((kind, 1)),
         }
-    }
-}
-
-fn bits(x: f64) -> u64 {
-    if x.is_nan() {
-        0x7ff8 << 48
-    } else {
-        x.to_bits()
     }
 }
 
@@ -307,25 +302,6 @@ fn signatures() {
     println!("signatures: find_nearest_vertex, locate and locator answer as worked out by hand");
 }
 
-// Graphs over points of many kinds.
-fn strange_points(base: &Mesh, kind: usize, random: &mut Random) -> Mesh {
-    let at = base.vertices.clone();
-    match kind {
-        0 => base.over("every coordinate any finite number", |_| [random.finite(), random.finite(), random.finite()]),
-        1 => base.over("whole numbers from -1 to 1", |_| [random.whole(1), random.whole(1), random.whole(1)]),
-        2 => base.over("distorted to whole numbers", |i| normal(at[i]).map(|x| (x * 1000.0).round() + random.whole(200))),
-        3 => base.over("lengths from 1e-300 to 1e300", |i| scaled(at[i], 10f64.powi(random.below(601) as i32 - 300))),
-        4 => base.over("a coordinate in three made tiny", |i| at[i].map(|x| if random.below(3) == 0 { x * 1e-300 } else { x })),
-        5 => base.over("near the largest", |i| at[i].map(|x| if random.below(2) == 0 { x * f64::MAX } else { x })),
-        6 => base.over("subnormal", |_| [random.whole(4) * 5e-324, random.whole(4) * 5e-324, random.whole(4) * 5e-324]),
-        7 => base.over("all in one octant", |_| random.direction().map(|x| x.abs())),
-        8 => base.over("on one line", |_| scaled([1.0, 2.0, -3.0], random.unit())),
-        9 => base.over("on a plane through the middle", |_| [random.unit(), random.unit(), 0.0]),
-        10 => base.over("large and small in turn", |_| [0, 1, 2].map(|_| random.unit() * [1e-170, 1.0, 1e170][random.below(3)])),
-        _ => base.over("random directions", |_| normal(random.direction())),
-    }
-}
-
 fn main() {
     let rounds: usize = std::env::args().nth(1).map_or(1, |n| n.parse().expect("a number of rounds"));
     let mut random = Random(0x9e3779b97f4a7c15);
@@ -345,7 +321,7 @@ fn main() {
         compare(&zeros(mesh), 50, &mut random, &mut tally);
         refused(mesh, &mut random, &mut tally);
         for _ in 0..60 * rounds {
-            for kind in 0..12 {
+            for kind in 0..STRANGE {
                 let base = mesh.shuffled(&mut random);
                 compare(&strange_points(&base, kind, &mut random), 20, &mut random, &mut tally);
             }
@@ -353,7 +329,7 @@ fn main() {
     }
     for mesh in [&spheres[2], &spheres[3], &spheres[5], &spheres[15]] {
         refused(mesh, &mut random, &mut tally);
-        for kind in 0..12 {
+        for kind in 0..STRANGE {
             let base = mesh.shuffled(&mut random);
             compare(&strange_points(&base, kind, &mut random), 200, &mut random, &mut tally);
         }

@@ -1,9 +1,14 @@
-// Root, fused multiply-add, narrowing and E for a caller in C or Rust.
+// The number operations for a caller in C or Rust: each one under its own definition.
 ghost use mathlib.Core.Path.{_≡_};
 ghost use Prim.Native.Nat.{min};
 ghost use Rattle.ieee.specs.Root.{root};
 ghost use Rattle.ieee.specs.Fused.{fused};
 ghost use Rattle.ieee.specs.Narrow.{narrowed};
+ghost use lib.IntN.{pos};
+ghost use lib.Ieee.{binary64, toUnsigned, toSigned, ofInt};
+ghost use lib.Ieee.Scale.{finite};
+ghost use Rattle.float.specs.Order.{magnitude, larger, smaller, ordered, angle};
+ghost use Rattle.float.specs.Whole.{floored, ceiled};
 ghost use Rattle.float.specs.Exp.{exponential};
 ghost use Rattle.float_c.specs.Narrows.{narrowedAll};
 
@@ -33,6 +38,90 @@ pub extern "C" fn float_exp(y: f64) -> f64
     ensures { λ r. ⌜ r ≡ exponential y ⌝ }
 {
     float::exp(y)
+}
+
+#[no_mangle]
+pub extern "C" fn float_is_finite(x: f64) -> bool
+    ensures { λ r. ⌜ r ≡ finite x ⌝ }
+{
+    ieee::is_finite(x)
+}
+
+#[no_mangle]
+pub extern "C" fn float_widen(x: f32) -> f64
+    ensures { λ r. ⌜ r ≡ x ⌝ }
+{
+    float::widen(x)
+}
+
+#[no_mangle]
+pub extern "C" fn float_floor(x: f64) -> f64
+    ensures { λ r. ⌜ r ≡ floored x ⌝ }
+{
+    float::floor(x)
+}
+
+#[no_mangle]
+pub extern "C" fn float_ceiling(x: f64) -> f64
+    ensures { λ r. ⌜ r ≡ ceiled x ⌝ }
+{
+    float::ceiling(x)
+}
+
+#[no_mangle]
+pub extern "C" fn float_to_u64(x: f64) -> u64
+    ensures { λ r. ⌜ r ≡ toUnsigned 64 x ⌝ }
+{
+    float::to_u64(x)
+}
+
+#[no_mangle]
+pub extern "C" fn float_to_i64(x: f64) -> i64
+    ensures { λ r. ⌜ r ≡ toSigned 63 x ⌝ }
+{
+    float::to_i64(x)
+}
+
+#[no_mangle]
+pub extern "C" fn float_of_u64(n: u64) -> f64
+    ensures { λ r. ⌜ r ≡ ofInt binary64 (pos n) ⌝ }
+{
+    float::of_u64(n)
+}
+
+#[no_mangle]
+pub extern "C" fn float_total_order(x: f64, y: f64) -> bool
+    ensures { λ r. ⌜ r ≡ ordered x y ⌝ }
+{
+    float::total_order(x, y)
+}
+
+#[no_mangle]
+pub extern "C" fn float_max(a: f64, b: f64) -> f64
+    ensures { λ r. ⌜ r ≡ larger a b ⌝ }
+{
+    float::max(a, b)
+}
+
+#[no_mangle]
+pub extern "C" fn float_min(a: f64, b: f64) -> f64
+    ensures { λ r. ⌜ r ≡ smaller a b ⌝ }
+{
+    float::min(a, b)
+}
+
+#[no_mangle]
+pub extern "C" fn float_abs(x: f64) -> f64
+    ensures { λ r. ⌜ r ≡ magnitude x ⌝ }
+{
+    float::abs(x)
+}
+
+#[no_mangle]
+pub extern "C" fn float_rem_tau(x: f64) -> f64
+    ensures { λ r. ⌜ r ≡ angle x ⌝ }
+{
+    float::rem_tau(x)
 }
 
 fn least(a: usize, b: usize) -> usize

@@ -1,0 +1,227 @@
+// The static library libicotable.a at the other end of the calls and readings: each one is made there, and its answer and every lent list compared. Ends at the first difference, with its input.
+use crate::caller::{self, Answer, Call, What};
+use crate::icotable::{self, Builder, Grid, Meshes, Query, Table};
+use crate::lines::bits;
+use crate::meshes::Mesh;
+use crate::oracle::FaceGrid;
+use crate::reader;
+use crate::reading;
+use crate::refusals::{Held, Lists};
+
+pub fn differ(what: &str, input: String, ours: String, theirs: String) -> ! {
+    println!("DIFFERENCE in {what}\n  input {input}\n  ours  {ours}\n  wanted {theirs}");
+    std::process::exit(1)
+}
+
+pub fn grid_words(g: &Grid) -> [u64; 8] {
+    let [a, b, c, d, e, f] = [g.rmin, g.rmax, g.dr, g.omega_step, g.threshold, g.beta].map(bits);
+    [a, b, c, d, e, f, g.n_r, g.n_omega]
+}
+
+fn builder_words(b: &Builder) -> ([u64; 8], u64, u64) {
+    (grid_words(&b.grid), b.top, b.level)
+}
+
+pub fn table_words(t: &Table) -> ([u64; 8], [u64; 9]) {
+    let s = t.start;
+    (grid_words(&t.grid), [t.number, t.levels, t.rows, t.energies, s[0], s[1], s[2], s[3], s[4]])
+}
+
+pub fn builder_of(b: &Held) -> Builder {
+    let s = b.settings;
+    let (n_r, n_omega) = (b.n_r, b.n_omega);
+    let grid = Grid { rmin: s.rmin, rmax: s.rmax, dr: s.dr, omega_step: s.omega_step, threshold: s.threshold, beta: s.beta, n_r, n_omega };
+    Builder { grid, top: b.top, level: b.level }
+}
+
+pub fn lists_of<'a>(l: &'a mut Lists, lent: &[usize; 8]) -> (icotable::Lists<'a>, Meshes<'a>) {
+    let lists = icotable::Lists {
+        store: &mut l.store[..lent[0]],
+        kinds: &mut l.kinds[..lent[1]],
+        levels: &mut l.levels[..lent[2]],
+        values: &mut l.values[..lent[3]],
+    };
+    let meshes = Meshes { vertices: &l.vertices[..lent[4]], counts: &l.counts[..lent[5]], neighbours: &l.neighbours[..lent[6]], angles: &l.angles[..lent[7]] };
+    (lists, meshes)
+}
+
+fn same_floats(a: &[f64], b: &[f64]) -> bool {
+    a.len() == b.len() && a.iter().zip(b).all(|(x, y)| x.to_bits() == y.to_bits())
+}
+
+// Every entry of every list, those beyond what was lent or needed included.
+pub fn same_lists(a: &Lists, b: &Lists) -> bool {
+    same_floats(&a.store, &b.store)
+        && (&a.kinds, &a.levels, &a.values) == (&b.kinds, &b.levels, &b.values)
+        && same_floats(&a.vertices, &b.vertices)
+        && (&a.counts, &a.neighbours) == (&b.counts, &b.neighbours)
+        && same_floats(&a.angles, &b.angles)
+}
+
+// The builder's side: lists of its own, which the library's calls alone alter, beside what is altered by hand.
+pub struct Library {
+    lists: Lists,
+    pub calls: u64,
+    pub refused: u64,
+    pub entries: u64,
+}
+
+impl Library {
+    pub fn new() -> Library {
+        Library { lists: Lists::default(), calls: 0, refused: 0, entries: 0 }
+    }
+}
+
+impl caller::Sink for Library {
+    fn lend(&mut self, lists: &Lists) {
+        self.lists = lists.clone();
+    }
+
+    fn entries(&mut self, list: usize, start: usize, words: &[u64]) {
+        words.iter().enumerate().for_each(|(i, &n)| self.lists.put(list, start + i, n));
+    }
+
+    fn hold(&mut self, _: &Held) {}
+
+    fn call(&mut self, call: &Call, answer: &Answer, lists: &Lists) {
+        let given = builder_of(&call.held);
+        let (mut l, m) = lists_of(&mut self.lists, &call.lent);
+        let (name, number, gradient, builder) = match call.what {
+            What::Fresh => {
+                let a = icotable::fresh(given.grid, given.top, &mut l, m);
+                ("fresh", a.number, 0.0, a.builder)
+            }
+            What::Set(ri, oi, _, energies) => {
+                let a = icotable::set(given, &mut l, ri, oi, energies);
+                ("set", a.number, 0.0, a.builder)
+            }
+            What::Settle(ri) => {
+                let a = icotable::settle(given, &mut l, m, ri);
+                ("settle", a.number, a.gradient, a.builder)
+            }
+        };
+        // a refused fresh answers with zeros, a refused set or settle with the builder as it came
+        let wanted = match (answer.number, name) {
+            (0, _) => builder_of(&answer.held),
+            (_, "fresh") => Builder::default(),
+            _ => given,
+        };
+        let input = || format!("{:?}, lent {:?}", call.held, call.lent);
+        if (number, bits(gradient)) != (answer.number, bits(answer.gradient)) {
+            differ(name, input(), format!("{number}, gradient {gradient:e}"), format!("{}, gradient {:e}", answer.number, answer.gradient));
+        }
+        if builder_words(&builder) != builder_words(&wanted) {
+            differ(name, input(), format!("{builder:?}"), format!("{wanted:?}"));
+        }
+        if !same_lists(&self.lists, lists) {
+            differ(name, input(), "other entries in a lent list".into(), format!("rows {:?} {:?} {:?}", lists.kinds, lists.levels, lists.values));
+        }
+        self.calls += 1;
+        self.refused += (number > 0) as u64;
+        self.entries += lists.lengths().iter().sum::<usize>() as u64;
+    }
+}
+
+// The four lists of a level, each entry what is given, with `more` beyond the needed ones.
+pub fn locator_lists(level: usize, more: usize, mut entry: impl FnMut() -> u64) -> reader::Lists {
+    let (n, cells) = (icotable::vertices(level as u64) as usize, icotable::cells(level as u64) as usize);
+    reader::Lists {
+        file: Vec::new(),
+        vertices: Vec::new(),
+        cell_offsets: (0..cells + more).map(|_| entry() as u32).collect(),
+        cell_vertices: (0..27 * n + more).map(|_| entry() as u16).collect(),
+        face_offsets: (0..n + 1 + more).map(|_| entry() as u32).collect(),
+        faces: (0..45 * n + more).map(|_| entry() as u16).collect(),
+    }
+}
+
+fn same_list<T: PartialEq + Copy + std::fmt::Debug>(name: &str, mesh: &Mesh, theirs: Vec<T>, before: &[T], ours: &[T]) -> u64 {
+    for (i, x) in ours.iter().enumerate() {
+        let want = theirs.get(i).unwrap_or(&before[i]);
+        if x != want {
+            differ("locator", format!("{}, {name} {i}", mesh.name), format!("{x:?}"), format!("{want:?}"));
+        }
+    }
+    ours.len() as u64
+}
+
+// The locator call of one mesh against `FaceGrid::new`, in lists that hold something before; how many entries were compared.
+pub fn locator(mesh: &Mesh, grid: &FaceGrid, lists: &mut reader::Lists) -> u64 {
+    let before = lists.clone();
+    let lent = mesh.lent();
+    let m = Meshes { vertices: &lent.vertices, counts: &lent.counts, neighbours: &lent.neighbours, angles: &lent.angles };
+    let mut l = icotable::Locator {
+        cell_offsets: &mut lists.cell_offsets,
+        cell_vertices: &mut lists.cell_vertices,
+        face_offsets: &mut lists.face_offsets,
+        faces: &mut lists.faces,
+    };
+    let number = icotable::locator(mesh.level as u64, m, &mut l);
+    if number != 0 {
+        differ("locator", mesh.name.clone(), number.to_string(), "0".into());
+    }
+    let faces = grid.adj_faces.iter().flat_map(|f| f.face.map(|v| v as u16)).collect();
+    same_list("cell offset", mesh, grid.vtx_offsets.clone(), &before.cell_offsets, &lists.cell_offsets)
+        + same_list("cell vertex", mesh, grid.vertex_ids.clone(), &before.cell_vertices, &lists.cell_vertices)
+        + same_list("face offset", mesh, grid.adj_offsets.clone(), &before.face_offsets, &lists.face_offsets)
+        + same_list("face entry", mesh, faces, &before.faces, &lists.faces)
+}
+
+// The same, behind the meshes and locators of the levels below; `more` entries beyond the needed ones are compared and left out.
+pub fn add_level(mesh: &Mesh, grid: &FaceGrid, more: usize, entry: impl FnMut() -> u64, lists: &mut reader::Lists) -> u64 {
+    let mut made = locator_lists(mesh.level, more, entry);
+    let entries = locator(mesh, grid, &mut made);
+    lists.vertices.extend(mesh.vertices.concat());
+    lists.cell_offsets.extend(&made.cell_offsets[..made.cell_offsets.len() - more]);
+    lists.cell_vertices.extend(&made.cell_vertices[..made.cell_vertices.len() - more]);
+    lists.face_offsets.extend(&made.face_offsets[..made.face_offsets.len() - more]);
+    lists.faces.extend(&made.faces[..made.faces.len() - more]);
+    entries
+}
+
+// A reading, and the file that it is of.
+pub fn same_reading(table: &Table, lent: icotable::Lent, q: &Query, number: u64, energy: f64) {
+    let got = icotable::reading(table, lent, q);
+    if (got.number, bits(got.energy)) != (number, bits(energy)) {
+        let lengths = [lent.file.len(), lent.vertices.len(), lent.cell_offsets.len(), lent.cell_vertices.len(), lent.face_offsets.len(), lent.faces.len()];
+        let input = format!("{q:?} of {table:?}, lent {lengths:?}");
+        differ("reading", input, format!("{}, {:e}", got.number, got.energy), format!("{number}, {energy:e}"));
+    }
+}
+
+pub fn same_table(file: &[u8], table: &Table) {
+    let got = icotable::read(file);
+    if table_words(&got) != table_words(table) {
+        differ("read", format!("{file:02X?}"), format!("{got:?}"), format!("{table:?}"));
+    }
+}
+
+// The reading's side.
+pub struct Readings {
+    pub answered: u64,
+    pub refused: u64,
+    pub files: u64,
+}
+
+impl reader::Sink for Readings {
+    fn lend(&mut self, meshes: [&Mesh; 2], _: &reader::Lists) {
+        for mesh in meshes {
+            let grid = FaceGrid::new(&mesh.vertices, &mesh.neighbours);
+            locator(mesh, &grid, &mut locator_lists(mesh.level, 3, || 0xabab));
+        }
+    }
+
+    fn entries(&mut self, _: usize, _: usize, _: &[u64]) {}
+
+    fn read(&mut self, file: &[u8], table: &Table) {
+        same_table(file, table);
+        self.files += 1;
+    }
+
+    fn hold(&mut self, _: &Table, _: &Table) {}
+
+    fn reading(&mut self, table: &Table, lists: &reader::Lists, lent: &[usize; 6], q: &Query, a: &reading::Answer, _: usize) {
+        same_reading(table, lists.lent(lent), q, a.number, a.energy);
+        *if a.number == 0 { &mut self.answered } else { &mut self.refused } += 1;
+    }
+}

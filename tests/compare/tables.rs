@@ -1,0 +1,326 @@
+// Compares the static library libicotable.a with the Rust over whole tables: tables LISTS READINGS ROUNDS. LISTS lists of calls of fresh, set and settle, refused ones among them, on meshes of many
+// kinds; after each list write, read, damaged copies of the file, and READINGS readings; then ROUNDS rounds of readings over damaged lists and tables made by a host. Every answer and every entry of
+// every lent list is compared: with the Rust where document 01 admits a call, with independent readings of 01's text (refusals.rs, plain.rs, reading.rs) where not.
+#[allow(dead_code, clippy::all)]
+mod builder {
+    include!(concat!(env!("COMPARE"), "/builder.rs"));
+}
+#[allow(dead_code, clippy::all)]
+mod oracle {
+    include!(concat!(env!("COMPARE"), "/oracle.rs"));
+}
+#[allow(dead_code, clippy::all)]
+mod rust {
+    include!(concat!(env!("COMPARE"), "/lookup.rs"));
+}
+#[allow(dead_code)]
+mod caller;
+mod icotable;
+mod library;
+#[allow(dead_code)]
+mod lines;
+#[allow(dead_code)]
+mod lists;
+mod meshes;
+mod pack;
+#[allow(dead_code)]
+mod plain;
+mod queries;
+mod reader;
+mod reading;
+mod refusals;
+#[allow(dead_code)]
+mod samples;
+mod worlds;
+
+use caller::Caller;
+use icotable::{Grid, Table};
+use library::{builder_of, differ, lists_of, same_reading, same_table, Library, Readings};
+use lines::bits;
+use lists::{list, needed_lengths, wrong, wrong_mesh, WRONG, WRONG_MESH};
+use meshes::Random;
+use oracle::{FaceGrid, Vector3};
+use pack::packed;
+use queries::{asked, query, query_at};
+use reader::Reader;
+use std::collections::BTreeMap;
+use worlds::World;
+
+// What was compared, by its words.
+#[derive(Default)]
+struct Tally(BTreeMap<String, u64>);
+
+impl Tally {
+    fn add(&mut self, words: &str, n: u64) {
+        *self.0.entry(words.to_string()).or_default() += n;
+    }
+}
+
+// ---- files
+
+// An accepted write: the Rust's bytes, and what is beyond them stays.
+fn written(caller: &Caller, file: &[u8], random: &mut Random, tally: &mut Tally) {
+    let before: Vec<u8> = (0..file.len() + random.below(20)).map(|_| random.bits() as u8).collect();
+    let (mut output, mut lists) = (before.clone(), caller.lists.clone());
+    let (l, m) = lists_of(&mut lists, &caller.lists.lengths());
+    let a = icotable::write(builder_of(&caller.held), &l, m, &mut output);
+    if (a.number, a.length) != (0, file.len() as u64) {
+        differ("write", format!("{:?}", caller.held), format!("{}, {} bytes", a.number, a.length), format!("0, {} bytes", file.len()));
+    }
+    if output[..file.len()] != *file || output[file.len()..] != before[file.len()..] || !library::same_lists(&lists, &caller.lists) {
+        differ("write", format!("{:?}", caller.held), format!("{output:02X?}"), format!("{file:02X?}"));
+    }
+    tally.add("write, accepted", 1);
+    tally.add("bytes written", file.len() as u64);
+}
+
+// A write with something wrong about it: the number, and no byte altered.
+fn refused_write(caller: &Caller, random: &mut Random, tally: &mut Tally) {
+    let mut lists = caller.lists.clone();
+    let mut lent = lists.lengths();
+    let mut held = caller.held;
+    let mut room = refusals::file_length(&held, &lists) + random.below(3);
+    for _ in 0..1 + random.below(2) {
+        let s = random.below((caller.held.n_r * caller.held.n_omega) as usize);
+        let k = random.below(8);
+        match random.below(6) {
+            0 => held = wrong(caller.held, random.below(WRONG), random),
+            1 => lent[k] = needed_lengths(&caller.held)[k] - random.below(2),
+            2 => {
+                let (list, at, n) = wrong_mesh(caller, random.below(WRONG_MESH), random);
+                lists.put(list, at, n);
+            }
+            3 => lists.kinds[s] = [4, 255][random.below(2)],
+            4 if lists.kinds[s] >= 2 => lists.levels[s] = [held.top as u8 + 1, 255][random.below(2)],
+            _ => room = [0, room.saturating_sub(3)][random.below(2)],
+        }
+    }
+    let number = refusals::write(&held, &lent, &lists, room);
+    if number == 0 {
+        return;
+    }
+    let before: Vec<u8> = (0..room).map(|_| random.bits() as u8).collect();
+    let (mut output, was) = (before.clone(), lists.clone());
+    let (l, m) = lists_of(&mut lists, &lent);
+    let a = icotable::write(builder_of(&held), &l, m, &mut output);
+    if (a.number, a.length) != (number, 0) || output != before || !library::same_lists(&lists, &was) {
+        differ("write", format!("{held:?}, lent {lent:?}, output {room}"), format!("{}, {} bytes", a.number, a.length), format!("{number}, nothing altered"));
+    }
+    tally.add(&format!("write, refused with {number}"), 1);
+}
+
+// What read returns for a file that it accepts.
+fn accepted(file: &[u8]) -> Table {
+    let word = |at: usize| u32::from_le_bytes(file[at..at + 4].try_into().unwrap()) as u64;
+    let float = |at: usize| f64::from_le_bytes(file[at..at + 8].try_into().unwrap());
+    let levels = word(40);
+    let rows = word(44 + 4 * levels as usize);
+    let start = [4, 32, 44, 48 + 4 * levels, 52 + 4 * levels + 10 * rows];
+    let (rmin, dr, omega_step, n_r, n_omega) = (float(4), float(12), float(20), word(32), word(36));
+    let rmax = (n_r as f64).mul_add(dr, rmin);
+    let grid = Grid { rmin, rmax, dr, omega_step, threshold: 0.0, beta: 0.0, n_r, n_omega };
+    Table { number: 0, grid, levels, rows, energies: word(start[4] as usize - 4), start }
+}
+
+// A copy of a file with a few things altered.
+fn damaged(file: &[u8], t: &Table, random: &mut Random) -> Vec<u8> {
+    let mut copy = file.to_vec();
+    let rows = t.start[3] as usize;
+    for _ in 0..1 + random.below(2) {
+        let last = copy.len().max(1) - 1;
+        let row = rows + 10 * random.below(t.rows as usize);
+        let some = [0, 1, 2, 3, 127, 128, 192, 255, random.below(256) as u8][random.below(9)];
+        let energy = t.start[4] as usize + 4 * random.below(t.energies.max(1) as usize);
+        let at = match random.below(10) {
+            0 => random.below(last.min(64) + 1),
+            1 => row + random.below(10),
+            2 => row + random.below(2),
+            3 => energy + 3,
+            4 => [0, 28, 40, rows - 4, t.start[4] as usize - 4][random.below(5)] + random.below(4),
+            5 => 4 + random.below(24),
+            6 => {
+                copy.truncate(random.below(copy.len() + 1));
+                continue;
+            }
+            7 => {
+                copy.extend((0..1 + random.below(12)).map(|_| some));
+                continue;
+            }
+            8 => {
+                let at = random.below(last.min(rows + 60) + 1);
+                copy.insert(at, some);
+                continue;
+            }
+            _ => random.below(last + 1),
+        };
+        if at + 1 < copy.len() {
+            // a NaN or an infinity where it is an energy's last byte
+            (copy[at - (at > 0) as usize], copy[at]) = (copy[at - (at > 0) as usize] | if at == energy + 3 { 0x80 } else { 0 }, some);
+        }
+    }
+    copy
+}
+
+// "An accepted file also passes `check_grid` and `check_slabs`": the Rust's, over the file's table.
+fn checked(file: &[u8], t: &Table) {
+    let part = |start: u64, width: u64, i: u64| &file[(start + width * i) as usize..][..width as usize];
+    let word = |bytes: &[u8]| u32::from_le_bytes(bytes.try_into().unwrap());
+    let rows: Vec<&[u8]> = (0..t.rows).map(|s| part(t.start[3], 10, s)).collect();
+    let row = |bytes: &&[u8]| match bytes[0] {
+        0 => rust::SlabResolution::Scalar(f32::from_bits(word(&bytes[6..]))),
+        1 => rust::SlabResolution::Repulsive,
+        kind => rust::SlabResolution::Mesh { level: bytes[1], interpolate: kind == 3 },
+    };
+    let level = |m: u64| rust::MeshLevel { n_vertices: word(part(t.start[2], 4, m)) as usize, grid: FaceGrid::new(&[], &[]) };
+    let table = rust::Table6DAdaptive {
+        rmin: t.grid.rmin,
+        rmax: t.grid.rmax,
+        dr: t.grid.dr,
+        n_r: t.grid.n_r as usize,
+        omega_step: t.grid.omega_step,
+        n_omega: t.grid.n_omega as usize,
+        levels: (0..t.levels).map(level).collect(),
+        slab_res: rows.iter().map(row).collect(),
+        slab_offsets: rows.iter().map(|bytes| word(&bytes[2..6])).collect(),
+        data: vec![0f32; t.energies as usize],
+        metadata: None,
+    };
+    if let Err(words) = table.check_grid().and(table.check_slabs()) {
+        differ("read", format!("{file:02X?}"), "accepted".into(), format!("the Rust's check: {words}"));
+    }
+}
+
+fn reads(file: &[u8], t: &Table, random: &mut Random, tally: &mut Tally) {
+    same_table(file, t);
+    checked(file, t);
+    tally.add("read, files as written", 1);
+    for _ in 0..20 {
+        let copy = damaged(file, t, random);
+        let number = plain::read(&copy);
+        if number == 0 {
+            let t = accepted(&copy);
+            same_table(&copy, &t);
+            checked(&copy, &t);
+        } else {
+            same_table(&copy, &Table { number, ..Table::default() });
+        }
+        tally.add(&format!("read, damaged copies answered {number}"), 1);
+    }
+}
+
+// ---- readings
+
+fn readings(world: &World, t: &Table, table: &rust::Table6DAdaptive<f32>, file: &[u8], many: usize, random: &mut Random, tally: &mut Tally) {
+    let ends = [&world.meshes[0], world.meshes.last().unwrap()];
+    let lent = icotable::Lent { file, ..world.lists.lent(&world.lists.lengths()) };
+    let mut found = [0; 21];
+    for _ in 0..many {
+        let q = if random.below(3) == 0 { query(t, ends, random) } else { query_at(t, random.below(t.rows as usize) as u64, ends, random) };
+        let a = reading::reading(t, lent, &q);
+        if a.number == 0 {
+            let energy = table.lookup(q.r, q.omega, &Vector3::from(q.a), &Vector3::from(q.b));
+            if bits(energy) != bits(a.energy) {
+                differ("the Rust's lookup and document 01's text", format!("{q:?} of {t:?}"), format!("{:e}", a.energy), format!("{energy:e}"));
+            }
+        }
+        same_reading(t, lent, &q, a.number, a.energy);
+        found[a.number as usize] += 1;
+    }
+    for (number, &n) in found.iter().enumerate().filter(|f| *f.1 > 0) {
+        tally.add(&format!("reading, as written, answered {number}"), n);
+    }
+}
+
+// What a list of calls leaves: its file, and readings of it.
+fn table(caller: &Caller, world: &mut World, many: usize, random: &mut Random, tally: &mut Tally) {
+    let table = world.built(caller);
+    let (file, t) = packed(&table);
+    written(caller, &file, random, tally);
+    for _ in 0..3 {
+        refused_write(caller, random, tally);
+    }
+    reads(&file, &t, random, tally);
+    readings(world, &t, &table, &file, many, random, tally);
+    world.take_back(table);
+}
+
+// Lists of calls on one set of meshes.
+fn lists(count: u64, many: usize, random: &mut Random, tally: &mut Tally) {
+    let mut world = World::new(random);
+    tally.add("locator, lists", 4 * world.meshes.len() as u64);
+    tally.add("locator, entries", world.entries);
+    let mut library = Library::new();
+    let mut caller = Caller::new(world.canaries(random), &mut library);
+    world.lend(&mut caller, random);
+    for _ in 0..count {
+        list(&mut caller, random, world.top as u64);
+        table(&caller, &mut world, many, random, tally);
+    }
+    for (words, n) in std::mem::take(&mut caller.cases) {
+        tally.add(&words, n as u64);
+    }
+    tally.add("lists of calls", count);
+    tally.add(&format!("lists of calls, top level {}", world.top), count);
+    tally.add("calls of fresh, set and settle", library.calls);
+    tally.add("calls of fresh, set and settle, refused", library.refused);
+    tally.add("entries of lent lists", library.entries);
+}
+
+// The functions that no table needs, by answers worked out elsewhere: the two sizes by document 01's words, the four numbers by the machine's.
+fn signatures(random: &mut Random) {
+    for level in (0..20).chain([u64::MAX, 1 << 32]) {
+        let n = 10 * (level as u128 + 1) * (level as u128 + 1) + 2;
+        let g = (((n as f64 / 6.0).sqrt() * 1.2).ceil() as u128).max(2);
+        let wanted = if level > 15 { (0, 0) } else { (n as u64, (6 * g * g + 1) as u64) };
+        assert_eq!((icotable::vertices(level), icotable::cells(level)), wanted);
+    }
+    for _ in 0..1000 {
+        let [a, b, c] = samples::cancelling(random);
+        assert_eq!(bits(icotable::root(a)), bits(a.sqrt()));
+        assert_eq!(bits(icotable::exp(a)), bits(builder::exponential(a)));
+        assert_eq!(bits(icotable::mul_add(a, b, c)), bits(a.mul_add(b, c)));
+        assert_eq!(bits(icotable::narrow(a) as f64), bits(a as f32 as f64));
+    }
+    println!("signatures: vertices, cells, root, exp, mul_add and narrow answer as they should");
+}
+
+// Cases that have to have occurred.
+fn needed() -> Vec<String> {
+    let mut words = Vec::new();
+    for (what, numbers) in [("fresh", vec![0, 1, 2, 3, 4, 5, 6]), ("set", vec![0, 1, 2, 3, 4, 5, 6, 8, 9, 10]), ("settle", vec![0, 1, 2, 3, 4, 5, 6, 7, 8, 11, 15])] {
+        words.extend(numbers.iter().map(|n| format!("{what} {n}")));
+    }
+    words.extend([1, 2, 3, 4, 5, 6, 7, 12, 15].map(|n| format!("write, refused with {n}")));
+    words.extend([0, 13, 14, 15, 16, 17].map(|n| format!("read, damaged copies answered {n}")));
+    words.extend([0, 18, 20].map(|n| format!("reading, as written, answered {n}")));
+    words
+}
+
+fn main() {
+    let [all, many, rounds]: [u64; 3] = std::env::args().skip(1).map(|n| n.parse().expect("a number")).collect::<Vec<_>>().try_into().expect("three numbers");
+    let mut random = Random(0x9e3779b97f4a7c15);
+    let mut tally = Tally::default();
+    signatures(&mut random);
+    let mut left = all;
+    while left > 0 {
+        let count = left.min(1 + random.below(25) as u64);
+        lists(count, many as usize, &mut random, &mut tally);
+        left -= count;
+    }
+    let mut sink = Readings { answered: 0, refused: 0, files: 0 };
+    for _ in 0..rounds {
+        asked(&mut Reader::new(&mut sink), &mut random, 20, usize::MAX);
+    }
+    tally.add("reading, of tables made by hand, damaged or by a host, answered 0", sink.answered);
+    tally.add("reading, of tables made by hand, damaged or by a host, refused", sink.refused);
+    tally.add("read, files packed by the Rust", sink.files);
+    let readings: u64 = tally.0.iter().filter(|t| t.0.starts_with("reading")).map(|t| t.1).sum();
+    tally.add("all readings", readings);
+    for (words, n) in &tally.0 {
+        println!("{n:12} {words}");
+    }
+    for words in needed() {
+        assert!(tally.0.contains_key(&words), "nothing was compared of this case: {words}");
+    }
+    println!("tables: 0 differences");
+}
