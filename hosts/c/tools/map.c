@@ -7,7 +7,7 @@
 #include <stdlib.h>
 #include <string.h>
 
-enum { WIDE = 560, HIGH = 260, LEFT = 64, TOP = 60, CURVE = 90, GAP = 46, PANEL = LEFT + WIDE + 24, COLUMNS = 480, LINES = 240 };
+enum { WIDE = 560, HIGH = 260, LEFT = 64, TOP = 60, CURVE = 90, GAP = 46, PANEL = LEFT + WIDE + 24, COLUMNS = 240, LINES = 120 };
 
 /* One table's part of the picture. A cell stands for one slab, or in a large table for a block of them. */
 typedef struct panel {
@@ -68,21 +68,25 @@ static double lowest_of(const table_file *f, const row *r) {
     return least;
 }
 
+/* The first bin of a cell; the cell's last one is the one before the next cell's first. */
+static uint64_t first_bin(uint64_t cell, uint64_t bins, uint64_t cells) {
+    return (cell * bins + cells - 1) / cells;
+}
+
 /* Whether a slab of the cell's block has another row in the other file. */
-static bool cell_differs(const panel *p, uint64_t ri, uint64_t oi) {
-    uint64_t last_r = (ri * p->columns / p->n_r + 1) * p->n_r / p->columns, last_o = (oi * p->lines / p->n_omega + 1) * p->n_omega / p->lines;
+static bool cell_differs(const panel *p, uint64_t column, uint64_t line) {
     if (p->other == NULL)
         return false;
-    for (uint64_t i = ri; i < last_r; i++)
-        for (uint64_t j = oi; j < last_o; j++)
-            if (!same_row(p->file, p->other, i * p->n_omega + j))
+    for (uint64_t ri = first_bin(column, p->n_r, p->columns); ri < first_bin(column + 1, p->n_r, p->columns); ri++)
+        for (uint64_t oi = first_bin(line, p->n_omega, p->lines); oi < first_bin(line + 1, p->n_omega, p->lines); oi++)
+            if (!same_row(p->file, p->other, ri * p->n_omega + oi))
                 return true;
     return false;
 }
 
 static void cell(FILE *out, const panel *p, uint64_t column, uint64_t line) {
     const icotable_table *t = &p->file->table;
-    uint64_t ri = (column * p->n_r + p->columns - 1) / p->columns, oi = (line * p->n_omega + p->lines - 1) / p->lines;
+    uint64_t ri = first_bin(column, p->n_r, p->columns), oi = first_bin(line, p->n_omega, p->lines);
     row r = row_of(p->file, ri * p->n_omega + oi);
     double w = p->width / (double)p->columns, h = p->height / (double)p->lines;
     double x = p->x + w * (double)column, y = TOP + h * (double)(p->lines - 1 - line);
@@ -96,8 +100,9 @@ static void cell(FILE *out, const panel *p, uint64_t column, uint64_t line) {
         rectangle(out, x, y, w, h);
         fputs(" fill=\"url(#nearest)\" pointer-events=\"none\"/>\n", out);
     }
-    if (cell_differs(p, ri, oi)) {
-        rectangle(out, x + 1, y + 1, w - 2, h - 2);
+    if (cell_differs(p, column, line)) {
+        double inset = w > 8 && h > 8 ? 1 : 0;
+        rectangle(out, x + inset, y + inset, w - 2 * inset, h - 2 * inset);
         fputs(" fill=\"none\" stroke=\"#e3342f\" stroke-width=\"2\" pointer-events=\"none\"/>\n", out);
     }
 }
