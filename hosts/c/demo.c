@@ -109,7 +109,7 @@ static void build(work *w) {
     }
 }
 
-/* The file in memory; its length is asked for by a write to nothing, which is refused with 12, from a bound on it. */
+/* The file in memory: there is room for one whose slabs all hold energies of the top level. */
 static uint8_t *written(work *w, size_t *length) {
     size_t room = 52 + 4 * (TOP + 1) + 10 * SLABS + 4 * w->store_count;
     uint8_t *file = memory(room, 1);
