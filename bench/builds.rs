@@ -4,7 +4,7 @@ use crate::builder::{AdaptiveBuilder, MeshLevel, SlabResolution};
 use crate::icotable::{self, Builder, Grid, Lists, Meshes};
 use crate::meshes::{angle, icosphere, vertex_count, Lent, Random};
 use crate::plain;
-use crate::timing::least;
+use crate::timing::{each, least, used};
 use std::hint::black_box;
 
 // The same meshes for both sides.
@@ -82,13 +82,12 @@ pub fn slice(top: usize, n_omega: usize, rounds: usize, random: &mut Random) -> 
     let b = begun(settings(1, n_omega as u64), top, &mut l, &m);
     let g = b.grid;
     let mut rust = AdaptiveBuilder::with_subdivision(levels, g.rmin, g.rmax, g.dr, g.omega_step, top, g.threshold, g.beta);
-    let given: Vec<Vec<f64>> = (0..n_omega).map(|_| energies(per, random)).collect();
-    let each = |run: &mut dyn FnMut(usize, &[f64])| given.iter().enumerate().for_each(|(oi, e)| run(oi, black_box(e)));
+    let given: Vec<(usize, Vec<f64>)> = (0..n_omega).map(|oi| (oi, energies(per, random))).collect();
     let set = least(
         rounds,
         n_omega * per,
-        || each(&mut |oi, e| assert_eq!(icotable::set(b, &mut l.lent(), 0, oi as u64, e).number, 0)),
-        || each(&mut |oi, e| rust.set_slab(0, oi, e)),
+        || each(&given, |(oi, e)| assert_eq!(icotable::set(b, &mut l.lent(), 0, *oi as u64, e).number, 0)),
+        || each(&given, |(oi, e)| rust.set_slab(0, *oi, e)),
     );
     let a = icotable::settle(b, &mut l.lent(), lent(&m), 0);
     assert_eq!((a.number, a.gradient.to_bits()), (0, rust.finish_r_slice(0).to_bits()));
@@ -100,8 +99,8 @@ pub fn slice(top: usize, n_omega: usize, rounds: usize, random: &mut Random) -> 
     let settle = least(
         rounds,
         n_omega * per,
-        || drop(black_box(icotable::settle(b, &mut black_box(&mut l).lent(), lent(&m), 0))),
-        || drop(black_box(black_box(&mut rust).finish_r_slice(0))),
+        || used(icotable::settle(b, &mut black_box(&mut l).lent(), lent(&m), 0)),
+        || used(black_box(&mut rust).finish_r_slice(0)),
     );
     [set, settle]
 }
