@@ -49,7 +49,20 @@ mod timing;
 
 use meshes::{vertex_count, Random};
 use readings::Rows;
-use timing::{figure, row};
+use timing::{figure, row, used};
+
+fn size(megabytes: f64) -> String {
+    match megabytes {
+        m if m < 1e-3 => format!("{:.0} B", 1e6 * m),
+        m if m < 1.0 => format!("{:.0} kB", 1e3 * m),
+        m => format!("{m:.0} MB"),
+    }
+}
+
+// A figure of ours, and its ratio.
+fn with_ratio(t: [f64; 2], parts: f64) -> String {
+    format!("{} ({:.2})", figure(t[0] * parts), t[0] / t[1])
+}
 
 fn table(random: &mut Random) {
     for level in [3, 15] {
@@ -69,15 +82,14 @@ fn table(random: &mut Random) {
     for (n_r, queries, rounds) in [(1, 4096, 400), (400, 400_000, 8)] {
         for (what, rows, bar) in [("Scalar", Rows::Scalar, 3.0), ("nearest", Rows::Nearest, 2.0), ("interpolated", Rows::Interpolated, 2.0)] {
             let (time, megabytes) = readings::measure(rows, 3, [n_r, 8], queries, rounds, random);
-            let size = if megabytes < 1.0 { format!("{:.0} kB", 1000.0 * megabytes) } else { format!("{megabytes:.0} MB") };
-            row(&format!("reading, {what}, {size}"), "ns", time, bar);
+            row(&format!("reading, {what}, {}", size(megabytes)), "ns", time, bar);
         }
     }
 }
 
 // Cost by level: a slab, a locator call, a reading of a table with one slab.
 fn by_level(random: &mut Random) {
-    println!("\n| level | vertices | energies of a slab | set, ms a slab | settle, ms a slab | locator, ms | find_nearest_vertex, ns | locate, ns | reading nearest, ns | interpolated, ns | file, MB |");
+    println!("\n| level | vertices | energies of a slab | set, µs a slab | settle, µs a slab | locator, µs | find_nearest_vertex, ns | locate, ns | reading nearest, ns | interpolated, ns | file |");
     println!("|---|---|---|---|---|---|---|---|---|---|---|");
     for (level, rounds) in [(0, 200), (1, 200), (3, 41), (5, 21), (9, 7), (15, 3)] {
         let n = vertex_count(level);
@@ -85,39 +97,64 @@ fn by_level(random: &mut Random) {
         let [nearest, located, built] = searches::measure(level, random);
         let (one, megabytes) = readings::measure(Rows::Nearest, level, [1, 1], 40_000, 20, random);
         let (nine, _) = readings::measure(Rows::Interpolated, level, [1, 1], 40_000, 20, random);
-        let milli = |t: [f64; 2], parts: usize| format!("{} ({:.2})", figure(t[0] * parts as f64 / 1e6), t[0] / t[1]);
-        let nano = |t: [f64; 2]| format!("{} ({:.2})", figure(t[0]), t[0] / t[1]);
+        let slab = |t: [f64; 2]| with_ratio(t, (n * n) as f64 / 1e3);
         println!(
-            "| {level} | {n} | {} | {} | {} | {} | {} | {} | {} | {} | {megabytes:.2} |",
+            "| {level} | {n} | {} | {} | {} | {} | {} | {} | {} | {} | {} |",
             n * n,
-            milli(set, n * n),
-            milli(settle, n * n),
-            milli(built, n),
-            nano(nearest),
-            nano(located),
-            nano(one),
-            nano(nine)
+            slab(set),
+            slab(settle),
+            with_ratio(built, n as f64 / 1e3),
+            with_ratio(nearest, 1.0),
+            with_ratio(located, 1.0),
+            with_ratio(one, 1.0),
+            with_ratio(nine, 1.0),
+            size(megabytes)
         );
     }
 }
 
 // A reading by the size of its table, at level 3.
 fn by_size(random: &mut Random) {
-    println!("\n| file, MB | reading nearest, ns | interpolated, ns |");
+    println!("\n| file | reading nearest, ns | interpolated, ns |");
     println!("|---|---|---|");
     for (n_r, queries, rounds) in [(1, 4096, 400), (4, 40_000, 40), (36, 200_000, 10), (360, 400_000, 6)] {
         let (one, megabytes) = readings::measure(Rows::Nearest, 3, [n_r, 8], queries, rounds, random);
         let (nine, _) = readings::measure(Rows::Interpolated, 3, [n_r, 8], queries, rounds, random);
-        let nano = |t: [f64; 2]| format!("{} ({:.2})", figure(t[0]), t[0] / t[1]);
-        println!("| {megabytes:.1} | {} | {} |", nano(one), nano(nine));
+        println!("| {} | {} | {} |", size(megabytes), with_ratio(one, 1.0), with_ratio(nine, 1.0));
+    }
+}
+
+// Settle and write by their stages, at level 5.
+fn by_stage(random: &mut Random) {
+    let [questions, exponentials, all] = builds::settle_stages(5, 41, random);
+    println!("settle of a slab, level 5: questions {} µs, with every exponential {} µs, with the gradient {} µs", figure(questions), figure(exponentials), figure(all));
+    let [rows, all] = builds::write_stages(5, 40, 21, random);
+    println!("write of 40 slabs, level 5: questions and rows {} µs, with the energies {} µs", figure(rows), figure(all));
+}
+
+// One operation alone, for a profiler.
+fn only(what: &str, random: &mut Random) {
+    let reading = |rows: Rows, random: &mut Random| used(readings::measure(rows, 3, [1, 8], 4096, 1000, random));
+    match what {
+        "settle" => used(builds::slice(5, 4, 21, random)),
+        "file" => used(builds::file(5, 20, 8, 21, random)),
+        "scalar" => reading(Rows::Scalar, random),
+        "nearest" => reading(Rows::Nearest, random),
+        "interpolated" => reading(Rows::Interpolated, random),
+        _ => panic!("settle, file, scalar, nearest or interpolated"),
     }
 }
 
 fn main() {
     let mut random = Random(0x2545f4914f6cdd1d);
+    if let Some(what) = std::env::args().nth(1) {
+        return only(&what, &mut random);
+    }
     table(&mut random);
     println!("\nHow cost grows with the level; in brackets the ratio to the Rust's.");
     by_level(&mut random);
     println!("\nHow a reading's cost grows with the table, Mesh rows at level 3; in brackets the ratio to the Rust's.");
     by_size(&mut random);
+    println!("\nWhere the time goes in settle and write:\n");
+    by_stage(&mut random);
 }
