@@ -124,10 +124,12 @@ fn by_size(random: &mut Random) {
     }
 }
 
-// Settle and write by their stages, at level 5.
+// Settle and write by their stages.
 fn by_stage(random: &mut Random) {
-    let [questions, exponentials, all] = builds::settle_stages(5, 41, random);
-    println!("settle of a slab, level 5: questions {} µs, with every exponential {} µs, with the gradient {} µs", figure(questions), figure(exponentials), figure(all));
+    for level in [0, 5] {
+        let [questions, exponentials, all] = builds::settle_stages(level, 41, random);
+        println!("settle of a slab, level {level}: questions {} µs, with every exponential {} µs, with the gradient {} µs", figure(questions), figure(exponentials), figure(all));
+    }
     let [rows, all] = builds::write_stages(5, 40, 21, random);
     println!("write of 40 slabs, level 5: questions and rows {} µs, with the energies {} µs", figure(rows), figure(all));
 }
@@ -137,11 +139,12 @@ fn only(what: &str, random: &mut Random) {
     let reading = |rows: Rows, random: &mut Random| used(readings::measure(rows, 3, [1, 8], 4096, 1000, random));
     match what {
         "settle" => used(builds::slice(5, 4, 21, random)),
+        "stages" => by_stage(random),
         "file" => used(builds::file(5, 20, 8, 21, random)),
         "scalar" => reading(Rows::Scalar, random),
         "nearest" => reading(Rows::Nearest, random),
         "interpolated" => reading(Rows::Interpolated, random),
-        _ => panic!("settle, file, scalar, nearest or interpolated"),
+        _ => panic!("settle, stages, file, scalar, nearest or interpolated"),
     }
 }
 
