@@ -4,7 +4,7 @@ use crate::builder::{AdaptiveBuilder, MeshLevel, SlabResolution};
 use crate::icotable::{self, Builder, Grid, Lists, Meshes};
 use crate::meshes::{angle, icosphere, vertex_count, Lent, Random};
 use crate::plain;
-use crate::timing::least;
+use crate::timing::{each, least, used};
 use std::hint::black_box;
 
 // The same meshes for both sides.
@@ -82,13 +82,12 @@ pub fn slice(top: usize, n_omega: usize, rounds: usize, random: &mut Random) -> 
     let b = begun(settings(1, n_omega as u64), top, &mut l, &m);
     let g = b.grid;
     let mut rust = AdaptiveBuilder::with_subdivision(levels, g.rmin, g.rmax, g.dr, g.omega_step, top, g.threshold, g.beta);
-    let given: Vec<Vec<f64>> = (0..n_omega).map(|_| energies(per, random)).collect();
-    let each = |run: &mut dyn FnMut(usize, &[f64])| given.iter().enumerate().for_each(|(oi, e)| run(oi, black_box(e)));
+    let given: Vec<(usize, Vec<f64>)> = (0..n_omega).map(|oi| (oi, energies(per, random))).collect();
     let set = least(
         rounds,
         n_omega * per,
-        || each(&mut |oi, e| assert_eq!(icotable::set(b, &mut l.lent(), 0, oi as u64, e).number, 0)),
-        || each(&mut |oi, e| rust.set_slab(0, oi, e)),
+        || each(&given, |(oi, e)| assert_eq!(icotable::set(b, &mut l.lent(), 0, *oi as u64, e).number, 0)),
+        || each(&given, |(oi, e)| rust.set_slab(0, *oi, e)),
     );
     let a = icotable::settle(b, &mut l.lent(), lent(&m), 0);
     assert_eq!((a.number, a.gradient.to_bits()), (0, rust.finish_r_slice(0).to_bits()));
@@ -100,8 +99,8 @@ pub fn slice(top: usize, n_omega: usize, rounds: usize, random: &mut Random) -> 
     let settle = least(
         rounds,
         n_omega * per,
-        || drop(black_box(icotable::settle(b, &mut black_box(&mut l).lent(), lent(&m), 0))),
-        || drop(black_box(black_box(&mut rust).finish_r_slice(0))),
+        || used(icotable::settle(b, &mut black_box(&mut l).lent(), lent(&m), 0)),
+        || used(black_box(&mut rust).finish_r_slice(0)),
     );
     [set, settle]
 }
@@ -120,7 +119,7 @@ pub fn file(top: usize, n_r: usize, n_omega: usize, rounds: usize, random: &mut 
     }
     let length = 52 + 4 * (top + 1) + 10 * slabs + 4 * slabs * per;
     let (mut one, mut other) = (vec![0u8; length], vec![0u8; length]);
-    let copy = Own { store: l.store.clone(), kinds: l.kinds.clone(), levels: l.levels.clone(), values: l.values.clone() };
+    let l = l.lent();
     let held = plain::Held {
         rmin: grid.rmin,
         dr: grid.dr,
@@ -128,18 +127,18 @@ pub fn file(top: usize, n_r: usize, n_omega: usize, rounds: usize, random: &mut 
         n_r: n_r as u32,
         n_omega: n_omega as u32,
         top: top as u8,
-        store: &copy.store,
-        kinds: &copy.kinds,
-        levels: &copy.levels,
-        values: &copy.values,
+        store: l.store,
+        kinds: l.kinds,
+        levels: l.levels,
+        values: l.values,
     };
-    assert_eq!(icotable::write(b, &l.lent(), lent(&m), &mut one).length as usize, length);
+    assert_eq!(icotable::write(b, &l, lent(&m), &mut one).length as usize, length);
     assert_eq!(plain::write(&held, &mut other), length);
     assert!(one == other);
     let write = least(
         rounds,
         length,
-        || assert_eq!(icotable::write(b, &black_box(&mut l).lent(), lent(&m), &mut one).number, 0),
+        || assert_eq!(icotable::write(b, black_box(&l), lent(&m), &mut one).number, 0),
         || assert_eq!(plain::write(black_box(&held), &mut other), length),
     );
     assert_eq!((icotable::read(&one).number, plain::read(&other)), (0, 0));
@@ -150,4 +149,35 @@ pub fn file(top: usize, n_r: usize, n_omega: usize, rounds: usize, random: &mut 
         || assert_eq!(plain::read(black_box(&other)), 0),
     );
     ([write, read], length as f64 / 1e6)
+}
+
+// Microseconds of settle for a slab, by calls that end early: one that holds no energies has only the questions put, and one that is repulsive only its exponentials worked out.
+pub fn settle_stages(top: usize, rounds: usize, random: &mut Random) -> [f64; 3] {
+    let (m, _) = meshes(top);
+    let per = vertex_count(top).pow(2);
+    let mut l = Own::new(1, top);
+    let b = begun(settings(1, 1), top, &mut l, &m);
+    let questions = least(rounds, 1000, || assert_eq!(icotable::settle(b, &mut l.lent(), lent(&m), 0).number, 0), || ());
+    let kinds = [vec![20.0; per], energies(per, random)].map(|e| {
+        let l = std::cell::RefCell::new(Own::new(1, top));
+        let set = || assert_eq!(icotable::set(b, &mut l.borrow_mut().lent(), 0, 0, &e).number, 0);
+        set();
+        least(rounds, 1000, || assert_eq!(icotable::settle(b, &mut l.borrow_mut().lent(), lent(&m), 0).number, 0), set)[0]
+    });
+    [questions[0], kinds[0], kinds[1]]
+}
+
+// Microseconds of write: of a table whose slabs all hold energies, and of one that has rows alone.
+pub fn write_stages(top: usize, slabs: usize, rounds: usize, random: &mut Random) -> [f64; 2] {
+    let (m, _) = meshes(top);
+    let per = vertex_count(top).pow(2);
+    let mut l = Own::new(slabs, top);
+    let b = begun(settings(slabs as u64, 1), top, &mut l, &m);
+    let mut output = vec![0; 200 + 10 * slabs + 4 * slabs * per];
+    let mut write = |l: &mut Own| least(rounds, 1000, || assert_eq!(icotable::write(b, &l.lent(), lent(&m), &mut output).number, 0), || ())[0];
+    let rows = write(&mut l);
+    for ri in 0..slabs {
+        assert_eq!(icotable::set(b, &mut l.lent(), ri as u64, 0, &energies(per, random)).number, 0);
+    }
+    [rows, write(&mut l)]
 }

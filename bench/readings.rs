@@ -6,8 +6,7 @@ use crate::oracle::{FaceGrid, Vector3};
 use crate::pack::packed;
 use crate::reader::Lists;
 use crate::rust::{MeshLevel, SlabResolution, Table6DAdaptive};
-use crate::timing::least;
-use std::hint::black_box;
+use crate::timing::{each, least, used};
 
 // The rows of a table: all of one kind.
 #[derive(Clone, Copy)]
@@ -71,8 +70,8 @@ pub fn measure(rows: Rows, level: usize, bins: [usize; 2], queries: usize, round
     let time = least(
         rounds,
         queries.len(),
-        || queries.iter().for_each(|q| drop(black_box(icotable::reading(&table, lent, black_box(q))))),
-        || queries.iter().for_each(|q| drop(black_box(lookup(black_box(q))))),
+        || each(&queries, |q| used(icotable::reading(&table, lent, q))),
+        || each(&queries, |q| used(lookup(q))),
     );
     (time, lists.file.len() as f64 / 1e6)
 }

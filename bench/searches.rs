@@ -3,7 +3,7 @@ use crate::icotable::{self, Locator, Meshes};
 use crate::meshes::{icosphere, Random};
 use crate::oracle::{FaceGrid, Vector3};
 use crate::ours::{self, Lists};
-use crate::timing::least;
+use crate::timing::{each, least, used};
 use std::hint::black_box;
 
 // Nanoseconds of find_nearest_vertex, of locate, and of the locator call for a vertex.
@@ -26,18 +26,17 @@ pub fn measure(level: usize, random: &mut Random) -> [[f64; 2]; 3] {
         assert_eq!(ours::find_nearest_vertex(level, &lists, &lent.vertices, d).vertex, grid.find_nearest_vertex(&dir) as u64);
         assert_eq!(ours::locate(level, &lists, &lent.vertices, d).weights, grid.locate(&dir).1);
     }
-    let each = |run: &mut dyn FnMut([f64; 3])| directions.iter().for_each(|&d| run(black_box(d)));
     let nearest = least(
         100,
         directions.len(),
-        || each(&mut |d| drop(black_box(ours::find_nearest_vertex(level, &lists, &lent.vertices, d)))),
-        || each(&mut |d| drop(black_box(grid.find_nearest_vertex(&Vector3::from(d))))),
+        || each(&directions, |&d| used(ours::find_nearest_vertex(level, &lists, &lent.vertices, d))),
+        || each(&directions, |&d| used(grid.find_nearest_vertex(&Vector3::from(d)))),
     );
     let located = least(
         100,
         directions.len(),
-        || each(&mut |d| drop(black_box(ours::locate(level, &lists, &lent.vertices, d)))),
-        || each(&mut |d| drop(black_box(grid.locate(&Vector3::from(d))))),
+        || each(&directions, |&d| used(ours::locate(level, &lists, &lent.vertices, d))),
+        || each(&directions, |&d| used(grid.locate(&Vector3::from(d)))),
     );
     [nearest, located, built]
 }

@@ -1,4 +1,17 @@
 // How both sides are timed, and how a figure is printed.
+use std::hint::black_box;
+
+// A result that counts as used.
+pub fn used<T>(x: T) {
+    black_box(x);
+}
+
+// Each item in turn, of which the compiler learns nothing.
+pub fn each<T>(list: &[T], mut run: impl FnMut(&T)) {
+    for x in list {
+        run(black_box(x));
+    }
+}
 
 // The nanoseconds that this thread has run, so that what else the machine does counts less (CLOCK_THREAD_CPUTIME_ID of Linux).
 fn clock() -> i64 {

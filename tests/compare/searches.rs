@@ -2,6 +2,7 @@
 // ends at the first difference with its input. Any NaN is equal to any other. The Rust panics where a cell is empty; there the answer is to be 20.
 #[allow(dead_code)]
 mod lines;
+#[allow(dead_code)]
 mod meshes;
 #[allow(dead_code, clippy::all)]
 mod oracle {
