@@ -2,11 +2,12 @@
 use mathlib.Core.Path.{_≡_, refl, sym, ap, _∙_, subst}
 use Prim.Native.Nat.{ℕ, zero, suc, _+_, _-_, _*_, _/_, _%_, _^_, _≤_, _<_}
 use native.Mathlib.Nat.{le-of-eq, lt-of-lt-of-le, lt-of-le-of-lt, mul-assoc, mul-comm, mul-right-comm, mul-lt-mul-of-pos-right, lt-of-mul-lt-mul-right, eq-of-mul-eq-mul-right, div-eq-of-lt, mul-mod-left, suc-ne-zero}
+use native.Mathlib.Omega.{arith}
 use mathlib.Core.Bool.{Bool}
 use lib.Dec.{T, leb}
 use lib.IntN.{ℤ}
 use lib.Pow.{pow-add, pow-pos, pow-mono, shl-lt}
-use lib.Ieee.{Float, fin, Format, low, hid, ones, top, ofFields, toBits, fits}
+use lib.Ieee.{Float, fin, Format, binary64, low, hid, ones, top, ofFields, toBits, fits}
 use lib.Ieee.Exact.{HasValue}
 use lib.Ieee.Nearest.{div-same}
 use Rattle.ieee.proofs.Fields.{as-fields, at-low, at-mid, finite-field}
@@ -15,6 +16,10 @@ use Rattle.ieee.proofs.Fields.{as-fields, at-low, at-mid, finite-field}
 abbrev pub digits : Format → ℕ → ℕ → ℕ
 digits f zero t = t
 digits f (suc x) t = hid f + t
+
+pub digits-lt : (x t : ℕ) → t < 2 ^ 52 → digits binary64 x t < 2 ^ 53
+digits-lt zero t h = omega arith
+digits-lt (suc x) t h = omega arith
 
 fields-value : (f : Format) (s : Bool) (x t : ℕ) → (x ≡ ones f → ⊥) → HasValue (ofFields f s x t) s (digits f x t * 2 ^ (x - 1)) (2 ^ low f)
 fields-value f s zero t n = at-low f s 0 t refl

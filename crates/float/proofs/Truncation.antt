@@ -15,13 +15,9 @@ use lib.Ieee.Exact.{HasValue}
 use Rattle.ieee.proofs.Pack.{value-bits}
 use Rattle.ieee.proofs.Words.{whole-back}
 use Rattle.float.specs.Whole.{truncation}
-use Rattle.float.proofs.Values.{same-value, value-no-nan}
-use Rattle.float.proofs.Fields.{digits, field, parts, no-whole, no-fraction, shifted}
+use Rattle.float.proofs.Values.{same-value, value-no-nan, other-scale}
+use Rattle.float.proofs.Fields.{digits, digits-lt, field, parts, no-whole, no-fraction, shifted}
 use Rattle.float.proofs.Steps.{whole-value}
-
-digits-lt : (x t : ℕ) → t < 2 ^ 52 → digits binary64 x t < 2 ^ 53
-digits-lt zero t h = omega arith
-digits-lt (suc x) t h = omega arith
 
 infinite-field : (s : Bool) → field binary64 (toBits binary64 (inf s)) ≡ 2047
 unfolding toBits
@@ -35,9 +31,7 @@ zero-whole false = refl
 
 -- a whole number at another scale
 rescaled : (y : Float) (s : Bool) (n a c : ℕ) → n * c ≡ a → HasValue y s n 1 → HasValue y s a c
-rescaled nan s n a c g v = v
-rescaled (inf t) s n a c g v = v
-rescaled (fin t m e) s n a c g v = (v .0, ap (λ (x : ℕ). x * c) (sym (mul-one (m * up e)) ∙ v .1) ∙ mul-right-comm n (down e) c ∙ ap (λ (x : ℕ). x * down e) g)
+rescaled y s n a c g = other-scale y s n 1 a c (pow-pos 0) (g ∙ sym (mul-one a))
 
 -- ---- below one
 tiny : (x : Float) → T (fits binary64 x) → T (not (isNan x)) → field binary64 (toBits binary64 x) < 1023 → truncation x ≡ fin (leb (2 ^ 63) (toBits binary64 x)) 0 (pos 0)

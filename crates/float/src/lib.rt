@@ -7,8 +7,8 @@ ghost use Prim.Native.Nat.{_-_, _^_, _≤_, _<_};
 ghost use lib.Dec.{ltb};
 ghost use lib.IntN.{pos};
 ghost use lib.Signed.{mag};
-ghost use lib.Ieee.{binary64, round, toUnsigned, toSigned, ofInt};
-ghost use Rattle.float.specs.Order.{magnitude, larger, smaller, rank, ordered, angle};
+ghost use lib.Ieee.{binary64, round, rem, toUnsigned, toSigned, ofInt};
+ghost use Rattle.float.specs.Order.{magnitude, larger, smaller, rank, ordered, tau, angle};
 ghost use Rattle.float.specs.Whole.{floored, ceiled, truncation};
 ghost use Rattle.float.specs.Exp.{bits, inverseFactorials, horner, twoTo, exponential};
 
@@ -100,11 +100,21 @@ pub fn of_u64(n: u64) -> f64
     std::num::nearest_u64_to_f64(n)
 }
 
+// The remainder by TAU, with the sign of x. Below TAU either way it is x, and `%`, which is slow, is left out.
+fn remainder(x: f64) -> f64
+    ensures { λ r. ⌜ r ≡ rem binary64 x tau ⌝ }
+{
+    if (x < TAU) & (-TAU < x) {
+        return x;
+    }
+    x % TAU
+}
+
 // The remainder by TAU: a remainder below 0 has TAU added, and -0.0 is not below 0.
 pub fn rem_tau(x: f64) -> f64
     ensures { λ r. ⌜ r ≡ angle x ⌝ }
 {
-    let t = x % TAU;
+    let t = remainder(x);
     if t < 0.0 { t + TAU } else { t }
 }
 
