@@ -1,6 +1,7 @@
 // The settings of a table's grid, the bin counts that they give, and the bins of a reading.
 ghost use mathlib.Core.Path.{_≡_};
 ghost use Prim.Native.Nat.{_≤_};
+ghost use lib.Ieee.{lt};
 ghost use Rattle.grid.specs.Bins.{nearestBin, distanceCount, dihedralCount, tableRmax, distanceBin, dihedralBin};
 ghost use Rattle.grid.specs.Settings.{above, inRange, levelsHeld, binsInRange, countsHeld, ownCount, slabsHeld, question, counted, freshQuestion, gridRange, gridHeld};
 
@@ -41,6 +42,17 @@ pub fn table_rmax(n: u64, dr: f64, rmin: f64) -> f64
     ensures { λ r. ⌜ r ≡ tableRmax n dr rmin ⌝ }
 {
     ieee::mul_add(float::of_u64(n), dr, rmin)
+}
+
+// A distance above the table's own rmax. With n less 2 to the power of -20 two operations stay below it, which spares most distances the fused one.
+pub fn above_rmax(r: f64, n: u64, dr: f64, rmin: f64) -> bool
+    ensures { λ z. ⌜ z ≡ lt (tableRmax n dr rmin) r ⌝ }
+{
+    let near = (float::of_u64(n) - 9.5367431640625e-7) * dr + rmin;
+    if (1 <= n) & ((n < 4294967296) & ((0.0 < dr) & (ieee::is_finite(near) & (r < near)))) {
+        return false;
+    }
+    table_rmax(n, dr, rmin) < r
 }
 
 // The bin of a distance; from rmax on it is the last one.
