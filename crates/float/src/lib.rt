@@ -67,11 +67,25 @@ pub fn widen(x: f32) -> f64
     std::num::f32_to_f64_with_nan(x)
 }
 
-// Toward zero, to the nearest end of the range, NaN to 0.
+// How many of a pattern's lowest digits are the fraction, by the exponent's field: 1075 less the field, and below 1023 all but the sign.
+fn fraction_digits(field: u64) -> u64
+    requires { ⌜ field ≤ 1074 ⌝ }
+    ensures { λ r. ⌜ (r ≡ cond (ltb field 1023) 63 (1075 - field)) × (r ≤ 63) ⌝ }
+{
+    if field < 1023 { 63 } else { 1075 - field }
+}
+
+// Toward zero, to the nearest end of the range, NaN to 0. Below 2 to the power of 52 the digits are shifted with no jump that depends on them.
 pub fn to_u64(x: f64) -> u64
     ensures { λ r. ⌜ r ≡ toUnsigned 64 x ⌝ }
 {
-    if x > -1.0 {
+    if 0.0 < x {
+        let b = f64::to_bits(x);
+        let field = b / 0x10_0000_0000_0000;
+        if field <= 1074 {
+            let digits = b % 0x10_0000_0000_0000 + 0x10_0000_0000_0000;
+            return digits >> fraction_digits(field);
+        }
         if x < 18446744073709551616.0 {
             return std::num::truncating_f64_to_u64(x);
         }
@@ -116,14 +130,6 @@ pub fn rem_tau(x: f64) -> f64
 {
     let t = remainder(x);
     if t < 0.0 { t + TAU } else { t }
-}
-
-// How many of a pattern's lowest digits are the fraction, by the exponent's field: 1075 less the field, and below 1023 all but the sign.
-fn fraction_digits(field: u64) -> u64
-    requires { ⌜ field ≤ 1074 ⌝ }
-    ensures { λ r. ⌜ (r ≡ cond (ltb field 1023) 63 (1075 - field)) × (r ≤ 63) ⌝ }
-{
-    if field < 1023 { 63 } else { 1075 - field }
 }
 
 // x without its fraction; from the field 1075 on there is none.

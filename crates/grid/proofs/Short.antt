@@ -6,7 +6,7 @@ use Prim.Native.Nat.{ℕ, zero, suc, _+_, _*_, _-_, _/_, _%_, _^_, _≤_, _<_, c
 use native.Mathlib.Nat.{le-trans, le-of-eq, lt-of-lt-of-le, suc-mul, add-mul, mul-one, one-mul, mul-assoc, mul-comm, mul-left-comm, mul-right-comm, mul-mul-mul-comm, mul-pos, mul-le-mul-right, le-of-mul-le-mul-right, le-div-iff-mul-le, div-mul-le-self, div-one, eq-zero-or-pos}
 use native.Mathlib.Omega.{arith}
 use lib.IntN.{ℤ, pos, negsuc}
-use lib.Dec.{T, leb, ltb, lit≤}
+use lib.Dec.{T, leb, lit≤}
 use lib.Pow.{pow-add, pow-pos, pow-mono, shl-lt}
 use lib.Ieee.{Float, nan, inf, fin, Format, binary64, prec, low, up, down, size, nearest, round, sum, add, sub, mul, neg, ofBits, ofInt, lt, fits}
 use lib.Ieee.Digits.{size-reaches}
@@ -18,7 +18,7 @@ use lib.Ieee.Positive.{positive, positive-of-value, mul-at}
 use lib.Ieee.Scale.{finite, grid, round-val, round-under}
 use lib.Ieee.Back.{round-whole}
 use denote.Floats.{passes}
-use borrow.Author.Tests.{leb-true, ltb-true}
+use borrow.Author.Tests.{leb-true}
 use Rattle.ieee.proofs.Pack.{all-in-use}
 use Rattle.ieee.proofs.Sticky.{closest-lt}
 use Rattle.ieee.proofs.Sums.{sum-more}
@@ -153,12 +153,11 @@ short-within n r dr rmin h k some few l f t =
     by q false e = refl
 
 -- as the code asks: m is n as a float, and b says whether the bound is finite
-pub not-above : (n : ℕ) (r dr rmin m : Float) (b : Bool) → T (fits binary64 dr) → T (fits binary64 rmin) → m ≡ ofInt binary64 (pos n)
-    → (let near = add binary64 (mul binary64 (sub binary64 m (ofBits binary64 0x3EB0_0000_0000_0000)) dr) rmin in b ≡ finite near → (leb 1 n && (ltb n (2 ^ 32) && (lt (ofBits binary64 0) dr && (b && lt r near)))) ≡ true → false ≡ lt (tableRmax n dr rmin) r)
+pub not-above : (n : ℕ) (r dr rmin m : Float) (b : Bool) → T (fits binary64 dr) → T (fits binary64 rmin) → n < 2 ^ 32 → m ≡ ofInt binary64 (pos n)
+    → (let near = add binary64 (mul binary64 (sub binary64 m (ofBits binary64 0x3EB0_0000_0000_0000)) dr) rmin in b ≡ finite near → (leb 1 n && (lt (ofBits binary64 0) dr && (b && lt r near))) ≡ true → false ≡ lt (tableRmax n dr rmin) r)
 unfolding ofBits
-not-above n r dr rmin m b h k e f t =
+not-above n r dr rmin m b h k few e f t =
     let t1 = both-true (leb 1 n) _ t in
-    let t2 = both-true (ltb n (2 ^ 32)) _ (t1 .1) in
-    let t3 = both-true (lt (ofBits binary64 0) dr) _ (t2 .1) in
-    let t4 = both-true b _ (t3 .1) in
-    sym (short-within n r dr rmin h k (leb-true 1 n (t1 .0)) (ltb-true n (2 ^ 32) (t2 .0)) (t3 .0) (rw (← e) (sym f ∙ t4 .0)) (rw (← e) (t4 .1)))
+    let t2 = both-true (lt (ofBits binary64 0) dr) _ (t1 .1) in
+    let t3 = both-true b _ (t2 .1) in
+    sym (short-within n r dr rmin h k (leb-true 1 n (t1 .0)) few (t2 .0) (rw (← e) (sym f ∙ t3 .0)) (rw (← e) (t3 .1)))
