@@ -1,15 +1,15 @@
 -- A number that the format holds is rounded to itself, so the remainder of a number below the divisor is that number. Assumes nothing.
-use mathlib.Core.Path.{_≡_, refl, sym, ap, _∙_, subst}
-use Prim.Native.Nat.{ℕ, zero, suc, _+_, _-_, _*_, _%_, _^_, _<_}
+use mathlib.Core.Path.{_≡_, refl, sym, ap, _∙_}
+use Prim.Native.Nat.{ℕ, _+_, _-_, _*_, _%_, _^_, _<_}
 use native.Mathlib.Nat.{le-of-eq, lt-of-lt-of-le, lt-of-le-of-lt, mul-assoc, mul-right-comm, mul-comm, mul-pos, mul-lt-mul-of-pos-right, lt-of-mul-lt-mul-right, mod-eq-of-lt, mod-lt}
 use native.Mathlib.Omega.{arith}
 use mathlib.Core.Bool.{Bool, true, false, true≢false}
-use lib.Dec.{T, ltb}
+use lib.Dec.{T}
 use lib.IntN.{ℤ, negsuc}
 use lib.Pow.{pow-add, pow-pos}
-use lib.Ieee.{Float, nan, inf, fin, Format, binary64, prec, low, hid, up, down, round, rem, lt, neg, fits, toBits, ofBits}
+use lib.Ieee.{Float, nan, inf, fin, binary64, low, hid, up, down, round, rem, lt, neg, fits, toBits, ofBits}
 use lib.Ieee.Fits.{down-pos, round-fits}
-use lib.Ieee.Exact.{HasValue, round-exact}
+use lib.Ieee.Exact.{round-exact}
 use lib.Ieee.Scale.{round-same}
 use borrow.Author.Tests.{ltb-true, ne-eqb}
 use Rattle.float.specs.Order.{tau}

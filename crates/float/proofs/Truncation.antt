@@ -1,7 +1,7 @@
 -- The whole part of a float by its bit pattern, by the exponent's field. Assumes nothing.
 use mathlib.Core.Path.{_≡_, refl, sym, ap, _∙_, subst}
 use Prim.Native.Nat.{ℕ, zero, suc, _+_, _-_, _*_, _/_, _%_, _^_, _≤_, _<_, min}
-use native.Mathlib.Nat.{le-trans, le-of-eq, lt-of-le-of-lt, le-add-right, add-mul, mul-assoc, mul-one, mul-right-comm, mul-le-mul-right, mod-lt, mod-eq-of-lt, mul-add-div-right, le-div-iff-mul-le, div-mul-le-self, div-le-self, min-eq-left, add-comm, add-assoc, le-of-lt}
+use native.Mathlib.Nat.{le-trans, le-of-eq, lt-of-le-of-lt, le-add-right, add-mul, mul-assoc, mul-one, mul-le-mul-right, mod-lt, mod-eq-of-lt, mul-add-div-right, le-div-iff-mul-le, div-mul-le-self, div-le-self, min-eq-left, add-comm, add-assoc, le-of-lt}
 use native.Mathlib.Omega.{arith}
 use mathlib.Core.Bool.{Bool, true, false, not, cond, true≢false}
 use lib.Dec.{T, leb, ltb}

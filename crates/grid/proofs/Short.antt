@@ -1,20 +1,20 @@
 -- A bound below the table's own rmax that two rounded operations give: n less 2 ^ -20 in place of n leaves room for what the product's rounding may add. Assumes nothing.
 use mathlib.Core.Path.{_≡_, refl, sym, ap, _∙_, subst}
-use mathlib.Core.Bool.{Bool, true, false, not, _&&_, _||_}
+use mathlib.Core.Bool.{Bool, true, false, _&&_}
 use mathlib.Core.Logic.{_⊎_, inl, inr}
-use Prim.Native.Nat.{ℕ, zero, suc, _+_, _*_, _-_, _/_, _%_, _^_, _≤_, _<_, compare}
+use Prim.Native.Nat.{ℕ, suc, _+_, _*_, _-_, _/_, _%_, _^_, _≤_, _<_, compare}
 use native.Mathlib.Nat.{le-trans, le-of-eq, lt-of-lt-of-le, suc-mul, add-mul, mul-one, one-mul, mul-assoc, mul-comm, mul-left-comm, mul-right-comm, mul-mul-mul-comm, mul-pos, mul-le-mul-right, le-of-mul-le-mul-right, le-div-iff-mul-le, div-mul-le-self, div-one, eq-zero-or-pos}
 use native.Mathlib.Omega.{arith}
-use lib.IntN.{ℤ, pos, negsuc}
+use lib.IntN.{pos, negsuc}
 use lib.Dec.{T, leb, lit≤}
 use lib.Pow.{pow-add, pow-pos, pow-mono, shl-lt}
-use lib.Ieee.{Float, nan, inf, fin, Format, binary64, prec, low, up, down, size, nearest, round, sum, add, sub, mul, neg, ofBits, ofInt, lt, fits}
+use lib.Ieee.{Float, fin, binary64, up, down, size, round, sum, add, sub, mul, neg, ofBits, ofInt, lt, fits}
 use lib.Ieee.Digits.{size-reaches}
 use lib.Ieee.Exact.{HasValue, round-exact}
 use lib.Ieee.Fits.{down-pos, nearest-le}
 use lib.Ieee.Nearest.{closest, closest-mono}
 use lib.Ieee.Order.{drop, kept}
-use lib.Ieee.Positive.{positive, positive-of-value, mul-at}
+use lib.Ieee.Positive.{positive-of-value, mul-at}
 use lib.Ieee.Scale.{finite, grid, round-val, round-under}
 use lib.Ieee.Back.{round-whole}
 use denote.Floats.{passes}
@@ -25,7 +25,7 @@ use Rattle.ieee.proofs.Sums.{sum-more}
 use Rattle.ieee.proofs.Terms.{sum-same, fused-finite}
 use Rattle.ieee.proofs.Fields.{both-true, sum-finite, product-finite}
 use Rattle.ieee.proofs.RootSteps.{above-zero}
-use Rattle.float.proofs.Fields.{Units, units-of}
+use Rattle.float.proofs.Fields.{units-of}
 use Rattle.float.proofs.Values.{other-scale}
 use Rattle.grid.specs.Bins.{tableRmax}
 use Rattle.grid.proofs.Order.{lt-trans, sum-mono}
