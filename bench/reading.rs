@@ -1,5 +1,6 @@
 // Times a reading of the static library beside the Rust's lookup: Scalar, nearest and interpolated rows, in a table that the cache holds and in one of
-// some hundred megabytes. Every figure is the least of many runs, since whatever disturbs a run makes it longer; all answers are compared first, bit for bit.
+// some hundred megabytes. A C loop calls the library (reading.c); the last column has the same calls made from Rust, whose compiler copies the struct
+// slowly. Every figure is the least of many runs, since whatever disturbs a run makes it longer; all answers are compared first, bit for bit.
 #[path = "../tests/compare/meshes.rs"]
 #[allow(dead_code)]
 mod meshes;
@@ -37,7 +38,7 @@ struct Read {
 }
 
 #[repr(C)]
-#[derive(Clone, Copy)]
+#[derive(Clone, Copy, Default)]
 struct Value {
     number: u64,
     energy: f64,
@@ -49,6 +50,10 @@ extern "C" {
         table: Read, file: *const u8, a: usize, vertices: *const f64, b: usize, cell_offsets: *const u32, c: usize, cell_vertices: *const u16, d: usize,
         face_offsets: *const u32, e: usize, faces: *const u16, f: usize, r: f64, omega: f64, ax: f64, ay: f64, az: f64, bx: f64, by: f64, bz: f64,
     ) -> Value;
+    fn read_all(
+        table: *const Read, file: *const u8, a: usize, vertices: *const f64, b: usize, cell_offsets: *const u32, c: usize, cell_vertices: *const u16, d: usize,
+        face_offsets: *const u32, e: usize, faces: *const u16, f: usize, queries: *const Query, count: usize, out: *mut Value,
+    );
 }
 
 // What a reading is lent: the file, read's answer, and the meshes and locators of every level from 0 on.
@@ -62,18 +67,33 @@ struct Lent {
     faces: Vec<u16>,
 }
 
-type Query = (f64, f64, [f64; 3], [f64; 3]);
+// r, omega and the two directions.
+type Query = [f64; 8];
 
 #[rustfmt::skip]
 fn reading(read: &Read, l: &Lent, q: &Query) -> Value {
-    let (r, omega, a, b) = *q;
     unsafe {
         icotable_reading(
             *read, l.file.as_ptr(), l.file.len(), l.vertices.as_ptr(), l.vertices.len(), l.cell_offsets.as_ptr(), l.cell_offsets.len(),
             l.cell_vertices.as_ptr(), l.cell_vertices.len(), l.face_offsets.as_ptr(), l.face_offsets.len(), l.faces.as_ptr(), l.faces.len(),
-            r, omega, a[0], a[1], a[2], b[0], b[1], b[2],
+            q[0], q[1], q[2], q[3], q[4], q[5], q[6], q[7],
         )
     }
+}
+
+#[rustfmt::skip]
+fn readings(read: &Read, l: &Lent, queries: &[Query], out: &mut [Value]) {
+    unsafe {
+        read_all(
+            read, l.file.as_ptr(), l.file.len(), l.vertices.as_ptr(), l.vertices.len(), l.cell_offsets.as_ptr(), l.cell_offsets.len(),
+            l.cell_vertices.as_ptr(), l.cell_vertices.len(), l.face_offsets.as_ptr(), l.face_offsets.len(), l.faces.as_ptr(), l.faces.len(),
+            queries.as_ptr(), queries.len(), out.as_mut_ptr(),
+        )
+    }
+}
+
+fn lookup(t: &Table, q: &Query) -> f64 {
+    t.lookup(q[0], q[1], &Vector3::from([q[2], q[3], q[4]]), &Vector3::from([q[5], q[6], q[7]]))
 }
 
 // A level's mesh and locator, behind those of the levels below.
@@ -174,14 +194,12 @@ fn made(n_r: usize, random: &mut Random, slab: impl Fn(usize) -> SlabResolution)
     (t, lent, read)
 }
 
-// The least number of nanoseconds that a query takes in one of `runs` runs over all of them.
-fn least(runs: usize, queries: &[Query], mut one: impl FnMut(&Query)) -> f64 {
+// The least number of nanoseconds that a query takes in one of `runs` passes over all of them.
+fn least(runs: usize, queries: &[Query], mut pass: impl FnMut(&[Query])) -> f64 {
     let mut least = f64::INFINITY;
     for _ in 0..runs {
         let start = Instant::now();
-        for q in queries {
-            one(black_box(q));
-        }
+        pass(black_box(queries));
         least = least.min(start.elapsed().as_nanos() as f64);
     }
     least / queries.len() as f64
@@ -190,25 +208,38 @@ fn least(runs: usize, queries: &[Query], mut one: impl FnMut(&Query)) -> f64 {
 fn measure(what: &str, bar: &str, n_r: usize, queries: usize, runs: usize, random: &mut Random, slab: impl Fn(usize) -> SlabResolution) {
     let (t, lent, read) = made(n_r, random, slab);
     let queries: Vec<Query> = (0..queries)
-        .map(|_| (10.0 + (random.unit() + 1.0) / 2.0 * (t.rmax - 10.0), random.unit() * 6.0, random.direction(), random.direction()))
+        .map(|_| {
+            let r = 10.0 + (random.unit() + 1.0) / 2.0 * (t.rmax - 10.0);
+            let omega = random.unit() * 6.0;
+            let ([ax, ay, az], [bx, by, bz]) = (random.direction(), random.direction());
+            [r, omega, ax, ay, az, bx, by, bz]
+        })
         .collect();
-    for q in &queries {
-        let x = reading(&read, &lent, q);
-        let y = t.lookup(q.0, q.1, &Vector3::from(q.2), &Vector3::from(q.3));
-        assert_eq!((x.number, x.energy.to_bits()), (0, y.to_bits()));
+    let mut out = vec![Value::default(); queries.len()];
+    readings(&read, &lent, &queries, &mut out);
+    for (q, x) in queries.iter().zip(&out) {
+        let y = reading(&read, &lent, q);
+        let rust = lookup(&t, q).to_bits();
+        assert_eq!((x.number, x.energy.to_bits(), y.number, y.energy.to_bits()), (0, rust, 0, rust));
     }
-    let x = least(runs, &queries, |q| {
-        black_box(reading(&read, &lent, q));
+    let ours = least(runs, &queries, |q| readings(&read, &lent, q, black_box(&mut out)));
+    let rust = least(runs, &queries, |q| {
+        for q in q {
+            black_box(lookup(&t, black_box(q)));
+        }
     });
-    let y = least(runs, &queries, |q| {
-        black_box(t.lookup(q.0, q.1, &Vector3::from(q.2), &Vector3::from(q.3)));
+    let from_rust = least(runs, &queries, |q| {
+        for q in q {
+            black_box(reading(&read, &lent, black_box(q)));
+        }
     });
-    println!("{what:13} {:10.1} {x:9.1} {y:9.1} {:7.2}  {bar}", lent.file.len() as f64 / 1e6, x / y);
+    let size = lent.file.len() as f64 / 1e6;
+    println!("{what:13} {size:10.1} {ours:9.1} {rust:9.1} {:7.2}  {bar} {from_rust:12.1}", ours / rust);
 }
 
 fn main() {
     println!("nanoseconds per reading; every row of a table is of one kind, Mesh rows at level {LEVEL}");
-    println!("{:13} {:>10} {:>9} {:>9} {:>7}", "", "megabytes", "ours", "Rust's", "ratio");
+    println!("{:13} {:>10} {:>9} {:>9} {:>7} {:>19}", "", "megabytes", "ours", "Rust's", "ratio", "from Rust");
     let mut random = Random(0x2545f4914f6cdd1d);
     for (n_r, queries, runs) in [(1, 4096, 1000), (400, 400_000, 10)] {
         measure("Scalar", "bar 3", n_r, queries, runs, &mut random, |s| SlabResolution::Scalar(s as f32));
