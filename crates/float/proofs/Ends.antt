@@ -1,16 +1,16 @@
 -- A float past an end of an integer type's range is cast to that end. Assumes nothing.
 use mathlib.Core.Path.{_≡_, refl, sym, ap, _∙_}
-use Prim.Native.Nat.{ℕ, _-_, _*_, _/_, _^_, _≤_, _<_, min}
-use native.Mathlib.Nat.{le-div-iff-mul-le, le-trans, le-of-eq, mul-one, one-mul, mul-pos, le-add-left, le-add-right, min-eq-right}
+use Prim.Native.Nat.{ℕ, _+_, _-_, _*_, _/_, _^_, _≤_, _<_, min, zero-le}
+use native.Mathlib.Nat.{le-div-iff-mul-le, div-eq-of-lt, lt-of-lt-of-le, min-eq-left, le-trans, le-of-eq, mul-one, one-mul, mul-pos, le-add-left, le-add-right, min-eq-right}
 use native.Mathlib.Omega.{arith}
-use mathlib.Core.Bool.{Bool, true, false, _||_, true≢false}
-use lib.Dec.{ltb}
+use mathlib.Core.Bool.{Bool, true, false, not, _||_, true≢false}
+use lib.Dec.{T, ltb}
 use lib.IntN.{ℤ, pos, negℤ}
 use lib.Pow.{pow-pos}
-use lib.Ieee.{Float, nan, inf, fin, up, down, lt, le, ne, toUnsigned, toSigned}
+use lib.Ieee.{Float, nan, inf, fin, up, down, lt, le, ne, isNan, toUnsigned, toSigned}
 use lib.Ieee.Compare.{nan-differs}
 use lib.Ieee.Fits.{down-pos}
-use borrow.Author.Tests.{ltb-false}
+use borrow.Author.Tests.{ltb-false, lt-ltb}
 
 -- m * 2 ^ e is 2 ^ w or more, as its comparison with 2 ^ w says it
 reached : (w m : ℕ) (e : ℤ) → ltb (m * up e * 1) (1 * 2 ^ w * down e) ≡ false → 2 ^ w ≤ m * up e / down e
@@ -32,21 +32,38 @@ or-false : (a b : Bool) → (a || b) ≡ false → a ≡ false
 or-false true b h = h
 or-false false b h = refl
 
-pub unsigned-top : (w : ℕ) (x : Float) → lt (fin true 1 (pos 0)) x ≡ true → lt x (fin false 1 (pos w)) ≡ false → toUnsigned w x ≡ 2 ^ w - 1
+pub unsigned-top : (w : ℕ) (x : Float) → lt (fin false 0 (pos 0)) x ≡ true → lt x (fin false 1 (pos w)) ≡ false → toUnsigned w x ≡ 2 ^ w - 1
 unfolding lt toUnsigned
 unsigned-top w nan p q = absurd (true≢false (sym p))
 unsigned-top w (inf true) p q = absurd (true≢false (sym p))
 unsigned-top w (inf false) p q = refl
-unsigned-top w (fin true m e) p q = absurd (crossed w _ e (le-add-left _ _) q)
+unsigned-top w (fin true m e) p q = absurd (true≢false (sym p))
 unsigned-top w (fin false m e) p q = capped (m * up e / down e) (2 ^ w) (reached w m e q)
 
-pub unsigned-low : (w : ℕ) (x : Float) → lt (fin true 1 (pos 0)) x ≡ false → toUnsigned w x ≡ 0
+pub unsigned-low : (w : ℕ) (x : Float) → lt (fin false 0 (pos 0)) x ≡ false → toUnsigned w x ≡ 0
 unfolding lt toUnsigned
 unsigned-low w nan p = refl
 unsigned-low w (inf true) p = refl
 unsigned-low w (inf false) p = absurd (true≢false p)
 unsigned-low w (fin true m e) p = refl
-unsigned-low w (fin false m e) p = absurd (crossed 0 _ e (le-add-right _ _) p)
+unsigned-low w (fin false m e) p =
+    let l : m * up e * 1 ≤ 0 * 1 * down e = ltb-false (0 * 1 * down e) (m * up e * 1) p in
+    let z : m * up e ≡ 0 = omega arith in
+    ap (λ (a : ℕ). min (a / down e) (2 ^ w - 1)) z ∙ ap (λ (a : ℕ). min a (2 ^ w - 1)) (div-eq-of-lt (down-pos e)) ∙ min-eq-left zero-le
+
+-- above 0, so above -1, as the cast of the library asks it, and no NaN
+pub above-minus-one : (x : Float) → lt (fin false 0 (pos 0)) x ≡ true → lt (fin true 1 (pos 0)) x ≡ true
+unfolding lt
+above-minus-one nan p = p
+above-minus-one (inf s) p = p
+above-minus-one (fin true m e) p = absurd (true≢false (sym p))
+above-minus-one (fin false m e) p = lt-ltb 0 (1 * 1 * down e + m * up e * 1) (lt-of-lt-of-le (down-pos e) (le-trans (le-of-eq (sym (one-mul (down e)))) (le-add-right (1 * 1 * down e) (m * up e * 1))))
+
+pub above-no-nan : (x : Float) → lt (fin false 0 (pos 0)) x ≡ true → T (not (isNan x))
+unfolding lt isNan
+above-no-nan nan p = absurd (true≢false (sym p))
+above-no-nan (inf s) p = tt
+above-no-nan (fin s m e) p = tt
 
 pub signed-top : (h : ℕ) (x : Float) → le (fin true 1 (pos h)) x ≡ true → lt x (fin false 1 (pos h)) ≡ false → toSigned h x ≡ pos (2 ^ h - 1)
 unfolding lt le toSigned

@@ -7,3 +7,4 @@ pub mod Steps
 pub mod Truncation
 pub mod Powers
 pub mod Casts
+pub mod Remainders

@@ -25,7 +25,7 @@ all-four true false c d t = absurd t
 all-four true true false d t = absurd t
 all-four true true true d t = (tt, t)
 
-bounds : (f : Format) (s : Bool) (m : ℕ) (e : ℤ) → T (fits f (fin s m e)) → (m < 2 ^ prec f) × (m * up e < 2 ^ suc (emax f) * down e)
+pub bounds : (f : Format) (s : Bool) (m : ℕ) (e : ℤ) → T (fits f (fin s m e)) → (m < 2 ^ prec f) × (m * up e < 2 ^ suc (emax f) * down e)
 unfolding fits
 bounds f s zero e h = (pow-pos (prec f), subst (λ (z : ℕ). z < 2 ^ suc (emax f) * down e) (sym (zero-mul (up e))) (mul-pos (pow-pos (suc (emax f))) (down-pos e)))
 bounds f s (suc m) e h =

@@ -18,6 +18,6 @@ pub farther-by : (passes : Float → Float → Bool) (a b : Float) (t : Bool) �
 unfolding farther
 farther-by passes a b t h = ap (λ (u : Bool). cond u b a) (sym h) ∙ ap (λ (u : Bool). cond (u || passes a b) b a) (nan-test a)
 
-pub angle-by : (x : Float) (t : Bool) → lt (rem binary64 x tau) (ofBits binary64 0) ≡ t → cond t (add binary64 (rem binary64 x tau) tau) (rem binary64 x tau) ≡ angle x
+pub angle-by : (x r : Float) (t : Bool) → r ≡ rem binary64 x tau → lt r (ofBits binary64 0) ≡ t → cond t (add binary64 r tau) r ≡ angle x
 unfolding angle
-angle-by x t h = ap (λ (u : Bool). cond u (add binary64 (rem binary64 x tau) tau) (rem binary64 x tau)) (sym h)
+angle-by x r t e h = ap (λ (u : Bool). cond u (add binary64 r tau) r) (sym h) ∙ ap (λ (y : Float). cond (lt y (ofBits binary64 0)) (add binary64 y tau) y) e

@@ -1,27 +1,23 @@
 -- The whole part of a float by its bit pattern, by the exponent's field. Assumes nothing.
-use mathlib.Core.Path.{_≡_, refl, sym, ap, _∙_}
-use Prim.Native.Nat.{ℕ, zero, suc, _+_, _-_, _*_, _/_, _%_, _^_, _≤_, _<_}
-use native.Mathlib.Nat.{le-trans, le-of-eq, lt-of-le-of-lt, le-add-right, add-mul, mul-assoc, mul-one, mul-right-comm, mul-le-mul-right, mod-lt, mod-eq-of-lt, mul-add-div-right, le-div-iff-mul-le, div-mul-le-self, add-assoc, le-of-lt}
+use mathlib.Core.Path.{_≡_, refl, sym, ap, _∙_, subst}
+use Prim.Native.Nat.{ℕ, zero, suc, _+_, _-_, _*_, _/_, _%_, _^_, _≤_, _<_, min}
+use native.Mathlib.Nat.{le-trans, le-of-eq, lt-of-le-of-lt, le-add-right, add-mul, mul-assoc, mul-one, mul-le-mul-right, mod-lt, mod-eq-of-lt, mul-add-div-right, le-div-iff-mul-le, div-mul-le-self, div-le-self, min-eq-left, add-comm, add-assoc, le-of-lt}
 use native.Mathlib.Omega.{arith}
-use mathlib.Core.Bool.{Bool, true, false, not, cond}
+use mathlib.Core.Bool.{Bool, true, false, not, cond, true≢false}
 use lib.Dec.{T, leb, ltb}
 use borrow.Author.Tests.{ltb-true, ltb-false, leb-true, leb-false}
 use lib.IntN.{ℤ, pos}
 use lib.Pow.{pow-add, pow-pos}
-use lib.Ieee.{Float, nan, inf, fin, binary64, up, down, round, toBits, ofBits, fits, isNan}
+use lib.Ieee.{Float, nan, inf, fin, binary64, up, down, round, lt, toUnsigned, toBits, ofBits, fits, isNan}
 use lib.Ieee.Fits.{down-pos, round-fits}
 use lib.Ieee.Bits.{ofBits-toBits, toBits-lt}
 use lib.Ieee.Exact.{HasValue}
 use Rattle.ieee.proofs.Pack.{value-bits}
 use Rattle.ieee.proofs.Words.{whole-back}
 use Rattle.float.specs.Whole.{truncation}
-use Rattle.float.proofs.Values.{same-value, value-no-nan}
-use Rattle.float.proofs.Fields.{digits, field, parts, no-whole, no-fraction, shifted}
+use Rattle.float.proofs.Values.{same-value, value-no-nan, other-scale}
+use Rattle.float.proofs.Fields.{digits, digits-lt, field, parts, no-whole, no-fraction, shifted}
 use Rattle.float.proofs.Steps.{whole-value}
-
-digits-lt : (x t : ℕ) → t < 2 ^ 52 → digits binary64 x t < 2 ^ 53
-digits-lt zero t h = omega arith
-digits-lt (suc x) t h = omega arith
 
 infinite-field : (s : Bool) → field binary64 (toBits binary64 (inf s)) ≡ 2047
 unfolding toBits
@@ -35,9 +31,7 @@ zero-whole false = refl
 
 -- a whole number at another scale
 rescaled : (y : Float) (s : Bool) (n a c : ℕ) → n * c ≡ a → HasValue y s n 1 → HasValue y s a c
-rescaled nan s n a c g v = v
-rescaled (inf t) s n a c g v = v
-rescaled (fin t m e) s n a c g v = (v .0, ap (λ (x : ℕ). x * c) (sym (mul-one (m * up e)) ∙ v .1) ∙ mul-right-comm n (down e) c ∙ ap (λ (x : ℕ). x * down e) g)
+rescaled y s n a c g = other-scale y s n 1 a c (pow-pos 0) (g ∙ sym (mul-one a))
 
 -- ---- below one
 tiny : (x : Float) → T (fits binary64 x) → T (not (isNan x)) → field binary64 (toBits binary64 x) < 1023 → truncation x ≡ fin (leb (2 ^ 63) (toBits binary64 x)) 0 (pos 0)
@@ -148,3 +142,36 @@ unfolding isNan truncation
 truncation-no-nan nan h k = k
 truncation-no-nan (inf s) h k = k
 truncation-no-nan (fin s m e) h k = value-no-nan (round binary64 s (m * up e / down e) 1) s (m * up e / down e) 1 (whole-value binary64 s m e h)
+
+-- ---- the whole part as an integer: the digits with the leading one, without those below the point
+by-digits : (a d x t : ℕ) → 0 < d → t < 2 ^ 52 → a * 2 ^ 1074 ≡ digits binary64 x t * 2 ^ (x - 1) * d → x ≤ 1074 → (c : Bool) → ltb x 1023 ≡ c
+    → (t + 2 ^ 52) / 2 ^ cond c 63 (1075 - x) ≡ min (a / d) (2 ^ 64 - 1)
+by-digits a d x t D T v g true l =
+    let n : 53 + (x - 1) ≤ 1074 = omega (arith, ltb-true x 1023 l) in
+    let z : a / d ≡ 0 = no-whole a d (digits binary64 x t) (x - 1) 1074 D v 53 (digits-lt x t T) n in
+    let y : (t + 2 ^ 52) / 2 ^ 63 ≡ 0 = omega arith in
+    y ∙ sym (ap (λ (w : ℕ). min w (2 ^ 64 - 1)) z)
+by-digits a d x t D T v g false l =
+    let k = ltb-false x 1023 l in
+    let first : 0 < x = omega arith in
+    let u : 1074 ≡ 1075 - x + (x - 1) = omega arith in
+    let q : (t + 2 ^ 52) / 2 ^ (1075 - x) ≡ a / d =
+    ap (λ (w : ℕ). w / 2 ^ (1075 - x)) (add-comm t (2 ^ 52) ∙ sym (leading x t first)) ∙ sym (shifted a d (digits binary64 x t) (x - 1) 1074 D v (1075 - x) u) in
+    let y : a / d ≤ 2 ^ 64 - 1 = le-trans (le-of-eq (sym q)) (le-trans (div-le-self (t + 2 ^ 52) (2 ^ (1075 - x))) (omega arith)) in
+    q ∙ sym (min-eq-left y)
+
+-- with the sign clear the field is all that stands above the digits
+field-is : (b : ℕ) → b / 2 ^ 52 ≤ 1074 → field binary64 b ≡ b / 2 ^ 52
+field-is b g = let l : b < 2 ^ 63 = omega arith in ap (λ (z : ℕ). z / 2 ^ 52) (mod-eq-of-lt l)
+
+pub whole-digits : (x : Float) → T (fits binary64 x) → lt (fin false 0 (pos 0)) x ≡ true
+    → let b = toBits binary64 x in b / 2 ^ 52 ≤ 1074 → (b % 2 ^ 52 + 2 ^ 52) / 2 ^ cond (ltb (b / 2 ^ 52) 1023) 63 (1075 - b / 2 ^ 52) ≡ toUnsigned 64 x
+unfolding lt toUnsigned
+whole-digits nan h p g = absurd (true≢false (sym p))
+whole-digits (inf true) h p g = absurd (true≢false (sym p))
+whole-digits (inf false) h p g = let z : ⊥ = omega (arith, field-is (toBits binary64 (inf false)) g, infinite-field false, g) in absurd z
+whole-digits (fin true m e) h p g = absurd (true≢false (sym p))
+whole-digits (fin false m e) h p g =
+    let b = toBits binary64 (fin false m e) in
+    by-digits (m * up e) (down e) (b / 2 ^ 52) (b % 2 ^ 52) (down-pos e) (mod-lt b (pow-pos 52))
+    (subst (λ (k : ℕ). m * up e * 2 ^ 1074 ≡ digits binary64 k (b % 2 ^ 52) * 2 ^ (k - 1) * down e) (field-is b g) (parts binary64 false m e h .1)) g (ltb (b / 2 ^ 52) 1023) refl

@@ -7,8 +7,8 @@ ghost use Prim.Native.Nat.{_-_, _^_, _≤_, _<_};
 ghost use lib.Dec.{ltb};
 ghost use lib.IntN.{pos};
 ghost use lib.Signed.{mag};
-ghost use lib.Ieee.{binary64, round, toUnsigned, toSigned, ofInt};
-ghost use Rattle.float.specs.Order.{magnitude, larger, smaller, rank, ordered, angle};
+ghost use lib.Ieee.{binary64, round, rem, toUnsigned, toSigned, ofInt};
+ghost use Rattle.float.specs.Order.{magnitude, larger, smaller, rank, ordered, tau, angle};
 ghost use Rattle.float.specs.Whole.{floored, ceiled, truncation};
 ghost use Rattle.float.specs.Exp.{bits, inverseFactorials, horner, twoTo, exponential};
 
@@ -67,11 +67,25 @@ pub fn widen(x: f32) -> f64
     std::num::f32_to_f64_with_nan(x)
 }
 
-// Toward zero, to the nearest end of the range, NaN to 0.
+// How many of a pattern's lowest digits are the fraction, by the exponent's field: 1075 less the field, and below 1023 all but the sign.
+fn fraction_digits(field: u64) -> u64
+    requires { ⌜ field ≤ 1074 ⌝ }
+    ensures { λ r. ⌜ (r ≡ cond (ltb field 1023) 63 (1075 - field)) × (r ≤ 63) ⌝ }
+{
+    if field < 1023 { 63 } else { 1075 - field }
+}
+
+// Toward zero, to the nearest end of the range, NaN to 0. Below 2 to the power of 52 the digits are shifted with no jump that depends on them.
 pub fn to_u64(x: f64) -> u64
     ensures { λ r. ⌜ r ≡ toUnsigned 64 x ⌝ }
 {
-    if x > -1.0 {
+    if 0.0 < x {
+        let b = f64::to_bits(x);
+        let field = b / 0x10_0000_0000_0000;
+        if field <= 1074 {
+            let digits = b % 0x10_0000_0000_0000 + 0x10_0000_0000_0000;
+            return digits >> fraction_digits(field);
+        }
         if x < 18446744073709551616.0 {
             return std::num::truncating_f64_to_u64(x);
         }
@@ -100,20 +114,22 @@ pub fn of_u64(n: u64) -> f64
     std::num::nearest_u64_to_f64(n)
 }
 
+// The remainder by TAU, with the sign of x. Below TAU either way it is x, and `%`, which is slow, is left out.
+fn remainder(x: f64) -> f64
+    ensures { λ r. ⌜ r ≡ rem binary64 x tau ⌝ }
+{
+    if (x < TAU) & (-TAU < x) {
+        return x;
+    }
+    x % TAU
+}
+
 // The remainder by TAU: a remainder below 0 has TAU added, and -0.0 is not below 0.
 pub fn rem_tau(x: f64) -> f64
     ensures { λ r. ⌜ r ≡ angle x ⌝ }
 {
-    let t = x % TAU;
+    let t = remainder(x);
     if t < 0.0 { t + TAU } else { t }
-}
-
-// How many of a pattern's lowest digits are the fraction, by the exponent's field: 1075 less the field, and below 1023 all but the sign.
-fn fraction_digits(field: u64) -> u64
-    requires { ⌜ field ≤ 1074 ⌝ }
-    ensures { λ r. ⌜ (r ≡ cond (ltb field 1023) 63 (1075 - field)) × (r ≤ 63) ⌝ }
-{
-    if field < 1023 { 63 } else { 1075 - field }
 }
 
 // x without its fraction; from the field 1075 on there is none.

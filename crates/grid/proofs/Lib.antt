@@ -2,3 +2,5 @@
 pub mod Laws
 pub mod Tables
 pub mod Reaches
+pub mod Order
+pub mod Short

@@ -15,7 +15,7 @@ use borrow.Author.Tests.{ltb-true, ltb-false, le-ltb, eqb-true, ne-eqb}
 use Rattle.grid.specs.Bins.{nearestBin, distanceCount}
 use Rattle.grid.specs.Settings.{above}
 
-clash : {A : Type 0} → true ≡ false → A
+pub clash : {A : Type 0} → true ≡ false → A
 clash e = absurd (let z : _≡_ {A = ℕ} 0 1 = ap (λ (t : Bool). cond t 0 1) e in omega arith)
 
 -- no number above 0

@@ -1,6 +1,7 @@
 // The settings of a table's grid, the bin counts that they give, and the bins of a reading.
 ghost use mathlib.Core.Path.{_≡_};
 ghost use Prim.Native.Nat.{_≤_};
+ghost use lib.Ieee.{lt};
 ghost use Rattle.grid.specs.Bins.{nearestBin, distanceCount, dihedralCount, tableRmax, distanceBin, dihedralBin};
 ghost use Rattle.grid.specs.Settings.{above, inRange, levelsHeld, binsInRange, countsHeld, ownCount, slabsHeld, question, counted, freshQuestion, gridRange, gridHeld};
 
@@ -43,6 +44,21 @@ pub fn table_rmax(n: u64, dr: f64, rmin: f64) -> f64
     ieee::mul_add(float::of_u64(n), dr, rmin)
 }
 
+// A distance above the table's own rmax. With n less 2 to the power of -20 two operations stay below it, which spares most distances the fused one.
+pub fn above_rmax(r: f64, n: u64, dr: f64, rmin: f64) -> bool
+    ensures { λ z. ⌜ z ≡ lt (tableRmax n dr rmin) r ⌝ }
+{
+    if n < 4294967296 {
+        // of 32 bits the machine makes a float at once
+        let m = float::of_u64((n as u32) as u64);
+        let near = (m - 9.5367431640625e-7) * dr + rmin;
+        if (1 <= n) & ((0.0 < dr) & (ieee::is_finite(near) & (r < near))) {
+            return false;
+        }
+    }
+    table_rmax(n, dr, rmin) < r
+}
+
 // The bin of a distance; from rmax on it is the last one.
 pub fn distance_bin(r: f64, rmin: f64, dr: f64, n: u64) -> u64
     ensures { λ b. ⌜ b ≡ distanceBin r rmin dr n ⌝ }
@@ -54,12 +70,18 @@ pub fn distance_bin(r: f64, rmin: f64, dr: f64, n: u64) -> u64
     if b < n { b } else { n - 1 }
 }
 
-// The bin of a dihedral angle; near TAU it is the first one again.
+// The bin of a dihedral angle; near TAU it is the first one again. A step that gives n leaves nothing to divide.
 pub fn dihedral_bin(omega: f64, step: f64, n: u64) -> u64
     ensures { λ b. ⌜ b ≡ dihedralBin omega step n ⌝ }
 {
     let b = nearest_bin(float::rem_tau(omega), step);
     if n == 0 {
+        return 0;
+    }
+    if b < n {
+        return b;
+    }
+    if b == n {
         return 0;
     }
     b % n

@@ -53,7 +53,7 @@ either-way : (b s : Bool) → (finite (cond b nan (inf s)) ≡ true → ⊥) × 
 either-way true s = (λ e. false≢true e, λ e. false≢true e)
 either-way false s = (λ e. false≢true e, λ e. false≢true e)
 
-product-finite : (x y : Float) → finite (mul binary64 x y) ≡ true → (finite x ≡ true) × (finite y ≡ true)
+pub product-finite : (x y : Float) → finite (mul binary64 x y) ≡ true → (finite x ≡ true) × (finite y ≡ true)
 unfolding mul
 product-finite nan y h = absurd (false≢true h)
 product-finite (inf s) nan h = absurd (false≢true h)
@@ -63,7 +63,7 @@ product-finite (fin s m e) nan h = absurd (false≢true h)
 product-finite (fin s m e) (inf t) h = absurd (either-way (eqb m 0) (unlike s t) .0 h)
 product-finite (fin s m e) (fin t n d) h = (refl, refl)
 
-sum-finite : (x y : Float) → finite (add binary64 x y) ≡ true → (finite x ≡ true) × (finite y ≡ true)
+pub sum-finite : (x y : Float) → finite (add binary64 x y) ≡ true → (finite x ≡ true) × (finite y ≡ true)
 unfolding add
 sum-finite nan y h = absurd (false≢true h)
 sum-finite (inf s) nan h = absurd (false≢true h)

@@ -29,7 +29,7 @@ fn outside(t: Table, r: f64) -> bool
     let rmin = g.rmin;
     let dr = g.dr;
     let n = g.n_r;
-    (r < rmin) | (grid::table_rmax(n, dr, rmin) < r)
+    (r < rmin) | grid::above_rmax(r, n, dr, rmin)
 }
 
 // The row of a distance and an angle, once there are bins.

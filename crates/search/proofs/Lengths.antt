@@ -1,19 +1,20 @@
 -- A length is finite and above 0 where its square is, so no root has to be taken to tell. Assumes nothing.
-use mathlib.Core.Path.{_≡_, refl, sym, _∙_, subst}
-use mathlib.Core.Bool.{Bool, true, false, _&&_}
+use mathlib.Core.Path.{_≡_, refl, sym, ap, _∙_, subst}
+use mathlib.Core.Bool.{Bool, true, false, not, _&&_, Bool·beq}
 use Prim.Native.Nat.{ℕ, zero, suc, _*_, _%_, _^_, _≤_, _<_}
-use native.Mathlib.Nat.{mul-pos, mul-one, one-mul, zero-mul, le-trans, le-of-eq, le-of-lt, mul-le-mul, zero-lt-suc}
+use native.Mathlib.Nat.{mul-pos, mul-one, one-mul, zero-mul, le-trans, le-of-eq, le-of-lt, mul-le-mul, zero-lt-suc, sub-self}
 use native.Mathlib.Omega.{arith}
 use lib.Dec.{T, leb, ltb, eqb, leb→le, ltb→lt, lt→ltb}
-use lib.IntN.{ℤ}
+use lib.IntN.{ℤ, pos}
 use lib.Pow.{pow-pos, pow-mono, pow-add}
-use lib.Ieee.{Float, nan, inf, fin, binary64, ofBits, up, down, round, lt, fits}
-use lib.Ieee.Fits.{and-l, and-r, up-pos, add-fits}
-use lib.Ieee.Scale.{finite}
+use lib.Ieee.{Float, nan, inf, fin, binary64, ofBits, up, down, round, add, sub, neg, lt, eq, fits}
+use lib.Ieee.Fits.{and-l, and-r, up-pos, down-pos, add-fits}
+use lib.Ieee.Scale.{finite, round-same}
 use lib.Ieee.Positive.{positive, between}
 use borrow.Author.Tests.{lt-ltb}
 use Rattle.ieee.specs.Root.{root, NearRoot, Rooted}
 use Rattle.ieee.proofs.Meaning.{root-rounds}
+use Rattle.ieee.proofs.Sums.{sum-level}
 use Rattle.search.specs.Geometry.{plus, times, dot, norm}
 use Rattle.search.specs.declared.Vector3.{Vector3}
 
@@ -75,3 +76,22 @@ rooted-held (fin false (suc m) e) r f h =
 pub length-held : (a : Vector3) → held (norm a) ≡ held (dot a a)
 unfolding norm dot
 length-held a = rooted-held (dot a a) (root (dot a a)) (add-fits binary64 (plus (times (a .x) (a .x)) (times (a .y) (a .y))) (times (a .z) (a .z))) (root-rounds (dot a a) (add-fits binary64 (plus (times (a .x) (a .x)) (times (a .y) (a .y))) (times (a .z) (a .z))))
+
+-- ---- the difference of a number and itself
+no-sum : (d : ℕ) → 0 < d → round binary64 false 0 d ≡ fin false 0 (pos 0)
+unfolding round
+no-sum d h = round-same binary64 false 0 d 0 1 h (pow-pos 0) (zero-mul 1 ∙ sym (zero-mul d))
+
+unlike-not : (s : Bool) → Bool·beq s (not s) ≡ false
+unlike-not true = refl
+unlike-not false = refl
+
+pub self-less : (x : Float) → eq (sub binary64 x x) (ofBits binary64 0) ≡ finite x
+unfolding eq sub add neg ofBits
+self-less nan = refl
+self-less (inf true) = refl
+self-less (inf false) = refl
+self-less (fin s m e) =
+    let a = m * up e * down e in
+    let d = down e * down e in
+    ap (λ (y : Float). eq y (fin false 0 (pos 0))) (sum-level binary64 s (not s) a a d (unlike-not s) refl ∙ ap (λ (z : ℕ). round binary64 false z d) (sub-self a) ∙ no-sum d (mul-pos (down-pos e) (down-pos e)))

@@ -21,12 +21,12 @@ pub fn norm(a: Vector3) -> f64
     ieee::root(dot(a, a))
 }
 
-// A length that is finite and above 0. It is so where its square is, so no root is taken.
+// A length that is finite and above 0. It is so where its square is, so no root is taken; d - d is 0 for a finite d alone.
 pub fn length_held(a: Vector3) -> bool
     ensures { λ r. ⌜ r ≡ (finite (norm a) && lt zero (norm a)) ⌝ }
 {
     let d = dot(a, a);
-    ieee::is_finite(d) & (0.0 < d)
+    (d - d == 0.0) & (0.0 < d)
 }
 
 // A direction divided by its length.

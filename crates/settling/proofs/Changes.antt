@@ -11,7 +11,7 @@ use Rattle.settling.specs.Settling.{newRow, inPlaceOf, notRepulsive, rep
 use Rattle.settling.specs.Steps.{stays, becomes, leftRow, isClear}
 use Rattle.settling.specs.declared.Verdict.{Verdict}
 use Rattle.settling.specs.declared.Verdict.the-variants.{Empty, Blocked, Isotropic, Smooth, Rough}
-use Rattle.settling.proofs.Largest.{clash}
+use Rattle.grid.proofs.Reaches.{clash}
 
 pub row-stays : (r : Rows) (s c : ℕ) (v : Verdict) → stays v ≡ true → r ≡ replacedBy r s (newRow c v)
 row-stays r s c Empty e = refl

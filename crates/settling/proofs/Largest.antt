@@ -1,125 +1,24 @@
 -- The largest of numbers that are not below +0 does not depend on their order. Assumes nothing.
-use mathlib.Core.Path.{_≡_, refl, sym, ap, subst, _∙_}
-use mathlib.Core.Logic.{_⊎_, inl, inr}
-use mathlib.Core.Bool.{Bool, true, false, cond, not}
-use Prim.Native.Nat.{ℕ, _+_, _*_, _%_, _/_, _^_, _-_, _≤_, _<_}
-use native.Mathlib.Nat.{mul-assoc, mul-comm, mul-left-comm, mul-pos, eq-of-mul-eq-mul-right}
+use mathlib.Core.Path.{_≡_, refl, sym, ap, _∙_}
+use mathlib.Core.Bool.{Bool, true, false, cond}
+use Prim.Native.Nat.{_*_, _^_, _-_}
 use native.Mathlib.Omega.{arith}
 use lib.Dec.{T}
-use lib.Ieee.{Float, nan, inf, fin, binary64, up, down, hid, ones, top, low, lt, isNan, fits, toBits, ofFields}
+use lib.Ieee.{Float, nan, inf, fin, binary64, up, down, low, lt, isNan, fits}
 use lib.Ieee.Fits.{down-pos}
-use lib.Ieee.Exact.{HasValue}
-use lib.Ieee.Positive.{through, first-pos}
-use lib.Ieee.Scale.{finite}
-use borrow.Author.Tests.{ltb-true, ltb-false, lt-ltb, le-ltb}
-use Rattle.ieee.proofs.Pack.{le-or-lt}
-use Rattle.ieee.proofs.Fields.{as-fields, finite-field, at-low, at-mid}
+use borrow.Author.Tests.{ltb-false}
 use Rattle.float.specs.Order.{farther, larger}
-use Rattle.float.proofs.Values.{same-value}
-
--- the sign is clear
-abbrev pub clear : Float → Bool
-clear nan = true
-clear (inf s) = not s
-clear (fin s m e) = not s
+use Rattle.float.proofs.Fields.{units-of}
+use Rattle.float.proofs.Values.{other-scale, same-value}
+use Rattle.grid.proofs.Reaches.{clash}
+use Rattle.grid.proofs.Order.{clear, lt-trans, lt-asym}
 
 -- a value of the format that is not below +0, or the NaN
 pub record Slope (v : Float) : Type 0 where
   pub held : T (fits binary64 v)
   pub clear : T (clear v)
 
-pub clash : {A : Type 0} → _≡_ {A = Bool} true false → A
-clash e = absurd (let z : _≡_ {A = ℕ} 0 1 = cc in omega arith)
-
 -- ---- the order of such numbers
-
--- fractions a / b < c / d < e / f
-fractions : (a b c d e f : ℕ) → 0 < b → 0 < d → 0 < f → a * d < c * b → c * f < e * d → a * f < e * b
-fractions a b c d e f hb hd hf p q = go (le-or-lt (e * b) (a * f))
-  where
-    go : (e * b ≤ a * f) ⊎ (a * f < e * b) → a * f < e * b
-    go (inr h) = h
-    go (inl h) = absurd (let z : e * d ≤ c * f = through e a c f b d hb h (omega (arith, p)) in omega (arith, q, z))
-
--- s < v < w
-between : (s v w : Float) → T (clear v) → T (clear w) → lt s v ≡ true → lt v w ≡ true → lt s w ≡ true
-unfolding lt
-between nan v w hv hw p q = clash (sym p)
-between (inf a) nan w hv hw p q = clash (sym p)
-between (inf a) (inf true) w hv hw p q = absurd hv
-between (inf a) (inf false) nan hv hw p q = clash (sym q)
-between (inf a) (inf false) (inf b) hv hw p q = clash (sym q)
-between (inf a) (inf false) (fin b n d) hv hw p q = clash (sym q)
-between (inf a) (fin true n d) w hv hw p q = absurd hv
-between (inf a) (fin false n d) nan hv hw p q = clash (sym q)
-between (inf a) (fin false n d) (inf true) hv hw p q = absurd hw
-between (inf true) (fin false n d) (inf false) hv hw p q = refl
-between (inf false) (fin false n d) (inf false) hv hw p q = clash (sym p)
-between (inf a) (fin false n d) (fin true k c) hv hw p q = absurd hw
-between (inf a) (fin false n d) (fin false k c) hv hw p q = p
-between (fin a m e) nan w hv hw p q = clash (sym p)
-between (fin a m e) (inf true) w hv hw p q = absurd hv
-between (fin a m e) (inf false) nan hv hw p q = clash (sym q)
-between (fin a m e) (inf false) (inf b) hv hw p q = clash (sym q)
-between (fin a m e) (inf false) (fin b n d) hv hw p q = clash (sym q)
-between (fin a m e) (fin true n d) w hv hw p q = absurd hv
-between (fin a m e) (fin false n d) nan hv hw p q = clash (sym q)
-between (fin a m e) (fin false n d) (inf true) hv hw p q = absurd hw
-between (fin a m e) (fin false n d) (inf false) hv hw p q = refl
-between (fin a m e) (fin false n d) (fin true k c) hv hw p q = absurd hw
-between (fin true m e) (fin false n d) (fin false k c) hv hw p q =
-    let h : 0 < k * up c = first-pos (k * up c) (down d) (omega (arith, ltb-true (n * up d * down c) (k * up c * down d) q)) in
-    lt-ltb 0 (m * up e * down c + k * up c * down e) (omega (arith, mul-pos h (down-pos e)))
-between (fin false m e) (fin false n d) (fin false k c) hv hw p q =
-    lt-ltb (m * up e * down c) (k * up c * down e)
-    (fractions (m * up e) (down e) (n * up d) (down d) (k * up c) (down c) (down-pos e) (down-pos d) (down-pos c)
-    (ltb-true (m * up e * down d) (n * up d * down e) p) (ltb-true (n * up d * down c) (k * up c * down d) q))
-
-other-way : (v w : Float) → T (clear v) → T (clear w) → lt v w ≡ true → lt w v ≡ false
-unfolding lt
-other-way nan w hv hw p = clash (sym p)
-other-way (inf true) w hv hw p = absurd hv
-other-way (inf false) nan hv hw p = clash (sym p)
-other-way (inf false) (inf b) hv hw p = clash (sym p)
-other-way (inf false) (fin b n d) hv hw p = clash (sym p)
-other-way (fin true m e) w hv hw p = absurd hv
-other-way (fin false m e) nan hv hw p = clash (sym p)
-other-way (fin false m e) (inf true) hv hw p = absurd hw
-other-way (fin false m e) (inf false) hv hw p = refl
-other-way (fin false m e) (fin true n d) hv hw p = absurd hw
-other-way (fin false m e) (fin false n d) hv hw p =
-    le-ltb (n * up d * down e) (m * up e * down d) (omega (arith, ltb-true (m * up e * down d) (n * up d * down e) p))
-
--- a finite value of the format, in units of the smallest one
-pub record Units (x : Float) : Type 0 where
-  pub sign : Bool
-  pub count : ℕ
-  pub value : HasValue x sign count (2 ^ low binary64)
-
-units-by : (x : Float) (s : Bool) (k t : ℕ) → x ≡ ofFields binary64 s k t → (k ≡ ones binary64 → ⊥) → (k ≡ 0) ⊎ (0 < k) → Units x
-units-by x s k t e n (inl z) = record { sign = s; count = t * 2 ^ 0; value = subst (λ (y : Float). HasValue y s (t * 2 ^ 0) (2 ^ low binary64)) (sym e) (at-low binary64 s k t z) }
-units-by x s k t e n (inr z) =
-    let u = (hid binary64 + t) * 2 ^ (k - 1) in
-    record { sign = s; count = u; value = subst (λ (y : Float). HasValue y s u (2 ^ low binary64)) (sym e) (at-mid binary64 s k t (λ h. absurd (omega (arith, z, h))) n) }
-
-zero-or : (k : ℕ) → (k ≡ 0) ⊎ (0 < k)
-zero-or k = go (le-or-lt k 0)
-  where
-    go : (k ≤ 0) ⊎ (0 < k) → (k ≡ 0) ⊎ (0 < k)
-    go (inl h) = inl (omega arith)
-    go (inr h) = inr h
-
-units : (x : Float) → T (fits binary64 x) → finite x ≡ true → Units x
-units x h f = units-by x _ _ _ (as-fields binary64 x h) (finite-field binary64 x h f) (zero-or (toBits binary64 x % top binary64 / hid binary64))
-
--- equal fractions: y has x's count
-moved : (x dx y dy a c : ℕ) → 0 < dx → x * dy ≡ y * dx → x * c ≡ a * dx → y * c ≡ a * dy
-moved x dx y dy a c h p q =
-    eq-of-mul-eq-mul-right dx h (y * c) (a * dy)
-    (let l : y * c * dx ≡ y * dx * c = simp (mul-assoc, mul-comm, mul-left-comm) in
-    let m : x * dy * c ≡ x * c * dy = simp (mul-assoc, mul-comm, mul-left-comm) in
-    let r : a * dx * dy ≡ a * dy * dx = simp (mul-assoc, mul-comm, mul-left-comm) in
-    l ∙ ap (λ (z : ℕ). z * c) (sym p) ∙ m ∙ ap (λ (z : ℕ). z * dy) q ∙ r)
 
 neither : (v w : Float) → Slope v → Slope w → isNan v ≡ false → isNan w ≡ false → lt v w ≡ false → lt w v ≡ false → v ≡ w
 unfolding lt isNan
@@ -138,11 +37,11 @@ neither (fin false m e) (inf false) hv hw a b p q = clash p
 neither (fin true m e) (fin t n d) hv hw a b p q = absurd (hv .clear)
 neither (fin false m e) (fin true n d) hv hw a b p q = absurd (hw .clear)
 neither (fin false m e) (fin false n d) hv hw a b p q =
-    let u = units (fin false m e) (hv .held) refl in
+    let u = units-of (fin false m e) (hv .held) refl in
     let same : m * up e * down d ≡ n * up d * down e =
     omega (arith, ltb-false (m * up e * down d) (n * up d * down e) p, ltb-false (n * up d * down e) (m * up e * down d) q) in
     same-value binary64 (fin false m e) (fin false n d) (u .sign) (u .count) (hv .held) (hw .held) (u .value)
-    (u .value .0, moved (m * up e) (down e) (n * up d) (down d) (u .count) (2 ^ low binary64) (down-pos e) same (u .value .1))
+    (other-scale (fin false n d) (u .sign) (m * up e) (down e) (u .count) (2 ^ low binary64) (down-pos e) (u .value .1) (u .value .0, sym same))
 
 -- ---- two of them taken into a maximum in turn
 
@@ -158,20 +57,20 @@ below-nan (fin s m e) = refl
 
 pick-pick : (v w : Float) (r t : Bool) → lt v w ≡ r → lt w v ≡ t → Slope v → Slope w → isNan v ≡ false → isNan w ≡ false → pick v w ≡ pick w v
 unfolding pick
-pick-pick v w true true p q hv hw a b = clash (sym q ∙ other-way v w (hv .clear) (hw .clear) p)
+pick-pick v w true true p q hv hw a b = clash (sym q ∙ lt-asym v w p)
 pick-pick v w true false p q hv hw a b = rw (p, q)
 pick-pick v w false true p q hv hw a b = rw (p, q)
 pick-pick v w false false p q hv hw a b = rw (p, q) (neither v w hv hw a b p q)
 
-not-between : (s v w : Float) (r : Bool) → lt v w ≡ r → T (clear v) → T (clear w) → lt s v ≡ true → lt s w ≡ false → lt v w ≡ false
-not-between s v w false e hv hw p q = e
-not-between s v w true e hv hw p q = clash (sym (between s v w hv hw p e) ∙ q)
+not-between : (s v w : Float) (r : Bool) → lt v w ≡ r → lt s v ≡ true → lt s w ≡ false → lt v w ≡ false
+not-between s v w false e p q = e
+not-between s v w true e p q = clash (sym (lt-trans s v w p e) ∙ q)
 
 pick-swap : (s v w : Float) (p q : Bool) → lt s v ≡ p → lt s w ≡ q → Slope v → Slope w → isNan v ≡ false → isNan w ≡ false → pick (pick s v) w ≡ pick (pick s w) v
 unfolding pick
 pick-swap s v w false false p q hv hw a b = rw (p, q, p)
-pick-swap s v w true false p q hv hw a b = rw (p, q, p, not-between s v w (lt v w) refl (hv .clear) (hw .clear) p q)
-pick-swap s v w false true p q hv hw a b = rw (p, q, not-between s w v (lt w v) refl (hw .clear) (hv .clear) q p)
+pick-swap s v w true false p q hv hw a b = rw (p, q, p, not-between s v w (lt v w) refl p q)
+pick-swap s v w false true p q hv hw a b = rw (p, q, not-between s w v (lt w v) refl q p)
 pick-swap s v w true true p q hv hw a b = rw (p, q) (pick-pick v w (lt v w) (lt w v) refl refl hv hw a b)
 
 pick-number : (s v : Float) (p : Bool) → lt s v ≡ p → isNan s ≡ false → isNan v ≡ false → isNan (pick s v) ≡ false

@@ -1,21 +1,22 @@
 -- The gradient along columns and rows is that of `compute_gradient`. Assumes nothing.
-use mathlib.Core.Path.{_≡_, refl, sym, ap, subst, _∙_}
-use mathlib.Core.Bool.{Bool, true, false, cond, not, _&&_}
+use mathlib.Core.Path.{_≡_, refl, sym, ap, _∙_}
+use mathlib.Core.Bool.{Bool, true, false, cond, _&&_}
 use mathlib.Core.List.{List, [], _∷_, map}
-use Prim.Native.Nat.{ℕ, zero as none, suc, _+_, _*_, _^_, _≤_, _<_}
+use Prim.Native.Nat.{ℕ, zero as none, suc, _+_, _*_, _≤_, _<_}
 use native.Mathlib.Nat.{mul-comm, one-mul, add-comm}
 use native.Mathlib.Omega.{arith}
 use lib.Dec.{T, leb, ltb, eqb}
 use lib.ListN.{length, getD}
-use lib.Ieee.{Float, nan, inf, fin, binary64, Format, prec, emax, low, up, down, units, odd, round, ofBits, sub, div, lt}
-use lib.Ieee.Fits.{round-is, div-fits}
-use lib.Ieee.Exact.{HasValue, odd-sign}
+use lib.Ieee.{Float, nan, inf, fin, binary64, up, down, round, ofBits, sub, div, lt}
+use lib.Ieee.Fits.{div-fits}
 use borrow.Author.Tests.{ltb-true, le-leb}
 use Rattle.ieee.proofs.Fields.{both-true}
 use Rattle.float.specs.Order.{magnitude}
 use Rattle.mesh.specs.Lists.{allUpTo, forEach}
 use Rattle.mesh.specs.Mesh.{Mesh, degree, neighbour, angleTo, neighbourKept, vertexKept, verticesFinite, keepsRule}
 use Rattle.mesh.proofs.Counting.{all-at}
+use Rattle.grid.proofs.Reaches.{clash}
+use Rattle.grid.proofs.Order.{clear, round-clear}
 use Rattle.settling.specs.Gradient.{zero, weight, steeper, alongNeighbours, gradientOf, gradient}
 use Rattle.mesh.specs.Levels.{vertexCount}
 use Rattle.rows.specs.declared.SlabResolution.{SlabResolution}
@@ -23,28 +24,16 @@ use Rattle.rows.specs.declared.SlabResolution.the-variants.{Scalar, Mesh as Mes
 use Rattle.rows.specs.Rows.{rowWith}
 use Rattle.settling.specs.Settling.{verdict, verdictOf}
 use Rattle.settling.specs.Steps.{lineWeights, lineGradient, linesGradient, byLines, linedVerdict, linedVerdictOf, Below}
-use Rattle.settling.proofs.Largest.{clash, clear, Slope, larger-swap}
+use Rattle.settling.proofs.Largest.{Slope, larger-swap}
 use Rattle.settling.proofs.Orders.{Commute, loops-commute, each-split, each-swap, each-same}
 use Rattle.mesh.proofs.Sizes.{place}
 use Rattle.settling.proofs.Lines.{line-at}
 
 -- ---- what a step of the gradient is is a slope
 
-clear-value : (x : Float) (a c : ℕ) → HasValue x false a c → T (clear x)
-clear-value (fin s m e) a c h = subst (λ (t : Bool). T (not t)) (sym (h .0)) tt
-
 clear-by : (b : Bool) (x y : Float) → T (clear x) → T (clear y) → T (clear (cond b x y))
 clear-by true x y h k = h
 clear-by false x y h k = k
-
-units-clear : (f : Format) (q k : ℕ) → T (clear (units f false q k))
-unfolding units
-units-clear f q k =
-    clear-by (ltb (q * 2 ^ k) (2 ^ (low f + suc (emax f)))) (odd (suc (prec f)) false q k (low f)) (inf false)
-    (clear-value (odd (suc (prec f)) false q k (low f)) (q * 2 ^ k) (2 ^ low f) (odd-sign (suc (prec f)) false q k (low f))) tt
-
-round-clear : (f : Format) (a c : ℕ) → T (clear (round f false a c))
-round-clear f a c = subst (λ (x : Float). T (clear x)) (sym (round-is f false a c)) (units-clear f _ _)
 
 -- the least angle that is not passed over
 abbrev least : Float

@@ -1,11 +1,9 @@
 -- `dihedral_bin` meets its contract. Assumes nothing.
-use mathlib.Core.Path.{sym, ap, _∙_}
+use mathlib.Core.Path.{_≡_, sym, ap, _∙_}
 use Prim.Native.Nat.{ℕ, _%_}
-use mathlib.Core.Bool.{Bool, cond}
+use native.Mathlib.Nat.{mod-self, mod-eq-of-lt}
 use borrow.Author.Tests.{eq-eqb, ne-eqb}
-use lib.Ieee.{Float}
-use Rattle.float.specs.Order.{angle}
-use Rattle.grid.specs.Bins.{nearestBin, dihedralBin}
+use Rattle.grid.specs.Bins.{dihedralBin}
 use borrow.Author.Needs.{needs}
 use Rattle.grid.proofs.dihedral_bin.Statement.{statement}
 use Rattle.grid.proofs.dihedral_bin.Tie as tie
@@ -16,22 +14,38 @@ rem-tau-requires c κs = search needs
 nearest-bin-requires : tie.Need-nearest-bin-requires
 nearest-bin-requires c κs = search needs
 
+-- once there are bins
+turned : (c : tie.Else1) → (let a = c .before .before .before .args in c .before .nearest-bin .result % a .n ≡ dihedralBin (a .omega) (a .step) (a .n))
+unfolding dihedralBin
+turned c = rw (c .before .nearest-bin .ensures, c .before .before .rem-tau .ensures, ne-eqb (c .before .before .before .args .n) 0 (c .if1 .left))
+
 returns : tie.Need-returns
 unfolding dihedralBin
-returns c =
-    let a = c .before .before .before .args in
-    sym (ap (λ (b : Bool). cond b 0 (nearestBin (angle (a .omega)) (a .step) % a .n)) (eq-eqb (a .n) 0 (c .if1 .taken)))
+returns c = rw (eq-eqb (c .before .before .before .args .n) 0 (c .if1 .taken))
+
+returns-2 : tie.Need-returns-2
+returns-2 c = sym (mod-eq-of-lt (c .if2 .taken)) ∙ turned (c .before)
+
+returns-3 : tie.Need-returns-3
+returns-3 c =
+    let e = c .before .before in
+    let n = e .before .before .before .args .n in
+    sym (ap (λ (b : ℕ). b % n) (c .if3 .taken) ∙ mod-self n) ∙ turned e
 
 rem-result : tie.Need-rem-result
 rem-result c = search needs
 
-returns-2 : tie.Need-returns-2
-unfolding dihedralBin
-returns-2 c =
-    let a = c .before .before .before .args in
-    ap (λ (x : ℕ). x % a .n) (c .before .nearest-bin .ensures ∙ ap (λ (x : Float). nearestBin x (a .step)) (c .before .before .rem-tau .ensures))
-    ∙ sym (ap (λ (b : Bool). cond b 0 (nearestBin (angle (a .omega)) (a .step) % a .n)) (ne-eqb (a .n) 0 (c .if1 .left)))
+returns-4 : tie.Need-returns-4
+returns-4 c = turned (c .before .before)
 
 pub dihedral-bin-spec : {M : Type 1} → statement M
 dihedral-bin-spec =
-    tie.close (tie.spec rem-tau-requires nearest-bin-requires returns rem-result returns-2)
+    tie.close
+    (tie.spec
+    rem-tau-requires
+    nearest-bin-requires
+    returns
+    returns-2
+    returns-3
+    rem-result
+    returns-4)

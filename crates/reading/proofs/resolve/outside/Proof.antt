@@ -4,12 +4,12 @@ use Rattle.reading.specs.Resolve.{outside}
 use Rattle.reading.proofs.resolve.outside.Statement.{statement}
 use Rattle.reading.proofs.resolve.outside.Tie as tie
 
-table-rmax-requires : tie.Need-table-rmax-requires
-table-rmax-requires c κs = search needs
+above-rmax-requires : tie.Need-above-rmax-requires
+above-rmax-requires c κs = search needs
 
 returns : tie.Need-returns
 unfolding outside
-returns c = rw (c .table-rmax .ensures)
+returns c = rw (c .above-rmax .ensures)
 
 pub outside-spec : {M : Type 1} → statement M
-outside-spec = tie.close (tie.spec table-rmax-requires returns)
+outside-spec = tie.close (tie.spec above-rmax-requires returns)

@@ -1,17 +1,14 @@
 -- `length_held` meets its contract. Assumes nothing.
 use mathlib.Core.Path.{sym}
-use Rattle.search.proofs.Lengths.{length-held}
+use Rattle.search.proofs.Lengths.{length-held, self-less}
 use Rattle.search.proofs.geometry.length_held.Statement.{statement}
 use Rattle.search.proofs.geometry.length_held.Tie as tie
 
 dot-requires : tie.Need-dot-requires
 dot-requires c κs = tt
 
-is-finite-requires : tie.Need-is-finite-requires
-is-finite-requires c κs = tt
-
 returns : tie.Need-returns
-returns c = rw (c .is-finite .ensures, c .before .dot .ensures) (sym (length-held (c .before .before .args .a)))
+returns c = rw (self-less (c .dot .result), c .dot .ensures) (sym (length-held (c .before .args .a)))
 
 pub length-held-spec : {M : Type 1} → statement M
-length-held-spec = tie.close (tie.spec dot-requires is-finite-requires returns)
+length-held-spec = tie.close (tie.spec dot-requires returns)
