@@ -14,7 +14,7 @@ mod rust {
 #[path = "../tests/compare/caller.rs"]
 #[allow(dead_code)]
 mod caller;
-#[path = "../tests/compare/icotable.rs"]
+#[path = "../hosts/rust/src/sys.rs"]
 #[allow(dead_code)]
 mod icotable;
 #[path = "../tests/compare/library.rs"]
@@ -48,7 +48,7 @@ mod searches;
 mod timing;
 
 use meshes::{vertex_count, Random};
-use readings::Rows;
+use readings::{Caller, Rows};
 use timing::{figure, row, used};
 
 fn size(megabytes: f64) -> String {
@@ -81,8 +81,10 @@ fn table(random: &mut Random) {
     row(&format!("read, {megabytes:.0} MB"), "ns a byte", read, 2.0);
     for (n_r, queries, rounds) in [(1, 4096, 400), (400, 400_000, 8)] {
         for (what, rows, bar) in [("Scalar", Rows::Scalar, 3.0), ("nearest", Rows::Nearest, 2.0), ("interpolated", Rows::Interpolated, 2.0)] {
-            let (time, megabytes) = readings::measure(rows, 3, [n_r, 8], queries, rounds, random);
-            row(&format!("reading, {what}, {}", size(megabytes)), "ns", time, bar);
+            for (caller, from) in [(Caller::C, "C"), (Caller::Rust, "Rust")] {
+                let (time, megabytes) = readings::measure(caller, rows, 3, [n_r, 8], queries, rounds, random);
+                row(&format!("reading, {what}, {}, called from {from}", size(megabytes)), "ns", time, bar);
+            }
         }
     }
 }
@@ -95,8 +97,8 @@ fn by_level(random: &mut Random) {
         let n = vertex_count(level);
         let [set, settle] = builds::slice(level, 1, rounds, random);
         let [nearest, located, built] = searches::measure(level, random);
-        let (one, megabytes) = readings::measure(Rows::Nearest, level, [1, 1], 40_000, 20, random);
-        let (nine, _) = readings::measure(Rows::Interpolated, level, [1, 1], 40_000, 20, random);
+        let (one, megabytes) = readings::measure(Caller::C, Rows::Nearest, level, [1, 1], 40_000, 20, random);
+        let (nine, _) = readings::measure(Caller::C, Rows::Interpolated, level, [1, 1], 40_000, 20, random);
         let slab = |t: [f64; 2]| with_ratio(t, (n * n) as f64 / 1e3);
         println!(
             "| {level} | {n} | {} | {} | {} | {} | {} | {} | {} | {} | {} |",
@@ -118,8 +120,8 @@ fn by_size(random: &mut Random) {
     println!("\n| file | reading nearest, ns | interpolated, ns |");
     println!("|---|---|---|");
     for (n_r, queries, rounds) in [(1, 4096, 400), (4, 40_000, 40), (36, 200_000, 10), (360, 400_000, 6)] {
-        let (one, megabytes) = readings::measure(Rows::Nearest, 3, [n_r, 8], queries, rounds, random);
-        let (nine, _) = readings::measure(Rows::Interpolated, 3, [n_r, 8], queries, rounds, random);
+        let (one, megabytes) = readings::measure(Caller::C, Rows::Nearest, 3, [n_r, 8], queries, rounds, random);
+        let (nine, _) = readings::measure(Caller::C, Rows::Interpolated, 3, [n_r, 8], queries, rounds, random);
         println!("| {} | {} | {} |", size(megabytes), with_ratio(one, 1.0), with_ratio(nine, 1.0));
     }
 }
@@ -136,7 +138,7 @@ fn by_stage(random: &mut Random) {
 
 // One operation alone, for a profiler.
 fn only(what: &str, random: &mut Random) {
-    let reading = |rows: Rows, random: &mut Random| used(readings::measure(rows, 3, [1, 8], 4096, 1000, random));
+    let reading = |rows: Rows, random: &mut Random| used(readings::measure(Caller::C, rows, 3, [1, 8], 4096, 1000, random));
     match what {
         "settle" => used(builds::slice(5, 4, 21, random)),
         "stages" => by_stage(random),

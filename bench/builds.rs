@@ -132,13 +132,13 @@ pub fn file(top: usize, n_r: usize, n_omega: usize, rounds: usize, random: &mut 
         levels: l.levels,
         values: l.values,
     };
-    assert_eq!(icotable::write(b, &l, lent(&m), &mut one).length as usize, length);
+    assert_eq!(icotable::write(b, l.held(), lent(&m), &mut one).length as usize, length);
     assert_eq!(plain::write(&held, &mut other), length);
     assert!(one == other);
     let write = least(
         rounds,
         length,
-        || assert_eq!(icotable::write(b, black_box(&l), lent(&m), &mut one).number, 0),
+        || assert_eq!(icotable::write(b, black_box(&l).held(), lent(&m), &mut one).number, 0),
         || assert_eq!(plain::write(black_box(&held), &mut other), length),
     );
     assert_eq!((icotable::read(&one).number, plain::read(&other)), (0, 0));
@@ -174,7 +174,7 @@ pub fn write_stages(top: usize, slabs: usize, rounds: usize, random: &mut Random
     let mut l = Own::new(slabs, top);
     let b = begun(settings(slabs as u64, 1), top, &mut l, &m);
     let mut output = vec![0; 200 + 10 * slabs + 4 * slabs * per];
-    let mut write = |l: &mut Own| least(rounds, 1000, || assert_eq!(icotable::write(b, &l.lent(), lent(&m), &mut output).number, 0), || ())[0];
+    let mut write = |l: &mut Own| least(rounds, 1000, || assert_eq!(icotable::write(b, l.lent().held(), lent(&m), &mut output).number, 0), || ())[0];
     let rows = write(&mut l);
     for ri in 0..slabs {
         assert_eq!(icotable::set(b, &mut l.lent(), ri as u64, 0, &energies(per, random)).number, 0);

@@ -21,6 +21,7 @@ mod caller;
 #[allow(dead_code)]
 mod host;
 #[allow(dead_code)]
+#[path = "../../hosts/rust/src/sys.rs"]
 mod icotable;
 #[allow(dead_code)]
 mod library;

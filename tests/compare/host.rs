@@ -78,7 +78,7 @@ impl Host {
         let lent = self.lists.lengths();
         let mut file = vec![0; 100 + 14 * lent[0]];
         let (l, m) = lists_of(&mut self.lists, &lent);
-        let a = icotable::write(self.builder, &l, m, &mut file);
+        let a = icotable::write(self.builder, l.held(), m, &mut file);
         assert_eq!(a.number, 0);
         file.truncate(a.length as usize);
         file

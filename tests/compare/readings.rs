@@ -13,6 +13,7 @@ mod rust {
     include!(concat!(env!("COMPARE"), "/lookup.rs"));
 }
 #[allow(dead_code)]
+#[path = "../../hosts/rust/src/sys.rs"]
 mod icotable;
 mod pack;
 mod queries;

@@ -15,6 +15,7 @@ mod rust {
 }
 #[allow(dead_code)]
 mod caller;
+#[path = "../../hosts/rust/src/sys.rs"]
 mod icotable;
 mod library;
 #[allow(dead_code)]
@@ -63,7 +64,7 @@ fn written(caller: &Caller, file: &[u8], random: &mut Random, tally: &mut Tally)
     let before: Vec<u8> = (0..file.len() + random.below(20)).map(|_| random.bits() as u8).collect();
     let (mut output, mut lists) = (before.clone(), caller.lists.clone());
     let (l, m) = lists_of(&mut lists, &caller.lists.lengths());
-    let a = icotable::write(builder_of(&caller.held), &l, m, &mut output);
+    let a = icotable::write(builder_of(&caller.held), l.held(), m, &mut output);
     if (a.number, a.length) != (0, file.len() as u64) {
         differ("write", format!("{:?}", caller.held), format!("{}, {} bytes", a.number, a.length), format!("0, {} bytes", file.len()));
     }
@@ -102,7 +103,7 @@ fn refused_write(caller: &Caller, random: &mut Random, tally: &mut Tally) {
     let before: Vec<u8> = (0..room).map(|_| random.bits() as u8).collect();
     let (mut output, was) = (before.clone(), lists.clone());
     let (l, m) = lists_of(&mut lists, &lent);
-    let a = icotable::write(builder_of(&held), &l, m, &mut output);
+    let a = icotable::write(builder_of(&held), l.held(), m, &mut output);
     if (a.number, a.length) != (number, 0) || output != before || !library::same_lists(&lists, &was) {
         differ("write", format!("{held:?}, lent {lent:?}, output {room}"), format!("{}, {} bytes", a.number, a.length), format!("{number}, nothing altered"));
     }

@@ -23,6 +23,6 @@ pub fn settings(rmin: f64, rmax: f64, dr: f64, omega_step: f64, threshold: f64, 
 
 /// Vertices of a level; none above level 15.
 pub fn vertex_count(level: u64) -> Option<usize> {
-    let n = unsafe { sys::icotable_vertices(level) };
+    let n = sys::vertices(level);
     (n > 0).then_some(n as usize)
 }

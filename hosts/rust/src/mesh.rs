@@ -63,14 +63,18 @@ impl Mesh {
 
     /// The directions of a level's vertices.
     pub fn directions(&self, level: u64) -> impl ExactSizeIterator<Item = [f64; 3]> + '_ {
-        let at: usize = (0..level.min(self.top + 1)).map(|m| unsafe { sys::icotable_vertices(m) } as usize).sum();
-        let n = if level > self.top { 0 } else { unsafe { sys::icotable_vertices(level) as usize } };
+        let at: usize = (0..level.min(self.top + 1)).map(|m| sys::vertices(m) as usize).sum();
+        let n = if level > self.top { 0 } else { sys::vertices(level) as usize };
         self.vertices[3 * at..3 * (at + n)].chunks_exact(3).map(|v| [v[0], v[1], v[2]])
+    }
+
+    pub(crate) fn lent(&self) -> sys::Meshes<'_> {
+        sys::Meshes { vertices: &self.vertices, counts: &self.counts, neighbours: &self.neighbours, angles: &self.angles }
     }
 
     // One level more, with its locator.
     fn push(&mut self, m: u64, level: &Level) -> Result<(), Refusal> {
-        let n = unsafe { sys::icotable_vertices(m) } as usize;
+        let n = sys::vertices(m) as usize;
         if n > 0 && (level.vertices.len() != n || level.neighbours.len() != n) {
             return Err(Refusal::ShortList);
         }
@@ -84,20 +88,24 @@ impl Mesh {
                 self.angles.push(angle);
             }
         }
-        let cells = vec![0; unsafe { sys::icotable_cells(m) } as usize];
-        let (mut cell_offsets, mut cell_vertices, mut face_offsets, mut faces) = (cells, vec![0; 27 * n], vec![0; n + 1], vec![0; 45 * n]);
-        #[rustfmt::skip]
-        let number = unsafe {
-            sys::icotable_locator(
-                m, self.vertices[3 * at..].as_ptr(), 3 * n, self.counts[at..].as_ptr(), n, self.neighbours[6 * at..].as_ptr(), 6 * n,
-                self.angles[6 * at..].as_ptr(), 6 * n, cell_offsets.as_mut_ptr(), cell_offsets.len(), cell_vertices.as_mut_ptr(), cell_vertices.len(),
-                face_offsets.as_mut_ptr(), face_offsets.len(), faces.as_mut_ptr(), faces.len(),
-            )
+        let (cells, faces) = (self.cell_offsets.len(), self.face_offsets.len());
+        self.cell_offsets.resize(cells + sys::cells(m) as usize, 0);
+        self.cell_vertices.resize(27 * (at + n), 0);
+        self.face_offsets.resize(faces + n + 1, 0);
+        self.faces.resize(45 * (at + n), 0);
+        let level = sys::Meshes {
+            vertices: &self.vertices[3 * at..],
+            counts: &self.counts[at..],
+            neighbours: &self.neighbours[6 * at..],
+            angles: &self.angles[6 * at..],
         };
-        self.cell_offsets.append(&mut cell_offsets);
-        self.cell_vertices.append(&mut cell_vertices);
-        self.face_offsets.append(&mut face_offsets);
-        self.faces.append(&mut faces);
+        let mut locator = sys::Locator {
+            cell_offsets: &mut self.cell_offsets[cells..],
+            cell_vertices: &mut self.cell_vertices[27 * at..],
+            face_offsets: &mut self.face_offsets[faces..],
+            faces: &mut self.faces[45 * at..],
+        };
+        let number = sys::locator(m, level, &mut locator);
         answer(number, ())
     }
 }

@@ -1,10 +1,10 @@
-// The static library libicotable.a as include/icotable.h declares it: a slice is a pointer and a count. Nothing checks these declarations
-// against the library but the tests that call each of them.
+// The static library libicotable.a as include/icotable.h declares it, and its calls over slices: the one place where a call leaves Rust. Nothing
+// checks the declarations against the library but the tests that call each of them; the comparison and the benchmark use this file too.
 #![allow(dead_code)]
 
 /// The settings, and the bin counts that they give.
 #[repr(C)]
-#[derive(Clone, Copy, Debug, PartialEq)]
+#[derive(Clone, Copy, Debug, Default, PartialEq)]
 pub struct Grid {
     pub rmin: f64,
     pub rmax: f64,
@@ -17,7 +17,7 @@ pub struct Grid {
 }
 
 #[repr(C)]
-#[derive(Clone, Copy, Debug, PartialEq)]
+#[derive(Clone, Copy, Debug, Default, PartialEq)]
 pub struct Builder {
     pub grid: Grid,
     pub top: u64,
@@ -47,7 +47,7 @@ pub struct Written {
 }
 
 #[repr(C)]
-#[derive(Clone, Copy, Debug, PartialEq)]
+#[derive(Clone, Copy, Debug, Default, PartialEq)]
 pub struct Table {
     pub number: u64,
     pub grid: Grid,
@@ -58,7 +58,7 @@ pub struct Table {
 }
 
 #[repr(C)]
-#[derive(Clone, Copy, Debug, PartialEq)]
+#[derive(Clone, Copy, Debug, Default, PartialEq)]
 pub struct Value {
     pub number: u64,
     pub energy: f64,
@@ -66,36 +66,190 @@ pub struct Value {
 
 #[rustfmt::skip]
 extern "C" {
-    pub fn icotable_fresh(
+    fn icotable_fresh(
         grid: Grid, top: u64, store: *mut f64, a: usize, kinds: *mut u8, b: usize, levels: *mut u8, c: usize, values: *mut u32, d: usize,
         vertices: *const f64, e: usize, counts: *const u8, f: usize, neighbours: *const u16, g: usize, angles: *const f64, h: usize,
     ) -> Built;
-    pub fn icotable_set(
+    fn icotable_set(
         builder: Builder, store: *mut f64, a: usize, kinds: *mut u8, b: usize, levels: *mut u8, c: usize, values: *mut u32, d: usize,
         ri: u64, oi: u64, energies: *const f64, e: usize,
     ) -> Built;
-    pub fn icotable_settle(
+    fn icotable_settle(
         builder: Builder, store: *const f64, a: usize, kinds: *mut u8, b: usize, levels: *mut u8, c: usize, values: *mut u32, d: usize,
         vertices: *const f64, e: usize, counts: *const u8, f: usize, neighbours: *const u16, g: usize, angles: *const f64, h: usize, ri: u64,
     ) -> Settled;
-    pub fn icotable_write(
+    fn icotable_write(
         builder: Builder, store: *const f64, a: usize, kinds: *const u8, b: usize, levels: *const u8, c: usize, values: *const u32, d: usize,
         vertices: *const f64, e: usize, counts: *const u8, f: usize, neighbours: *const u16, g: usize, angles: *const f64, h: usize,
         output: *mut u8, i: usize,
     ) -> Written;
-    pub fn icotable_read(file: *const u8, a: usize) -> Table;
-    pub fn icotable_locator(
+    fn icotable_read(file: *const u8, a: usize) -> Table;
+    fn icotable_locator(
         level: u64, vertices: *const f64, a: usize, counts: *const u8, b: usize, neighbours: *const u16, c: usize, angles: *const f64, d: usize,
         cell_offsets: *mut u32, e: usize, cell_vertices: *mut u16, f: usize, face_offsets: *mut u32, g: usize, faces: *mut u16, h: usize,
     ) -> u64;
-    pub fn icotable_reading(
+    fn icotable_reading(
         table: Table, file: *const u8, a: usize, vertices: *const f64, b: usize, cell_offsets: *const u32, c: usize, cell_vertices: *const u16, d: usize,
         face_offsets: *const u32, e: usize, faces: *const u16, f: usize, r: f64, omega: f64, ax: f64, ay: f64, az: f64, bx: f64, by: f64, bz: f64,
     ) -> Value;
-    pub fn icotable_vertices(level: u64) -> u64;
-    pub fn icotable_cells(level: u64) -> u64;
-    pub fn icotable_root(x: f64) -> f64;
-    pub fn icotable_exp(y: f64) -> f64;
-    pub fn icotable_mul_add(a: f64, b: f64, c: f64) -> f64;
-    pub fn icotable_narrow(x: f64) -> f32;
+    fn icotable_vertices(level: u64) -> u64;
+    fn icotable_cells(level: u64) -> u64;
+    fn icotable_root(x: f64) -> f64;
+    fn icotable_exp(y: f64) -> f64;
+    fn icotable_mul_add(a: f64, b: f64, c: f64) -> f64;
+    fn icotable_narrow(x: f64) -> f32;
+}
+
+// The lists that are lent to a builder.
+pub struct Lists<'a> {
+    pub store: &'a mut [f64],
+    pub kinds: &'a mut [u8],
+    pub levels: &'a mut [u8],
+    pub values: &'a mut [u32],
+}
+
+impl Lists<'_> {
+    pub fn held(&self) -> Held<'_> {
+        Held { store: self.store, kinds: self.kinds, levels: self.levels, values: self.values }
+    }
+}
+
+// The same, lent to be read alone.
+#[derive(Clone, Copy)]
+pub struct Held<'a> {
+    pub store: &'a [f64],
+    pub kinds: &'a [u8],
+    pub levels: &'a [u8],
+    pub values: &'a [u32],
+}
+
+// The meshes of the levels from 0 to the top, one after another; for the locator call one level's.
+#[derive(Clone, Copy)]
+pub struct Meshes<'a> {
+    pub vertices: &'a [f64],
+    pub counts: &'a [u8],
+    pub neighbours: &'a [u16],
+    pub angles: &'a [f64],
+}
+
+// The lists of one level's locator.
+pub struct Locator<'a> {
+    pub cell_offsets: &'a mut [u32],
+    pub cell_vertices: &'a mut [u16],
+    pub face_offsets: &'a mut [u32],
+    pub faces: &'a mut [u16],
+}
+
+// What a reading is lent beside its table: the file, and the meshes and locators of every level from 0 on.
+#[derive(Clone, Copy)]
+pub struct Lent<'a> {
+    pub file: &'a [u8],
+    pub vertices: &'a [f64],
+    pub cell_offsets: &'a [u32],
+    pub cell_vertices: &'a [u16],
+    pub face_offsets: &'a [u32],
+    pub faces: &'a [u16],
+}
+
+#[repr(C)]
+#[derive(Clone, Copy, Debug)]
+pub struct Query {
+    pub r: f64,
+    pub omega: f64,
+    pub a: [f64; 3],
+    pub b: [f64; 3],
+}
+
+#[rustfmt::skip]
+pub fn fresh(grid: Grid, top: u64, l: &mut Lists, m: Meshes) -> Built {
+    unsafe {
+        icotable_fresh(
+            grid, top, l.store.as_mut_ptr(), l.store.len(), l.kinds.as_mut_ptr(), l.kinds.len(), l.levels.as_mut_ptr(), l.levels.len(),
+            l.values.as_mut_ptr(), l.values.len(), m.vertices.as_ptr(), m.vertices.len(), m.counts.as_ptr(), m.counts.len(),
+            m.neighbours.as_ptr(), m.neighbours.len(), m.angles.as_ptr(), m.angles.len(),
+        )
+    }
+}
+
+#[rustfmt::skip]
+pub fn set(b: Builder, l: &mut Lists, ri: u64, oi: u64, energies: &[f64]) -> Built {
+    unsafe {
+        icotable_set(
+            b, l.store.as_mut_ptr(), l.store.len(), l.kinds.as_mut_ptr(), l.kinds.len(), l.levels.as_mut_ptr(), l.levels.len(),
+            l.values.as_mut_ptr(), l.values.len(), ri, oi, energies.as_ptr(), energies.len(),
+        )
+    }
+}
+
+#[rustfmt::skip]
+pub fn settle(b: Builder, l: &mut Lists, m: Meshes, ri: u64) -> Settled {
+    unsafe {
+        icotable_settle(
+            b, l.store.as_ptr(), l.store.len(), l.kinds.as_mut_ptr(), l.kinds.len(), l.levels.as_mut_ptr(), l.levels.len(),
+            l.values.as_mut_ptr(), l.values.len(), m.vertices.as_ptr(), m.vertices.len(), m.counts.as_ptr(), m.counts.len(),
+            m.neighbours.as_ptr(), m.neighbours.len(), m.angles.as_ptr(), m.angles.len(), ri,
+        )
+    }
+}
+
+#[rustfmt::skip]
+pub fn write(b: Builder, l: Held, m: Meshes, output: &mut [u8]) -> Written {
+    unsafe {
+        icotable_write(
+            b, l.store.as_ptr(), l.store.len(), l.kinds.as_ptr(), l.kinds.len(), l.levels.as_ptr(), l.levels.len(),
+            l.values.as_ptr(), l.values.len(), m.vertices.as_ptr(), m.vertices.len(), m.counts.as_ptr(), m.counts.len(),
+            m.neighbours.as_ptr(), m.neighbours.len(), m.angles.as_ptr(), m.angles.len(), output.as_mut_ptr(), output.len(),
+        )
+    }
+}
+
+pub fn read(file: &[u8]) -> Table {
+    unsafe { icotable_read(file.as_ptr(), file.len()) }
+}
+
+#[rustfmt::skip]
+pub fn locator(level: u64, m: Meshes, l: &mut Locator) -> u64 {
+    unsafe {
+        icotable_locator(
+            level, m.vertices.as_ptr(), m.vertices.len(), m.counts.as_ptr(), m.counts.len(), m.neighbours.as_ptr(), m.neighbours.len(),
+            m.angles.as_ptr(), m.angles.len(), l.cell_offsets.as_mut_ptr(), l.cell_offsets.len(), l.cell_vertices.as_mut_ptr(), l.cell_vertices.len(),
+            l.face_offsets.as_mut_ptr(), l.face_offsets.len(), l.faces.as_mut_ptr(), l.faces.len(),
+        )
+    }
+}
+
+#[rustfmt::skip]
+pub fn reading(table: &Table, l: Lent, q: &Query) -> Value {
+    let (a, b) = (q.a, q.b);
+    unsafe {
+        icotable_reading(
+            *table, l.file.as_ptr(), l.file.len(), l.vertices.as_ptr(), l.vertices.len(), l.cell_offsets.as_ptr(), l.cell_offsets.len(),
+            l.cell_vertices.as_ptr(), l.cell_vertices.len(), l.face_offsets.as_ptr(), l.face_offsets.len(), l.faces.as_ptr(), l.faces.len(),
+            q.r, q.omega, a[0], a[1], a[2], b[0], b[1], b[2],
+        )
+    }
+}
+
+pub fn vertices(level: u64) -> u64 {
+    unsafe { icotable_vertices(level) }
+}
+
+pub fn cells(level: u64) -> u64 {
+    unsafe { icotable_cells(level) }
+}
+
+pub fn root(x: f64) -> f64 {
+    unsafe { icotable_root(x) }
+}
+
+pub fn exp(y: f64) -> f64 {
+    unsafe { icotable_exp(y) }
+}
+
+pub fn mul_add(a: f64, b: f64, c: f64) -> f64 {
+    unsafe { icotable_mul_add(a, b, c) }
+}
+
+pub fn narrow(x: f64) -> f32 {
+    unsafe { icotable_narrow(x) }
 }

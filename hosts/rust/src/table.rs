@@ -32,22 +32,23 @@ impl Table {
     /// Looks over a file, all of it. The mesh has to be the one that the table was built over, with at least its levels: a file does not
     /// hold it.
     pub fn read(file: Vec<u8>, mesh: Arc<Mesh>) -> Result<Table, Refusal> {
-        let held = unsafe { sys::icotable_read(file.as_ptr(), file.len()) };
+        let held = sys::read(&file);
         answer(held.number, Table { file, held, mesh })
     }
 
     /// The energy at a distance, a dihedral angle and two directions of any length: infinity inside a repulsive wall, 0 outside the table's
     /// distances.
-    #[rustfmt::skip]
     pub fn lookup(&self, r: f64, omega: f64, a: [f64; 3], b: [f64; 3]) -> Result<f64, Refusal> {
         let m = &self.mesh;
-        let value = unsafe {
-            sys::icotable_reading(
-                self.held, self.file.as_ptr(), self.file.len(), m.vertices.as_ptr(), m.vertices.len(), m.cell_offsets.as_ptr(), m.cell_offsets.len(),
-                m.cell_vertices.as_ptr(), m.cell_vertices.len(), m.face_offsets.as_ptr(), m.face_offsets.len(), m.faces.as_ptr(), m.faces.len(),
-                r, omega, a[0], a[1], a[2], b[0], b[1], b[2],
-            )
+        let lent = sys::Lent {
+            file: &self.file,
+            vertices: &m.vertices,
+            cell_offsets: &m.cell_offsets,
+            cell_vertices: &m.cell_vertices,
+            face_offsets: &m.face_offsets,
+            faces: &m.faces,
         };
+        let value = sys::reading(&self.held, lent, &sys::Query { r, omega, a, b });
         answer(value.number, value.energy)
     }
 
