@@ -142,28 +142,38 @@ pub fn needed_lengths(b: &Held) -> [usize; 8] {
     [slabs * n * n, slabs, slabs, slabs, 3 * all, all, 6 * all, 6 * all]
 }
 
-// A call with something wrong about it, which is put right again behind it.
-fn odd_call(caller: &mut Caller, random: &mut Random) {
-    let good = caller.held;
-    let mut lent = caller.lists.lengths();
-    let mut ri = random.below(good.n_r as usize) as u64;
-    let mut oi = random.below(good.n_omega as usize) as u64;
-    let mut rule = rule(caller, random, false);
-    let mut undo = Vec::new();
-    let what = random.below(5);
-    for _ in 0..1 + random.below(2) {
+// A call with something wrong about it: what is handed in, and which entries were altered: list, place, before, now.
+struct Odd {
+    good: Held,
+    lent: [usize; 8],
+    ri: u64,
+    oi: u64,
+    rule: Rule,
+    undo: Vec<(usize, usize, u64, u64)>,
+}
+
+impl Odd {
+    fn alter(&mut self, caller: &mut Caller, list: usize, at: usize, n: u64) {
+        self.undo.push((list, at, caller.lists.word(list, at), n));
+        caller.entries(list, at, &[n]);
+    }
+
+    // One thing wrong.
+    fn spoil(&mut self, caller: &mut Caller, random: &mut Random) {
+        let good = self.good;
+        let slabs = (good.n_r * good.n_omega) as usize;
         match random.below(9) {
-            0 => ri = [good.n_r, u64::MAX, 1 << 32][random.below(3)],
-            1 => oi = [good.n_omega, u64::MAX, 1 << 32][random.below(3)],
+            0 => self.ri = [good.n_r, u64::MAX, 1 << 32][random.below(3)],
+            1 => self.oi = [good.n_omega, u64::MAX, 1 << 32][random.below(3)],
             2 => {
                 let n = [vertices_of(0), vertices_of(1), vertices_of(2), 0][random.below(4)];
-                rule.count = [n * n, rule.count.saturating_sub(1), rule.count + 1][random.below(3)];
+                self.rule.count = [n * n, self.rule.count.saturating_sub(1), self.rule.count + 1][random.below(3)];
             }
-            3 => rule.places[0] = (random.below(144), f64::NAN),
+            3 => self.rule.places[0] = (random.below(144), f64::NAN),
             4 => {
                 // one short, or exactly as long as needed
                 let k = random.below(8);
-                lent[k] = needed_lengths(&good)[k] - random.below(2);
+                self.lent[k] = needed_lengths(&good)[k] - random.below(2);
             }
             5 => {
                 let b = wrong(good, random.below(WRONG), random);
@@ -172,49 +182,59 @@ fn odd_call(caller: &mut Caller, random: &mut Random) {
             }
             6 => {
                 let (list, at, n) = wrong_mesh(caller, random.below(WRONG_MESH), random);
-                undo.push((list, at, caller.lists.word(list, at), n));
-                caller.entries(list, at, &[n]);
+                self.alter(caller, list, at, n);
             }
-            7 => {
-                let s = random.below((good.n_r * good.n_omega) as usize);
-                undo.push((0, s, caller.lists.word(0, s), 4));
-                caller.entries(0, s, &[[4, 255][random.below(2)]]);
-                undo.last_mut().unwrap().3 = caller.lists.word(0, s);
-            }
+            7 => self.alter(caller, 0, random.below(slabs), [4, 255][random.below(2)]),
             _ => {
-                let s = random.below((good.n_r * good.n_omega) as usize);
+                let s = random.below(slabs);
                 // a level of a row that holds energies: too high, or another one
                 if caller.lists.kinds[s] >= 2 {
                     let level = [good.top + 1, (caller.lists.levels[s] as u64 + 1) % (good.top + 1), 255][random.below(3)];
-                    undo.push((1, s, caller.lists.word(1, s), level));
-                    caller.entries(1, s, &[level]);
+                    self.alter(caller, 1, s, level);
                 }
             }
         }
     }
-    // where the Rust would not see what was altered, only a refused call is made
-    match what {
-        0 => {
-            let b = wrong(good, random.below(WRONG), random);
-            if refusals::fresh(b.settings, b.top, &lent, &caller.lists).1 != 0 {
-                caller.fresh(b.settings, b.top, [b.n_r, b.n_omega], lent);
+
+    // Where the Rust would not see what was altered, only a refused call is made.
+    fn call(&mut self, caller: &mut Caller, random: &mut Random, what: usize) {
+        let Odd { good, lent, ri, oi, rule, .. } = *self;
+        match what {
+            0 => {
+                let b = wrong(good, random.below(WRONG), random);
+                if refusals::fresh(b.settings, b.top, &lent, &caller.lists).1 != 0 {
+                    caller.fresh(b.settings, b.top, [b.n_r, b.n_omega], lent);
+                }
             }
-        }
-        1 | 2 => {
-            if !caller.altered || refusals::set(&caller.held, &lent, ri, oi, &rule.energies()) != 0 {
-                let accepted = caller.set(ri, oi, rule, lent) == 0;
-                // what was altered of this slab's row is gone
-                undo.retain(|u| !(accepted && u.0 < 3 && u.1 as u64 == ri * good.n_omega + oi));
+            1 | 2 => {
+                if !caller.altered || refusals::set(&caller.held, &lent, ri, oi, &rule.energies()) != 0 {
+                    let accepted = caller.set(ri, oi, rule, lent) == 0;
+                    // what was altered of this slab's row is gone
+                    self.undo.retain(|u| !(accepted && u.0 < 3 && u.1 as u64 == ri * good.n_omega + oi));
+                }
             }
-        }
-        _ => {
-            let unseen = undo.iter().any(|u| u.0 == 1 || u.0 > 2 && !unread(caller, u));
-            if !(caller.altered || unseen) || refusals::settle(&caller.held, &lent, &caller.lists, ri) != 0 {
-                caller.settle(ri, lent);
+            _ => {
+                let unseen = self.undo.iter().any(|u| u.0 == 1 || u.0 > 2 && !unread(caller, u));
+                if !(caller.altered || unseen) || refusals::settle(&caller.held, &lent, &caller.lists, ri) != 0 {
+                    caller.settle(ri, lent);
+                }
             }
         }
     }
-    for (list, at, before, now) in undo.into_iter().rev() {
+}
+
+// A call with something wrong about it, which is put right again behind it.
+fn odd_call(caller: &mut Caller, random: &mut Random) {
+    let good = caller.held;
+    let ri = random.below(good.n_r as usize) as u64;
+    let oi = random.below(good.n_omega as usize) as u64;
+    let mut odd = Odd { good, lent: caller.lists.lengths(), ri, oi, rule: rule(caller, random, false), undo: Vec::new() };
+    let what = random.below(5);
+    for _ in 0..1 + random.below(2) {
+        odd.spoil(caller, random);
+    }
+    odd.call(caller, random, what);
+    for (list, at, before, now) in odd.undo.into_iter().rev() {
         if caller.lists.word(list, at) == now {
             caller.entries(list, at, &[before]);
         }

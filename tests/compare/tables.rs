@@ -44,6 +44,7 @@ use oracle::{FaceGrid, Vector3};
 use pack::packed;
 use queries::{asked, query, query_at};
 use reader::Reader;
+use refusals::{Held, Lists};
 use std::collections::BTreeMap;
 use worlds::World;
 
@@ -59,20 +60,46 @@ impl Tally {
 
 // ---- files
 
-// An accepted write: the Rust's bytes, and what is beyond them stays.
-fn written(caller: &Caller, file: &[u8], random: &mut Random, tally: &mut Tally) {
+// An accepted write of what these lists hold: the wanted bytes, and what is beyond them stays.
+fn written(held: &Held, lists: &Lists, file: &[u8], random: &mut Random) {
     let before: Vec<u8> = (0..file.len() + random.below(20)).map(|_| random.bits() as u8).collect();
-    let (mut output, mut lists) = (before.clone(), caller.lists.clone());
-    let (l, m) = lists_of(&mut lists, &caller.lists.lengths());
-    let a = icotable::write(builder_of(&caller.held), l.held(), m, &mut output);
+    let (mut output, mut lent) = (before.clone(), lists.clone());
+    let (l, m) = lists_of(&mut lent, &lists.lengths());
+    let a = icotable::write(builder_of(held), l.held(), m, &mut output);
     if (a.number, a.length) != (0, file.len() as u64) {
-        differ("write", format!("{:?}", caller.held), format!("{}, {} bytes", a.number, a.length), format!("0, {} bytes", file.len()));
+        differ("write", format!("{held:?}"), format!("{}, {} bytes", a.number, a.length), format!("0, {} bytes", file.len()));
     }
-    if output[..file.len()] != *file || output[file.len()..] != before[file.len()..] || !library::same_lists(&lists, &caller.lists) {
-        differ("write", format!("{:?}", caller.held), format!("{output:02X?}"), format!("{file:02X?}"));
+    if output[..file.len()] != *file || output[file.len()..] != before[file.len()..] || !library::same_lists(&lent, lists) {
+        differ("write", format!("{held:?}"), format!("{output:02X?}"), format!("{file:02X?}"));
     }
-    tally.add("write, accepted", 1);
-    tally.add("bytes written", file.len() as u64);
+}
+
+// Lists altered by hand so that an energy of each Mesh row and the scalar of each Scalar row are NaNs of any sign and pattern: each is written as 7FC00000.
+fn written_nans(caller: &Caller, file: &[u8], t: &Table, random: &mut Random) -> u64 {
+    let (mut lists, mut wanted) = (caller.lists.clone(), file.to_vec());
+    let per = refusals::vertices_of(caller.held.top).pow(2);
+    let mut nans = 0;
+    for s in 0..t.rows as usize {
+        let row = t.start[3] as usize + 10 * s;
+        let offset = u32::from_le_bytes(file[row + 2..row + 6].try_into().unwrap()) as usize;
+        let at = match lists.kinds[s] {
+            0 => {
+                lists.values[s] = (0xff80_0001 | random.bits() as u32) & !((random.bits() as u32) << 31);
+                row + 6
+            }
+            1 => continue,
+            _ => {
+                let i = random.below(refusals::vertices_of(lists.levels[s] as u64).pow(2));
+                let sign = random.bits() << 63;
+                lists.store[s * per + i] = f64::from_bits(0x7ff0_0000_0000_0001 | random.bits() >> 12 | sign);
+                t.start[4] as usize + 4 * (offset + i)
+            }
+        };
+        wanted[at..at + 4].copy_from_slice(&0x7fc0_0000u32.to_le_bytes());
+        nans += 1;
+    }
+    written(&caller.held, &lists, &wanted, random);
+    nans
 }
 
 // A write with something wrong about it: the number, and no byte altered.
@@ -236,7 +263,10 @@ fn readings(world: &World, t: &Table, table: &rust::Table6DAdaptive<f32>, file: 
 fn table(caller: &Caller, world: &mut World, many: usize, random: &mut Random, tally: &mut Tally) {
     let table = world.built(caller);
     let (file, t) = packed(&table);
-    written(caller, &file, random, tally);
+    written(&caller.held, &caller.lists, &file, random);
+    tally.add("write, accepted", 1);
+    tally.add("bytes written", file.len() as u64);
+    tally.add("write, NaNs put into lists by hand", written_nans(caller, &file, &t, random));
     for _ in 0..3 {
         refused_write(caller, random, tally);
     }
@@ -288,7 +318,7 @@ fn signatures(random: &mut Random) {
 // Cases that have to have occurred.
 fn needed() -> Vec<String> {
     let mut words = Vec::new();
-    for (what, numbers) in [("fresh", vec![0, 1, 2, 3, 4, 5, 6]), ("set", vec![0, 1, 2, 3, 4, 5, 6, 8, 9, 10]), ("settle", vec![0, 1, 2, 3, 4, 5, 6, 7, 8, 11, 15])] {
+    for (what, numbers) in [("fresh", vec![0, 1, 2, 3, 4, 5, 6, 7]), ("set", vec![0, 1, 2, 3, 4, 5, 6, 8, 9, 10]), ("settle", vec![0, 1, 2, 3, 4, 5, 6, 7, 8, 11, 15])] {
         words.extend(numbers.iter().map(|n| format!("{what} {n}")));
     }
     words.extend([1, 2, 3, 4, 5, 6, 7, 12, 15].map(|n| format!("write, refused with {n}")));
