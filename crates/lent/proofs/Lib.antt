@@ -1,0 +1,2 @@
+-- Laws of records and lists of numbers.
+pub mod Entries
