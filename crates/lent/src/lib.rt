@@ -5,7 +5,9 @@ mod records;
 pub use calls::set_lent;
 pub use calls::settle_lent;
 pub use records::gather;
+pub use records::record_of;
 pub use records::replace_row;
+pub use records::resolution_of;
 pub use records::row_at;
 pub use records::spread;
 
