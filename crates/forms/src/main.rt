@@ -13,11 +13,29 @@ use writer::Written;
 mod ring;
 mod through;
 
-// The builders of both, and the rows of the lent one; each has a store of its own, and the by-value build has its lists.
-struct Both {
-    by_value: Builder,
-    lent: Builder,
+// The by-value build: the builder, its lists, and the number and the gradient's bits that the last call answered.
+struct ByValue {
+    builder: Builder,
+    number: u64,
+    gradient: u64,
+    store: [f64; 3528],
+    kinds: [u8; 2],
+    levels: [u8; 2],
+    values: [u32; 2],
+}
+
+// The build in the lent forms, likewise; its rows are records.
+struct Lent {
+    builder: Builder,
+    number: u64,
+    gradient: u64,
+    store: [f64; 3528],
     rows: [RowRecord; 2],
+}
+
+struct Output {
+    length: u64,
+    bytes: [u8; 700],
 }
 
 // What the lent forms gave, beside what the by-value calls gave.
@@ -129,119 +147,180 @@ fn begun(store: &mut [f64], kinds: &mut [u8], levels: &mut [u8], values: &mut [u
     }
 }
 
-// What a call leaves in both: the level and the rows.
-fn compare(both: Both, kinds: &[u8; 2], levels: &[u8; 2], values: &[u32; 2]) {
-    let level = both.by_value.level;
-    let lent = both.lent.level;
-    let rows = both.rows;
-    say(b"  level after it", lent, level);
-    let a = through::row_of(rows, 0);
-    let b = through::row_of(rows, 1);
-    say(b"  row 0, kind", wide8(a.kind), wide8(kinds[0]));
-    say(b"  row 0, level", wide8(a.level), wide8(levels[0]));
-    say(b"  row 0, value", wide32(a.value), wide32(values[0]));
-    say(b"  row 1, kind", wide8(b.kind), wide8(kinds[1]));
-    say(b"  row 1, level", wide8(b.level), wide8(levels[1]));
-    say(b"  row 1, value", wide32(b.value), wide32(values[1]));
-}
-
-// One set in both.
-fn set_both(
-    what: &[u8],
-    both: Both,
-    store: &mut [f64; 3528],
-    kinds: &mut [u8; 2],
-    levels: &mut [u8; 2],
-    values: &mut [u32; 2],
-    lent_store: &mut [f64; 3528],
-    ri: u64,
-    energies: &[f64],
-) -> Both {
-    let rows = both.rows;
-    let by_value = both.by_value;
-    let lent = both.lent;
-    let a = builder::set(by_value, store, kinds, levels, values, ri, 0, energies);
-    let mut k: [u8; 2] = [7; 2];
-    let mut l: [u8; 2] = [7; 2];
-    let mut v: [u32; 2] = [7; 2];
-    through::spread_of(rows, &mut k, &mut l, &mut v);
-    let b = through::set_through(lent, lent_store, &mut k, &mut l, &mut v, ri, 0, energies);
-    say(what, b.number, set_number(a));
-    let left = b.builder;
-    Both {
-        by_value: set_builder(by_value, a),
-        lent: left,
-        rows: through::gather_in(rows, &k, &l, &v),
-    }
-}
-
-// One settle in both.
-fn settle_both(
-    what: &[u8],
-    both: Both,
-    store: &[f64; 3528],
-    kinds: &mut [u8; 2],
-    levels: &mut [u8; 2],
-    values: &mut [u32; 2],
-    lent_store: &[f64; 3528],
-    ri: u64,
-) -> Both {
-    let rows = both.rows;
-    let by_value = both.by_value;
-    let lent = both.lent;
-    let vertices = ring::vertices();
-    let counts = ring::counts();
-    let neighbours = ring::neighbours();
-    let angles = ring::angles();
-    let a = builder::settle(
-        by_value,
+// A fresh builder by value; the lists hold anything before.
+fn fresh_by_value() -> ByValue {
+    let mut store = [1.0; 3528];
+    let mut kinds: [u8; 2] = [9; 2];
+    let mut levels: [u8; 2] = [9; 2];
+    let mut values: [u32; 2] = [9; 2];
+    let builder = begun(&mut store, &mut kinds, &mut levels, &mut values);
+    ByValue {
+        builder,
+        number: 0,
+        gradient: 0,
         store,
         kinds,
         levels,
         values,
-        &vertices,
-        &counts,
-        &neighbours,
-        &angles,
-        ri,
-    );
-    let mut k: [u8; 2] = [7; 2];
-    let mut l: [u8; 2] = [7; 2];
-    let mut v: [u32; 2] = [7; 2];
-    through::spread_of(rows, &mut k, &mut l, &mut v);
-    let b = through::settle_through(
-        lent,
-        lent_store,
-        &mut k,
-        &mut l,
-        &mut v,
-        &vertices,
-        &counts,
-        &neighbours,
-        &angles,
-        ri,
-    );
-    let answer = b.answer;
-    let left = b.builder;
-    say(what, lent_number(answer), settle_number(a));
-    say(b"  gradient's bits", lent_gradient(answer), gradient(a));
-    Both {
-        by_value: settle_builder(by_value, a),
-        lent: left,
-        rows: through::gather_in(rows, &k, &l, &v),
     }
 }
 
-// The length of the file that write answers, or its number.
-fn written(
-    b: Builder,
-    store: &[f64; 3528],
-    kinds: &[u8; 2],
-    levels: &[u8; 2],
-    values: &[u32; 2],
-    output: &mut [u8; 700],
-) -> u64 {
-    match writer::write(
+// The same, and the records of what fresh leaves in the lists.
+fn fresh_lent() -> Lent {
+    let mut store = [2.0; 3528];
+    let mut kinds: [u8; 2] = [7; 2];
+    let mut levels: [u8; 2] = [7; 2];
+    let mut values: [u32; 2] = [7; 2];
+    let builder = begun(&mut store, &mut kinds, &mut levels, &mut values);
+    let none = RowRecord {
+        kind: 9,
+        level: 9,
+        value: 9,
+    };
+    Lent {
+        builder,
+        number: 0,
+        gradient: 0,
+        store,
+        rows: through::gather_in([none; 2], &kinds, &levels, &values),
+    }
+}
+
+fn set_by_value(s: ByValue, ri: u64, energies: &[f64]) -> ByValue {
+    let b = s.builder;
+    let mut store = s.store;
+    let mut kinds = s.kinds;
+    let mut levels = s.levels;
+    let mut values = s.values;
+    let a = builder::set(
+        b,
+        &mut store,
+        &mut kinds,
+        &mut levels,
+        &mut values,
+        ri,
+        0,
+        energies,
+    );
+    ByValue {
+        builder: set_builder(b, a),
+        number: set_number(a),
+        gradient: 0,
+        store,
+        kinds,
+        levels,
+        values,
+    }
+}
+
+fn set_records(s: Lent, ri: u64, energies: &[f64]) -> Lent {
+    let b = s.builder;
+    let rows = s.rows;
+    let mut store = s.store;
+    let mut kinds: [u8; 2] = [7; 2];
+    let mut levels: [u8; 2] = [7; 2];
+    let mut values: [u32; 2] = [7; 2];
+    through::spread_of(rows, &mut kinds, &mut levels, &mut values);
+    let a = through::set_through(
+        b,
+        &mut store,
+        &mut kinds,
+        &mut levels,
+        &mut values,
+        ri,
+        0,
+        energies,
+    );
+    let builder = a.builder;
+    Lent {
+        builder,
+        number: a.number,
+        gradient: 0,
+        store,
+        rows: through::gather_in(rows, &kinds, &levels, &values),
+    }
+}
+
+fn settle_by_value(s: ByValue, ri: u64) -> ByValue {
+    let b = s.builder;
+    let store = s.store;
+    let mut kinds = s.kinds;
+    let mut levels = s.levels;
+    let mut values = s.values;
+    let a = builder::settle(
+        b,
+        &store,
+        &mut kinds,
+        &mut levels,
+        &mut values,
+        &ring::vertices(),
+        &ring::counts(),
+        &ring::neighbours(),
+        &ring::angles(),
+        ri,
+    );
+    ByValue {
+        builder: settle_builder(b, a),
+        number: settle_number(a),
+        gradient: gradient(a),
+        store,
+        kinds,
+        levels,
+        values,
+    }
+}
+
+fn settle_records(s: Lent, ri: u64) -> Lent {
+    let b = s.builder;
+    let rows = s.rows;
+    let store = s.store;
+    let mut kinds: [u8; 2] = [7; 2];
+    let mut levels: [u8; 2] = [7; 2];
+    let mut values: [u32; 2] = [7; 2];
+    through::spread_of(rows, &mut kinds, &mut levels, &mut values);
+    let a = through::settle_through(
+        b,
+        &store,
+        &mut kinds,
+        &mut levels,
+        &mut values,
+        &ring::vertices(),
+        &ring::counts(),
+        &ring::neighbours(),
+        &ring::angles(),
+        ri,
+    );
+    let builder = a.builder;
+    let answer = a.answer;
+    Lent {
+        builder,
+        number: lent_number(answer),
+        gradient: lent_gradient(answer),
+        store,
+        rows: through::gather_in(rows, &kinds, &levels, &values),
+    }
+}
+
+// What a call answered and left in both: its number, the gradient's bits, the level and the rows.
+fn compare(what: &[u8], s: ByValue, t: Lent) {
+    let rows = t.rows;
+    let a = through::row_of(rows, 0);
+    let b = through::row_of(rows, 1);
+    say(what, t.number, s.number);
+    say(b"  gradient's bits", t.gradient, s.gradient);
+    say(b"  level after it", t.builder.level, s.builder.level);
+    say(b"  row 0, kind", wide8(a.kind), wide8(s.kinds[0]));
+    say(b"  row 0, level", wide8(a.level), wide8(s.levels[0]));
+    say(b"  row 0, value", wide32(a.value), wide32(s.values[0]));
+    say(b"  row 1, kind", wide8(b.kind), wide8(s.kinds[1]));
+    say(b"  row 1, level", wide8(b.level), wide8(s.levels[1]));
+    say(b"  row 1, value", wide32(b.value), wide32(s.values[1]));
+}
+
+// The file of a builder and its lists; where write is refused, its number for a length.
+fn written(b: Builder, store: &[f64], kinds: &[u8], levels: &[u8], values: &[u32]) -> Output {
+    let mut bytes: [u8; 700] = [7; 700];
+    let a = writer::write(
         b,
         store,
         kinds,
@@ -251,20 +330,48 @@ fn written(
         &ring::counts(),
         &ring::neighbours(),
         &ring::angles(),
-        output,
-    ) {
+        &mut bytes,
+    );
+    Output {
+        length: written_length(a),
+        bytes,
+    }
+}
+
+fn written_length(a: Written) -> u64 {
+    match a {
         Written::Accepted(n) => n,
         Written::Refused(no) => no,
     }
 }
 
-// The first n bytes.
-fn show(what: &[u8], file: &[u8; 700], n: u64) {
+fn file_by_value(s: ByValue) -> Output {
+    let b = s.builder;
+    let store = s.store;
+    let kinds = s.kinds;
+    let levels = s.levels;
+    let values = s.values;
+    written(b, &store, &kinds, &levels, &values)
+}
+
+fn file_of_records(s: Lent) -> Output {
+    let b = s.builder;
+    let rows = s.rows;
+    let store = s.store;
+    let mut kinds: [u8; 2] = [7; 2];
+    let mut levels: [u8; 2] = [7; 2];
+    let mut values: [u32; 2] = [7; 2];
+    through::spread_of(rows, &mut kinds, &mut levels, &mut values);
+    written(b, &store, &kinds, &levels, &values)
+}
+
+// The bytes of a file.
+fn show(what: &[u8], file: Output) {
     io::write_all(STDOUT_FILENO, what);
     let mut i: usize = 0;
     while i < 700 {
-        if (i as u64) < n {
-            io::print_hex(STDOUT_FILENO, wide8(file[i]), 2);
+        if (i as u64) < file.length {
+            io::print_hex(STDOUT_FILENO, wide8(file.bytes[i]), 2);
         }
         i += 1;
     }
@@ -279,40 +386,21 @@ fn differs(a: u8, b: u8) -> u64
 }
 
 // How many bytes of two outputs differ.
-fn other_bytes(a: &[u8; 700], b: &[u8; 700]) -> u64 {
+fn other_bytes(a: Output, b: Output) -> u64 {
     let mut n: u64 = 0;
     let mut i: usize = 0;
     while i < 700 {
-        n += differs(a[i], b[i]);
+        n += differs(a.bytes[i], b.bytes[i]);
         i += 1;
     }
     n
 }
 
-// Both files.
-fn write_both(
-    both: Both,
-    store: &[f64; 3528],
-    kinds: &[u8; 2],
-    levels: &[u8; 2],
-    values: &[u32; 2],
-    lent_store: &[f64; 3528],
-) {
-    let rows = both.rows;
-    let mut k: [u8; 2] = [7; 2];
-    let mut l: [u8; 2] = [7; 2];
-    let mut v: [u32; 2] = [7; 2];
-    through::spread_of(rows, &mut k, &mut l, &mut v);
-    let mut a: [u8; 700] = [7; 700];
-    let mut b: [u8; 700] = [7; 700];
-    let by_value = both.by_value;
-    let lent = both.lent;
-    let n = written(by_value, store, kinds, levels, values, &mut a);
-    let m = written(lent, lent_store, &k, &l, &v, &mut b);
-    say(b"bytes", m, n);
-    show(b"by value ", &a, n);
-    show(b"lent     ", &b, m);
-    say(b"bytes that differ", other_bytes(&a, &b), 0);
+fn compare_files(a: Output, b: Output) {
+    say(b"bytes", b.length, a.length);
+    show(b"by value ", a);
+    show(b"lent     ", b);
+    say(b"bytes that differ", other_bytes(a, b), 0);
 }
 
 // Zeros but for one: at threshold 0.1 a slab of level 0 settles as Mesh nearest.
@@ -322,156 +410,71 @@ fn smooth() -> [f64; 144] {
     e
 }
 
-// The first calls of the build: two that are refused, and one that drops the level.
-fn build_high(
-    fresh: Both,
-    store: &mut [f64; 3528],
-    kinds: &mut [u8; 2],
-    levels: &mut [u8; 2],
-    values: &mut [u32; 2],
-    lent_store: &mut [f64; 3528],
-) -> Both {
-    let low = smooth();
-    let high = [0.5; 1764];
-    let a = set_both(
-        b"set, energies of another level",
-        fresh,
-        store,
-        kinds,
-        levels,
-        values,
-        lent_store,
-        0,
-        &low,
-    );
-    let b = set_both(
-        b"set",
-        a,
-        store,
-        kinds,
-        levels,
-        values,
-        lent_store,
-        0,
-        &high,
-    );
-    compare(b, kinds, levels, values);
-    let c = settle_both(
-        b"settle, a bin beyond",
-        b,
-        store,
-        kinds,
-        levels,
-        values,
-        lent_store,
-        2,
-    );
-    compare(c, kinds, levels, values);
-    settle_both(b"settle", c, store, kinds, levels, values, lent_store, 0)
-}
-
-// The calls at the level below.
-fn build_low(
-    high: Both,
-    store: &mut [f64; 3528],
-    kinds: &mut [u8; 2],
-    levels: &mut [u8; 2],
-    values: &mut [u32; 2],
-    lent_store: &mut [f64; 3528],
-) -> Both {
-    compare(high, kinds, levels, values);
-    let low = smooth();
-    let a = set_both(
-        b"set",
-        high,
-        store,
-        kinds,
-        levels,
-        values,
-        lent_store,
+// Row 1 replaced by Repulsive.
+fn replace_by_value(s: ByValue) -> ByValue {
+    let builder = s.builder;
+    let store = s.store;
+    let mut kinds = s.kinds;
+    let mut levels = s.levels;
+    let mut values = s.values;
+    rows::replace(
+        &mut kinds,
+        &mut levels,
+        &mut values,
         1,
-        &low,
+        SlabResolution::Repulsive,
     );
-    let b = settle_both(b"settle", a, store, kinds, levels, values, lent_store, 1);
-    compare(b, kinds, levels, values);
-    b
-}
-
-// A fresh builder, and the records of what fresh leaves in the lists.
-struct Lent {
-    builder: Builder,
-    rows: [RowRecord; 2],
-}
-
-fn begun_lent(store: &mut [f64; 3528]) -> Lent {
-    let mut k: [u8; 2] = [7; 2];
-    let mut l: [u8; 2] = [7; 2];
-    let mut v: [u32; 2] = [7; 2];
-    let builder = begun(store, &mut k, &mut l, &mut v);
-    let none = RowRecord {
-        kind: 9,
-        level: 9,
-        value: 9,
-    };
-    Lent {
+    ByValue {
         builder,
-        rows: through::gather_in([none; 2], &k, &l, &v),
+        number: 0,
+        gradient: 0,
+        store,
+        kinds,
+        levels,
+        values,
     }
 }
 
-// Row 1 replaced by Repulsive in both.
-fn replace_both(
-    both: Both,
-    kinds: &mut [u8; 2],
-    levels: &mut [u8; 2],
-    values: &mut [u32; 2],
-) -> Both {
-    let by_value = both.by_value;
-    let lent = both.lent;
-    let rows = both.rows;
-    rows::replace(kinds, levels, values, 1, SlabResolution::Repulsive);
+fn replace_record(s: Lent) -> Lent {
+    let builder = s.builder;
+    let store = s.store;
+    let rows = s.rows;
     let record = lent::record_of(SlabResolution::Repulsive);
-    Both {
-        by_value,
-        lent,
+    Lent {
+        builder,
+        number: 0,
+        gradient: 0,
+        store,
         rows: through::with_row(rows, 1, record),
     }
 }
 
+// Two of the calls are refused, and one drops the level.
 fn main() {
-    let mut store = [1.0; 3528];
-    let mut kinds: [u8; 2] = [9; 2];
-    let mut levels: [u8; 2] = [9; 2];
-    let mut values: [u32; 2] = [9; 2];
-    let mut lent_store = [2.0; 3528];
-    let by_value = begun(&mut store, &mut kinds, &mut levels, &mut values);
-    let begun = begun_lent(&mut lent_store);
-    let lent = begun.builder;
-    let rows = begun.rows;
-    let fresh = Both {
-        by_value,
-        lent,
-        rows,
-    };
-    let high = build_high(
-        fresh,
-        &mut store,
-        &mut kinds,
-        &mut levels,
-        &mut values,
-        &mut lent_store,
-    );
-    let low = build_low(
-        high,
-        &mut store,
-        &mut kinds,
-        &mut levels,
-        &mut values,
-        &mut lent_store,
-    );
-    write_both(low, &store, &kinds, &levels, &values, &lent_store);
-    io::write_all(STDOUT_FILENO, b"row 1 replaced by Repulsive\n");
-    let last = replace_both(low, &mut kinds, &mut levels, &mut values);
-    compare(last, &kinds, &levels, &values);
-    write_both(last, &store, &kinds, &levels, &values, &lent_store);
+    let a0 = fresh_by_value();
+    let b0 = fresh_lent();
+    compare(b"fresh", a0, b0);
+    let a1 = set_by_value(a0, 0, &smooth());
+    let b1 = set_records(b0, 0, &smooth());
+    compare(b"set, energies of another level", a1, b1);
+    let a2 = set_by_value(a1, 0, &[0.5; 1764]);
+    let b2 = set_records(b1, 0, &[0.5; 1764]);
+    compare(b"set", a2, b2);
+    let a3 = settle_by_value(a2, 2);
+    let b3 = settle_records(b2, 2);
+    compare(b"settle, a bin beyond", a3, b3);
+    let a4 = settle_by_value(a3, 0);
+    let b4 = settle_records(b3, 0);
+    compare(b"settle", a4, b4);
+    let a5 = set_by_value(a4, 1, &smooth());
+    let b5 = set_records(b4, 1, &smooth());
+    compare(b"set", a5, b5);
+    let a6 = settle_by_value(a5, 1);
+    let b6 = settle_records(b5, 1);
+    compare(b"settle", a6, b6);
+    compare_files(file_by_value(a6), file_of_records(b6));
+    let a7 = replace_by_value(a6);
+    let b7 = replace_record(b6);
+    compare(b"row 1 replaced by Repulsive", a7, b7);
+    compare_files(file_by_value(a7), file_of_records(b7));
 }

@@ -5,10 +5,10 @@ use Rattle.forms.proofs.show.Statement.{statement}
 use Rattle.forms.proofs.show.Tie as tie
 
 abbrev Inv-loop : tie.InvT-loop
-Inv-loop what file n i₀ t5 i = i ≤ 700
+Inv-loop what file i₀ t5 i = i ≤ 700
 
 abbrev μ-loop : tie.MeasureT-loop
-μ-loop what file n i₀ t5 i = 700 - i
+μ-loop what file i₀ t5 i = 700 - i
 
 write-all-requires : tie.Need-write-all-requires Inv-loop μ-loop
 write-all-requires c κs = search needs
