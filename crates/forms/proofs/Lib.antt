@@ -1,0 +1,3 @@
+-- Laws of what is lent from a local.
+pub mod Arrays
+pub mod Loans

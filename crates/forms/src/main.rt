@@ -1,0 +1,480 @@
+// One short build twice: by value over the three lists of numbers, and with the builder lent over row records. Each answer and each row is compared, and both files are printed and compared.
+ghost use Prim.Native.Nat.{_≤_};
+use builder::Built;
+use builder::Settled;
+use grid::Grid;
+use lent::LentSettled;
+use lent::RowRecord;
+use libc::STDOUT_FILENO;
+use questions::Builder;
+use rows::SlabResolution;
+use writer::Written;
+
+mod ring;
+mod through;
+
+// The by-value build: the builder, its lists, and the number and the gradient's bits that the last call answered.
+struct ByValue {
+    builder: Builder,
+    number: u64,
+    gradient: u64,
+    store: [f64; 3528],
+    kinds: [u8; 2],
+    levels: [u8; 2],
+    values: [u32; 2],
+}
+
+// The build in the lent forms, likewise; its rows are records.
+struct Lent {
+    builder: Builder,
+    number: u64,
+    gradient: u64,
+    store: [f64; 3528],
+    rows: [RowRecord; 2],
+}
+
+struct Output {
+    length: u64,
+    bytes: [u8; 700],
+}
+
+// What the lent forms gave, beside what the by-value calls gave.
+fn say(what: &[u8], lent: u64, by_value: u64) {
+    io::write_all(STDOUT_FILENO, what);
+    io::write_all(STDOUT_FILENO, b": ");
+    io::print_decimal(STDOUT_FILENO, lent);
+    if lent == by_value {
+        io::write_all(STDOUT_FILENO, b", as by value\n");
+    } else {
+        io::write_all(STDOUT_FILENO, b", but by value ");
+        io::print_decimal(STDOUT_FILENO, by_value);
+        io::write_all(STDOUT_FILENO, b"\n");
+    }
+}
+
+fn wide8(x: u8) -> u64 {
+    x as u64
+}
+
+fn wide32(x: u32) -> u64 {
+    x as u64
+}
+
+fn set_number(a: Built) -> u64 {
+    match a {
+        Built::Accepted(_) => 0,
+        Built::Refused(no) => no,
+    }
+}
+
+fn set_builder(kept: Builder, a: Built) -> Builder {
+    match a {
+        Built::Accepted(b) => b,
+        Built::Refused(_) => kept,
+    }
+}
+
+fn settle_number(a: Settled) -> u64 {
+    match a {
+        Settled::Accepted(_, _) => 0,
+        Settled::Refused(no) => no,
+    }
+}
+
+fn settle_builder(kept: Builder, a: Settled) -> Builder {
+    match a {
+        Settled::Accepted(b, _) => b,
+        Settled::Refused(_) => kept,
+    }
+}
+
+// The bits of the largest gradient, 0 where settle was refused.
+fn gradient(a: Settled) -> u64 {
+    match a {
+        Settled::Accepted(_, x) => bits::bits64(x),
+        Settled::Refused(_) => 0,
+    }
+}
+
+fn lent_gradient(a: LentSettled) -> u64 {
+    match a {
+        LentSettled::Accepted(x) => bits::bits64(x),
+        LentSettled::Refused(_) => 0,
+    }
+}
+
+fn lent_number(a: LentSettled) -> u64 {
+    match a {
+        LentSettled::Accepted(_) => 0,
+        LentSettled::Refused(no) => no,
+    }
+}
+
+// rmin 0, rmax 2, dr 1, one dihedral bin, top level 1: two slabs.
+fn settings() -> Grid {
+    Grid {
+        rmin: 0.0,
+        rmax: 2.0,
+        dr: 1.0,
+        omega_step: 6.0,
+        threshold: 0.1,
+        beta: 1.0,
+        n_r: 0,
+        n_omega: 0,
+    }
+}
+
+// The builder that fresh answers; one that every call refuses where it does not.
+fn begun(store: &mut [f64], kinds: &mut [u8], levels: &mut [u8], values: &mut [u32]) -> Builder {
+    match builder::fresh(
+        settings(),
+        1,
+        store,
+        kinds,
+        levels,
+        values,
+        &ring::vertices(),
+        &ring::counts(),
+        &ring::neighbours(),
+        &ring::angles(),
+    ) {
+        Built::Accepted(b) => b,
+        Built::Refused(_) => Builder {
+            grid: settings(),
+            top: 99,
+            level: 99,
+        },
+    }
+}
+
+// A fresh builder by value; the lists hold anything before.
+fn fresh_by_value() -> ByValue {
+    let mut store = [1.0; 3528];
+    let mut kinds: [u8; 2] = [9; 2];
+    let mut levels: [u8; 2] = [9; 2];
+    let mut values: [u32; 2] = [9; 2];
+    let builder = begun(&mut store, &mut kinds, &mut levels, &mut values);
+    ByValue {
+        builder,
+        number: 0,
+        gradient: 0,
+        store,
+        kinds,
+        levels,
+        values,
+    }
+}
+
+// The same, and the records of what fresh leaves in the lists.
+fn fresh_lent() -> Lent {
+    let mut store = [2.0; 3528];
+    let mut kinds: [u8; 2] = [7; 2];
+    let mut levels: [u8; 2] = [7; 2];
+    let mut values: [u32; 2] = [7; 2];
+    let builder = begun(&mut store, &mut kinds, &mut levels, &mut values);
+    let none = RowRecord {
+        kind: 9,
+        level: 9,
+        value: 9,
+    };
+    Lent {
+        builder,
+        number: 0,
+        gradient: 0,
+        store,
+        rows: through::gather_in([none; 2], &kinds, &levels, &values),
+    }
+}
+
+fn set_by_value(s: ByValue, ri: u64, energies: &[f64]) -> ByValue {
+    let b = s.builder;
+    let mut store = s.store;
+    let mut kinds = s.kinds;
+    let mut levels = s.levels;
+    let mut values = s.values;
+    let a = builder::set(
+        b,
+        &mut store,
+        &mut kinds,
+        &mut levels,
+        &mut values,
+        ri,
+        0,
+        energies,
+    );
+    ByValue {
+        builder: set_builder(b, a),
+        number: set_number(a),
+        gradient: 0,
+        store,
+        kinds,
+        levels,
+        values,
+    }
+}
+
+fn set_records(s: Lent, ri: u64, energies: &[f64]) -> Lent {
+    let b = s.builder;
+    let rows = s.rows;
+    let mut store = s.store;
+    let mut kinds: [u8; 2] = [7; 2];
+    let mut levels: [u8; 2] = [7; 2];
+    let mut values: [u32; 2] = [7; 2];
+    through::spread_of(rows, &mut kinds, &mut levels, &mut values);
+    let a = through::set_through(
+        b,
+        &mut store,
+        &mut kinds,
+        &mut levels,
+        &mut values,
+        ri,
+        0,
+        energies,
+    );
+    let builder = a.builder;
+    Lent {
+        builder,
+        number: a.number,
+        gradient: 0,
+        store,
+        rows: through::gather_in(rows, &kinds, &levels, &values),
+    }
+}
+
+fn settle_by_value(s: ByValue, ri: u64) -> ByValue {
+    let b = s.builder;
+    let store = s.store;
+    let mut kinds = s.kinds;
+    let mut levels = s.levels;
+    let mut values = s.values;
+    let a = builder::settle(
+        b,
+        &store,
+        &mut kinds,
+        &mut levels,
+        &mut values,
+        &ring::vertices(),
+        &ring::counts(),
+        &ring::neighbours(),
+        &ring::angles(),
+        ri,
+    );
+    ByValue {
+        builder: settle_builder(b, a),
+        number: settle_number(a),
+        gradient: gradient(a),
+        store,
+        kinds,
+        levels,
+        values,
+    }
+}
+
+fn settle_records(s: Lent, ri: u64) -> Lent {
+    let b = s.builder;
+    let rows = s.rows;
+    let store = s.store;
+    let mut kinds: [u8; 2] = [7; 2];
+    let mut levels: [u8; 2] = [7; 2];
+    let mut values: [u32; 2] = [7; 2];
+    through::spread_of(rows, &mut kinds, &mut levels, &mut values);
+    let a = through::settle_through(
+        b,
+        &store,
+        &mut kinds,
+        &mut levels,
+        &mut values,
+        &ring::vertices(),
+        &ring::counts(),
+        &ring::neighbours(),
+        &ring::angles(),
+        ri,
+    );
+    let builder = a.builder;
+    let answer = a.answer;
+    Lent {
+        builder,
+        number: lent_number(answer),
+        gradient: lent_gradient(answer),
+        store,
+        rows: through::gather_in(rows, &kinds, &levels, &values),
+    }
+}
+
+// What a call answered and left in both: its number, the gradient's bits, the level and the rows.
+fn compare(what: &[u8], s: ByValue, t: Lent) {
+    let rows = t.rows;
+    let a = through::row_of(rows, 0);
+    let b = through::row_of(rows, 1);
+    say(what, t.number, s.number);
+    say(b"  gradient's bits", t.gradient, s.gradient);
+    say(b"  level after it", t.builder.level, s.builder.level);
+    say(b"  row 0, kind", wide8(a.kind), wide8(s.kinds[0]));
+    say(b"  row 0, level", wide8(a.level), wide8(s.levels[0]));
+    say(b"  row 0, value", wide32(a.value), wide32(s.values[0]));
+    say(b"  row 1, kind", wide8(b.kind), wide8(s.kinds[1]));
+    say(b"  row 1, level", wide8(b.level), wide8(s.levels[1]));
+    say(b"  row 1, value", wide32(b.value), wide32(s.values[1]));
+}
+
+// The file of a builder and its lists; where write is refused, its number for a length.
+fn written(b: Builder, store: &[f64], kinds: &[u8], levels: &[u8], values: &[u32]) -> Output {
+    let mut bytes: [u8; 700] = [7; 700];
+    let a = writer::write(
+        b,
+        store,
+        kinds,
+        levels,
+        values,
+        &ring::vertices(),
+        &ring::counts(),
+        &ring::neighbours(),
+        &ring::angles(),
+        &mut bytes,
+    );
+    Output {
+        length: written_length(a),
+        bytes,
+    }
+}
+
+fn written_length(a: Written) -> u64 {
+    match a {
+        Written::Accepted(n) => n,
+        Written::Refused(no) => no,
+    }
+}
+
+fn file_by_value(s: ByValue) -> Output {
+    let b = s.builder;
+    let store = s.store;
+    let kinds = s.kinds;
+    let levels = s.levels;
+    let values = s.values;
+    written(b, &store, &kinds, &levels, &values)
+}
+
+fn file_of_records(s: Lent) -> Output {
+    let b = s.builder;
+    let rows = s.rows;
+    let store = s.store;
+    let mut kinds: [u8; 2] = [7; 2];
+    let mut levels: [u8; 2] = [7; 2];
+    let mut values: [u32; 2] = [7; 2];
+    through::spread_of(rows, &mut kinds, &mut levels, &mut values);
+    written(b, &store, &kinds, &levels, &values)
+}
+
+// The bytes of a file.
+fn show(what: &[u8], file: Output) {
+    io::write_all(STDOUT_FILENO, what);
+    let mut i: usize = 0;
+    while i < 700 {
+        if (i as u64) < file.length {
+            io::print_hex(STDOUT_FILENO, wide8(file.bytes[i]), 2);
+        }
+        i += 1;
+    }
+    io::write_all(STDOUT_FILENO, b"\n");
+}
+
+// 1 where two bytes differ.
+fn differs(a: u8, b: u8) -> u64
+    ensures { λ r. ⌜ r ≤ 1 ⌝ }
+{
+    if a == b { 0 } else { 1 }
+}
+
+// How many bytes of two outputs differ.
+fn other_bytes(a: Output, b: Output) -> u64 {
+    let mut n: u64 = 0;
+    let mut i: usize = 0;
+    while i < 700 {
+        n += differs(a.bytes[i], b.bytes[i]);
+        i += 1;
+    }
+    n
+}
+
+fn compare_files(a: Output, b: Output) {
+    say(b"bytes", b.length, a.length);
+    show(b"by value ", a);
+    show(b"lent     ", b);
+    say(b"bytes that differ", other_bytes(a, b), 0);
+}
+
+// Zeros but for one: at threshold 0.1 a slab of level 0 settles as Mesh nearest.
+fn smooth() -> [f64; 144] {
+    let mut e = [0.0; 144];
+    e[100] = 0.05;
+    e
+}
+
+// Row 1 replaced by Repulsive.
+fn replace_by_value(s: ByValue) -> ByValue {
+    let builder = s.builder;
+    let store = s.store;
+    let mut kinds = s.kinds;
+    let mut levels = s.levels;
+    let mut values = s.values;
+    rows::replace(
+        &mut kinds,
+        &mut levels,
+        &mut values,
+        1,
+        SlabResolution::Repulsive,
+    );
+    ByValue {
+        builder,
+        number: 0,
+        gradient: 0,
+        store,
+        kinds,
+        levels,
+        values,
+    }
+}
+
+fn replace_record(s: Lent) -> Lent {
+    let builder = s.builder;
+    let store = s.store;
+    let rows = s.rows;
+    let record = lent::record_of(SlabResolution::Repulsive);
+    Lent {
+        builder,
+        number: 0,
+        gradient: 0,
+        store,
+        rows: through::with_row(rows, 1, record),
+    }
+}
+
+// Two of the calls are refused, and one drops the level.
+fn main() {
+    let a0 = fresh_by_value();
+    let b0 = fresh_lent();
+    compare(b"fresh", a0, b0);
+    let a1 = set_by_value(a0, 0, &smooth());
+    let b1 = set_records(b0, 0, &smooth());
+    compare(b"set, energies of another level", a1, b1);
+    let a2 = set_by_value(a1, 0, &[0.5; 1764]);
+    let b2 = set_records(b1, 0, &[0.5; 1764]);
+    compare(b"set", a2, b2);
+    let a3 = settle_by_value(a2, 2);
+    let b3 = settle_records(b2, 2);
+    compare(b"settle, a bin beyond", a3, b3);
+    let a4 = settle_by_value(a3, 0);
+    let b4 = settle_records(b3, 0);
+    compare(b"settle", a4, b4);
+    let a5 = set_by_value(a4, 1, &smooth());
+    let b5 = set_records(b4, 1, &smooth());
+    compare(b"set", a5, b5);
+    let a6 = settle_by_value(a5, 1);
+    let b6 = settle_records(b5, 1);
+    compare(b"settle", a6, b6);
+    compare_files(file_by_value(a6), file_of_records(b6));
+    let a7 = replace_by_value(a6);
+    let b7 = replace_record(b6);
+    compare(b"row 1 replaced by Repulsive", a7, b7);
+    compare_files(file_by_value(a7), file_of_records(b7));
+}

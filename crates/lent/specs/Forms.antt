@@ -1,0 +1,146 @@
+-- The same calls by value over number lists, and with the builder lent over row records; and what it is that they answer alike. Definitions only.
+use mathlib.Core.Path.{_≡_}
+use mathlib.Core.List.{List, [], _∷_}
+use Prim.Native.Nat.{ℕ}
+use lib.ListN.{length, set, take}
+use lib.Ieee.{Float}
+use Rattle.mesh.specs.Mesh.{Mesh}
+use Rattle.grid.specs.declared.Grid.{Grid}
+use Rattle.rows.specs.declared.SlabResolution.{SlabResolution}
+use Rattle.rows.specs.Rows.{Rows, resolutionOf, resolutionAt, replaced}
+use Rattle.search.specs.Search.{Locator}
+use Rattle.questions.specs.Lists.{Lists}
+use Rattle.questions.specs.declared.Builder.{Builder}
+use Rattle.builder.specs.declared.Built.{Built}
+use Rattle.builder.specs.Calls.{BuiltOut, builtNumber, builderAfter, settledNumber, settledGradient, freshBuilder, freshOut, setOut, settleOut}
+use Rattle.writer.specs.Write.{WriteOut, writtenNumber, writtenLength, writeOut}
+use Rattle.table.specs.Read.{readTable, readOut}
+use Rattle.reading.specs.Resolve.{Query}
+use Rattle.reading.specs.Reading.{readingOut}
+use Rattle.ledger.specs.Ledger.{Call, set-call, settle-call, write-call, State, called}
+use Rattle.ledger.specs.Promise.{History, fresh, ended, lastWrite, file}
+use Rattle.lent.specs.declared.RowRecord.{RowRecord}
+use Rattle.lent.specs.Calls.{lentNumber, lentGradient, setLent, settleLent}
+use Rattle.lent.specs.Records.{columns, recordAt, recordOf, gathered, SpreadOut, spreadOut}
+
+-- ---- by value
+
+-- 01's number and values of a call's answer; and what a write leaves in its output
+pub data Reply : Type 0 where
+  set-reply : ℕ → Reply
+  settle-reply : ℕ → Float → Reply
+  write-reply : ℕ → ℕ → List ℕ → Reply
+
+abbrev pub writeReply : WriteOut → Reply
+writeReply o = write-reply (writtenNumber (o .answer)) (writtenLength (o .answer)) (o .output)
+
+unfoldable pub replied : Mesh → State → Call → Reply
+replied m st (set-call ri oi e) = set-reply (builtNumber (setOut (st .builder) (st .lists) ri oi e .answer))
+replied m st (settle-call ri) = let a = settleOut (st .builder) m (st .lists) ri .answer in settle-reply (settledNumber a) (settledGradient a)
+replied m st (write-call out) = writeReply (writeOut (st .builder) m (st .lists) out)
+
+unfoldable pub replies : Mesh → State → List Call → List Reply
+replies m st [] = []
+replies m st (c ∷ cs) = replied m st c ∷ replies m (called m st c) cs
+
+-- what fresh leaves
+abbrev pub begun : History → State
+begun h = record { builder = builderAfter (freshBuilder (h .grid) (h .top)) (fresh h .answer); lists = fresh h .lists }
+
+-- ---- with the builder lent, over records
+
+-- the number lists that a call works on are filled from the records before it, and the records from them after it
+pub record LentState : Type 0 where
+  pub builder : Builder
+  pub store : List Float
+  pub rows : List RowRecord
+  pub work : Rows
+
+-- the same state by value, over number lists
+abbrev pub asState : LentState → State
+asState st = record { builder = st .builder; lists = record { store = st .store; rows = columns (st .rows) } }
+
+abbrev pub spreadLists : LentState → Lists
+spreadLists st = record { store = st .store; rows = spreadOut (st .rows) (st .work) .rows }
+
+abbrev pub leftIn : LentState → Builder → Lists → LentState
+leftIn st b l = record { builder = b; store = l .store; rows = gathered (l .rows) (st .rows); work = l .rows }
+
+-- a call, and its answer, over the number lists l that the records were spread over
+unfoldable pub calledOver : Mesh → LentState → Lists → Call → LentState
+calledOver m st l (set-call ri oi e) = let o = setLent (st .builder) l ri oi e in leftIn st (o .builder) (o .lists)
+calledOver m st l (settle-call ri) = let o = settleLent (st .builder) m l ri in leftIn st (o .builder) (o .lists)
+calledOver m st l (write-call out) = let o = writeOut (st .builder) m l out in leftIn st (o .builder) (o .lists)
+
+unfoldable pub repliedOver : Mesh → Builder → Lists → Call → Reply
+repliedOver m b l (set-call ri oi e) = set-reply (setLent b l ri oi e .answer)
+repliedOver m b l (settle-call ri) = let a = settleLent b m l ri .answer in settle-reply (lentNumber a) (lentGradient a)
+repliedOver m b l (write-call out) = writeReply (writeOut b m l out)
+
+abbrev pub calledLent : Mesh → LentState → Call → LentState
+calledLent m st c = calledOver m st (spreadLists st) c
+
+unfoldable pub runLent : Mesh → LentState → List Call → LentState
+runLent m st [] = st
+runLent m st (c ∷ cs) = runLent m (calledLent m st c) cs
+
+unfoldable pub repliesLent : Mesh → LentState → List Call → List Reply
+repliesLent m st [] = []
+repliesLent m st (c ∷ cs) = repliedOver m (st .builder) (spreadLists st) c ∷ repliesLent m (calledLent m st c) cs
+
+-- a history whose rows are records; `start` has what is lent to fresh, and its builder is not looked at
+pub record LentHistory : Type 0 where
+  pub grid : Grid
+  pub top : ℕ
+  pub meshes : Mesh
+  pub start : LentState
+  pub calls : List Call
+  pub output : List ℕ
+
+-- the same history by value, over number lists
+abbrev pub byValue : LentHistory → History
+byValue h = record { grid = h .grid; top = h .top; meshes = h .meshes; lists = asState (h .start) .lists; calls = h .calls; output = h .output }
+
+abbrev pub freshLent : LentHistory → BuiltOut
+freshLent h = freshOut (h .grid) (h .top) (h .meshes) (spreadLists (h .start))
+
+abbrev pub begunLent : LentHistory → LentState
+begunLent h = leftIn (h .start) (builderAfter (freshBuilder (h .grid) (h .top)) (freshLent h .answer)) (freshLent h .lists)
+
+abbrev pub endedLent : LentHistory → LentState
+endedLent h = runLent (h .meshes) (begunLent h) (h .calls)
+
+abbrev pub lastWriteLent : LentHistory → WriteOut
+lastWriteLent h = writeOut (endedLent h .builder) (h .meshes) (spreadLists (endedLent h)) (h .output)
+
+abbrev pub fileLent : LentHistory → List ℕ
+fileLent h = take (writtenLength (lastWriteLent h .answer)) (lastWriteLent h .output)
+
+-- ---- alike
+
+-- each work list is as long as the list of records, whatever it holds
+pub record Long (rs : List RowRecord) (l : Rows) : Type 0 where
+  pub kinds : length (l .kinds) ≡ length rs
+  pub levels : length (l .levels) ≡ length rs
+  pub values : length (l .values) ≡ length rs
+
+-- "read one, replace one, over the proved number lists": one row, and the bridge both ways
+pub record RowsAlike (rs : List RowRecord) : Type 0 where
+  pub read : (s : ℕ) → let r = recordAt (columns rs) s in resolutionOf (r .kind) (r .level) (r .value) ≡ resolutionAt (columns rs) s
+  pub replace : (s : ℕ) (x : SlabResolution) → columns (set rs s (recordOf x)) ≡ replaced (columns rs) s x
+  pub spread : (l : Rows) → Long rs l → spreadOut rs l ≡ record { answer = length rs; rows = columns rs }
+  pub gather : (l : Rows) → Long rs l → columns (gathered l rs) ≡ l
+
+-- answers, builder, store and rows, file and readings of a history
+pub record CallsAlike (h : LentHistory) : Type 0 where
+  pub fresh-answer : freshLent h .answer ≡ fresh (byValue h) .answer
+  pub answers : repliesLent (h .meshes) (begunLent h) (h .calls) ≡ replies (h .meshes) (begun (byValue h)) (h .calls)
+  pub state : asState (endedLent h) ≡ ended (byValue h)
+  pub last-write : writeReply (lastWriteLent h) ≡ writeReply (lastWrite (byValue h))
+  pub bytes : fileLent h ≡ file (byValue h)
+  pub readings : (vertices : List Float) (l : Locator) (q : Query) →
+      readingOut (fileLent h) (readTable (readOut (fileLent h))) vertices l q ≡ readingOut (file (byValue h)) (readTable (readOut (file (byValue h)))) vertices l q
+
+-- all calls, files and readings answer alike through either form
+abbrev pub EitherForm : Type 0
+EitherForm = ((rs : List RowRecord) → RowsAlike rs) × ((h : LentHistory) → Long (h .start .rows) (h .start .work) → CallsAlike h)

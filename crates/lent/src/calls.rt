@@ -1,0 +1,152 @@
+// Set and settle with the builder lent to be altered: the by-value call, and the builder that it leaves stored back.
+ghost use mathlib.Core.Path.{_≡_};
+ghost use Prim.Native.Nat.{ℕ};
+ghost use Rattle.builder.specs.Calls.{builtNumber, builderAfter, settledBuilder};
+ghost use Rattle.lent.specs.declared.LentSettled.{LentSettled};
+ghost use Rattle.lent.specs.Calls.{LentOut, lentSettled, setLent, settleLent};
+use crate::LentSettled;
+use builder::Built;
+use builder::Settled;
+use questions::Builder;
+
+// What the by-value calls leave: the builder, a refused call's being the one it was handed, and the rest of the answer.
+struct SetDone {
+    builder: Builder,
+    number: u64,
+}
+
+struct SettleDone {
+    builder: Builder,
+    answer: LentSettled,
+}
+
+fn set_done(kept: Builder, a: Built) -> SetDone
+    ensures { λ r. ⌜ (r .builder ≡ builderAfter kept a) × (r .number ≡ builtNumber a) ⌝ }
+{
+    match a {
+        Built::Accepted(builder) => SetDone { builder, number: 0 },
+        Built::Refused(number) => SetDone {
+            builder: kept,
+            number,
+        },
+    }
+}
+
+fn settle_done(kept: Builder, a: Settled) -> SettleDone
+    ensures { λ r. ⌜ (r .builder ≡ settledBuilder kept a) × (r .answer ≡ lentSettled a) ⌝ }
+{
+    match a {
+        Settled::Accepted(builder, gradient) => SettleDone {
+            builder,
+            answer: LentSettled::Accepted(gradient),
+        },
+        Settled::Refused(number) => SettleDone {
+            builder: kept,
+            answer: LentSettled::Refused(number),
+        },
+    }
+}
+
+fn set_kept(
+    b: Builder,
+    store: &mut [f64],
+    kinds: &mut [u8],
+    levels: &mut [u8],
+    values: &mut [u32],
+    ri: u64,
+    oi: u64,
+    energies: &[f64],
+) -> SetDone
+    ensures { λ r. ⌜ _≡_ {A = LentOut ℕ}
+        (record { answer = r .number; builder = r .builder; lists = record { store = now (store .exit); rows = record { kinds = now (kinds .exit); levels = now (levels .exit); values = now (values .exit) } } })
+        (setLent b (record { store = now (store .entry); rows = record { kinds = now (kinds .entry); levels = now (levels .entry); values = now (values .entry) } }) ri oi (now (energies .entry))) ⌝ }
+{
+    let a = builder::set(b, store, kinds, levels, values, ri, oi, energies);
+    set_done(b, a)
+}
+
+fn settle_kept(
+    b: Builder,
+    store: &[f64],
+    kinds: &mut [u8],
+    levels: &mut [u8],
+    values: &mut [u32],
+    vertices: &[f64],
+    counts: &[u8],
+    neighbours: &[u16],
+    angles: &[f64],
+    ri: u64,
+) -> SettleDone
+    ensures { λ r. ⌜ _≡_ {A = LentOut LentSettled}
+        (record { answer = r .answer; builder = r .builder; lists = record { store = now (store .entry); rows = record { kinds = now (kinds .exit); levels = now (levels .exit); values = now (values .exit) } } })
+        (settleLent b (record { vertices = now (vertices .entry); counts = now (counts .entry); neighbours = now (neighbours .entry); angles = now (angles .entry) })
+        (record { store = now (store .entry); rows = record { kinds = now (kinds .entry); levels = now (levels .entry); values = now (values .entry) } }) ri) ⌝ }
+{
+    let a = builder::settle(
+        b,
+        store,
+        kinds,
+        levels,
+        values,
+        vertices,
+        counts,
+        neighbours,
+        angles,
+        ri,
+    );
+    settle_done(b, a)
+}
+
+// Gives a slab its energies; the answer is document 01's number, 0 for accepted. A refused call leaves the builder as it was.
+pub fn set_lent(
+    b: &mut Builder,
+    store: &mut [f64],
+    kinds: &mut [u8],
+    levels: &mut [u8],
+    values: &mut [u32],
+    ri: u64,
+    oi: u64,
+    energies: &[f64],
+) -> u64
+    ensures { λ r. ⌜ _≡_ {A = LentOut ℕ}
+        (record { answer = r; builder = now (b .exit); lists = record { store = now (store .exit); rows = record { kinds = now (kinds .exit); levels = now (levels .exit); values = now (values .exit) } } })
+        (setLent (now (b .entry)) (record { store = now (store .entry); rows = record { kinds = now (kinds .entry); levels = now (levels .entry); values = now (values .entry) } }) ri oi (now (energies .entry))) ⌝ }
+{
+    let a = set_kept(*b, store, kinds, levels, values, ri, oi, energies);
+    *b = a.builder;
+    a.number
+}
+
+// Settles a slice; where the level drops, it drops in the builder that is lent.
+pub fn settle_lent(
+    b: &mut Builder,
+    store: &[f64],
+    kinds: &mut [u8],
+    levels: &mut [u8],
+    values: &mut [u32],
+    vertices: &[f64],
+    counts: &[u8],
+    neighbours: &[u16],
+    angles: &[f64],
+    ri: u64,
+) -> LentSettled
+    ensures { λ r. ⌜ _≡_ {A = LentOut LentSettled}
+        (record { answer = r; builder = now (b .exit); lists = record { store = now (store .entry); rows = record { kinds = now (kinds .exit); levels = now (levels .exit); values = now (values .exit) } } })
+        (settleLent (now (b .entry)) (record { vertices = now (vertices .entry); counts = now (counts .entry); neighbours = now (neighbours .entry); angles = now (angles .entry) })
+        (record { store = now (store .entry); rows = record { kinds = now (kinds .entry); levels = now (levels .entry); values = now (values .entry) } }) ri) ⌝ }
+{
+    let a = settle_kept(
+        *b,
+        store,
+        kinds,
+        levels,
+        values,
+        vertices,
+        counts,
+        neighbours,
+        angles,
+        ri,
+    );
+    *b = a.builder;
+    a.answer
+}
