@@ -63,10 +63,6 @@ fn wide8(x: u8) -> u64 {
     x as u64
 }
 
-fn wide32(x: u32) -> u64 {
-    x as u64
-}
-
 fn set_number(a: Built) -> u64 {
     match a {
         Built::Accepted(_) => 0,
@@ -335,20 +331,23 @@ fn settle_records(s: Lent, ri: u64) -> Lent {
     }
 }
 
+// A row's three numbers as one.
+fn packed(kind: u8, level: u8, value: u32) -> u64 {
+    (kind as u64) * 1099511627776 + (level as u64) * 4294967296 + value as u64
+}
+
 // What a call answered and left in both: its number, the gradient's bits, the level and the rows.
 fn compare(what: &[u8], s: ByValue, t: Lent) {
     let rows = t.rows;
     let a = through::row_of(rows, 0);
     let b = through::row_of(rows, 1);
+    let c = packed(s.kinds[0], s.levels[0], s.values[0]);
+    let d = packed(s.kinds[1], s.levels[1], s.values[1]);
     say(what, t.number, s.number);
     say(b"  gradient's bits", t.gradient, s.gradient);
     say(b"  level after it", t.builder.level, s.builder.level);
-    say(b"  row 0, kind", wide8(a.kind), wide8(s.kinds[0]));
-    say(b"  row 0, level", wide8(a.level), wide8(s.levels[0]));
-    say(b"  row 0, value", wide32(a.value), wide32(s.values[0]));
-    say(b"  row 1, kind", wide8(b.kind), wide8(s.kinds[1]));
-    say(b"  row 1, level", wide8(b.level), wide8(s.levels[1]));
-    say(b"  row 1, value", wide32(b.value), wide32(s.values[1]));
+    say(b"  row 0", packed(a.kind, a.level, a.value), c);
+    say(b"  row 1", packed(b.kind, b.level, b.value), d);
 }
 
 // The file of a builder and its lists; where write is refused, its number for a length.
