@@ -33,6 +33,13 @@ struct Lent {
     rows: [RowRecord; 2],
 }
 
+// The three lists that a call works on, of the records.
+struct Lists {
+    kinds: [u8; 2],
+    levels: [u8; 2],
+    values: [u32; 2],
+}
+
 struct Output {
     length: u64,
     bytes: [u8; 700],
@@ -53,10 +60,6 @@ fn say(what: &[u8], lent: u64, by_value: u64) {
 }
 
 fn wide8(x: u8) -> u64 {
-    x as u64
-}
-
-fn wide32(x: u32) -> u64 {
     x as u64
 }
 
@@ -124,39 +127,32 @@ fn settings() -> Grid {
     }
 }
 
-// The builder that fresh answers; one that every call refuses where it does not.
-fn begun(store: &mut [f64], kinds: &mut [u8], levels: &mut [u8], values: &mut [u32]) -> Builder {
-    match builder::fresh(
-        settings(),
-        1,
-        store,
-        kinds,
-        levels,
-        values,
-        &ring::vertices(),
-        &ring::counts(),
-        &ring::neighbours(),
-        &ring::angles(),
-    ) {
-        Built::Accepted(b) => b,
-        Built::Refused(_) => Builder {
-            grid: settings(),
-            top: 99,
-            level: 99,
-        },
-    }
-}
-
-// A fresh builder by value; the lists hold anything before.
+// A fresh builder by value; the lists hold anything before. Where fresh is refused, one that every call refuses.
 fn fresh_by_value() -> ByValue {
     let mut store = [1.0; 3528];
     let mut kinds: [u8; 2] = [9; 2];
     let mut levels: [u8; 2] = [9; 2];
     let mut values: [u32; 2] = [9; 2];
-    let builder = begun(&mut store, &mut kinds, &mut levels, &mut values);
+    let a = builder::fresh(
+        settings(),
+        1,
+        &mut store,
+        &mut kinds,
+        &mut levels,
+        &mut values,
+        &ring::vertices(),
+        &ring::counts(),
+        &ring::neighbours(),
+        &ring::angles(),
+    );
+    let none = Builder {
+        grid: settings(),
+        top: 99,
+        level: 99,
+    };
     ByValue {
-        builder,
-        number: 0,
+        builder: set_builder(none, a),
+        number: set_number(a),
         gradient: 0,
         store,
         kinds,
@@ -165,24 +161,48 @@ fn fresh_by_value() -> ByValue {
     }
 }
 
-// The same, and the records of what fresh leaves in the lists.
-fn fresh_lent() -> Lent {
-    let mut store = [2.0; 3528];
+fn gather_lists(rows: [RowRecord; 2], l: Lists) -> [RowRecord; 2] {
+    let kinds = l.kinds;
+    let levels = l.levels;
+    let values = l.values;
+    through::gather_in(rows, &kinds, &levels, &values)
+}
+
+fn spread_lists(rows: [RowRecord; 2]) -> Lists {
     let mut kinds: [u8; 2] = [7; 2];
     let mut levels: [u8; 2] = [7; 2];
     let mut values: [u32; 2] = [7; 2];
-    let builder = begun(&mut store, &mut kinds, &mut levels, &mut values);
+    through::spread_of(rows, &mut kinds, &mut levels, &mut values);
+    Lists {
+        kinds,
+        levels,
+        values,
+    }
+}
+
+// The same builder and store, and the records of what fresh left in the lists.
+fn fresh_records(s: ByValue) -> Lent {
+    let builder = s.builder;
+    let store = s.store;
+    let kinds = s.kinds;
+    let levels = s.levels;
+    let values = s.values;
     let none = RowRecord {
         kind: 9,
         level: 9,
         value: 9,
     };
+    let lists = Lists {
+        kinds,
+        levels,
+        values,
+    };
     Lent {
         builder,
-        number: 0,
+        number: s.number,
         gradient: 0,
         store,
-        rows: through::gather_in([none; 2], &kinds, &levels, &values),
+        rows: gather_lists([none; 2], lists),
     }
 }
 
@@ -217,10 +237,10 @@ fn set_records(s: Lent, ri: u64, energies: &[f64]) -> Lent {
     let b = s.builder;
     let rows = s.rows;
     let mut store = s.store;
-    let mut kinds: [u8; 2] = [7; 2];
-    let mut levels: [u8; 2] = [7; 2];
-    let mut values: [u32; 2] = [7; 2];
-    through::spread_of(rows, &mut kinds, &mut levels, &mut values);
+    let lists = spread_lists(rows);
+    let mut kinds = lists.kinds;
+    let mut levels = lists.levels;
+    let mut values = lists.values;
     let a = through::set_through(
         b,
         &mut store,
@@ -232,12 +252,17 @@ fn set_records(s: Lent, ri: u64, energies: &[f64]) -> Lent {
         energies,
     );
     let builder = a.builder;
+    let left = Lists {
+        kinds,
+        levels,
+        values,
+    };
     Lent {
         builder,
         number: a.number,
         gradient: 0,
         store,
-        rows: through::gather_in(rows, &kinds, &levels, &values),
+        rows: gather_lists(rows, left),
     }
 }
 
@@ -274,10 +299,10 @@ fn settle_records(s: Lent, ri: u64) -> Lent {
     let b = s.builder;
     let rows = s.rows;
     let store = s.store;
-    let mut kinds: [u8; 2] = [7; 2];
-    let mut levels: [u8; 2] = [7; 2];
-    let mut values: [u32; 2] = [7; 2];
-    through::spread_of(rows, &mut kinds, &mut levels, &mut values);
+    let lists = spread_lists(rows);
+    let mut kinds = lists.kinds;
+    let mut levels = lists.levels;
+    let mut values = lists.values;
     let a = through::settle_through(
         b,
         &store,
@@ -292,13 +317,23 @@ fn settle_records(s: Lent, ri: u64) -> Lent {
     );
     let builder = a.builder;
     let answer = a.answer;
+    let left = Lists {
+        kinds,
+        levels,
+        values,
+    };
     Lent {
         builder,
         number: lent_number(answer),
         gradient: lent_gradient(answer),
         store,
-        rows: through::gather_in(rows, &kinds, &levels, &values),
+        rows: gather_lists(rows, left),
     }
+}
+
+// A row's three numbers as one.
+fn packed(kind: u8, level: u8, value: u32) -> u64 {
+    (kind as u64) * 1099511627776 + (level as u64) * 4294967296 + value as u64
 }
 
 // What a call answered and left in both: its number, the gradient's bits, the level and the rows.
@@ -306,26 +341,27 @@ fn compare(what: &[u8], s: ByValue, t: Lent) {
     let rows = t.rows;
     let a = through::row_of(rows, 0);
     let b = through::row_of(rows, 1);
+    let c = packed(s.kinds[0], s.levels[0], s.values[0]);
+    let d = packed(s.kinds[1], s.levels[1], s.values[1]);
     say(what, t.number, s.number);
     say(b"  gradient's bits", t.gradient, s.gradient);
     say(b"  level after it", t.builder.level, s.builder.level);
-    say(b"  row 0, kind", wide8(a.kind), wide8(s.kinds[0]));
-    say(b"  row 0, level", wide8(a.level), wide8(s.levels[0]));
-    say(b"  row 0, value", wide32(a.value), wide32(s.values[0]));
-    say(b"  row 1, kind", wide8(b.kind), wide8(s.kinds[1]));
-    say(b"  row 1, level", wide8(b.level), wide8(s.levels[1]));
-    say(b"  row 1, value", wide32(b.value), wide32(s.values[1]));
+    say(b"  row 0", packed(a.kind, a.level, a.value), c);
+    say(b"  row 1", packed(b.kind, b.level, b.value), d);
 }
 
 // The file of a builder and its lists; where write is refused, its number for a length.
-fn written(b: Builder, store: &[f64], kinds: &[u8], levels: &[u8], values: &[u32]) -> Output {
+fn written(b: Builder, store: [f64; 3528], l: Lists) -> Output {
+    let kinds = l.kinds;
+    let levels = l.levels;
+    let values = l.values;
     let mut bytes: [u8; 700] = [7; 700];
     let a = writer::write(
         b,
-        store,
-        kinds,
-        levels,
-        values,
+        &store,
+        &kinds,
+        &levels,
+        &values,
         &ring::vertices(),
         &ring::counts(),
         &ring::neighbours(),
@@ -351,18 +387,19 @@ fn file_by_value(s: ByValue) -> Output {
     let kinds = s.kinds;
     let levels = s.levels;
     let values = s.values;
-    written(b, &store, &kinds, &levels, &values)
+    let lists = Lists {
+        kinds,
+        levels,
+        values,
+    };
+    written(b, store, lists)
 }
 
 fn file_of_records(s: Lent) -> Output {
     let b = s.builder;
     let rows = s.rows;
     let store = s.store;
-    let mut kinds: [u8; 2] = [7; 2];
-    let mut levels: [u8; 2] = [7; 2];
-    let mut values: [u32; 2] = [7; 2];
-    through::spread_of(rows, &mut kinds, &mut levels, &mut values);
-    written(b, &store, &kinds, &levels, &values)
+    written(b, store, spread_lists(rows))
 }
 
 // The bytes of a file.
@@ -449,11 +486,25 @@ fn replace_record(s: Lent) -> Lent {
     }
 }
 
+// The calls at the level below, and both files.
+fn build_low(a4: ByValue, b4: Lent) {
+    let a5 = set_by_value(a4, 1, &smooth());
+    let b5 = set_records(b4, 1, &smooth());
+    compare(b"set", a5, b5);
+    let a6 = settle_by_value(a5, 1);
+    let b6 = settle_records(b5, 1);
+    compare(b"settle", a6, b6);
+    compare_files(file_by_value(a6), file_of_records(b6));
+    let a7 = replace_by_value(a6);
+    let b7 = replace_record(b6);
+    compare(b"row 1 replaced by Repulsive", a7, b7);
+    compare_files(file_by_value(a7), file_of_records(b7));
+}
+
 // Two of the calls are refused, and one drops the level.
 fn main() {
     let a0 = fresh_by_value();
-    let b0 = fresh_lent();
-    compare(b"fresh", a0, b0);
+    let b0 = fresh_records(a0);
     let a1 = set_by_value(a0, 0, &smooth());
     let b1 = set_records(b0, 0, &smooth());
     compare(b"set, energies of another level", a1, b1);
@@ -466,15 +517,5 @@ fn main() {
     let a4 = settle_by_value(a3, 0);
     let b4 = settle_records(b3, 0);
     compare(b"settle", a4, b4);
-    let a5 = set_by_value(a4, 1, &smooth());
-    let b5 = set_records(b4, 1, &smooth());
-    compare(b"set", a5, b5);
-    let a6 = settle_by_value(a5, 1);
-    let b6 = settle_records(b5, 1);
-    compare(b"settle", a6, b6);
-    compare_files(file_by_value(a6), file_of_records(b6));
-    let a7 = replace_by_value(a6);
-    let b7 = replace_record(b6);
-    compare(b"row 1 replaced by Repulsive", a7, b7);
-    compare_files(file_by_value(a7), file_of_records(b7));
+    build_low(a4, b4);
 }
