@@ -1,16 +1,15 @@
 -- All calls, files and readings answer alike through either form. Assumes nothing.
 use mathlib.Core.Path.{_≡_, refl, sym, ap, subst, _∙_}
 use mathlib.Core.Bool.{Bool, true, false, cond}
-use mathlib.Core.List.{List, [], _∷_, map}
+use mathlib.Core.List.{List, [], _∷_}
 use mathlib.Core.Option.{Option, none, some}
-use Prim.Native.Nat.{ℕ, suc, _+_, _*_, _≤_}
+use Prim.Native.Nat.{ℕ, suc, _≤_}
 use native.Mathlib.Omega.{arith}
-use lib.ListN.{length, set, replicate, take, length-set, length-map, length-replicate}
+use lib.ListN.{length, replicate, take, length-set, length-map, length-replicate}
 use lib.Dec.{eqb}
 use lib.Ieee.{Float}
 use borrow.Author.Tests.{eqb-true}
 use Rattle.mesh.specs.Lists.{put}
-use Rattle.mesh.specs.Levels.{per}
 use Rattle.mesh.specs.Mesh.{Mesh}
 use Rattle.mesh.proofs.Written.{length-put}
 use Rattle.grid.specs.declared.Grid.{Grid}
@@ -24,7 +23,7 @@ use Rattle.questions.specs.declared.Builder.{Builder}
 use Rattle.questions.proofs.Laws.{meshed}
 use Rattle.builder.specs.declared.Settled.{Settled}
 use Rattle.builder.specs.declared.Settled.the-variants.{Accepted as Settles, Refused as NotSettled}
-use Rattle.builder.specs.Calls.{BuiltOut, SettleOut, builtNumber, builderAfter, settledNumber, settledGradient, freshBuilder, filled, freshOut, setLists, setOut, settledLists, settleAccepted, settleOut}
+use Rattle.builder.specs.Calls.{BuiltOut, SettleOut, builderAfter, settledNumber, settledGradient, freshBuilder, filled, freshOut, setLists, setOut, settledLists, settleAccepted, settleOut}
 use Rattle.writer.specs.Write.{WriteOut, writtenLength, writeRefusal, writeOut}
 use Rattle.table.specs.Read.{readTable, readOut}
 use Rattle.reading.specs.Reading.{readingOut}
@@ -32,8 +31,8 @@ use Rattle.ledger.specs.Ledger.{Call, set-call, settle-call, write-call, State,
 use Rattle.ledger.specs.Promise.{ended, lastWrite, file}
 use Rattle.lent.specs.declared.RowRecord.{RowRecord}
 use Rattle.lent.specs.Calls.{lentNumber, lentGradient, lentSettled, setLent, settleLent}
-use Rattle.lent.specs.Records.{columns, gathered, SpreadOut, spreadOut}
-use Rattle.lent.specs.Forms.{Reply, set-reply, settle-reply, writeReply, replied, replies, begun, LentState, asState, spreadLists, leftIn, calledOver, repliedOver, calledLent, runLent, repliesLent, LentHistory, byValue, begunLent, endedLent, lastWriteLent, fileLent, Long, CallsAlike, EitherForm}
+use Rattle.lent.specs.Records.{columns, gathered, SpreadOut}
+use Rattle.lent.specs.Forms.{Reply, settle-reply, writeReply, replied, replies, begun, LentState, asState, spreadLists, leftIn, calledOver, repliedOver, calledLent, runLent, repliesLent, LentHistory, byValue, begunLent, endedLent, lastWriteLent, fileLent, Long, CallsAlike, EitherForm}
 use Rattle.lent.proofs.Columns.{spread-columns, gather-columns, long-gathered, rows-alike}
 
 -- ---- every call leaves lists of the length that they had

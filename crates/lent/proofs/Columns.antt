@@ -1,6 +1,5 @@
 -- Records and the number lists that they stand for, a whole list at a time. Assumes nothing.
 use mathlib.Core.Path.{_≡_, refl, sym, ap, _∙_}
-use mathlib.Core.Bool.{Bool, true, false}
 use mathlib.Core.List.{List, [], _∷_, map}
 use mathlib.Core.Logic.{⊎-elim}
 use Prim.Native.Nat.{ℕ, zero, suc, _<_, _≤_}
@@ -10,10 +9,9 @@ use lib.Seq.{ext-getD, getD-set-same, getD-set-other}
 use borrow.Author.Tests.{le-leb}
 use Rattle.ieee.proofs.Pack.{le-or-lt}
 use Rattle.mesh.specs.Lists.{forEach}
-use Rattle.rows.specs.declared.SlabResolution.{SlabResolution}
 use Rattle.rows.specs.Rows.{Rows, rowRoom, resolutionAt, replaced}
 use Rattle.lent.specs.declared.RowRecord.{RowRecord}
-use Rattle.lent.specs.Records.{columns, recordAt, recordOf, bridged, bridgedOf, copied, gathered, spreadFirst, spreadOut}
+use Rattle.lent.specs.Records.{columns, recordAt, recordOf, bridged, bridgedOf, copied, gathered, spreadOut}
 use Rattle.lent.specs.Forms.{Long, RowsAlike}
 use Rattle.lent.proofs.Entries.{none, read, length-copied}
 

@@ -11,7 +11,6 @@ use Rattle.rows.specs.Rows.{Rows, resolutionOf, resolutionAt, replaced}
 use Rattle.search.specs.Search.{Locator}
 use Rattle.questions.specs.Lists.{Lists}
 use Rattle.questions.specs.declared.Builder.{Builder}
-use Rattle.builder.specs.declared.Built.{Built}
 use Rattle.builder.specs.Calls.{BuiltOut, builtNumber, builderAfter, settledNumber, settledGradient, freshBuilder, freshOut, setOut, settleOut}
 use Rattle.writer.specs.Write.{WriteOut, writtenNumber, writtenLength, writeOut}
 use Rattle.table.specs.Read.{readTable, readOut}

@@ -1,6 +1,5 @@
 -- `ring::fill` ends and does nothing undefined. Assumes nothing.
 use Prim.Native.Nat.{_≤_, _-_, _*_}
-use native.Mathlib.Omega.{arith}
 use borrow.Author.Needs.{needs}
 use Rattle.forms.proofs.ring.fill.Statement.{statement}
 use Rattle.forms.proofs.ring.fill.Tie as tie

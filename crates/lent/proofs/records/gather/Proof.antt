@@ -51,7 +51,7 @@ use denote.Exit.{yes}
 use Rattle.rows.specs.Rows.{Rows}
 use Rattle.mesh.proofs.Loops.{each-turn}
 use Rattle.lent.specs.declared.RowRecord.{RowRecord}
-use Rattle.lent.specs.Records.{recordAt, bridged, bridgedOf, copied}
+use Rattle.lent.specs.Records.{recordAt, bridgedOf, copied}
 use Rattle.lent.proofs.Entries.{none, place-fits, next-fits, bridged-le, copied-none, length-copied}
 use Rattle.lent.proofs.RowRecord as T
 use Rattle.lent.proofs.RowRecord.Laws as T′
