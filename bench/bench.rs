@@ -79,12 +79,15 @@ fn table(random: &mut Random) {
     let ([write, read], megabytes) = builds::file(5, 20, 8, 11, random);
     row(&format!("write, {megabytes:.0} MB"), "ns a byte", write, 3.0);
     row(&format!("read, {megabytes:.0} MB"), "ns a byte", read, 2.0);
-    for (n_r, queries, rounds) in [(1, 4096, 400), (400, 400_000, 8)] {
-        for (what, rows, bar) in [("Scalar", Rows::Scalar, 3.0), ("nearest", Rows::Nearest, 2.0), ("interpolated", Rows::Interpolated, 2.0)] {
-            for (caller, from) in [(Caller::C, "C"), (Caller::Rust, "Rust")] {
-                let (time, megabytes) = readings::measure(caller, rows, 3, [n_r, 8], queries, rounds, random);
-                row(&format!("reading, {what}, {}, called from {from}", size(megabytes)), "ns", time, bar);
-            }
+    let meshes = [("nearest", Rows::Nearest, 3, 2.0), ("interpolated", Rows::Interpolated, 3, 2.0)];
+    let small = meshes.map(|m| (m, [1, 8], 4096, 400));
+    let large = meshes.map(|m| (m, [400, 8], 400_000, 8));
+    // rows alone: ten million of them make a hundred megabytes
+    let scalar = [([1, 8], 4096, 400), ([400, 8], 400_000, 8), ([60_000, 170], 400_000, 8)].map(|(bins, n, rounds)| (("Scalar", Rows::Scalar, 0, 3.0), bins, n, rounds));
+    for ((what, rows, level, bar), bins, queries, rounds) in scalar.into_iter().chain(small).chain(large) {
+        for (caller, from) in [(Caller::C, "C"), (Caller::Rust, "Rust")] {
+            let (time, megabytes) = readings::measure(caller, rows, level, bins, queries, rounds, random);
+            row(&format!("reading, {what}, {}, called from {from}", size(megabytes)), "ns", time, bar);
         }
     }
 }
