@@ -59,6 +59,7 @@ module _ {A : Type 0} (w K : ℕ) (f : ℕ → List A) (F : ℕ → List ℕ) (d
         lt-ltb (i + 1) (length o) (omega arith),
         le-leb (length (joined i f)) (length (joined (i + 1) f)) (joined-le i (i + 1) f (omega arith)),
         le-leb (length (joined (i + 1) F)) (length s) (omega (arith, joined-le (i + 1) K F (omega arith))),
+        or-true (eqb (length (joined i f)) (length (joined (i + 1) f))),
       )
 
 -- what is written before other entries
