@@ -122,13 +122,6 @@ fn raised(p: Parts) -> Number
 {
     let sig = p.sig;
     let exp = p.exp;
-    // a normal number has its leading digit in place
-    if 0 < exp {
-        return Number {
-            m: sig,
-            e: exp + 1022,
-        };
-    }
     let z = u64::leading_zeros(sig) as u64 - 11;
     Number {
         m: sig << z,
