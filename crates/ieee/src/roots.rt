@@ -117,7 +117,7 @@ struct Number {
 }
 
 fn raised(p: Parts) -> Number
-    requires { ⌜ (0 < p .sig) × (p .sig < 2 ^ 53) × (p .exp ≤ 2045) × (0 < p .exp → 2 ^ 52 ≤ p .sig) ⌝ }
+    requires { ⌜ (0 < p .sig) × (p .sig < 2 ^ 53) × (p .exp ≤ 2045) ⌝ }
     ensures { λ r. ⌜ (2 ^ 52 ≤ r .m) × (r .m < 2 ^ 53) × (r .e < 3068) × (r .m * 2 ^ (r .e + 54) ≡ p .sig * 2 ^ p .exp * 2 ^ 1076) ⌝ }
 {
     let sig = p.sig;

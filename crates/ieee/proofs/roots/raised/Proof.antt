@@ -5,7 +5,7 @@ use native.Mathlib.Nat.{lt-of-le-of-lt, lt-of-lt-of-le, mod-eq-of-lt}
 use native.Mathlib.Omega.{arith}
 use lib.Dec.{lit<, lit≤}
 use lib.Count.{leadingZeros, leading-le}
-use Rattle.ieee.proofs.RootSteps.{raised-scale, plain-scale}
+use Rattle.ieee.proofs.RootSteps.{raised-scale}
 use borrow.Author.Needs.{needs}
 use Rattle.ieee.proofs.roots.raised.Statement.{statement}
 use Rattle.ieee.proofs.roots.raised.Tie as tie
@@ -34,15 +34,14 @@ sub-t8 c = omega (arith, up c .1 .room)
 
 returns : tie.Need-returns
 returns c =
-    let s = c in
-    let sig = s .args .p .sig in
-    let exp = s .args .p .exp in
+    let sig = c .args .p .sig in
+    let exp = c .args .p .exp in
     let z = leadingZeros 64 sig - 11 in
-    let r = up s .1 in (
-      subst (λ (y : ℕ). 2 ^ 52 ≤ y) (sym (whole s)) (r .low),
-      subst (λ (y : ℕ). y < 2 ^ 53) (sym (whole s)) (r .high),
-      omega (arith, s .pre .2),
-      ap (λ (y : ℕ). y * 2 ^ (exp + 1022 - z + 54)) (whole s) ∙ raised-scale sig exp z (r .room),
+    let r = up c .1 in (
+      subst (λ (y : ℕ). 2 ^ 52 ≤ y) (sym (whole c)) (r .low),
+      subst (λ (y : ℕ). y < 2 ^ 53) (sym (whole c)) (r .high),
+      omega (arith, c .pre .2),
+      ap (λ (y : ℕ). y * 2 ^ (exp + 1022 - z + 54)) (whole c) ∙ raised-scale sig exp z (r .room),
     )
 
 pub raised-spec : {M : Type 1} → statement M
