@@ -1,5 +1,5 @@
 -- A reading of the file of rows is what the reading rule gives from these rows. Assumes nothing.
-use mathlib.Core.Path.{_≡_, refl}
+use mathlib.Core.Path.{_≡_, refl, ap}
 use mathlib.Core.Bool.{Bool, true, false, cond, _&&_, _||_}
 use mathlib.Core.List.{List, [], _∷_, map}
 use Prim.Native.Nat.{ℕ, suc, _+_, _*_, _≤_, _<_}
@@ -200,4 +200,4 @@ module _ (top : ℕ) (m : Mesh) (l : Locator) (low : top ≤ 15) (held : meshHel
     unfolding readingOut ruled
     reads =
         let n = some-bins g (suc top) (ok .held) in
-        ap readingValues (rw grid-same (slab-read (resolve g q) (resolve-below g q (n .0) (n .1))))
+        rw grid-same (ap readingValues (slab-read (resolve g q) (resolve-below g q (n .0) (n .1))))
