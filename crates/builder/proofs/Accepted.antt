@@ -23,7 +23,7 @@ use Rattle.questions.specs.declared.Builder.{Builder}
 use Rattle.builder.specs.declared.Settled.the-variants.{Accepted as Settles}
 use Rattle.settling.specs.declared.Tally.{Tally}
 use Rattle.settling.specs.declared.Verdict.the-variants.{Blocked}
-use Rattle.mesh.proofs.Sizes.{place}
+use Rattle.lists.proofs.Places.{place}
 use Rattle.questions.proofs.Laws.{ask-yes, first-yes, meshed}
 use Rattle.questions.specs.Refusals.{meshedRefusal, settleRefusal}
 use Rattle.settling.proofs.Slopes.{gradient-links}

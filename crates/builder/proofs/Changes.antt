@@ -7,7 +7,7 @@ use lib.Dec.{ltb}
 use lib.Ieee.{Float, lt}
 use borrow.Author.Tests.{ltb-true}
 use Rattle.ieee.proofs.Fields.{both-true}
-use Rattle.mesh.specs.Lists.{every}
+use Rattle.lists.specs.Lists.{every}
 use Rattle.rows.specs.Rows.{Row}
 use Rattle.settling.specs.Settling.{newRow, inPlaceOf, settles, someSettle, largestFrom, settledRows, notRepulsive}
 use Rattle.settling.specs.Steps.{tallied}

@@ -5,7 +5,7 @@ use Prim.Native.Nat.{ℕ, suc, _*_}
 use lib.ListN.{replicate}
 use lib.Dec.{eqb}
 use lib.Ieee.{Float}
-use Rattle.mesh.specs.Lists.{put}
+use Rattle.lists.specs.Lists.{put}
 use Rattle.mesh.specs.Levels.{per}
 use Rattle.mesh.specs.Mesh.{Mesh}
 use Rattle.grid.specs.Settings.{counted}

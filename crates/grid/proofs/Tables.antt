@@ -10,7 +10,7 @@ use lib.Ieee.Scale.{finite}
 use borrow.Author.Tests.{leb-true, le-leb, ne-eqb}
 use Rattle.ieee.proofs.Fields.{both-true}
 use Rattle.float.specs.Order.{angle}
-use Rattle.mesh.proofs.Asking.{ask-yes}
+use Rattle.lists.proofs.Asking.{ask-yes}
 use Rattle.grid.specs.Bins.{nearestBin, distanceCount, dihedralCount, distanceBin, dihedralBin}
 use Rattle.grid.specs.Settings.{above, inRange, levelsHeld, binsInRange, countsHeld, ownCount, slabsHeld, question, gridHeld}
 use Rattle.grid.specs.declared.Grid.{Grid}

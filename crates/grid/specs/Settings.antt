@@ -4,7 +4,7 @@ use mathlib.Core.Bool.{Bool, not, _&&_}
 use lib.Dec.{leb, eqb}
 use lib.Ieee.{Float, binary64, ofBits, lt}
 use lib.Ieee.Scale.{finite}
-use Rattle.mesh.specs.Questions.{ask}
+use Rattle.lists.specs.Questions.{ask}
 use Rattle.mesh.specs.Levels.{per}
 use Rattle.grid.specs.Bins.{distanceCount, dihedralCount, tableRmax}
 use Rattle.grid.specs.declared.Grid.{Grid}

@@ -12,12 +12,13 @@ use lib.Ieee.{Float, fits, ofBits, toBits}
 use borrow.Author.Tests.{eqb-true, ltb-true, le-leb}
 use Rattle.ieee.proofs.Pack.{le-or-lt}
 use Rattle.ieee.proofs.Fields.{both-true}
-use Rattle.mesh.specs.Questions.{ask, first}
-use Rattle.mesh.specs.Lists.{put}
+use Rattle.lists.specs.Questions.{ask, first}
+use Rattle.lists.specs.Lists.{put}
 use Rattle.mesh.specs.Levels.{per, vertexCount, verticesBelow}
 use Rattle.mesh.specs.Mesh.{Mesh, levelPart, meshHeld, meshesKeep}
-use Rattle.mesh.proofs.Sizes.{per-mono, place}
-use Rattle.mesh.proofs.Written.{length-put}
+use Rattle.mesh.proofs.Sizes.{per-mono}
+use Rattle.lists.proofs.Places.{place}
+use Rattle.lists.proofs.Written.{length-put}
 use Rattle.grid.specs.Settings.{inRange, levelsHeld, countsHeld, ownCount, slabsHeld, question}
 use Rattle.grid.specs.declared.Grid.{Grid}
 use Rattle.grid.proofs.Laws.{top-le}

@@ -10,7 +10,7 @@ use lib.Dec.{T}
 use lib.Ieee.{Float, binary32, binary64, fits, ofBits, lt, div}
 use borrow.Author.Tests.{eqb-true, le-leb}
 use Rattle.ieee.proofs.Fields.{both-true}
-use Rattle.mesh.specs.Lists.{every}
+use Rattle.lists.specs.Lists.{every}
 use Rattle.mesh.specs.Levels.{per}
 use Rattle.mesh.specs.Mesh.{Mesh}
 use Rattle.mesh.proofs.Sizes.{per-mono}

@@ -7,7 +7,7 @@ use native.Mathlib.Omega.{arith}
 use lib.ListN.{length, getD}
 use lib.Dec.{ltb, eqb}
 use borrow.Author.Tests.{eqb-true, eqb-false, lt-ltb, le-leb}
-use Rattle.mesh.specs.Lists.{every}
+use Rattle.lists.specs.Lists.{every}
 use Rattle.mesh.specs.Levels.{vertexCount, per, verticesBelow}
 use Rattle.mesh.specs.Mesh.{Mesh, meshHeld, meshesKeep}
 use Rattle.grid.specs.Bins.{distanceBin, dihedralBin}
@@ -22,7 +22,7 @@ use Rattle.locator.specs.Several.{locators, Roomy}
 use Rattle.locator.proofs.Laid.{nearest-at, locate-at}
 use Rattle.locator.proofs.Picked.{chosen, FaceBelow, nearest-vertex, located-face}
 use Rattle.questions.specs.Lists.{slabs}
-use Rattle.mesh.proofs.Sizes.{place}
+use Rattle.lists.proofs.Places.{place}
 use Rattle.table.specs.File.{energiesIn, energiesOf, entry, fileOf}
 use Rattle.table.specs.declared.Table.{Table}
 use Rattle.table.proofs.Back.{All}

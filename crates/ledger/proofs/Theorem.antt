@@ -9,7 +9,7 @@ use lib.Seq.{take-all, take-at, ext-getD}
 use lib.Dec.{eqb}
 use lib.Ieee.{binary64, toBits}
 use borrow.Author.Tests.{eqb-true, eqb-false}
-use Rattle.mesh.specs.Lists.{put}
+use Rattle.lists.specs.Lists.{put}
 use Rattle.mesh.specs.Mesh.{Mesh}
 use Rattle.grid.specs.Settings.{counted}
 use Rattle.grid.specs.declared.Grid.{Grid}

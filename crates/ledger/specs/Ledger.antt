@@ -5,8 +5,8 @@ use Prim.Native.Nat.{ℕ}
 use lib.ListN.{set, take, drop, replicate}
 use lib.Dec.{ltb, eqb}
 use lib.Ieee.{Float}
-use Rattle.mesh.specs.Questions.{ask}
-use Rattle.mesh.specs.Lists.{every, put}
+use Rattle.lists.specs.Questions.{ask}
+use Rattle.lists.specs.Lists.{every, put}
 use Rattle.mesh.specs.Mesh.{Mesh}
 use Rattle.grid.specs.declared.Grid.{Grid}
 use Rattle.rows.specs.Rows.{Row, scalar, mesh}

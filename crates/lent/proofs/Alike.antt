@@ -9,9 +9,9 @@ use lib.ListN.{length, replicate, take, length-set, length-map, length-replicate
 use lib.Dec.{eqb}
 use lib.Ieee.{Float}
 use borrow.Author.Tests.{eqb-true}
-use Rattle.mesh.specs.Lists.{put}
+use Rattle.lists.specs.Lists.{put}
 use Rattle.mesh.specs.Mesh.{Mesh}
-use Rattle.mesh.proofs.Written.{length-put}
+use Rattle.lists.proofs.Written.{length-put}
 use Rattle.grid.specs.declared.Grid.{Grid}
 use Rattle.rows.specs.declared.SlabResolution.{SlabResolution}
 use Rattle.rows.specs.Rows.{Rows, kindOf, levelOf, valueOf, replaced}

@@ -8,7 +8,7 @@ use lib.ListN.{length, getD, set, length-set, List·getD-map, List·getD-eq-defa
 use lib.Seq.{set-out}
 use lib.Dec.{T as Holds, ltb, leb, nltb→le}
 use borrow.Author.Tests.{leb-true}
-use Rattle.mesh.specs.Lists.{forEach}
+use Rattle.lists.specs.Lists.{forEach}
 use Rattle.rows.specs.Rows.{rowRoom}
 use Rattle.lent.specs.declared.RowRecord.{RowRecord}
 use Rattle.lent.specs.Records.{columns, recordAt, bridged, copied}

@@ -3,7 +3,7 @@ use mathlib.Core.Bool.{cond}
 use mathlib.Core.List.{List, map}
 use Prim.Native.Nat.{ℕ}
 use lib.ListN.{length, getD, set}
-use Rattle.mesh.specs.Lists.{forEach}
+use Rattle.lists.specs.Lists.{forEach}
 use Rattle.rows.specs.declared.SlabResolution.{SlabResolution}
 use Rattle.rows.specs.Rows.{Rows, kindOf, levelOf, valueOf, rowRoom}
 use Rattle.lent.specs.declared.RowRecord.{RowRecord}

@@ -8,18 +8,18 @@ use lib.ListN.{length, drop}
 use lib.Seq.{drop-drop}
 use lib.Dec.{leb, eqb}
 use borrow.Author.Tests.{leb-true, le-leb, eq-eqb, ne-eqb, eqb-true, eqb-false}
-use Rattle.mesh.specs.Lists.{put, starts, joined, allUpTo}
+use Rattle.lists.specs.Lists.{put, starts, joined, allUpTo}
 use Rattle.mesh.specs.Levels.{vertexCount, gridSize, cellCount}
 use Rattle.mesh.specs.Mesh.{Mesh, within, lists, vertexKept, verticesFinite, keepsRule, meshHeld}
 use Rattle.mesh.specs.Faces.{isFace, facesFrom, extractFaces}
-use Rattle.mesh.specs.Questions.{ask}
+use Rattle.lists.specs.Questions.{ask}
 use Rattle.mesh.specs.Steps.{links}
 use Rattle.mesh.proofs.Laws.{count-le}
 use Rattle.mesh.proofs.Tables.{grid-le, grid-ge}
-use Rattle.mesh.proofs.Counting.{and-yes}
+use Rattle.lists.proofs.Counting.{and-yes}
 use Rattle.mesh.proofs.Kept.{Held, held}
-use Rattle.mesh.proofs.Asking.{ask-yes}
-use Rattle.mesh.proofs.Written.{length-starts}
+use Rattle.lists.proofs.Asking.{ask-yes}
+use Rattle.lists.proofs.Written.{length-starts}
 use Rattle.search.specs.Cells.{cell, facesOf}
 use Rattle.search.specs.Search.{Locator}
 use Rattle.locator.specs.Locator.{locatorRoom, locatorHeld, locatorRefusal, located, LocatorOut, locatorOut}

@@ -11,13 +11,13 @@ use lib.Dec.{leb, ltb, eqb}
 use lib.Ieee.{Float, nan}
 use borrow.Author.Tests.{lt-ltb, le-leb, ltb-true, leb-true, eqb-true}
 use Rattle.float.specs.Order.{ordered}
-use Rattle.mesh.specs.Lists.{put, below, every, joined, starts}
+use Rattle.lists.specs.Lists.{put, below, every, joined, starts}
 use Rattle.mesh.specs.Levels.{cellCount}
 use Rattle.mesh.specs.Mesh.{Mesh, degree, neighbour}
 use Rattle.mesh.specs.Faces.{face, isFace, facesFrom, extractFaces, has}
 use Rattle.mesh.specs.declared.Face.{Face}
-use Rattle.mesh.proofs.Counting.{and-yes}
-use Rattle.mesh.proofs.Written.{length-put, length-starts, joined-le}
+use Rattle.lists.proofs.Counting.{and-yes}
+use Rattle.lists.proofs.Written.{length-put, length-starts, joined-le}
 use Rattle.search.specs.Geometry.{vertexAt, cellIndex}
 use Rattle.search.specs.Cells.{inCell, cell, facesOf, flat, triples}
 use Rattle.search.specs.Search.{Locator, squared, notNearest, nearer, nearestFrom, nearestAmong, nearestOf, locate, noFit, better, fitFrom, bestFace, notLocated, vertexInside, entriesAt, entriesInside, nearestIn, locateIn}

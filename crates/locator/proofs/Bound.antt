@@ -9,13 +9,13 @@ use native.Mathlib.Omega.{arith}
 use lib.ListN.{length}
 use lib.Dec.{ltb, eqb}
 use borrow.Author.Tests.{eq-eqb, ne-eqb, lt-ltb, le-ltb, eqb-true, ltb-true}
-use Rattle.mesh.specs.Lists.{joined, anyUpTo, sum}
+use Rattle.lists.specs.Lists.{joined, anyUpTo, sum}
 use Rattle.mesh.specs.Mesh.{Mesh, degree, neighbour, within, lists}
 use Rattle.mesh.specs.Faces.{face, isFace, has}
 use Rattle.mesh.specs.declared.Face.{Face}
-use Rattle.mesh.proofs.Counting.{and-yes}
-use Rattle.mesh.proofs.Sums.{one, count, sum-eq, sum-le, sum-add, sum-const, sum-grid, sum-mul, sum-none}
-use Rattle.mesh.proofs.Written.{length-joined}
+use Rattle.lists.proofs.Counting.{and-yes}
+use Rattle.lists.proofs.Sums.{one, count, sum-eq, sum-le, sum-add, sum-const, sum-grid, sum-mul, sum-none}
+use Rattle.lists.proofs.Written.{length-joined}
 use Rattle.search.specs.Cells.{facesOf}
 use Rattle.locator.specs.Steps.{wanted, touches, block}
 use Rattle.locator.proofs.Blocks.{piece, block-is, faces-of-is}

@@ -8,9 +8,9 @@ use native.Mathlib.Nat.{eq-or-lt-of-le, le-of-suc-le-suc, not-suc-le-zero}
 use native.Mathlib.Omega.{arith}
 use lib.ListN.{length, drop, getD, List·getD-append}
 use lib.Seq.{take-at, drop-at, getD-at, slice}
-use Rattle.mesh.specs.Lists.{put, below, every, filter, joined, starts}
-use Rattle.mesh.proofs.Counting.{and-yes}
-use Rattle.mesh.proofs.Written.{joined-more, length-starts}
+use Rattle.lists.specs.Lists.{put, below, every, filter, joined, starts}
+use Rattle.lists.proofs.Counting.{and-yes}
+use Rattle.lists.proofs.Written.{joined-more, length-starts}
 use Rattle.locator.proofs.Blocks.{joined-split}
 
 -- what is written from the first place on is read there

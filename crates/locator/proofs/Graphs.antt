@@ -4,9 +4,9 @@ use mathlib.Core.Bool.{true, false, not, _&&_}
 use Prim.Native.Nat.{ℕ, _≤_, _<_}
 use lib.Dec.{leb, ltb, eqb}
 use borrow.Author.Tests.{ltb-true, leb-true, eqb-false, not-true}
-use Rattle.mesh.specs.Lists.{allUpTo}
+use Rattle.lists.specs.Lists.{allUpTo}
 use Rattle.mesh.specs.Mesh.{Mesh, degree, neighbour, angleTo, within, lists, angleKept, neighbourKept, vertexKept, verticesFinite, keepsRule}
-use Rattle.mesh.proofs.Counting.{and-yes, all-at, any-none}
+use Rattle.lists.proofs.Counting.{and-yes, all-at, any-none}
 use Rattle.locator.specs.Steps.{Graph}
 use Rattle.locator.proofs.Bound.{Rule, mutual′}
 

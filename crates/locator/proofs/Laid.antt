@@ -11,14 +11,14 @@ use lib.Seq.{slice, length-slice, drop-append-seam, drop-drop}
 use lib.Dec.{leb}
 use borrow.Author.Tests.{le-leb, eq-eqb}
 use Rattle.ieee.proofs.Pack.{le-or-lt}
-use Rattle.mesh.specs.Lists.{joined, sum}
+use Rattle.lists.specs.Lists.{joined, sum}
 use Rattle.mesh.specs.Levels.{vertexCount, gridSize, cellCount, verticesBelow, cellOffsetsBelow}
 use Rattle.mesh.specs.Mesh.{Mesh, keepsRule, levelPart, meshRoom, meshHeld, meshesKeep}
 use Rattle.mesh.proofs.Laws.{below-more, below-le}
-use Rattle.mesh.proofs.Counting.{all-at}
+use Rattle.lists.proofs.Counting.{all-at}
 use Rattle.mesh.proofs.Kept.{held as heldBy}
-use Rattle.mesh.proofs.Sums.{sum-eq}
-use Rattle.mesh.proofs.Written.{length-joined, part}
+use Rattle.lists.proofs.Sums.{sum-eq}
+use Rattle.lists.proofs.Written.{length-joined, part}
 use Rattle.search.specs.declared.Vector3.{Vector3}
 use Rattle.search.specs.Search.{Locator, locatorFrom, verticesFrom, nearestIn, nearestOf, locateIn, locate}
 use Rattle.locator.specs.Locator.{locatorRoom, locatorHeld, locatorRefusal, located, LocatorOut, locatorOut}

@@ -9,11 +9,11 @@ use lib.Dec.{leb, ltb, eqb}
 use lib.Ieee.{Float, lt}
 use borrow.Author.Tests.{ltb-true}
 use Rattle.float.specs.Order.{smaller}
-use Rattle.mesh.specs.Lists.{every}
+use Rattle.lists.specs.Lists.{every}
 use Rattle.mesh.specs.Levels.{vertexCount, gridSize, verticesBelow}
 use Rattle.mesh.specs.Mesh.{Mesh, levelPart, meshHeld, meshesKeep}
 use Rattle.mesh.specs.declared.Face.{Face}
-use Rattle.mesh.proofs.Counting.{and-yes}
+use Rattle.lists.proofs.Counting.{and-yes}
 use Rattle.search.specs.Geometry.{vertexAt, projectedBarycentric}
 use Rattle.search.specs.Cells.{facesOf}
 use Rattle.search.specs.Search.{Locator, nearestOf, locate, noFit, better, fitFrom, bestFace, notLocated, vertexInside}

@@ -3,10 +3,10 @@ use mathlib.Core.Bool.{Bool, cond, _&&_}
 use Prim.Native.Nat.{ℕ, _+_, _*_}
 use lib.ListN.{length}
 use lib.Dec.{leb, eqb}
-use Rattle.mesh.specs.Lists.{joined, starts, put}
+use Rattle.lists.specs.Lists.{joined, starts, put}
 use Rattle.mesh.specs.Levels.{vertexCount, gridSize, cellCount}
 use Rattle.mesh.specs.Mesh.{Mesh, keepsRule, meshHeld}
-use Rattle.mesh.specs.Questions.{ask}
+use Rattle.lists.specs.Questions.{ask}
 use Rattle.search.specs.Cells.{cell, facesOf, flat}
 use Rattle.search.specs.Search.{Locator}
 

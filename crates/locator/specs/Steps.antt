@@ -7,10 +7,10 @@ use lib.ListN.{getD}
 use lib.Dec.{leb, ltb, eqb}
 use lib.IntN.{ℤ, pos, negsuc}
 use lib.Ieee.{Float, le}
-use Rattle.mesh.specs.Lists.{filter, below, joined, starts, put}
+use Rattle.lists.specs.Lists.{filter, below, joined, starts, put}
 use Rattle.mesh.specs.Levels.{vertexCount, gridSize}
 use Rattle.mesh.specs.Mesh.{Mesh, degree, neighbour, lists, keepsRule, meshHeld}
-use Rattle.mesh.specs.Questions.{ask}
+use Rattle.lists.specs.Questions.{ask}
 use Rattle.mesh.specs.Faces.{face, isFace, facesFrom, has}
 use Rattle.mesh.specs.declared.Face.{Face}
 use Rattle.search.specs.Geometry.{vertexAt, cubeFaceProject}

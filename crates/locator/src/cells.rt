@@ -3,7 +3,7 @@
 ghost use mathlib.Core.Path.{_≡_};
 ghost use Prim.Native.Nat.{_+_, _*_, _<_, _≤_, _/_, _%_};
 ghost use lib.ListN.{length, drop};
-ghost use Rattle.mesh.specs.Lists.{put, joined};
+ghost use Rattle.lists.specs.Lists.{put, joined};
 ghost use Rattle.search.specs.Cells.{cellNumber, cell};
 ghost use Rattle.locator.specs.Steps.{kept, keyOf, vertexKey, hit, Keyed, keyCell, CellsOut, cellsOut};
 use search::Vector3;

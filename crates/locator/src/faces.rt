@@ -4,7 +4,7 @@ ghost use mathlib.Core.Path.{_≡_};
 ghost use mathlib.Core.List.{[], _∷_};
 ghost use Prim.Native.Nat.{_+_, _*_, _<_, _≤_};
 ghost use lib.ListN.{length};
-ghost use Rattle.mesh.specs.Lists.{put, joined};
+ghost use Rattle.lists.specs.Lists.{put, joined};
 ghost use Rattle.mesh.specs.Faces.{face};
 ghost use Rattle.mesh.specs.Steps.{links};
 ghost use Rattle.search.specs.Cells.{facesOf, flat};

@@ -3,7 +3,7 @@
 use mathlib.Core.Path.{_≡_, refl}
 use Prim.Native.Nat.{ℕ}
 use lib.Ieee.{binary64, ofBits}
-use Rattle.mesh.specs.Questions.{ask}
+use Rattle.lists.specs.Questions.{ask}
 use Rattle.mesh.specs.Levels.{per}
 use Rattle.grid.specs.Settings.{inRange, levelsHeld, countsHeld, ownCount, slabsHeld, question, freshQuestion}
 use Rattle.grid.specs.declared.Grid.{Grid}

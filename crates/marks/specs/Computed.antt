@@ -9,8 +9,8 @@ use Rattle.ieee.specs.Narrow.{narrowed}
 use Rattle.float.specs.Order.{magnitude, farther, rank, angle}
 use Rattle.float.specs.Whole.{integral}
 use Rattle.float.specs.Exp.{twoTo, doublings, residue, scaled, exponential}
-use Rattle.mesh.specs.Questions.{ask, first}
-use Rattle.mesh.specs.Lists.{allUpTo, anyUpTo, forEach, sum, below, every, filter, joined, starts, put}
+use Rattle.lists.specs.Questions.{ask, first}
+use Rattle.lists.specs.Lists.{allUpTo, anyUpTo, forEach, sum, below, every, filter, joined, starts, put}
 use Rattle.mesh.specs.Levels.{vertexCount, per, gridSize, cellCount, verticesBelow, cellOffsetsBelow}
 use Rattle.mesh.specs.Mesh.{within, lists, angleKept, neighbourKept, vertexKept, verticesFinite, keepsRule, levelPart, meshRoom, meshesKeep}
 use Rattle.mesh.specs.Faces.{isFace, facesFrom, extractFaces, has}

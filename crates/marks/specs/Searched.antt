@@ -5,7 +5,7 @@ use Prim.Native.Nat.{ℕ, _+_, _*_}
 use lib.ListN.{length, getD, replicate, set, take, drop}
 use lib.IntN.{pos}
 use lib.Ieee.{Float, nan, binary64, toBits, ofInt}
-use Rattle.mesh.specs.Lists.{below}
+use Rattle.lists.specs.Lists.{below}
 use Rattle.mesh.specs.Mesh.{Mesh}
 use Rattle.mesh.specs.Faces.{extractFaces}
 use Rattle.search.specs.Search.{Locator}

@@ -7,7 +7,7 @@ use lib.ListN.{length}
 use lib.Dec.{leb}
 use borrow.Author.Tests.{leb-true}
 use Rattle.mesh.specs.Mesh.{Mesh, within, lists, neighbourKept, vertexKept, meshRoom, meshHeld}
-use Rattle.mesh.proofs.Counting.{and-yes}
+use Rattle.lists.proofs.Counting.{and-yes}
 
 -- a vertex and its neighbours keep the rule whatever the coordinates are
 pub kept-links : (n : ℕ) (m : Mesh) (v : ℕ)

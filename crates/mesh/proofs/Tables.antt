@@ -14,10 +14,10 @@ use Rattle.ieee.specs.Root.{isqrt, rootOf, root}
 use Rattle.ieee.proofs.Fields.{both-true}
 use Rattle.ieee.proofs.Squares.{isqrt-cut, square-lt}
 use Rattle.float.specs.Whole.{ceiled, integral}
-use Rattle.mesh.specs.Lists.{allUpTo, sum}
+use Rattle.lists.specs.Lists.{allUpTo, sum}
 use Rattle.mesh.specs.Levels.{vertexCount, gridSize, cellCount, cellOffsetsBelow}
-use Rattle.mesh.proofs.Counting.{all-at}
-use Rattle.mesh.proofs.Sums.{sum-eq, sum-le, sum-more, sum-const}
+use Rattle.lists.proofs.Counting.{all-at}
+use Rattle.lists.proofs.Sums.{sum-eq, sum-le, sum-more, sum-const}
 
 abbrev sizes : List ℕ
 sizes = 2 ∷ 4 ∷ 5 ∷ 7 ∷ 8 ∷ 10 ∷ 11 ∷ 13 ∷ 14 ∷ 16 ∷ 18 ∷ 19 ∷ 21 ∷ 22 ∷ 24 ∷ 25 ∷ []

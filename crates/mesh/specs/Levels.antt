@@ -6,7 +6,7 @@ use lib.IntN.{pos}
 use lib.Ieee.{binary64, ofBits, ofInt, mul, div, toUnsigned}
 use Rattle.ieee.specs.Root.{root}
 use Rattle.float.specs.Whole.{ceiled}
-use Rattle.mesh.specs.Lists.{sum}
+use Rattle.lists.specs.Lists.{sum}
 
 -- "level m has n = 10(m+1)²+2 vertices"
 unfoldable pub vertexCount : ℕ → ℕ

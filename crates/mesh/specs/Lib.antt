@@ -1,5 +1,3 @@
-pub mod Questions
-pub mod Lists
 pub mod Levels
 pub mod Mesh
 pub mod Faces

@@ -7,7 +7,7 @@ use lib.Seq.{slice}
 use lib.Dec.{leb, ltb, eqb}
 use lib.Ieee.{Float, nan, binary64, ofBits, lt}
 use lib.Ieee.Scale.{finite}
-use Rattle.mesh.specs.Lists.{allUpTo, anyUpTo}
+use Rattle.lists.specs.Lists.{allUpTo, anyUpTo}
 use Rattle.mesh.specs.Levels.{vertexCount, verticesBelow}
 
 -- "Lent: 3n f64, n neighbour counts (u8), 6n u16 and 6n angles, six places a vertex": of one level, or of several one after another

@@ -9,10 +9,11 @@ use lib.Ieee.{Float}
 use lib.ListN.{length}
 use borrow.Author.Tests.{leb-true, ltb-true, eqb-true, eqb-false}
 use Rattle.ieee.proofs.Fields.{both-true}
-use Rattle.mesh.specs.Questions.{ask, first}
+use Rattle.lists.specs.Questions.{ask, first}
 use Rattle.mesh.specs.Levels.{per, verticesBelow}
 use Rattle.mesh.specs.Mesh.{Mesh, meshHeld, meshesKeep}
-use Rattle.mesh.proofs.Sizes.{per-mono, place}
+use Rattle.mesh.proofs.Sizes.{per-mono}
+use Rattle.lists.proofs.Places.{place}
 use Rattle.grid.specs.Settings.{question, levelsHeld, slabsHeld}
 use Rattle.grid.specs.declared.Grid.{Grid}
 use Rattle.grid.proofs.Laws.{yes, no, counts-le}

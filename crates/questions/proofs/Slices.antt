@@ -6,8 +6,8 @@ use Prim.Native.Nat.{ℕ, zero, suc, _+_}
 use native.Mathlib.Omega.{arith}
 use lib.ListN.{getD, take, drop}
 use lib.Ieee.{Float}
-use Rattle.mesh.specs.Questions.{first}
-use Rattle.mesh.specs.Lists.{allUpTo, every}
+use Rattle.lists.specs.Questions.{first}
+use Rattle.lists.specs.Lists.{allUpTo, every}
 use Rattle.mesh.specs.Levels.{per}
 use Rattle.mesh.specs.Mesh.{Mesh}
 use Rattle.rows.specs.declared.SlabResolution.{SlabResolution}

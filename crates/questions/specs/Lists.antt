@@ -5,7 +5,7 @@ use Prim.Native.Nat.{ℕ, zero, suc, _+_, _*_}
 use lib.ListN.{length, getD, take, drop}
 use lib.Dec.{leb}
 use lib.Ieee.{Float}
-use Rattle.mesh.specs.Lists.{allUpTo}
+use Rattle.lists.specs.Lists.{allUpTo}
 use Rattle.mesh.specs.Levels.{per, verticesBelow}
 use Rattle.mesh.specs.Mesh.{Mesh, meshHeld}
 use Rattle.grid.specs.declared.Grid.{Grid}

@@ -3,8 +3,8 @@ use mathlib.Core.Bool.{Bool}
 use mathlib.Core.List.{[]}
 use Prim.Native.Nat.{ℕ, _+_}
 use lib.Dec.{ltb}
-use Rattle.mesh.specs.Questions.{ask}
-use Rattle.mesh.specs.Lists.{allUpTo}
+use Rattle.lists.specs.Questions.{ask}
+use Rattle.lists.specs.Lists.{allUpTo}
 use Rattle.rows.specs.Rows.{Rows, resolutionAt, rowWith}
 use Rattle.settling.specs.Settling.{fromLevel}
 use Rattle.questions.specs.Lists.{slab, rowsKnown}

@@ -11,7 +11,7 @@ use lib.Dec.{leb, ltb, eqb}
 use lib.Ieee.{Float, inf, binary32, ofBits}
 use borrow.Author.Tests.{lt-ltb, le-ltb, le-leb, lt-leb, leb-true, eqb-true, eqb-false, ne-eqb}
 use Rattle.ieee.proofs.Pack.{le-or-lt}
-use Rattle.mesh.proofs.Counting.{and-yes, or-none}
+use Rattle.lists.proofs.Counting.{and-yes, or-none}
 use Rattle.rows.specs.Rows.{resolutionOf}
 use Rattle.rows.specs.declared.SlabResolution.{SlabResolution}
 use Rattle.rows.specs.declared.SlabResolution.the-variants.{Scalar, Mesh, Repulsive}

@@ -6,7 +6,7 @@ use lib.ListN.{getD}
 use lib.Dec.{ltb, eqb}
 use lib.Ieee.{Float, nan, binary32, binary64, ofBits, add, mul, lt, isNan}
 use lib.Ieee.Scale.{finite}
-use Rattle.mesh.specs.Lists.{forEach}
+use Rattle.lists.specs.Lists.{forEach}
 use Rattle.mesh.specs.declared.Face.{Face}
 use Rattle.grid.specs.Bins.{tableRmax, distanceBin, dihedralBin}
 use Rattle.grid.specs.Settings.{above}

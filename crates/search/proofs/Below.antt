@@ -9,10 +9,10 @@ use lib.Dec.{leb, ltb, eqb}
 use lib.Ieee.{Float, lt}
 use borrow.Author.Tests.{ltb-true, eqb-false}
 use Rattle.float.specs.Order.{ordered, smaller}
-use Rattle.mesh.specs.Lists.{every}
+use Rattle.lists.specs.Lists.{every}
 use Rattle.mesh.specs.Faces.{face}
 use Rattle.mesh.specs.declared.Face.{Face}
-use Rattle.mesh.proofs.Counting.{and-yes}
+use Rattle.lists.proofs.Counting.{and-yes}
 use Rattle.search.specs.Geometry.{vertexAt, cellIndex, projectedBarycentric}
 use Rattle.search.specs.Cells.{triples}
 use Rattle.search.specs.Search.{squared, notNearest, nearer, nearestFrom, nearestAmong, noFit, notLocated, better, fitFrom, bestFace, Locator, vertexInside, entriesAt, entriesInside, nearestInCells, nearestIn, locateIn}

@@ -12,7 +12,7 @@ use lib.Dec.{leb, ltb, eqb}
 use lib.Ieee.{Float}
 use borrow.Author.Tests.{lt-ltb, le-ltb, le-leb, leb-true, not-true, not-false, eq-eqb, ne-eqb, eqb-true}
 use Rattle.ieee.proofs.Fields.{both-true}
-use Rattle.mesh.specs.Lists.{every}
+use Rattle.lists.specs.Lists.{every}
 use Rattle.mesh.specs.Faces.{face}
 use Rattle.search.specs.Geometry.{cellIndex}
 use Rattle.search.specs.Cells.{triples}

@@ -7,7 +7,7 @@ use lib.Seq.{slice}
 use lib.Dec.{leb, ltb, eqb}
 use lib.Ieee.{Float, inf, lt}
 use Rattle.float.specs.Order.{ordered, smaller}
-use Rattle.mesh.specs.Lists.{every}
+use Rattle.lists.specs.Lists.{every}
 use Rattle.mesh.specs.Levels.{verticesBelow, cellOffsetsBelow}
 use Rattle.mesh.specs.Mesh.{Mesh}
 use Rattle.mesh.specs.Faces.{face}

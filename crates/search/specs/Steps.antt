@@ -5,7 +5,7 @@ use Prim.Native.Nat.{ℕ, _+_, _*_}
 use lib.ListN.{length, getD}
 use lib.Dec.{leb, ltb, eqb}
 use lib.Ieee.{Float}
-use Rattle.mesh.specs.Lists.{every}
+use Rattle.lists.specs.Lists.{every}
 use Rattle.search.specs.Cells.{triples}
 use Rattle.search.specs.Search.{vertexInside, nearestFrom, notNearest, fitFrom, notLocated}
 use Rattle.search.specs.declared.Vector3.{Vector3}

@@ -14,7 +14,7 @@ use borrow.Author.Tests.{lt-ltb, le-ltb}
 use Rattle.ieee.proofs.Pack.{le-or-lt}
 use Rattle.float.specs.Order.{magnitude}
 use Rattle.float.specs.Exp.{exponential}
-use Rattle.mesh.specs.Lists.{forEach}
+use Rattle.lists.specs.Lists.{forEach}
 use Rattle.mesh.specs.Mesh.{Mesh, degree, neighbour, angleTo}
 use Rattle.grid.proofs.Reaches.{clash}
 use Rattle.grid.proofs.Order.{clear, round-clear}

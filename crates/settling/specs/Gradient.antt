@@ -9,7 +9,7 @@ use lib.Ieee.{Float, nan, binary64, ofBits, ofInt, neg, add, sub, mul, div, lt}
 use Rattle.ieee.specs.Narrow.{narrowed}
 use Rattle.float.specs.Order.{magnitude, larger}
 use Rattle.float.specs.Exp.{exponential}
-use Rattle.mesh.specs.Lists.{forEach, every}
+use Rattle.lists.specs.Lists.{forEach, every}
 use Rattle.mesh.specs.Mesh.{Mesh, degree, neighbour, angleTo}
 
 abbrev pub zero : Float

@@ -6,7 +6,7 @@ use Prim.Native.Nat.{ℕ, _-_}
 use lib.Dec.{ltb, eqb}
 use lib.Ieee.{Float, binary64, ofBits, div, lt}
 use Rattle.float.specs.Order.{larger}
-use Rattle.mesh.specs.Lists.{every}
+use Rattle.lists.specs.Lists.{every}
 use Rattle.mesh.specs.Levels.{vertexCount}
 use Rattle.mesh.specs.Mesh.{Mesh, levelPart}
 use Rattle.grid.specs.declared.Grid.{Grid}

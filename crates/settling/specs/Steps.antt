@@ -4,7 +4,7 @@ use mathlib.Core.List.{List, [], _∷_, _++_}
 use Prim.Native.Nat.{ℕ, zero, suc, _+_, _*_}
 use lib.ListN.{getD}
 use lib.Ieee.{Float, nan}
-use Rattle.mesh.specs.Lists.{forEach}
+use Rattle.lists.specs.Lists.{forEach}
 use Rattle.mesh.specs.Mesh.{Mesh}
 use Rattle.rows.specs.Rows.{Row}
 use Rattle.rows.specs.declared.SlabResolution.{SlabResolution}

@@ -5,7 +5,7 @@ ghost use Prim.Native.Nat.{_+_, _*_, _/_, _≤_};
 ghost use lib.ListN.{length, getD};
 ghost use mathlib.Core.Bool.{false};
 ghost use lib.Ieee.{nan, isNan};
-ghost use Rattle.mesh.specs.Lists.{put};
+ghost use Rattle.lists.specs.Lists.{put};
 ghost use Rattle.settling.specs.Gradient.{weight, steeper, alongNeighbours};
 ghost use Rattle.settling.specs.Steps.{lineWeights, lineGradient, fourColumns, firstColumns, linesGradient, byLines};
 

@@ -8,7 +8,7 @@ use lib.ListN.{length}
 use lib.Dec.{eqb}
 use borrow.Author.Tests.{eqb-true, eq-eqb, ne-eqb}
 use Rattle.ieee.proofs.Fields.{both-true}
-use Rattle.mesh.specs.Questions.{ask}
+use Rattle.lists.specs.Questions.{ask}
 use Rattle.grid.specs.Settings.{gridRange, gridHeld, slabsHeld}
 use Rattle.grid.specs.declared.Grid.{Grid}
 use Rattle.grid.proofs.Laws.{Ranged, ranged}

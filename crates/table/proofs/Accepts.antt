@@ -9,8 +9,8 @@ use lib.ListN.{length, getD}
 use lib.Dec.{eqb}
 use lib.Ieee.{binary32, binary64, ofBits, nanBits}
 use borrow.Author.Tests.{eq-eqb}
-use Rattle.mesh.specs.Questions.{ask}
-use Rattle.mesh.specs.Lists.{allUpTo, every}
+use Rattle.lists.specs.Questions.{ask}
+use Rattle.lists.specs.Lists.{allUpTo, every}
 use Rattle.mesh.specs.Levels.{vertexCount}
 use Rattle.grid.specs.Bins.{tableRmax}
 use Rattle.grid.specs.Settings.{gridHeld}

@@ -10,10 +10,10 @@ use lib.Dec.{leb, ltb, eqb, lit<}
 use lib.Ieee.Scale.{finite}
 use borrow.Author.Tests.{leb-true, leb-false, ltb-true, eqb-true, eqb-false, le-leb, lt-ltb, ne-eqb}
 use Rattle.ieee.proofs.Fields.{both-true}
-use Rattle.mesh.specs.Lists.{every}
+use Rattle.lists.specs.Lists.{every}
 use Rattle.mesh.specs.Levels.{vertexCount, per}
-use Rattle.mesh.proofs.Asking.{ask-yes}
-use Rattle.mesh.proofs.Counting.{all-at}
+use Rattle.lists.proofs.Asking.{ask-yes}
+use Rattle.lists.proofs.Counting.{all-at}
 use Rattle.mesh.proofs.Sizes.{per-mono}
 use Rattle.grid.specs.Bins.{distanceCount, dihedralCount, tableRmax}
 use Rattle.grid.specs.Settings.{above, binsInRange, ownCount, slabsHeld, gridRange, gridHeld}

@@ -9,7 +9,7 @@ use lib.ListN.{getD, take, drop}
 use lib.Seq.{drop-drop}
 use lib.Dec.{leb, eqb}
 use borrow.Author.Tests.{eqb-true}
-use Rattle.mesh.specs.Lists.{every}
+use Rattle.lists.specs.Lists.{every}
 use Rattle.mesh.specs.Levels.{per}
 use Rattle.table.specs.Bytes.{numberOf, numberAt, items}
 use Rattle.table.specs.File.{Entry, entryOf}

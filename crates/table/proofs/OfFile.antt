@@ -10,9 +10,9 @@ use lib.Dec.{T, leb, eqb}
 use lib.Ieee.{binary64, fits, toBits, ofBits}
 use lib.Ieee.Bits.{ofBits-toBits, toBits-lt}
 use borrow.Author.Tests.{leb-true, eqb-true}
-use Rattle.mesh.specs.Lists.{below}
+use Rattle.lists.specs.Lists.{below}
 use Rattle.mesh.specs.Levels.{vertexCount, per}
-use Rattle.mesh.proofs.Counting.{and-yes}
+use Rattle.lists.proofs.Counting.{and-yes}
 use Rattle.grid.specs.Bins.{tableRmax}
 use Rattle.grid.specs.Settings.{gridRange, slabsHeld, gridHeld}
 use Rattle.grid.specs.declared.Grid.{Grid}

@@ -12,10 +12,10 @@ use lib.Dec.{T, leb, eqb}
 use lib.Ieee.{Float, nan, inf, fin, binary32, isNan, fits, toBits}
 use borrow.Author.Tests.{not-true}
 use Rattle.ieee.proofs.Pack.{le-or-lt}
-use Rattle.mesh.specs.Lists.{below, every}
+use Rattle.lists.specs.Lists.{below, every}
 use Rattle.mesh.specs.Levels.{vertexCount, per}
 use Rattle.mesh.proofs.Laws.{count-le}
-use Rattle.mesh.proofs.Counting.{and-yes}
+use Rattle.lists.proofs.Counting.{and-yes}
 use Rattle.mesh.proofs.Sizes.{per-mono}
 use Rattle.rows.specs.Rows.{Row, scalar, repulsive, mesh, narrowBits, compared}
 use Rattle.rows.proofs.Compared.{bits-lt, bits-nan, narrow-lt, narrow-nan}

@@ -9,7 +9,7 @@ use lib.ListN.{length, length-append}
 use lib.Dec.{lit<}
 use lib.Ieee.{binary32, nanBits}
 use borrow.Author.Tests.{lt-ltb, eq-eqb}
-use Rattle.mesh.specs.Lists.{every}
+use Rattle.lists.specs.Lists.{every}
 use Rattle.mesh.specs.Levels.{per}
 use Rattle.rows.specs.Rows.{Row, scalar, repulsive, mesh}
 use Rattle.table.specs.File.{energyCount, energiesIn, entry, entries, energiesOf}

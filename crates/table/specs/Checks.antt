@@ -5,7 +5,7 @@ use Prim.Native.Nat.{ℕ, _+_, _*_}
 use lib.Dec.{leb, ltb, eqb}
 use lib.Ieee.{lt}
 use lib.Ieee.Scale.{finite}
-use Rattle.mesh.specs.Lists.{every}
+use Rattle.lists.specs.Lists.{every}
 use Rattle.grid.specs.Bins.{distanceCount, dihedralCount}
 use Rattle.grid.specs.Settings.{above}
 use Rattle.grid.specs.declared.Grid.{Grid}

@@ -4,7 +4,7 @@ use mathlib.Core.List.{List, [], _∷_, _++_, map}
 use Prim.Native.Nat.{ℕ, _+_}
 use lib.ListN.{take, drop}
 use lib.Ieee.{binary64, toBits}
-use Rattle.mesh.specs.Lists.{below}
+use Rattle.lists.specs.Lists.{below}
 use Rattle.mesh.specs.Levels.{vertexCount, per}
 use Rattle.grid.specs.declared.Grid.{Grid}
 use Rattle.rows.specs.Rows.{Row, scalar, repulsive, mesh}

@@ -5,8 +5,8 @@ use Prim.Native.Nat.{ℕ, _+_, _*_}
 use lib.ListN.{length}
 use lib.Dec.{leb, ltb, eqb}
 use lib.Ieee.{Float, binary32, binary64, ofBits, nanBits}
-use Rattle.mesh.specs.Questions.{ask}
-use Rattle.mesh.specs.Lists.{allUpTo, every}
+use Rattle.lists.specs.Questions.{ask}
+use Rattle.lists.specs.Lists.{allUpTo, every}
 use Rattle.mesh.specs.Levels.{vertexCount, per}
 use Rattle.grid.specs.Bins.{tableRmax}
 unfoldable pub use Rattle.grid.specs.Settings.{gridHeld}

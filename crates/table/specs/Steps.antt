@@ -6,8 +6,8 @@ use Prim.Native.Nat.{ℕ, _+_, _*_, _≤_}
 use lib.ListN.{length}
 use lib.Dec.{leb, eqb}
 use lib.Ieee.{binary32, nanBits}
-use Rattle.mesh.specs.Questions.{ask}
-use Rattle.mesh.specs.Lists.{every}
+use Rattle.lists.specs.Questions.{ask}
+use Rattle.lists.specs.Lists.{every}
 use Rattle.mesh.specs.Levels.{per}
 use Rattle.table.specs.Read.{countAt, rowItems, energyItems, tableHeld, entryHeld, tiled}
 use Rattle.table.specs.declared.Layout.{Layout}

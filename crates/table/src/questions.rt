@@ -5,7 +5,7 @@ ghost use Prim.Native.Nat.{_+_, _*_, _≤_};
 ghost use lib.ListN.{length, take, drop};
 ghost use lib.Dec.{eqb};
 ghost use lib.Ieee.{binary32, nanBits};
-ghost use Rattle.mesh.specs.Lists.{allUpTo, every};
+ghost use Rattle.lists.specs.Lists.{allUpTo, every};
 ghost use Rattle.mesh.specs.Levels.{vertexCount};
 ghost use Rattle.table.specs.Bytes.{numberOf, numberAt, items};
 ghost use Rattle.table.specs.File.{entryOf};

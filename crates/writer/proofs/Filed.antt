@@ -8,7 +8,7 @@ use native.Mathlib.Omega.{arith}
 use lib.ListN.{length, getD, take, drop, length-append, length-map, length-drop}
 use lib.Seq.{drop-cons, length-take-le}
 use lib.Ieee.{Float, nan}
-use Rattle.mesh.specs.Lists.{below, put}
+use Rattle.lists.specs.Lists.{below, put}
 use Rattle.mesh.specs.Levels.{vertexCount}
 use Rattle.rows.specs.declared.SlabResolution.{SlabResolution}
 use Rattle.rows.specs.Rows.{Rows, resolutionAt, narrowBits}

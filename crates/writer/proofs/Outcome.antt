@@ -7,8 +7,8 @@ use native.Mathlib.Omega.{arith}
 use lib.ListN.{length}
 use lib.Dec.{leb, eqb, lit<}
 use borrow.Author.Tests.{eq-eqb, ne-eqb}
-use Rattle.mesh.specs.Questions.{ask, first}
-use Rattle.mesh.specs.Lists.{put}
+use Rattle.lists.specs.Questions.{ask, first}
+use Rattle.lists.specs.Lists.{put}
 use Rattle.mesh.specs.Levels.{per}
 use Rattle.mesh.specs.Mesh.{Mesh}
 use Rattle.questions.specs.Lists.{Lists, slabs, rowsKnown}

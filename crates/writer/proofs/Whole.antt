@@ -11,9 +11,9 @@ use lib.Dec.{leb, eqb}
 use lib.Ieee.{Float, binary32, binary64, ofBits, toBits}
 use borrow.Author.Tests.{leb-true, eqb-false, lt-leb}
 use Rattle.ieee.proofs.Fields.{both-true}
-use Rattle.mesh.specs.Lists.{below, put}
+use Rattle.lists.specs.Lists.{below, put}
 use Rattle.mesh.specs.Levels.{vertexCount, per}
-use Rattle.mesh.proofs.Counting.{all-at}
+use Rattle.lists.proofs.Counting.{all-at}
 use Rattle.mesh.proofs.Sizes.{per-mono}
 use Rattle.grid.specs.declared.Grid.{Grid}
 use Rattle.rows.specs.declared.SlabResolution.{SlabResolution}

@@ -4,8 +4,8 @@ use mathlib.Core.List.{List, [], _∷_, _++_, map}
 use Prim.Native.Nat.{ℕ, zero, suc, _+_, _*_, _≤_}
 use lib.ListN.{length, take, drop}
 use lib.Ieee.{Float, binary64, toBits}
-use Rattle.mesh.specs.Questions.{ask, first}
-use Rattle.mesh.specs.Lists.{below}
+use Rattle.lists.specs.Questions.{ask, first}
+use Rattle.lists.specs.Lists.{below}
 use Rattle.mesh.specs.Levels.{vertexCount, per}
 use Rattle.mesh.specs.Mesh.{Mesh}
 use Rattle.grid.specs.declared.Grid.{Grid}

@@ -4,7 +4,7 @@ ghost use mathlib.Core.List.{[], _∷_, map};
 ghost use Prim.Native.Nat.{_+_, _*_, _≤_};
 ghost use lib.ListN.{length, take, drop};
 ghost use lib.Ieee.{binary64, toBits};
-ghost use Rattle.mesh.specs.Lists.{put, below};
+ghost use Rattle.lists.specs.Lists.{put, below};
 ghost use Rattle.mesh.specs.Levels.{vertexCount};
 ghost use Rattle.rows.specs.Rows.{narrowBits};
 ghost use Rattle.table.specs.Bytes.{bytesOf, packed, section};

@@ -1,7 +1,7 @@
 -- `question` meets its contract. Assumes nothing.
 use mathlib.Core.Path.{_≡_}
 use mathlib.Core.Bool.{true}
-use Rattle.mesh.specs.Questions.{ask}
+use Rattle.lists.specs.Questions.{ask}
 use Rattle.grid.specs.Settings.{inRange, levelsHeld, countsHeld, question}
 use Rattle.grid.proofs.Laws.{yes, no, counts-le, top-le}
 use borrow.Author.Needs.{needs}

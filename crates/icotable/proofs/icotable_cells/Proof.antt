@@ -5,7 +5,7 @@ use native.Mathlib.Numerals.{add-one}
 use native.Mathlib.Omega.{arith}
 use borrow.Author.Needs.{needs}
 use borrow.Author.Tests.{le-leb, lt-leb}
-use Rattle.mesh.specs.Lists.{sum}
+use Rattle.lists.specs.Lists.{sum}
 use Rattle.mesh.specs.Levels.{vertexCount, gridSize, cellCount, cellOffsetsBelow}
 use Rattle.icotable.proofs.icotable_cells.Statement.{statement}
 use Rattle.icotable.proofs.icotable_cells.Tie as tie

@@ -2,10 +2,10 @@
 use native.Mathlib.Omega.{arith}
 use borrow.Author.Tests.{le-leb, lt-leb}
 use borrow.Author.Needs.{needs}
-use Rattle.mesh.specs.Questions.{ask}
+use Rattle.lists.specs.Questions.{ask}
 use Rattle.mesh.proofs.Laws.{count-le}
 use Rattle.mesh.proofs.Tables.{grid-le}
-use Rattle.mesh.proofs.Counting.{yes, no}
+use Rattle.lists.proofs.Counting.{yes, no}
 use Rattle.locator.specs.Steps.{refusal}
 use Rattle.locator.proofs.refusal.Statement.{statement}
 use Rattle.locator.proofs.refusal.Tie as tie

@@ -4,9 +4,9 @@ use Prim.Native.Nat.{_-_, _≤_}
 use native.Mathlib.Omega.{arith}
 use lib.ListN.{length, replicate, length-set}
 use borrow.Author.Needs.{needs}
-use Rattle.mesh.specs.Lists.{put}
-use Rattle.mesh.proofs.Written.{put-nil}
-use Rattle.mesh.proofs.Loops.{fill-turn}
+use Rattle.lists.specs.Lists.{put}
+use Rattle.lists.proofs.Written.{put-nil}
+use Rattle.lists.proofs.Loops.{fill-turn}
 use Rattle.builder.proofs.copies.clear_rows.Statement.{statement}
 use Rattle.builder.proofs.copies.clear_rows.Tie as tie
 

@@ -4,10 +4,10 @@ use Prim.Native.Nat.{_-_, _≤_}
 use native.Mathlib.Omega.{arith}
 use lib.ListN.{length, replicate, length-set}
 use borrow.Author.Needs.{needs}
-use Rattle.mesh.specs.Lists.{put}
-use Rattle.mesh.proofs.Written.{put-nil}
+use Rattle.lists.specs.Lists.{put}
+use Rattle.lists.proofs.Written.{put-nil}
 use Rattle.settling.specs.Gradient.{zero}
-use Rattle.mesh.proofs.Loops.{fill-turn}
+use Rattle.lists.proofs.Loops.{fill-turn}
 use Rattle.builder.proofs.copies.clear_store.Statement.{statement}
 use Rattle.builder.proofs.copies.clear_store.Tie as tie
 

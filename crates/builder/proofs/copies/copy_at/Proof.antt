@@ -6,7 +6,7 @@ use lib.ListN.{length, length-set}
 use lib.Seq.{paste, paste-zero}
 use lib.Ieee.{nan}
 use borrow.Author.Needs.{needs}
-use Rattle.mesh.proofs.Loops.{copy-turn, copy-all}
+use Rattle.lists.proofs.Loops.{copy-turn, copy-all}
 use Rattle.builder.proofs.copies.copy_at.Statement.{statement}
 use Rattle.builder.proofs.copies.copy_at.Tie as tie
 

@@ -8,7 +8,8 @@ use lib.ListN.{length}
 use lib.Ieee.{Float, ofBits}
 use borrow.Author.Needs.{needs}
 use Rattle.mesh.specs.Levels.{vertexCount, per}
-use Rattle.mesh.proofs.Sizes.{per-mono, place}
+use Rattle.mesh.proofs.Sizes.{per-mono}
+use Rattle.lists.proofs.Places.{place}
 use Rattle.rows.specs.Rows.{Rows, Row}
 use Rattle.settling.specs.Settling.{verdictOf, fromLevel}
 use Rattle.questions.specs.Lists.{Lists, slabs, rowAt}

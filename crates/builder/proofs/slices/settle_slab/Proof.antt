@@ -13,7 +13,7 @@ use Rattle.rows.specs.Rows.{Rows, resolutionAt, rowWith}
 use Rattle.settling.specs.Settling.{verdictOf}
 use Rattle.settling.specs.Steps.{tallied}
 use Rattle.mesh.proofs.Laws.{count-le}
-use Rattle.mesh.proofs.Loops.{part-is}
+use Rattle.lists.proofs.Loops.{part-is}
 use Rattle.settling.proofs.Changes.{row-clear}
 use borrow.Author.Needs.{needs}
 use Rattle.builder.proofs.slices.settle_slab.Statement.{statement}

@@ -7,7 +7,7 @@ use lib.ListN.{take, drop}
 use Rattle.mesh.specs.Levels.{verticesBelow}
 use Rattle.mesh.specs.Mesh.{Mesh, levelPart}
 use Rattle.mesh.proofs.Laws.{below-more, below-few}
-use Rattle.mesh.proofs.Written.{part}
+use Rattle.lists.proofs.Written.{part}
 use Rattle.builder.specs.Steps.{partLinks}
 use borrow.Author.Needs.{needs}
 use Rattle.builder.proofs.slices.settle_slice.Statement.{statement}

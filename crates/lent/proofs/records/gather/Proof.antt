@@ -49,7 +49,7 @@ use denote.Triple.Table.{entered, cited}
 use denote.Triple.Walked.{says, Stays, stay-none-slice, stay-slice, walkOf, AllGo, goes-none-slice, goes-slice, Walks, ends-at, walked, walk-meets}
 use denote.Exit.{yes}
 use Rattle.rows.specs.Rows.{Rows}
-use Rattle.mesh.proofs.Loops.{each-turn}
+use Rattle.lists.proofs.Loops.{each-turn}
 use Rattle.lent.specs.declared.RowRecord.{RowRecord}
 use Rattle.lent.specs.Records.{recordAt, bridgedOf, copied}
 use Rattle.lent.proofs.Entries.{none, place-fits, next-fits, bridged-le, copied-none, length-copied}

@@ -6,8 +6,8 @@ use native.Mathlib.Nat.{mul-le-mul, mul-pos}
 use native.Mathlib.Omega.{arith}
 use lib.ListN.{length, getD}
 use borrow.Author.Needs.{needs}
-use Rattle.mesh.specs.Lists.{filter, below}
-use Rattle.mesh.proofs.Written.{Written, nothing, found, kept, passed}
+use Rattle.lists.specs.Lists.{filter, below}
+use Rattle.lists.proofs.Written.{Written, nothing, found, kept, passed}
 use Rattle.locator.specs.Steps.{hit, keyCell}
 use Rattle.locator.proofs.Keys.{spots}
 use Rattle.locator.proofs.cells.put_cell.Statement.{statement}

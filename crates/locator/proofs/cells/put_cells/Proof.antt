@@ -5,8 +5,8 @@ use native.Mathlib.Nat.{mul-pos, zero-mod}
 use native.Mathlib.Omega.{arith}
 use lib.ListN.{length, drop}
 use borrow.Author.Needs.{needs}
-use Rattle.mesh.specs.Lists.{joined, starts}
-use Rattle.mesh.proofs.Written.{Written, nothing, pushed, chunk, joined-more, joined-le, next-fits, starts-more}
+use Rattle.lists.specs.Lists.{joined, starts}
+use Rattle.lists.proofs.Written.{Written, nothing, pushed, chunk, joined-more, joined-le, next-fits, starts-more}
 use Rattle.search.specs.Cells.{cell}
 use Rattle.locator.specs.Steps.{Keyed, cellsOut}
 use Rattle.locator.proofs.Keys.{keyed-cell, same-face}

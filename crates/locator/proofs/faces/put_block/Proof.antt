@@ -5,10 +5,10 @@ use native.Mathlib.Nat.{mul-le-mul}
 use native.Mathlib.Omega.{arith}
 use lib.ListN.{length}
 use borrow.Author.Needs.{needs}
-use Rattle.mesh.specs.Lists.{joined}
+use Rattle.lists.specs.Lists.{joined}
 use Rattle.mesh.specs.Steps.{links}
-use Rattle.mesh.proofs.Written.{Written, nothing, put-nil, next-fits}
-use Rattle.mesh.proofs.Counting.{no}
+use Rattle.lists.proofs.Written.{Written, nothing, put-nil, next-fits}
+use Rattle.lists.proofs.Counting.{no}
 use Rattle.search.specs.Cells.{flat}
 use Rattle.locator.proofs.Blocks.{pieceBy, pair, untouched, more-flat, come, block-by}
 use Rattle.locator.proofs.faces.put_block.Statement.{statement}

@@ -4,9 +4,9 @@ use Prim.Native.Nat.{_+_, _-_, _*_, _≤_}
 use native.Mathlib.Omega.{arith}
 use lib.ListN.{length}
 use borrow.Author.Needs.{needs}
-use Rattle.mesh.specs.Lists.{joined, starts}
+use Rattle.lists.specs.Lists.{joined, starts}
 use Rattle.mesh.specs.Steps.{links}
-use Rattle.mesh.proofs.Written.{Written, nothing, pushed, joined-le, next-fits, starts-more}
+use Rattle.lists.proofs.Written.{Written, nothing, pushed, joined-le, next-fits, starts-more}
 use Rattle.search.specs.Cells.{facesOf, flat}
 use Rattle.locator.specs.Steps.{facesOut}
 use Rattle.locator.proofs.Blocks.{come, more-flat}

@@ -4,10 +4,10 @@ use Prim.Native.Nat.{ℕ, _+_, _-_, _*_, _≤_}
 use native.Mathlib.Omega.{arith}
 use lib.ListN.{length}
 use borrow.Author.Needs.{needs}
-use Rattle.mesh.specs.Lists.{joined}
+use Rattle.lists.specs.Lists.{joined}
 use Rattle.mesh.specs.Mesh.{Mesh}
 use Rattle.mesh.specs.Steps.{links}
-use Rattle.mesh.proofs.Written.{Written, nothing, next-fits}
+use Rattle.lists.proofs.Written.{Written, nothing, next-fits}
 use Rattle.search.specs.Cells.{flat}
 use Rattle.locator.specs.Steps.{block, Next}
 use Rattle.locator.proofs.Blocks.{come, more-flat, faces-of-is, joined-skip, untouched}

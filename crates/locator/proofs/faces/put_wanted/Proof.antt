@@ -2,8 +2,8 @@
 use mathlib.Core.Path.{refl, sym}
 use native.Mathlib.Omega.{arith}
 use borrow.Author.Needs.{needs}
-use Rattle.mesh.proofs.Written.{put-nil}
-use Rattle.mesh.proofs.Counting.{yes, no}
+use Rattle.lists.proofs.Written.{put-nil}
+use Rattle.lists.proofs.Counting.{yes, no}
 use Rattle.search.specs.Cells.{flat}
 use Rattle.locator.proofs.faces.put_wanted.Statement.{statement}
 use Rattle.locator.proofs.faces.put_wanted.Tie as tie

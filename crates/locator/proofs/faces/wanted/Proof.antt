@@ -5,7 +5,7 @@ use borrow.Author.Needs.{needs}
 use Rattle.mesh.specs.Steps.{links}
 use Rattle.mesh.specs.Mesh.{lists}
 use Rattle.mesh.specs.Faces.{face, isFace, has}
-use Rattle.mesh.proofs.Counting.{and-no, and-true}
+use Rattle.lists.proofs.Counting.{and-no, and-true}
 use Rattle.locator.specs.Steps.{wanted}
 use Rattle.locator.proofs.faces.wanted.Statement.{statement}
 use Rattle.locator.proofs.faces.wanted.Tie as tie

@@ -4,7 +4,7 @@ use Prim.Native.Nat.{_-_, _≤_}
 use native.Mathlib.Omega.{arith}
 use borrow.Author.Needs.{needs}
 use Rattle.mesh.specs.Levels.{cellCount, cellOffsetsBelow}
-use Rattle.mesh.specs.Lists.{sum}
+use Rattle.lists.specs.Lists.{sum}
 use Rattle.mesh.proofs.Tables.{cells-le, offsets-le, offsets-more}
 use Rattle.mesh.proofs.levels.cell_offsets_counted.Statement.{statement}
 use Rattle.mesh.proofs.levels.cell_offsets_counted.Tie as tie

@@ -2,7 +2,7 @@
 use native.Mathlib.Omega.{arith}
 use borrow.Author.Needs.{needs}
 use Rattle.mesh.proofs.Laws.{count-le}
-use Rattle.mesh.proofs.Counting.{yes, no}
+use Rattle.lists.proofs.Counting.{yes, no}
 use Rattle.mesh.proofs.rule.mesh_keeps.Statement.{statement}
 use Rattle.mesh.proofs.rule.mesh_keeps.Tie as tie
 

@@ -6,9 +6,9 @@ use Prim.Native.Nat.{_-_, _≤_}
 use native.Mathlib.Omega.{arith}
 use borrow.Author.Tests.{le-leb, lt-leb}
 use borrow.Author.Needs.{needs}
-use Rattle.mesh.specs.Lists.{allUpTo}
+use Rattle.lists.specs.Lists.{allUpTo}
 use Rattle.mesh.specs.Mesh.{Mesh, neighbourKept, vertexKept}
-use Rattle.mesh.proofs.Counting.{all-turn, all-fails, yes, no}
+use Rattle.lists.proofs.Counting.{all-turn, all-fails, yes, no}
 use Rattle.mesh.proofs.rule.vertex_kept.Statement.{statement}
 use Rattle.mesh.proofs.rule.vertex_kept.Tie as tie
 

@@ -7,9 +7,9 @@ use lib.ListN.{getD}
 use lib.Ieee.{nan}
 use lib.Ieee.Scale.{finite}
 use borrow.Author.Needs.{needs}
-use Rattle.mesh.specs.Lists.{allUpTo}
+use Rattle.lists.specs.Lists.{allUpTo}
 use Rattle.mesh.specs.Mesh.{verticesFinite}
-use Rattle.mesh.proofs.Counting.{all-turn, all-fails, yes, no}
+use Rattle.lists.proofs.Counting.{all-turn, all-fails, yes, no}
 use Rattle.mesh.proofs.rule.vertices_finite.Statement.{statement}
 use Rattle.mesh.proofs.rule.vertices_finite.Tie as tie
 

@@ -6,7 +6,7 @@ use borrow.Author.Needs.{needs}
 use Rattle.mesh.specs.Levels.{vertexCount, verticesBelow}
 use Rattle.mesh.specs.Mesh.{levelPart}
 use Rattle.mesh.proofs.Laws.{below-more, below-few}
-use Rattle.mesh.proofs.Written.{part}
+use Rattle.lists.proofs.Written.{part}
 use Rattle.mesh.proofs.several.level_keeps.Statement.{statement}
 use Rattle.mesh.proofs.several.level_keeps.Tie as tie
 

@@ -4,11 +4,11 @@ use mathlib.Core.Bool.{true}
 use Prim.Native.Nat.{suc, _-_, _≤_}
 use native.Mathlib.Omega.{arith}
 use borrow.Author.Needs.{needs}
-use Rattle.mesh.specs.Lists.{allUpTo}
+use Rattle.lists.specs.Lists.{allUpTo}
 use Rattle.mesh.specs.Levels.{vertexCount, verticesBelow}
 use Rattle.mesh.specs.Mesh.{Mesh, keepsRule, levelPart, meshHeld, meshesKeep}
 use Rattle.mesh.proofs.Laws.{below-le}
-use Rattle.mesh.proofs.Counting.{all-turn, all-fails, yes, no}
+use Rattle.lists.proofs.Counting.{all-turn, all-fails, yes, no}
 use Rattle.mesh.proofs.Kept.{held}
 use Rattle.mesh.proofs.several.meshes_keep.Statement.{statement}
 use Rattle.mesh.proofs.several.meshes_keep.Tie as tie

@@ -6,9 +6,9 @@ use native.Mathlib.Omega.{arith}
 use lib.ListN.{length, drop}
 use lib.Ieee.{nan, isNan}
 use borrow.Author.Needs.{needs}
-use Rattle.mesh.specs.Lists.{every}
+use Rattle.lists.specs.Lists.{every}
 use Rattle.grid.proofs.Laws.{yes, no}
-use Rattle.mesh.proofs.Loops.{every-fails, every-next, every-end}
+use Rattle.lists.proofs.Loops.{every-fails, every-next, every-end}
 use Rattle.questions.proofs.room.no_nan.Statement.{statement}
 use Rattle.questions.proofs.room.no_nan.Tie as tie
 

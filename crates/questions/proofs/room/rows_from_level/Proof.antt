@@ -4,8 +4,8 @@ use mathlib.Core.Bool.{true}
 use Prim.Native.Nat.{_+_, _-_, _≤_}
 use native.Mathlib.Omega.{arith}
 use borrow.Author.Needs.{needs}
-use Rattle.mesh.specs.Lists.{allUpTo}
-use Rattle.mesh.proofs.Counting.{all-turn, all-fails, yes, no}
+use Rattle.lists.specs.Lists.{allUpTo}
+use Rattle.lists.proofs.Counting.{all-turn, all-fails, yes, no}
 use mathlib.Core.List.{[]}
 use Rattle.rows.specs.Rows.{resolutionAt, rowWith}
 use Rattle.settling.specs.Settling.{fromLevel}

@@ -1,6 +1,6 @@
 -- `set_question` meets its contract. Assumes nothing.
 use borrow.Author.Tests.{eq-eqb, ne-eqb}
-use Rattle.mesh.specs.Questions.{ask}
+use Rattle.lists.specs.Questions.{ask}
 use Rattle.grid.proofs.Laws.{yes, no}
 use Rattle.questions.specs.Refusals.{setQuestion}
 use borrow.Author.Needs.{needs}

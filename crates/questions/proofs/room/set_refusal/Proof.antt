@@ -2,7 +2,7 @@
 use mathlib.Core.Path.{sym, _∙_}
 use native.Mathlib.Omega.{arith}
 use borrow.Author.Tests.{eq-eqb, ne-eqb}
-use Rattle.mesh.specs.Questions.{ask, first}
+use Rattle.lists.specs.Questions.{ask, first}
 use Rattle.grid.proofs.Laws.{yes, no}
 use Rattle.questions.proofs.Laws.{Asked, asked}
 use borrow.Author.Needs.{needs}

@@ -4,8 +4,8 @@ use Prim.Native.Nat.{_+_, _*_, _≤_}
 use native.Mathlib.Nat.{mul-le-mul}
 use native.Mathlib.Omega.{arith}
 use borrow.Author.Tests.{lt-ltb, le-ltb}
-use Rattle.mesh.specs.Questions.{ask}
-use Rattle.mesh.proofs.Counting.{yes, no}
+use Rattle.lists.specs.Questions.{ask}
+use Rattle.lists.proofs.Counting.{yes, no}
 use Rattle.questions.specs.Lists.{rowsKnown}
 use Rattle.questions.specs.Steps.{settleQuestion}
 use Rattle.questions.proofs.room.settle_question.Statement.{statement}

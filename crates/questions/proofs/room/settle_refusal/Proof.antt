@@ -2,7 +2,7 @@
 use mathlib.Core.Path.{sym, _∙_}
 use lib.ListN.{length}
 use borrow.Author.Tests.{eq-eqb, ne-eqb}
-use Rattle.mesh.specs.Questions.{first}
+use Rattle.lists.specs.Questions.{first}
 use Rattle.mesh.specs.Mesh.{Mesh}
 use Rattle.questions.specs.Lists.{Lists}
 use Rattle.questions.specs.Refusals.{meshedRefusal}

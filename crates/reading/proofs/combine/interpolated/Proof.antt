@@ -1,7 +1,7 @@
 -- `interpolated` meets its contract. Assumes nothing.
 use borrow.Author.Needs.{needs}
 use mathlib.Core.Path.{_≡_, sym, _∙_}
-use Rattle.mesh.proofs.Counting.{yes, no}
+use Rattle.lists.proofs.Counting.{yes, no}
 use Rattle.reading.specs.Resolve.{joint}
 use Rattle.reading.specs.Steps.{Small}
 use Rattle.reading.proofs.Picked.{both-found, small, face-none, face-out, face-in, face-fits}

@@ -4,7 +4,7 @@ use native.Mathlib.Omega.{arith}
 use Prim.Native.Nat.{_*_, _≤_}
 use native.Mathlib.Nat.{mul-le-mul}
 use borrow.Author.Tests.{ltb-true}
-use Rattle.mesh.proofs.Counting.{and-yes}
+use Rattle.lists.proofs.Counting.{and-yes}
 use lib.Dec.{ltb}
 use Rattle.reading.proofs.Inside.{not-past, quite-past}
 use Rattle.reading.proofs.places.slab_below.Statement.{statement}

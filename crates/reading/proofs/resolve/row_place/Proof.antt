@@ -1,7 +1,7 @@
 -- `row_place` meets its contract. Assumes nothing.
 use borrow.Author.Needs.{needs}
 use mathlib.Core.Path.{_≡_, sym, _∙_}
-use Rattle.mesh.proofs.Counting.{yes, no}
+use Rattle.lists.proofs.Counting.{yes, no}
 use mathlib.Core.Bool.{true, false}
 use Rattle.reading.specs.Resolve.{Query, queryHeld, outside}
 use Rattle.reading.proofs.Inside.{refused-18, beyond-out, no-bins, some-bins, bins-some}

@@ -6,9 +6,9 @@ use native.Mathlib.Omega.{arith}
 use lib.ListN.{getD}
 use lib.Ieee.{Float, nan}
 use borrow.Author.Needs.{needs}
-use Rattle.mesh.specs.Lists.{forEach}
+use Rattle.lists.specs.Lists.{forEach}
 use Rattle.settling.specs.Gradient.{steeper, alongNeighbours}
-use Rattle.mesh.proofs.Loops.{each-turn}
+use Rattle.lists.proofs.Loops.{each-turn}
 use Rattle.settling.proofs.Numbers.{Number, steeper-number}
 use Rattle.settling.proofs.gradient.along_neighbours.Statement.{statement}
 use Rattle.settling.proofs.gradient.along_neighbours.Tie as tie

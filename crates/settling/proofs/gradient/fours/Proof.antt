@@ -4,7 +4,7 @@ use mathlib.Core.List.{[]}
 use Prim.Native.Nat.{_+_, _*_, _/_, _-_, _≤_}
 use native.Mathlib.Omega.{arith}
 use borrow.Author.Needs.{needs}
-use Rattle.mesh.specs.Lists.{forEach}
+use Rattle.lists.specs.Lists.{forEach}
 use Rattle.settling.specs.Steps.{firstColumns}
 use Rattle.settling.proofs.Numbers.{columns-number, columns-four}
 use Rattle.settling.proofs.gradient.fours.Statement.{statement}

@@ -6,10 +6,10 @@ use native.Mathlib.Omega.{arith}
 use lib.ListN.{getD}
 use lib.Ieee.{Float, nan}
 use borrow.Author.Needs.{needs}
-use Rattle.mesh.specs.Lists.{forEach}
+use Rattle.lists.specs.Lists.{forEach}
 use Rattle.settling.specs.Gradient.{alongNeighbours}
 use Rattle.settling.specs.Steps.{lineGradient}
-use Rattle.mesh.proofs.Loops.{each-turn}
+use Rattle.lists.proofs.Loops.{each-turn}
 use Rattle.settling.proofs.Numbers.{Number, neighbours-number}
 use Rattle.settling.proofs.gradient.line_gradient.Statement.{statement}
 use Rattle.settling.proofs.gradient.line_gradient.Tie as tie

@@ -6,9 +6,9 @@ use native.Mathlib.Nat.{mul-le-mul}
 use native.Mathlib.Omega.{arith}
 use lib.Ieee.{Float}
 use borrow.Author.Needs.{needs}
-use Rattle.mesh.specs.Lists.{forEach}
+use Rattle.lists.specs.Lists.{forEach}
 use Rattle.settling.specs.Steps.{lineWeights, lineGradient, linesGradient}
-use Rattle.mesh.proofs.Loops.{each-turn}
+use Rattle.lists.proofs.Loops.{each-turn}
 use Rattle.settling.proofs.Numbers.{Number, line-number}
 use Rattle.settling.proofs.gradient.lines.Statement.{statement}
 use Rattle.settling.proofs.gradient.lines.Tie as tie

@@ -4,8 +4,8 @@ use Prim.Native.Nat.{_+_, _-_, _≤_}
 use native.Mathlib.Omega.{arith}
 use lib.ListN.{length, length-set}
 use borrow.Author.Needs.{needs}
-use Rattle.mesh.specs.Lists.{put}
-use Rattle.mesh.proofs.Written.{put-nil}
+use Rattle.lists.specs.Lists.{put}
+use Rattle.lists.proofs.Written.{put-nil}
 use Rattle.settling.specs.Steps.{lineWeights}
 use Rattle.settling.proofs.Lines.{weigh-turn}
 use Rattle.settling.proofs.gradient.weigh_four.Statement.{statement}

@@ -5,10 +5,10 @@ use native.Mathlib.Omega.{arith}
 use lib.ListN.{length, drop}
 use lib.Ieee.{nan}
 use borrow.Author.Needs.{needs}
-use Rattle.mesh.specs.Lists.{every}
+use Rattle.lists.specs.Lists.{every}
 use Rattle.grid.proofs.Laws.{yes, no}
 use Rattle.settling.specs.Gradient.{repulsive, allRepulsive}
-use Rattle.mesh.proofs.Loops.{every-fails, every-next, every-end}
+use Rattle.lists.proofs.Loops.{every-fails, every-next, every-end}
 use Rattle.settling.proofs.verdicts.all_repulsive.Statement.{statement}
 use Rattle.settling.proofs.verdicts.all_repulsive.Tie as tie
 

@@ -6,7 +6,7 @@ use native.Mathlib.Omega.{arith}
 use lib.ListN.{length}
 use lib.Ieee.{binary32, nanBits}
 use borrow.Author.Needs.{needs}
-use Rattle.mesh.specs.Lists.{every}
+use Rattle.lists.specs.Lists.{every}
 use Rattle.table.specs.Bytes.{numberOf, numberAt, items}
 use Rattle.table.proofs.Items.{every-stop, every-next, every-end}
 use Rattle.table.proofs.questions.energies_held.Statement.{statement}

@@ -7,8 +7,8 @@ use lib.Dec.{eqb}
 use borrow.Author.Needs.{needs}
 use borrow.Author.Tests.{eq-eqb, ne-eqb}
 use Rattle.mesh.specs.Levels.{vertexCount}
-use Rattle.mesh.specs.Lists.{allUpTo}
-use Rattle.mesh.proofs.Counting.{all-turn, all-fails}
+use Rattle.lists.specs.Lists.{allUpTo}
+use Rattle.lists.proofs.Counting.{all-turn, all-fails}
 use Rattle.table.specs.Bytes.{numberAt}
 use Rattle.table.proofs.questions.levels_held.Statement.{statement}
 use Rattle.table.proofs.questions.levels_held.Tie as tie

@@ -3,8 +3,8 @@ use mathlib.Core.Path.{_≡_, refl, sym, _∙_}
 use Prim.Native.Nat.{_+_, _*_, _≤_}
 use native.Mathlib.Omega.{arith}
 use lib.ListN.{length}
-use Rattle.mesh.specs.Lists.{every}
-use Rattle.mesh.proofs.Counting.{yes, no}
+use Rattle.lists.specs.Lists.{every}
+use Rattle.lists.proofs.Counting.{yes, no}
 use Rattle.table.specs.Bytes.{items}
 use Rattle.table.specs.File.{entryOf}
 use Rattle.table.specs.Read.{entryHeld}

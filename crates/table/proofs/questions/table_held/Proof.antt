@@ -3,7 +3,7 @@ use native.Mathlib.Nat.{mul-le-mul}
 use native.Mathlib.Omega.{arith}
 use borrow.Author.Tests.{eq-eqb, ne-eqb}
 use borrow.Author.Needs.{needs}
-use Rattle.mesh.proofs.Counting.{yes, no}
+use Rattle.lists.proofs.Counting.{yes, no}
 use Rattle.grid.proofs.Laws.{Ranged}
 use Rattle.table.specs.Read.{tableHeld}
 use Rattle.table.proofs.Accepted.{held-ranged}

@@ -1,6 +1,6 @@
 -- `table_question` meets its contract. Assumes nothing.
-use Rattle.mesh.specs.Questions.{ask}
-use Rattle.mesh.proofs.Counting.{yes, no}
+use Rattle.lists.specs.Questions.{ask}
+use Rattle.lists.proofs.Counting.{yes, no}
 use Rattle.table.proofs.questions.table_question.Statement.{statement}
 use Rattle.table.proofs.questions.table_question.Tie as tie
 

@@ -2,7 +2,7 @@
 use mathlib.Core.Path.{_≡_, sym}
 use mathlib.Core.Bool.{true}
 use borrow.Author.Needs.{needs}
-use Rattle.mesh.proofs.Counting.{yes, no}
+use Rattle.lists.proofs.Counting.{yes, no}
 use Rattle.table.specs.Read.{layout, laidOut, tableOf}
 use Rattle.table.specs.Steps.{Placed, tableQuestion}
 use Rattle.table.proofs.Accepted.{laid, inside, read-unlaid, read-refused, read-accepted}

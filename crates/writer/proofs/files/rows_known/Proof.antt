@@ -7,8 +7,8 @@ use native.Mathlib.Nat.{zero-add}
 use native.Mathlib.Omega.{arith}
 use lib.ListN.{getD}
 use borrow.Author.Needs.{needs}
-use Rattle.mesh.specs.Lists.{allUpTo}
-use Rattle.mesh.proofs.Counting.{all-turn, all-fails, yes, no}
+use Rattle.lists.specs.Lists.{allUpTo}
+use Rattle.lists.proofs.Counting.{all-turn, all-fails, yes, no}
 use Rattle.rows.specs.Rows.{known}
 use Rattle.questions.specs.Lists.{rowsKnown}
 use Rattle.writer.proofs.files.rows_known.Statement.{statement}

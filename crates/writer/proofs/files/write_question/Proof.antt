@@ -3,8 +3,8 @@ use mathlib.Core.Path.{_≡_, sym, _∙_}
 use native.Mathlib.Nat.{mul-le-mul}
 use native.Mathlib.Omega.{arith}
 use borrow.Author.Needs.{needs}
-use Rattle.mesh.specs.Questions.{ask}
-use Rattle.mesh.proofs.Counting.{yes, no}
+use Rattle.lists.specs.Questions.{ask}
+use Rattle.lists.proofs.Counting.{yes, no}
 use Rattle.questions.specs.Refusals.{builderQuestion}
 use Rattle.questions.proofs.Laws.{asked, first-yes}
 use Rattle.writer.proofs.Outcome.{first-no, first-zero}

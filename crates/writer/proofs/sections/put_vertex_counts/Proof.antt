@@ -5,8 +5,8 @@ use Prim.Native.Nat.{_+_, _-_, _*_, _≤_}
 use native.Mathlib.Omega.{arith}
 use borrow.Author.Needs.{needs}
 use Rattle.mesh.specs.Levels.{vertexCount}
-use Rattle.mesh.specs.Lists.{below}
-use Rattle.mesh.proofs.Written.{Written, nothing, chunk}
+use Rattle.lists.specs.Lists.{below}
+use Rattle.lists.proofs.Written.{Written, nothing, chunk}
 use Rattle.mesh.proofs.Laws.{count-le}
 use Rattle.table.specs.Bytes.{bytesOf, packed}
 use Rattle.table.proofs.Lengths.{bytes-length}

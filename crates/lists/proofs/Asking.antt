@@ -3,7 +3,7 @@ use mathlib.Core.Path.{_≡_, refl}
 use mathlib.Core.Bool.{Bool, true, false}
 use Prim.Native.Nat.{ℕ, _<_}
 use native.Mathlib.Omega.{arith}
-use Rattle.mesh.specs.Questions.{ask}
+use Rattle.lists.specs.Questions.{ask}
 
 pub ask-yes : (q : Bool) (n rest : ℕ) → 0 < n → ask q n rest ≡ 0 → (q ≡ true) × (rest ≡ 0)
 unfolding ask

@@ -7,8 +7,8 @@ use native.Mathlib.Numerals.{add-one}
 use native.Mathlib.Omega.{arith}
 use lib.ListN.{length, take, drop, getD, set, replicate, length-drop, drop-of-length-le, length-replicate, replicate-append-replicate}
 use lib.Seq.{drop-cons, paste, paste-suc, take-length, length-take-le}
-use Rattle.mesh.specs.Lists.{every, put, forEach}
-use Rattle.mesh.proofs.Written.{put-push}
+use Rattle.lists.specs.Lists.{every, put, forEach}
+use Rattle.lists.proofs.Written.{put-push}
 
 -- a test of every entry, looked at from place i on
 module _ {A : Type 0} (p : A → Bool) (l : List A) (i : ℕ) (z : A) where

@@ -7,7 +7,7 @@ use native.Mathlib.Nat.{eq-or-lt-of-le, le-of-suc-le-suc, not-suc-le-zero}
 use native.Mathlib.Numerals.{add-one}
 use borrow.Author.Tests.{not-true, not-false}
 use native.Mathlib.Omega.{arith}
-use Rattle.mesh.specs.Lists.{allUpTo, anyUpTo}
+use Rattle.lists.specs.Lists.{allUpTo, anyUpTo}
 
 pub and-yes : (a b : Bool) → a && b ≡ true → (a ≡ true) × (b ≡ true)
 and-yes true b e = (refl, e)

@@ -9,8 +9,8 @@ use native.Mathlib.Numerals.{add-one}
 use native.Mathlib.Omega.{arith}
 use lib.ListN.{length, take, drop, getD, set, length-set, length-append, length-drop, take-append-drop}
 use lib.Seq.{drop-cons, set-at, take-at, drop-drop, drop-append-add, append-snoc, length-take-le, take-add, drop-at, slice}
-use Rattle.mesh.specs.Lists.{put, below, filter, joined, starts, sum}
-use Rattle.mesh.proofs.Sums.{one, count, sum-eq, sum-le, sum-swap, sum-const}
+use Rattle.lists.specs.Lists.{put, below, filter, joined, starts, sum}
+use Rattle.lists.proofs.Sums.{one, count, sum-eq, sum-le, sum-swap, sum-const}
 
 module _ {A : Type 0} where
   head-length : (d : List A) (at : ℕ) (l : List A) → at ≤ length d → length (take at d ++ l) ≡ at + length l
