@@ -1,5 +1,6 @@
 -- What an accepted settle may count on, and what it gives. Assumes nothing.
 use mathlib.Core.Path.{_≡_, refl, ap}
+use Rattle.lists.proofs.Asking.{ask-yes, first-yes}
 use mathlib.Core.Bool.{cond}
 use mathlib.Core.List.{List, [], _∷_, map}
 use Prim.Native.Nat.{ℕ, suc}
@@ -24,7 +25,7 @@ use Rattle.builder.specs.declared.Settled.the-variants.{Accepted as Sett
 use Rattle.settling.specs.declared.Tally.{Tally}
 use Rattle.settling.specs.declared.Verdict.the-variants.{Blocked}
 use Rattle.lists.proofs.Places.{place}
-use Rattle.questions.proofs.Laws.{ask-yes, first-yes, meshed}
+use Rattle.questions.proofs.Laws.{meshed}
 use Rattle.questions.specs.Refusals.{meshedRefusal, settleRefusal}
 use Rattle.settling.proofs.Slopes.{gradient-links}
 use Rattle.builder.proofs.Changes.{tally-gradient, tally-settled, tally-clear}

@@ -1,6 +1,6 @@
 -- A turn of the loop over a slice. Assumes nothing.
 use mathlib.Core.Path.{_≡_, refl, sym, _∙_}
-use mathlib.Core.Bool.{Bool, true, false, cond}
+use mathlib.Core.Bool.{Bool, true, false, cond, and-eq-true-iff}
 use mathlib.Core.List.{List, _∷_, map}
 use mathlib.Core.Option.{Option, none, some}
 use Prim.Native.Nat.{ℕ, zero, suc, _+_, _*_, _-_, _≤_, _<_}
@@ -10,7 +10,6 @@ use lib.ListN.{length, getD, take, drop, length-set}
 use lib.Seq.{getD-set-other}
 use lib.Ieee.{Float, binary32, ofBits}
 use borrow.Author.Tests.{eqb-true}
-use Rattle.ieee.proofs.Fields.{both-true}
 use Rattle.lists.specs.Lists.{every}
 use Rattle.mesh.specs.Levels.{vertexCount, per}
 use Rattle.rows.specs.declared.SlabResolution.{SlabResolution}
@@ -82,10 +81,10 @@ rows-more top l base n i h =
 pub row-passes : (p : Row Float → Bool) (top : ℕ) (l : Lists) (s n i : ℕ) → i < n → every p (rowsFrom top l s n) ≡ true → p (rowAt top l (s + i)) ≡ true
 unfolding every rowsFrom
 row-passes p top l s zero i h e = absurd (omega arith)
-row-passes p top l s (suc n) zero h e = let z : s + 0 ≡ s = omega arith in rw z (both-true (p (rowAt top l s)) (every p (rowsFrom top l (suc s) n)) e .0)
+row-passes p top l s (suc n) zero h e = let z : s + 0 ≡ s = omega arith in rw z (and-eq-true-iff (p (rowAt top l s)) (every p (rowsFrom top l (suc s) n)) .0 e .0)
 row-passes p top l s (suc n) (suc i) h e =
     let z : s + suc i ≡ suc s + i = omega arith in
-    rw z (row-passes p top l (suc s) n i (omega arith) (both-true (p (rowAt top l s)) (every p (rowsFrom top l (suc s) n)) e .1))
+    rw z (row-passes p top l (suc s) n i (omega arith) (and-eq-true-iff (p (rowAt top l s)) (every p (rowsFrom top l (suc s) n)) .0 e .1))
 
 -- ---- the loop
 

@@ -75,10 +75,6 @@ finite-sum x y z h =
     let b = product-finite x y (a .0) in
     ap (λ (t : Bool). t && (finite y && finite z)) (b .0) ∙ ap (λ (t : Bool). t && finite z) (b .1) ∙ a .1
 
-pub both-true : (a b : Bool) → (a && b) ≡ true → (a ≡ true) × (b ≡ true)
-both-true true b h = (refl, h)
-both-true false b h = absurd (false≢true h)
-
 -- ---- the fields
 pub as-fields : (f : Format) (x : Float) → T (fits f x) → x ≡ ofFields f (leb (top f) (toBits f x)) (toBits f x % top f / hid f) (toBits f x % hid f)
 unfolding ofBits

@@ -1,5 +1,5 @@
 -- IEEE 754's fusedMultiplyAdd at binary64: x * y + z, rounded once. Definitions only.
-use Prim.Native.Nat.{ℕ, _*_}
+use Prim.Native.Nat.{_*_}
 use lib.Ieee.{Float, nan, inf, fin, binary64, up, down, unlike, sum, add, mul}
 
 -- Of three finite numbers the product is kept as an exact fraction, and the exact sum is handed to `round` once, by `sum`, which gives an exact zero its sign.

@@ -1,5 +1,6 @@
 -- The reading rule refuses with 18 and 20 alone. Assumes nothing.
 use mathlib.Core.Path.{_≡_, refl}
+use Rattle.lists.proofs.Counting.{chosen}
 use mathlib.Core.Bool.{Bool, cond, _&&_}
 use mathlib.Core.List.{List, [], _∷_}
 use mathlib.Core.Logic.{_⊎_, inl, inr}
@@ -20,7 +21,6 @@ use Rattle.search.specs.Search.{squared, notNearest, nearer, nearestFrom, neare
 use Rattle.search.specs.declared.Vector3.{Vector3}
 use Rattle.search.specs.declared.Nearest.{Nearest}
 use Rattle.search.specs.declared.Located.{Located}
-use Rattle.locator.proofs.Picked.{chosen}
 use Rattle.reading.specs.Resolve.{readingValues, Query, queryHeld, outside, Resolved, unresolved, beyond, slabAt, resolve, Picks, unpicked, picked, joint, nearestPick, facePick}
 use Rattle.reading.specs.Rule.{search, rulePicks, ruleRow, ruleSlab, ruled}
 use Rattle.ledger.specs.Promise.{Answered}

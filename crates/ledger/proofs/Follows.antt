@@ -1,6 +1,7 @@
 -- After every call, accepted or refused, the builder's level and rows are the ledger's. Assumes nothing.
 use mathlib.Core.Path.{_≡_, refl, sym, ap, _∙_, subst}
-use mathlib.Core.Bool.{Bool, true, false, cond}
+use Rattle.lists.proofs.Asking.{ask-yes}
+use mathlib.Core.Bool.{Bool, true, false, cond, and-eq-true-iff}
 use mathlib.Core.List.{List, [], _∷_, map}
 use mathlib.Core.Logic.{_⊎_, inl, inr}
 use Prim.Native.Nat.{ℕ, suc, _+_, _*_, _-_, _≤_, _<_}
@@ -11,7 +12,6 @@ use lib.Dec.{eqb, ltb, lit<}
 use lib.Ieee.{Float, fits, ofBits, toBits}
 use borrow.Author.Tests.{eqb-true, ltb-true, le-leb}
 use Rattle.ieee.proofs.Pack.{le-or-lt}
-use Rattle.ieee.proofs.Fields.{both-true}
 use Rattle.lists.specs.Questions.{ask, first}
 use Rattle.lists.specs.Lists.{put}
 use Rattle.mesh.specs.Levels.{per, vertexCount, verticesBelow}
@@ -32,7 +32,7 @@ use Rattle.builder.specs.Calls.{settledLists, filled, setLists, setOut, settleA
 use Rattle.questions.specs.Refusals.{meshedRefusal, setQuestion, setRefusal, settleRefusal}
 use Rattle.questions.specs.declared.Builder.{Builder}
 use Rattle.settling.specs.declared.Verdict.{Verdict}
-use Rattle.questions.proofs.Laws.{ask-yes, Roomy}
+use Rattle.questions.proofs.Laws.{Roomy}
 use Rattle.writer.specs.Write.{writeRefusal, writeOut}
 use Rattle.table.proofs.OfRows.{Good}
 use Rattle.ledger.specs.Ledger.{Call, set-call, settle-call, write-call, State, called, run, Ledger, opened, ledgerSlice, settleQuestion, setEntered, settleEntered, entered, ledger}
@@ -124,7 +124,7 @@ module _ (g : Grid) (top : ℕ) (m : Mesh) (base : Basis g top m) (v : ℕ) (low
       let q8 = ask-yes (lit< tt) p in
       let q9 = ask-yes (lit< tt) (q8 .1) in
       let q10 = ask-yes (lit< tt) (q9 .1) in
-      let bins = both-true (ltb ri (g .«n_r»)) (ltb oi (g .«n_omega»)) (q8 .0) in
+      let bins = and-eq-true-iff (ltb ri (g .«n_r»)) (ltb oi (g .«n_omega»)) .0 (q8 .0) in
       let s = slab g ri oi in
       let w = per top in
       let row : s < slabs g =

@@ -1,6 +1,7 @@
 -- The lists of a builder hold the ledger's rows, through every list of calls, refused ones included. Assumes nothing.
 use mathlib.Core.Path.{_≡_, refl, _∙_}
-use mathlib.Core.Bool.{Bool, true, false, cond}
+use Rattle.lists.proofs.Counting.{chosen}
+use mathlib.Core.Bool.{Bool, true, false, cond, and-eq-true-iff}
 use mathlib.Core.List.{List, map}
 use Prim.Native.Nat.{ℕ, zero, suc, _+_, _*_, _-_, _≤_, _<_}
 use native.Mathlib.Omega.{arith}
@@ -9,7 +10,6 @@ use lib.Seq.{sets, getD-set-same, getD-set-other, set-getD, drop-set-lt, drop-co
 use lib.Dec.{T}
 use lib.Ieee.{Float, binary32, binary64, fits, ofBits, lt, div}
 use borrow.Author.Tests.{eqb-true, le-leb}
-use Rattle.ieee.proofs.Fields.{both-true}
 use Rattle.lists.specs.Lists.{every}
 use Rattle.mesh.specs.Levels.{per}
 use Rattle.mesh.specs.Mesh.{Mesh}
@@ -20,7 +20,6 @@ use Rattle.rows.specs.declared.SlabResolution.the-variants.{Scalar, Mesh as OnM
 use Rattle.rows.specs.Rows.{Rows, kindOf, levelOf, valueOf, resolutionAt, replaced, known, Row, scalar, repulsive, mesh, rowWith}
 use Rattle.rows.proofs.Replaced.{Held, numbers-back}
 use Rattle.rows.proofs.Compared.{narrowed-fits}
-use Rattle.locator.proofs.Picked.{chosen}
 use Rattle.settling.specs.Gradient.{allRepulsive, gradient, meanNarrowed}
 use Rattle.settling.specs.Settling.{byGradient, verdict, verdictOf, newRow, inPlaceOf, settledRows, fromLevel, energiesOf, replacedBy}
 use Rattle.questions.specs.Lists.{slabs, rowAt, rowsFrom, rowsKnown}
@@ -194,7 +193,7 @@ module _ (g : Grid) (top c : ℕ) (f : Row Float → Verdict) (plain : (x : Floa
   settled-fit (suc n) s store l rows a h z =
       let r = getD rows s repulsive in
       let d = drop-cons rows s repulsive (omega (arith, a .many)) in
-      let y = both-true (fromLevel c r) (every (fromLevel c) (take n (drop (suc s) rows))) (rw d at z) in
+      let y = and-eq-true-iff (fromLevel c r) (every (fromLevel c) (take n (drop (suc s) rows))) .0 (rw d at z) in
       let l′ = replacedBy l s (newRow c (f r)) in
       let x = inPlaceOf r (newRow c (f r)) in
       let rest = drop-set-lt (suc s) rows s x (omega arith) in

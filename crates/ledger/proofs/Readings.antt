@@ -1,5 +1,6 @@
 -- A reading of the file of rows is what the reading rule gives from these rows. Assumes nothing.
 use mathlib.Core.Path.{_≡_, refl, ap}
+use Rattle.lists.proofs.Counting.{chosen}
 use mathlib.Core.Bool.{Bool, true, false, cond, _&&_, _||_}
 use mathlib.Core.List.{List, [], _∷_, map}
 use Prim.Native.Nat.{ℕ, suc, _+_, _*_, _≤_, _<_}
@@ -20,7 +21,7 @@ use Rattle.search.specs.declared.Nearest.{Nearest}
 use Rattle.search.specs.declared.Located.{Located}
 use Rattle.locator.specs.Several.{locators, Roomy}
 use Rattle.locator.proofs.Laid.{nearest-at, locate-at}
-use Rattle.locator.proofs.Picked.{chosen, FaceBelow, nearest-vertex, located-face}
+use Rattle.locator.proofs.Picked.{FaceBelow, nearest-vertex, located-face}
 use Rattle.questions.specs.Lists.{slabs}
 use Rattle.lists.proofs.Places.{place}
 use Rattle.table.specs.File.{energiesIn, energiesOf, entry, fileOf}

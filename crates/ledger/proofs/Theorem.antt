@@ -1,5 +1,6 @@
 -- Demand 3. Assumes nothing.
 use mathlib.Core.Path.{_≡_, refl, sym, ap, _∙_}
+use Rattle.lists.proofs.Asking.{first-yes}
 use mathlib.Core.Bool.{Bool, true, false}
 use mathlib.Core.List.{List}
 use Prim.Native.Nat.{ℕ, suc, _+_}
@@ -20,7 +21,7 @@ use Rattle.builder.specs.Calls.{builtValues, noBuilder, freshBuilder, filled, f
 use Rattle.questions.specs.Refusals.{meshedRefusal}
 use Rattle.questions.specs.declared.Builder.{Builder}
 use Rattle.builder.specs.declared.Built.the-variants.{Accepted as Builds}
-use Rattle.questions.proofs.Laws.{first-yes, Meshed, meshed}
+use Rattle.questions.proofs.Laws.{Meshed, meshed}
 use Rattle.table.specs.File.{fileOf}
 use Rattle.writer.specs.Write.{fileFrom, writeRefusal, writeOut}
 use Rattle.search.specs.Search.{Locator}

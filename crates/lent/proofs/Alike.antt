@@ -1,6 +1,6 @@
 -- All calls, files and readings answer alike through either form. Assumes nothing.
 use mathlib.Core.Path.{_≡_, refl, sym, ap, subst, _∙_}
-use mathlib.Core.Bool.{Bool, true, false, cond}
+use Rattle.lists.proofs.Counting.{chosen}
 use mathlib.Core.List.{List, [], _∷_}
 use mathlib.Core.Option.{Option, none, some}
 use Prim.Native.Nat.{ℕ, suc, _≤_}
@@ -44,14 +44,9 @@ module _ (rs : List RowRecord) where
   replaced-long l s x h =
       record { kinds = length-set (l .kinds) s (kindOf x) ∙ h .kinds; levels = length-set (l .levels) s (levelOf x) ∙ h .levels; values = length-set (l .values) s (valueOf x) ∙ h .values }
 
-  -- what an accepted call leaves, and what a refused one does
-  either : {A : Type 0} (f : A → Rows) (x : Bool) (a c : A) → (x ≡ true → Long rs (f a)) → Long rs (f c) → Long rs (f (cond x a c))
-  either f true a c took kept = took refl
-  either f false a c took kept = kept
-
   set-long : (b : Builder) (l : Lists) (ri oi : ℕ) (e : List Float) → Long rs (l .rows) → Long rs (setOut b l ri oi e .lists .rows)
   unfolding setOut setLists
-  set-long b l ri oi e h = either (λ (o : BuiltOut). o .lists .rows) (eqb (setRefusal b l ri oi e) 0) _ _ (λ _. replaced-long (l .rows) _ _ h) h
+  set-long b l ri oi e h = chosen (λ (o : BuiltOut). Long rs (o .lists .rows)) (eqb (setRefusal b l ri oi e) 0) _ _ (λ _. replaced-long (l .rows) _ _ h) h
 
   by-verdict-long : (l : Rows) (s : ℕ) (x : Option SlabResolution) → Long rs l → Long rs (replacedBy l s x)
   by-verdict-long l s none h = h
@@ -64,11 +59,11 @@ module _ (rs : List RowRecord) where
 
   settle-long : (b : Builder) (m : Mesh) (l : Lists) (ri : ℕ) → Long rs (l .rows) → Long rs (settleOut b m l ri .lists .rows)
   unfolding settleOut settleAccepted
-  settle-long b m l ri h = either (λ (o : SettleOut). o .lists .rows) (eqb (settleRefusal b m l ri) 0) _ _ (λ _. settled-long (b .level) (l .rows) _ _ h) h
+  settle-long b m l ri h = chosen (λ (o : SettleOut). Long rs (o .lists .rows)) (eqb (settleRefusal b m l ri) 0) _ _ (λ _. settled-long (b .level) (l .rows) _ _ h) h
 
   write-long : (b : Builder) (m : Mesh) (l : Lists) (out : List ℕ) → Long rs (l .rows) → Long rs (writeOut b m l out .lists .rows)
   unfolding writeOut
-  write-long b m l out h = either (λ (o : WriteOut). o .lists .rows) (eqb (writeRefusal b m l (length out)) 0) _ _ (λ _. h) h
+  write-long b m l out h = chosen (λ (o : WriteOut). Long rs (o .lists .rows)) (eqb (writeRefusal b m l (length out)) 0) _ _ (λ _. h) h
 
   fresh-long : (g : Grid) (top : ℕ) (m : Mesh) (l : Lists) → Long rs (l .rows) → Long rs (freshOut g top m l .lists .rows)
   unfolding freshOut filled meshedRefusal
@@ -76,7 +71,7 @@ module _ (rs : List RowRecord) where
       let b = freshBuilder g top in
       let n = slabs (b .grid) in
       let wide : (d : List ℕ) → n ≤ length d → length (put d 0 (replicate n 0)) ≡ length d = λ d k. length-put d 0 (replicate n 0) (omega (arith, length-replicate {A = ℕ} n 0, k)) in
-      either (λ (o : BuiltOut). o .lists .rows) (eqb (meshedRefusal b m l) 0) _ _
+      chosen (λ (o : BuiltOut). Long rs (o .lists .rows)) (eqb (meshedRefusal b m l) 0) _ _
       (λ e. let r = meshed b m (length (l .store)) (length (l .rows .kinds)) (length (l .rows .levels)) (length (l .rows .values)) (eqb-true _ 0 e) .room in
       record { kinds = wide (l .rows .kinds) (r .kinds-le) ∙ h .kinds; levels = wide (l .rows .levels) (r .levels-le) ∙ h .levels; values = wide (l .rows .values) (r .values-le) ∙ h .values }) h
 

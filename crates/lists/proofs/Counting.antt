@@ -1,6 +1,6 @@
 -- Loops that test every number below n.
-use mathlib.Core.Path.{_≡_, refl, sym, ap, _∙_}
-use mathlib.Core.Bool.{Bool, true, false, cond, not, _&&_, _||_}
+use mathlib.Core.Path.{_≡_, refl, sym, _∙_}
+use mathlib.Core.Bool.{Bool, true, false, cond, not, _&&_, _||_, true≢false, and-eq-true-iff}
 use mathlib.Core.Logic.{⊎-elim}
 use Prim.Native.Nat.{ℕ, zero, suc, _+_, _<_}
 use native.Mathlib.Nat.{eq-or-lt-of-le, le-of-suc-le-suc, not-suc-le-zero}
@@ -8,14 +8,6 @@ use native.Mathlib.Numerals.{add-one}
 use borrow.Author.Tests.{not-true, not-false}
 use native.Mathlib.Omega.{arith}
 use Rattle.lists.specs.Lists.{allUpTo, anyUpTo}
-
-pub and-yes : (a b : Bool) → a && b ≡ true → (a ≡ true) × (b ≡ true)
-and-yes true b e = (refl, e)
-and-yes false b e = absurd (let z : _≡_ {A = ℕ} 0 1 = ap (λ (t : Bool). cond t 1 0) e in omega arith)
-
-pub and-true : (a : Bool) → a && true ≡ a
-and-true true = refl
-and-true false = refl
 
 pub and-no : (a b : Bool) → b ≡ false → a && b ≡ false
 and-no true b e = e
@@ -40,7 +32,7 @@ module _ (p : ℕ → Bool) where
   unfolding allUpTo
   all-at i zero l e = absurd (not-suc-le-zero l)
   all-at i (suc n) l e =
-      let h = and-yes (allUpTo n p) (p n) e in
+      let h = and-eq-true-iff (allUpTo n p) (p n) .0 e in
       ⊎-elim (λ q. rw q (h .1)) (λ k. all-at i n k (h .0)) (eq-or-lt-of-le (le-of-suc-le-suc l))
 
   pub any-turn : (i : ℕ) → anyUpTo i p ≡ false → p i ≡ false → anyUpTo (i + 1) p ≡ false
@@ -53,6 +45,11 @@ module _ (p : ℕ → Bool) where
   any-found i (suc n) l e =
       ⊎-elim (λ q. or-yes (anyUpTo n p) (p n) (rw (← q) e)) (λ h. rw (any-found i n h e)) (eq-or-lt-of-le (le-of-suc-le-suc l))
 
+-- of two values, the one that a test chooses
+pub chosen : {B : Type 0} (P : B → Type 0) (t : Bool) (x y : B) → (t ≡ true → P x) → P y → P (cond t x y)
+chosen P true x y h k = h refl
+chosen P false x y h k = k
+
 -- a question that a call answered, r, and a test of `!r`
 pub yes : {q r : Bool} → r ≡ q → not r ≡ false → q ≡ true
 yes {q} {r} e t = sym e ∙ not-false r t
@@ -60,16 +57,13 @@ yes {q} {r} e t = sym e ∙ not-false r t
 pub no : {q r : Bool} → r ≡ q → not r ≡ true → q ≡ false
 no {q} {r} e t = sym e ∙ not-true r t
 
-or-no : (a b : Bool) → a || b ≡ false → (a ≡ false) × (b ≡ false)
-or-no false b e = (refl, e)
-or-no true b e = absurd (let z : _≡_ {A = ℕ} 1 0 = ap (λ (t : Bool). cond t 1 0) e in omega arith)
-
 pub or-none : (a b : Bool) → a || b ≡ false → (a ≡ false) × (b ≡ false)
-or-none a b e = or-no a b e
+or-none false b e = (refl, e)
+or-none true b e = absurd (true≢false e)
 
 pub any-none : (p : ℕ → Bool) (i n : ℕ) → i < n → anyUpTo n p ≡ false → p i ≡ false
 unfolding anyUpTo
 any-none p i zero l e = absurd (not-suc-le-zero l)
 any-none p i (suc n) l e =
-    let h = or-no (anyUpTo n p) (p n) e in
+    let h = or-none (anyUpTo n p) (p n) e in
     ⊎-elim (λ q. rw q (h .1)) (λ k. any-none p i n k (h .0)) (eq-or-lt-of-le (le-of-suc-le-suc l))

@@ -8,7 +8,7 @@ use native.Mathlib.Nat.{add-zero, eq-or-lt-of-le, le-of-suc-le-suc}
 use native.Mathlib.Numerals.{add-one}
 use native.Mathlib.Omega.{arith}
 use lib.ListN.{length, take, drop, getD, set, length-set, length-append, length-drop, take-append-drop}
-use lib.Seq.{drop-cons, set-at, take-at, drop-drop, drop-append-add, append-snoc, length-take-le, take-add, drop-at, slice}
+use lib.Seq.{drop-cons, set-at, take-at, drop-drop, drop-append-add, append-snoc, length-take-le, slice}
 use Rattle.lists.specs.Lists.{put, below, filter, joined, starts, sum}
 use Rattle.lists.proofs.Sums.{one, count, sum-eq, sum-le, sum-swap, sum-const}
 
@@ -138,13 +138,20 @@ pub joined-filter-le : (m n k : ℕ) (p : ℕ → ℕ → Bool) → ((v : ℕ) �
 joined-filter-le m n k p h =
     omega (arith, joined-filter-length m n p, sum-le n (λ v. count m (λ c. p c v)) (λ v. k) h, sum-const n k)
 
--- a part of a list, as the code cuts it
-pub part : {A : Type 0} (a b : ℕ) (l : List A) → a ≤ b → b ≤ length l → take (b - a) (drop a l) ≡ slice a b l
-part {A} a b l h k =
-    let e : b ≡ a + (b - a) = omega arith in
-    sym (drop-at (take a l) (take (b - a) (drop a l)) a (length-take-le a l (omega arith)))
-    ∙ ap (λ (r : List A). drop a r) (sym (take-add a (b - a) l))
-    ∙ ap (λ (n : ℕ). drop a (take n l)) (sym e)
+-- a part of a list, as the code cuts it out and as `slice` says it
+pub part : {A : Type 0} (f t : ℕ) (l : List A) → take (t - f) (drop f l) ≡ slice f t l
+part zero t l = let e : t - 0 ≡ t = omega arith in rw e
+part (suc f) zero l = let e : 0 - suc f ≡ 0 = omega arith in rw e
+part (suc f) (suc t) [] = empty (suc t - suc f)
+  where
+    empty : {A : Type 0} (k : ℕ) → take {A = A} k [] ≡ []
+    empty zero = refl
+    empty (suc k) = refl
+part (suc f) (suc t) (x ∷ l) = let e : suc t - suc f ≡ t - f = omega arith in rw e (part f t l)
+
+-- a part that ends where it starts
+pub slice-none : {A : Type 0} (f : ℕ) (l : List A) → slice f f l ≡ []
+slice-none f l = sym (part f f l) ∙ (let e : f - f ≡ 0 = omega arith in rw e)
 
 -- ---- what is written
 

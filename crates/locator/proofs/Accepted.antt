@@ -1,12 +1,12 @@
 -- What an accepted call may count on, and what it answers.
 use mathlib.Core.Path.{_≡_, refl, sym, ap, _∙_}
-use mathlib.Core.Bool.{Bool, true, false, cond, _&&_}
+use mathlib.Core.Bool.{Bool, true, false, cond, _&&_, and-eq-true-iff}
 use mathlib.Core.List.{List}
 use Prim.Native.Nat.{ℕ, _+_, _*_, _≤_, _<_}
 use native.Mathlib.Omega.{arith}
 use lib.ListN.{length, drop}
 use lib.Seq.{drop-drop}
-use lib.Dec.{leb, eqb}
+use lib.Dec.{leb, eqb, lit<}
 use borrow.Author.Tests.{leb-true, le-leb, eq-eqb, ne-eqb, eqb-true, eqb-false}
 use Rattle.lists.specs.Lists.{put, starts, joined, allUpTo}
 use Rattle.mesh.specs.Levels.{vertexCount, gridSize, cellCount}
@@ -16,7 +16,6 @@ use Rattle.lists.specs.Questions.{ask}
 use Rattle.mesh.specs.Steps.{links}
 use Rattle.mesh.proofs.Laws.{count-le}
 use Rattle.mesh.proofs.Tables.{grid-le, grid-ge}
-use Rattle.lists.proofs.Counting.{and-yes}
 use Rattle.mesh.proofs.Kept.{Held, held}
 use Rattle.lists.proofs.Asking.{ask-yes}
 use Rattle.lists.proofs.Written.{length-starts}
@@ -41,7 +40,7 @@ pub record Accepted (n g : ℕ) (m : Mesh) (o1 o2 o3 o4 : ℕ) : Type 0 where
 
 pub low-level : (level : ℕ) (m : Mesh) (o1 o2 o3 o4 : ℕ) → refusal level m o1 o2 o3 o4 ≡ 0 → level ≤ 15
 unfolding refusal
-low-level level m o1 o2 o3 o4 e = leb-true level 15 (ask-yes (leb level 15) 2 _ (omega arith) e .0)
+low-level level m o1 o2 o3 o4 e = leb-true level 15 (ask-yes {q = leb level 15} (lit< tt) e .0)
 
 pub accepted : (level : ℕ) (m : Mesh) (o1 o2 o3 o4 : ℕ) → refusal level m o1 o2 o3 o4 ≡ 0 → Accepted (vertexCount level) (gridSize (vertexCount level)) m o1 o2 o3 o4
 unfolding refusal locatorRoom
@@ -49,13 +48,13 @@ accepted level m o1 o2 o3 o4 e =
     let n = vertexCount level in
     let g = gridSize n in
     let low = low-level level m o1 o2 o3 o4 e in
-    let a = ask-yes (leb level 15) 2 _ (omega arith) e in
-    let b = ask-yes (meshHeld n m && locatorRoom n g o1 o2 o3 o4) 6 _ (omega arith) (a .1) in
-    let d = ask-yes (keepsRule n m) 7 0 (omega arith) (b .1) in
-    let p = and-yes (meshHeld n m) (locatorRoom n g o1 o2 o3 o4) (b .0) in
-    let p1 = and-yes (leb (cellCount g + 1) o1) (leb (27 * n) o2 && (leb (n + 1) o3 && leb (45 * n) o4)) (p .1) in
-    let p2 = and-yes (leb (27 * n) o2) (leb (n + 1) o3 && leb (45 * n) o4) (p1 .1) in
-    let p3 = and-yes (leb (n + 1) o3) (leb (45 * n) o4) (p2 .1) in
+    let a = ask-yes {q = leb level 15} (lit< tt) e in
+    let b = ask-yes {q = meshHeld n m && locatorRoom n g o1 o2 o3 o4} (lit< tt) (a .1) in
+    let d = ask-yes {q = keepsRule n m} (lit< tt) (b .1) in
+    let p = and-eq-true-iff (meshHeld n m) (locatorRoom n g o1 o2 o3 o4) .0 (b .0) in
+    let p1 = and-eq-true-iff (leb (cellCount g + 1) o1) (leb (27 * n) o2 && (leb (n + 1) o3 && leb (45 * n) o4)) .0 (p .1) in
+    let p2 = and-eq-true-iff (leb (27 * n) o2) (leb (n + 1) o3 && leb (45 * n) o4) .0 (p1 .1) in
+    let p3 = and-eq-true-iff (leb (n + 1) o3) (leb (45 * n) o4) .0 (p2 .1) in
     record {
       few = count-le level 16 (omega arith);
       some = grid-ge n;
@@ -71,7 +70,7 @@ accepted level m o1 o2 o3 o4 e =
 module _ (n : ℕ) (m : Mesh) (h : keepsRule n m ≡ true) where
   pub cells-fit : (g : ℕ) → 0 < g → g ≤ 65500 → length (joined (cellCount g) (cell (m .vertices) n g)) ≤ n * 27
   unfolding keepsRule
-  cells-fit g p q = Room.cells-fit (m .vertices) n g p q (and-yes (verticesFinite n (m .vertices)) (allUpTo n (vertexKept n m)) h .0)
+  cells-fit g p q = Room.cells-fit (m .vertices) n g p q (and-eq-true-iff (verticesFinite n (m .vertices)) (allUpTo n (vertexKept n m)) .0 h .0)
 
   pub faces-fit : 3 * length (joined n (facesOf (links (m .counts) (m .neighbours)) n)) ≤ 45 * n
   unfolding facesOf extractFaces facesFrom isFace lists within

@@ -84,7 +84,7 @@ cut-at : {A : Type 0} (a b : ℕ) (l : List A) → a ≤ b → b ≤ length l �
 cut-at {A} a b l h k =
     let e : a + (b - a) ≡ b = omega arith in
     sym (take-append-drop (b - a) (drop a l))
-    ∙ ap (λ (z : List A). z ++ drop (b - a) (drop a l)) (part a b l h k)
+    ∙ ap (λ (z : List A). z ++ drop (b - a) (drop a l)) (part a b l)
     ∙ ap (λ (z : List A). slice a b l ++ z) (drop-drop (b - a) a l ∙ ap (λ (n : ℕ). drop n l) e)
 
 -- ---- each level's call is accepted

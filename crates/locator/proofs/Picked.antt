@@ -1,6 +1,7 @@
 -- What a search at a level answers with are vertices of that level. Assumes nothing.
 use mathlib.Core.Path.{_≡_, refl}
-use mathlib.Core.Bool.{Bool, true, false, cond, _&&_}
+use Rattle.lists.proofs.Counting.{chosen}
+use mathlib.Core.Bool.{Bool, true, _&&_, and-eq-true-iff}
 use mathlib.Core.List.{List, [], _∷_}
 use Prim.Native.Nat.{ℕ, suc, _+_, _*_, _≤_, _<_}
 use native.Mathlib.Omega.{arith}
@@ -13,7 +14,6 @@ use Rattle.lists.specs.Lists.{every}
 use Rattle.mesh.specs.Levels.{vertexCount, gridSize, verticesBelow}
 use Rattle.mesh.specs.Mesh.{Mesh, levelPart, meshHeld, meshesKeep}
 use Rattle.mesh.specs.declared.Face.{Face}
-use Rattle.lists.proofs.Counting.{and-yes}
 use Rattle.search.specs.Geometry.{vertexAt, projectedBarycentric}
 use Rattle.search.specs.Cells.{facesOf}
 use Rattle.search.specs.Search.{Locator, nearestOf, locate, noFit, better, fitFrom, bestFace, notLocated, vertexInside}
@@ -33,23 +33,18 @@ keeps : {A B : Type 0} (q : A → Bool) (F : B → List A → B) (f : B → A �
 unfolding every
 keeps {A} {B} q F f P n c s b [] e h = rw (n b) h
 keeps {A} {B} q F f P n c s b (x ∷ l) e h =
-    let a = and-yes (q x) (every q l) e in
+    let a = and-eq-true-iff (q x) (every q l) .0 e in
     rw (c b x l) (keeps q F f P n c s (f b x) l (a .1) (s b x h (a .0)))
-
--- of two answers, the one that a test chooses
-pub chosen : {B : Type 0} (P : B → Type 0) (t : Bool) (x y : B) → (t ≡ true → P x) → P y → P (cond t x y)
-chosen P true x y h k = h refl
-chosen P false x y h k = k
 
 module _ (vs : List Float) (p : Vector3) (n : ℕ) where
   vertex-below : (v : ℕ) → vertexInside vs n v ≡ true → v < n
   unfolding vertexInside
-  vertex-below v e = ltb-true v n (and-yes (ltb v n) (leb (3 * v + 3) (length vs)) e .0)
+  vertex-below v e = ltb-true v n (and-eq-true-iff (ltb v n) (leb (3 * v + 3) (length vs)) .0 e .0)
 
   lent-below : (f : Face) → lent vs n f ≡ true → FaceBelow n f
   lent-below f e =
-      let a = and-yes (vertexInside vs n (f .a)) (vertexInside vs n (f .b) && vertexInside vs n (f .c)) e in
-      let b = and-yes (vertexInside vs n (f .b)) (vertexInside vs n (f .c)) (a .1) in
+      let a = and-eq-true-iff (vertexInside vs n (f .a)) (vertexInside vs n (f .b) && vertexInside vs n (f .c)) .0 e in
+      let b = and-eq-true-iff (vertexInside vs n (f .b)) (vertexInside vs n (f .c)) .0 (a .1) in
       (vertex-below (f .a) (a .0), vertex-below (f .b) (b .0), vertex-below (f .c) (b .1))
 
   pub fit-below : (l : List Face) → 0 < n → every (lent vs n) l ≡ true → FaceBelow n (fitFrom vs p noFit l .face)

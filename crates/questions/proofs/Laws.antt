@@ -1,14 +1,15 @@
 -- What questions that were answered yes say of the numbers. Assumes nothing.
-use mathlib.Core.Path.{_≡_, refl}
-use mathlib.Core.Bool.{Bool, true, false, cond, not, _&&_}
+use mathlib.Core.Path.{_≡_}
+use Rattle.lists.proofs.Asking.{ask-yes, first-yes}
+use Rattle.lists.proofs.Counting.{yes, no}
+use mathlib.Core.Bool.{Bool, true, false, not, _&&_, and-eq-true-iff}
 use mathlib.Core.List.{List}
 use Prim.Native.Nat.{ℕ, suc, _+_, _*_, _≤_, _<_}
 use native.Mathlib.Omega.{arith}
-use lib.Dec.{leb, ltb, eqb, lit<}
+use lib.Dec.{leb, ltb, lit<}
 use lib.Ieee.{Float}
 use lib.ListN.{length}
-use borrow.Author.Tests.{leb-true, ltb-true, eqb-true, eqb-false}
-use Rattle.ieee.proofs.Fields.{both-true}
+use borrow.Author.Tests.{leb-true, ltb-true, eqb-true}
 use Rattle.lists.specs.Questions.{ask, first}
 use Rattle.mesh.specs.Levels.{per, verticesBelow}
 use Rattle.mesh.specs.Mesh.{Mesh, meshHeld, meshesKeep}
@@ -16,28 +17,11 @@ use Rattle.mesh.proofs.Sizes.{per-mono}
 use Rattle.lists.proofs.Places.{place}
 use Rattle.grid.specs.Settings.{question, levelsHeld, slabsHeld}
 use Rattle.grid.specs.declared.Grid.{Grid}
-use Rattle.grid.proofs.Laws.{yes, no, counts-le}
+use Rattle.grid.proofs.Laws.{counts-le}
 use Rattle.rows.specs.Rows.{rowRoom}
 use Rattle.questions.specs.Lists.{slabs, slab, storePlace, listRoom}
 use Rattle.questions.specs.Refusals.{builderQuestion, setQuestion}
 use Rattle.questions.specs.declared.Builder.{Builder}
-
-ask-by : (q : Bool) (n r : ℕ) → 0 < n → cond q r n ≡ 0 → (q ≡ true) × (r ≡ 0)
-ask-by true n r p e = (refl, e)
-ask-by false n r p e = absurd (omega arith)
-
--- a chain of questions gave 0: the first one was answered yes, and so were the rest
-pub ask-yes : {q : Bool} {n r : ℕ} → 0 < n → ask q n r ≡ 0 → (q ≡ true) × (r ≡ 0)
-unfolding ask
-ask-yes {q} {n} {r} p e = ask-by q n r p e
-
-first-by : (n r : ℕ) (t : Bool) → eqb n 0 ≡ t → cond t r n ≡ 0 → (n ≡ 0) × (r ≡ 0)
-first-by n r true t e = (eqb-true n 0 t, e)
-first-by n r false t e = (e, absurd (eqb-false n 0 t e))
-
-pub first-yes : {n r : ℕ} → first n r ≡ 0 → (n ≡ 0) × (r ≡ 0)
-unfolding first
-first-yes {n} {r} e = first-by n r (eqb n 0) refl e
 
 -- the first of two tests was passed before; the branch on `!r`, r being both, was passed by, or taken
 pub second-yes : {a q r : Bool} → r ≡ a && q → a ≡ true → not r ≡ false → q ≡ true
@@ -60,7 +44,7 @@ asked g top level e =
     let q2 = ask-yes (lit< tt) (ask-yes (lit< tt) e .1) in
     let q3 = ask-yes (lit< tt) (q2 .1) in
     let q5 = ask-yes (lit< tt) (ask-yes (lit< tt) (q3 .1) .1) in
-    let l = both-true (leb top 15) (leb level top) (q2 .0) in
+    let l = and-eq-true-iff (leb top 15) (leb level top) .0 (q2 .0) in
     let n = counts-le g (q3 .0) in
     record {
       top-le = leb-true top 15 (l .0);
@@ -80,9 +64,9 @@ pub record Roomy (g : Grid) (top store kinds levels values : ℕ) : Type 0 where
 pub roomy : (g : Grid) (top store kinds levels values : ℕ) → listRoom g top store kinds levels values ≡ true → Roomy g top store kinds levels values
 unfolding listRoom rowRoom
 roomy g top store kinds levels values e =
-    let a = both-true (leb (slabs g * per top) store) (leb (slabs g) kinds && (leb (slabs g) levels && leb (slabs g) values)) e in
-    let b = both-true (leb (slabs g) kinds) (leb (slabs g) levels && leb (slabs g) values) (a .1) in
-    let d = both-true (leb (slabs g) levels) (leb (slabs g) values) (b .1) in
+    let a = and-eq-true-iff (leb (slabs g * per top) store) (leb (slabs g) kinds && (leb (slabs g) levels && leb (slabs g) values)) .0 e in
+    let b = and-eq-true-iff (leb (slabs g) kinds) (leb (slabs g) levels && leb (slabs g) values) .0 (a .1) in
+    let d = and-eq-true-iff (leb (slabs g) levels) (leb (slabs g) values) .0 (b .1) in
     record {
       store-le = leb-true (slabs g * per top) store (a .0);
       kinds-le = leb-true (slabs g) kinds (b .0);
@@ -109,7 +93,7 @@ accepted b ri oi e store kinds levels values p =
     let g = b .grid in
     let a = asked g (b .top) (b .level) (f .0) in
     let r = roomy g (b .top) store kinds levels values (q6 .0) in
-    let bins = both-true (ltb ri (g .«n_r»)) (ltb oi (g .«n_omega»)) (q8 .0) in
+    let bins = and-eq-true-iff (ltb ri (g .«n_r»)) (ltb oi (g .«n_omega»)) .0 (q8 .0) in
     let row : slab g ri oi < slabs g =
     omega (arith, place ri (g .«n_r») (oi + 1) (g .«n_omega») (ltb-true ri (g .«n_r») (bins .0)) (omega (arith, ltb-true oi (g .«n_omega») (bins .1)))) in
     let many : length e ≡ per (b .level) = eqb-true (length e) (per (b .level)) (q9 .0) in
@@ -135,5 +119,5 @@ meshed b m store kinds levels values p =
     let f = first-yes p in
     let q6 = ask-yes (lit< tt) (f .1) in
     let q7 = ask-yes (lit< tt) (q6 .1) in
-    let r = both-true (listRoom (b .grid) (b .top) store kinds levels values) (meshHeld (verticesBelow (suc (b .top))) m) (q6 .0) in
+    let r = and-eq-true-iff (listRoom (b .grid) (b .top) store kinds levels values) (meshHeld (verticesBelow (suc (b .top))) m) .0 (q6 .0) in
     record { asked = asked (b .grid) (b .top) (b .level) (f .0); room = roomy (b .grid) (b .top) store kinds levels values (r .0); held = r .1; kept = q7 .0 }

@@ -1,6 +1,6 @@
 -- Which rows and energies are inside a file, and where a slab's row starts. Assumes nothing.
 use mathlib.Core.Path.{_≡_, refl, sym, ap, _∙_}
-use mathlib.Core.Bool.{Bool, true, false, not, cond, _&&_, _||_}
+use mathlib.Core.Bool.{Bool, true, false, not, cond, _&&_, _||_, and-eq-true-iff}
 use mathlib.Core.List.{List}
 use mathlib.Core.Logic.{⊎-elim}
 use Prim.Native.Nat.{ℕ, suc, _+_, _-_, _*_, _/_, _≤_, _<_, min}
@@ -11,7 +11,7 @@ use lib.Dec.{leb, ltb, eqb}
 use lib.Ieee.{Float, inf, binary32, ofBits}
 use borrow.Author.Tests.{lt-ltb, le-ltb, le-leb, lt-leb, leb-true, eqb-true, eqb-false, ne-eqb}
 use Rattle.ieee.proofs.Pack.{le-or-lt}
-use Rattle.lists.proofs.Counting.{and-yes, or-none}
+use Rattle.lists.proofs.Counting.{or-none}
 use Rattle.rows.specs.Rows.{resolutionOf}
 use Rattle.rows.specs.declared.SlabResolution.{SlabResolution}
 use Rattle.rows.specs.declared.SlabResolution.the-variants.{Scalar, Mesh, Repulsive}
@@ -79,7 +79,7 @@ module _ (file : List ℕ) (t : Table) where
   -- the bytes of a row that was placed
   pub row-fits : (r held : ℕ) → held ≡ itemsInside (t .«rows_start») 10 (t .rows) (length file) → r < held → t .«rows_start» + r * 10 + 10 ≤ length file
   unfolding rowInside
-  row-fits r held h l = leb-true _ _ (and-yes (ltb r (t .rows)) (leb (t .«rows_start» + r * 10 + 10) (length file)) (row-held r held h ∙ lt-ltb r held l) .1)
+  row-fits r held h l = leb-true _ _ (and-eq-true-iff (ltb r (t .rows)) (leb (t .«rows_start» + r * 10 + 10) (length file)) .0 (row-held r held h ∙ lt-ltb r held l) .1)
 
   place : RowPlace → ℕ
   place (At a) = suc a
@@ -90,7 +90,7 @@ module _ (file : List ℕ) (t : Table) where
   unfolding rowInside place
   placed-fits (unresolved n) at e = absurd (let z : 0 ≡ suc at = ap place e in omega arith)
   placed-fits beyond at e = absurd (let z : 0 ≡ suc at = ap place e in omega arith)
-  placed-fits (slabAt s) at e = by (rowInside file t s) (λ h. leb-true _ _ (and-yes (ltb s (t .rows)) (leb (t .«rows_start» + s * 10 + 10) (length file)) h .1)) e
+  placed-fits (slabAt s) at e = by (rowInside file t s) (λ h. leb-true _ _ (and-eq-true-iff (ltb s (t .rows)) (leb (t .«rows_start» + s * 10 + 10) (length file)) .0 h .1)) e
     where
       by : (b : Bool) → (b ≡ true → t .«rows_start» + s * 10 + 10 ≤ length file) → cond b (At (t .«rows_start» + s * 10)) (NoRow 19) ≡ At at → at + 10 ≤ length file
       by true h e = let z : suc (t .«rows_start» + s * 10) ≡ suc at = ap place e in omega (arith, h refl)

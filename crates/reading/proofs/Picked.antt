@@ -1,6 +1,6 @@
 -- The energies that a search picked. Assumes nothing.
 use mathlib.Core.Path.{_≡_, refl, ap, _∙_}
-use mathlib.Core.Bool.{Bool, true, false, cond, _&&_, _||_}
+use mathlib.Core.Bool.{Bool, true, false, cond, _&&_, _||_, and-eq-true-iff, and-true}
 use mathlib.Core.List.{List, [], _∷_, map}
 use Prim.Native.Nat.{ℕ, _+_, _*_, _≤_, _<_}
 use native.Mathlib.Nat.{mul-le-mul}
@@ -10,7 +10,6 @@ use lib.Dec.{leb, ltb, eqb}
 use borrow.Author.Tests.{lt-ltb, le-ltb, ltb-true, leb-true, eqb-true, eqb-false, ne-eqb}
 use Rattle.lists.specs.Lists.{every, forEach}
 use Rattle.mesh.specs.declared.Face.{Face}
-use Rattle.lists.proofs.Counting.{and-yes, and-true}
 use Rattle.search.specs.declared.Weights.{Weights}
 use Rattle.search.specs.declared.Nearest.{Nearest}
 use Rattle.search.specs.declared.Located.{Located}
@@ -46,19 +45,19 @@ module _ (file : List ℕ) (t : Table) (held : ℕ) (H : held ≡ itemsInside (t
 
   pub energy-fits : (k : ℕ) → k < held → PlaceInside file (t .«energies_start») k
   unfolding energyInside
-  energy-fits k l = leb-true _ _ (and-yes (ltb k (t .energies)) (leb (t .«energies_start» + k * 4 + 4) (length file)) (energy-held k ∙ lt-ltb k held l) .1)
+  energy-fits k l = leb-true _ _ (and-eq-true-iff (ltb k (t .energies)) (leb (t .«energies_start» + k * 4 + 4) (length file)) .0 (energy-held k ∙ lt-ltb k held l) .1)
 
   row-fits : (o k : ℕ) (f : Face) → rowHeld held o k f ≡ true → RowInside file (t .«energies_start») o k f
   row-fits o k f h =
-      let x = and-yes (ltb (o + (k + f .a)) held) (ltb (o + (k + f .b)) held && ltb (o + (k + f .c)) held) h in
-      let y = and-yes (ltb (o + (k + f .b)) held) (ltb (o + (k + f .c)) held) (x .1) in
+      let x = and-eq-true-iff (ltb (o + (k + f .a)) held) (ltb (o + (k + f .b)) held && ltb (o + (k + f .c)) held) .0 h in
+      let y = and-eq-true-iff (ltb (o + (k + f .b)) held) (ltb (o + (k + f .c)) held) .0 (x .1) in
       (energy-fits _ (ltb-true _ _ (x .0)), energy-fits _ (ltb-true _ _ (y .0)), energy-fits _ (ltb-true _ _ (y .1)))
 
   pub face-fits : (o n : ℕ) (f g : Face) → faceHeld held o n f g ≡ true
       → RowInside file (t .«energies_start») o (f .a * n) g × RowInside file (t .«energies_start») o (f .b * n) g × RowInside file (t .«energies_start») o (f .c * n) g
   face-fits o n f g h =
-      let x = and-yes (rowHeld held o (f .a * n) g) (rowHeld held o (f .b * n) g && rowHeld held o (f .c * n) g) h in
-      let y = and-yes (rowHeld held o (f .b * n) g) (rowHeld held o (f .c * n) g) (x .1) in
+      let x = and-eq-true-iff (rowHeld held o (f .a * n) g) (rowHeld held o (f .b * n) g && rowHeld held o (f .c * n) g) .0 h in
+      let y = and-eq-true-iff (rowHeld held o (f .b * n) g) (rowHeld held o (f .c * n) g) .0 (x .1) in
       (row-fits o (f .a * n) g (x .0), row-fits o (f .b * n) g (y .0), row-fits o (f .c * n) g (y .1))
 
   -- ---- nearest

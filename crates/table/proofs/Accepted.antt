@@ -1,13 +1,12 @@
 -- What the questions of read, answered yes, say of the file; and read's outcome by the answers. Assumes nothing.
 use mathlib.Core.Path.{_≡_, sym}
-use mathlib.Core.Bool.{true, false}
+use mathlib.Core.Bool.{true, false, and-eq-true-iff}
 use mathlib.Core.List.{List}
 use Prim.Native.Nat.{ℕ, _-_}
 use native.Mathlib.Omega.{arith}
 use lib.ListN.{length}
 use lib.Dec.{eqb}
 use borrow.Author.Tests.{eqb-true, eq-eqb, ne-eqb}
-use Rattle.ieee.proofs.Fields.{both-true}
 use Rattle.lists.specs.Questions.{ask}
 use Rattle.grid.specs.Settings.{gridRange, gridHeld, slabsHeld}
 use Rattle.grid.specs.declared.Grid.{Grid}
@@ -21,8 +20,8 @@ by-layout : (file : List ℕ) → laidOut file (layout file) ≡ true → Placed
 unfolding laidOut layout
 by-layout file h =
     let p = layout file in
-    let a = both-true (eqb (countAt file 0) 3) _ h in
-    let b = both-true (eqb (countAt file (p .bins)) 2) _ (a .1) in
+    let a = and-eq-true-iff (eqb (countAt file 0) 3) _ .0 h in
+    let b = and-eq-true-iff (eqb (countAt file (p .bins)) 2) _ .0 (a .1) in
     let three = eqb-true (countAt file 0) 3 (a .0) in
     let two = eqb-true (countAt file (p .bins)) 2 (b .0) in
     let last = eqb-true (p .end) (length file) (b .1) in
@@ -41,7 +40,7 @@ inside file p h = record {
 
 pub held-ranged : (g : Grid) (levels : ℕ) → gridHeld g levels ≡ true → Ranged g levels
 unfolding gridHeld
-held-ranged g levels h = ranged g levels (both-true (gridRange g levels) (slabsHeld (g .«n_r») (g .«n_omega») (levels - 1)) h .0)
+held-ranged g levels h = ranged g levels (and-eq-true-iff (gridRange g levels) (slabsHeld (g .«n_r») (g .«n_omega») (levels - 1)) .0 h .0)
 
 -- ---- the outcome
 

@@ -1,6 +1,6 @@
 -- The file of a grid and rows: the reader accepts it, what stands where in it, and that it is one to one. Assumes nothing.
 use mathlib.Core.Path.{_≡_, refl, sym, ap, _∙_}
-use mathlib.Core.Bool.{true}
+use mathlib.Core.Bool.{true, and-eq-true-iff}
 use mathlib.Core.List.{List, map}
 use Prim.Native.Nat.{ℕ, _+_, _*_, _-_, _^_, _≤_, _<_}
 use native.Mathlib.Nat.{mul-le-mul, zero-add}
@@ -12,7 +12,6 @@ use lib.Ieee.Bits.{ofBits-toBits, toBits-lt}
 use borrow.Author.Tests.{leb-true, eqb-true}
 use Rattle.lists.specs.Lists.{below}
 use Rattle.mesh.specs.Levels.{vertexCount, per}
-use Rattle.lists.proofs.Counting.{and-yes}
 use Rattle.grid.specs.Bins.{tableRmax}
 use Rattle.grid.specs.Settings.{gridRange, slabsHeld, gridHeld}
 use Rattle.grid.specs.declared.Grid.{Grid}
@@ -87,7 +86,7 @@ module _ (g : Grid) (levels : ℕ) (rows : List (Row ℕ)) (ok : Filable g level
   sizes : Ranged g levels × (g .«n_r» * g .«n_omega» * per (levels - 1) ≤ 4294967295)
   unfolding gridHeld slabsHeld
   sizes =
-      let a = and-yes (gridRange g levels) (leb (g .«n_r» * g .«n_omega» * per (levels - 1)) 4294967295) (ok .held) in
+      let a = and-eq-true-iff (gridRange g levels) (leb (g .«n_r» * g .«n_omega» * per (levels - 1)) 4294967295) .0 (ok .held) in
       (ranged g levels (a .0), leb-true (g .«n_r» * g .«n_omega» * per (levels - 1)) 4294967295 (a .1))
 
   few-levels : length ls < 256 ^ 4
@@ -165,8 +164,8 @@ module _ (g : Grid) (levels : ℕ) (rows : List (Row ℕ)) (ok : Filable g level
   unfolding laidOut
   file-length =
       let h = laid-out x y z (g .«n_r») (g .«n_omega») ls rs es few-levels few-rows few-energies in
-      let a = and-yes (eqb (countAt file 0) 3) _ h .1 in
-      let b = and-yes (eqb (countAt file (layout file .bins)) 2) (eqb (layout file .end) (length file)) a .1 in
+      let a = and-eq-true-iff (eqb (countAt file 0) 3) _ .0 h .1 in
+      let b = and-eq-true-iff (eqb (countAt file (layout file .bins)) 2) (eqb (layout file .end) (length file)) .0 a .1 in
       let e = eqb-true (layout file .end) (length file) b in
       let w = rw (laid x y z (g .«n_r») (g .«n_omega») ls rs es few-levels few-rows few-energies) at e in
       rw file-is (sym w ∙ rw (counts-many levels, entries-length 0 rows))

@@ -1,6 +1,6 @@
 -- Rows in a file: which a table can hold, where each stands, and that they can be told from their entries and energies. Assumes nothing.
 use mathlib.Core.Path.{_≡_, refl, sym, ap, _∙_}
-use mathlib.Core.Bool.{true, false, cond, not}
+use mathlib.Core.Bool.{true, false, cond, not, and-eq-true-iff}
 use mathlib.Core.List.{List, [], _∷_, _++_, map, map-append}
 use mathlib.Core.Logic.{_⊎_, inl, inr}
 use Prim.Native.Nat.{ℕ, zero, suc, _+_, _*_, _-_, _^_, _≤_, _<_}
@@ -15,7 +15,6 @@ use Rattle.ieee.proofs.Pack.{le-or-lt}
 use Rattle.lists.specs.Lists.{below, every}
 use Rattle.mesh.specs.Levels.{vertexCount, per}
 use Rattle.mesh.proofs.Laws.{count-le}
-use Rattle.lists.proofs.Counting.{and-yes}
 use Rattle.mesh.proofs.Sizes.{per-mono}
 use Rattle.rows.specs.Rows.{Row, scalar, repulsive, mesh, narrowBits, compared}
 use Rattle.rows.proofs.Compared.{bits-lt, bits-nan, narrow-lt, narrow-nan}
@@ -47,7 +46,7 @@ pub narrow-numbers : (e : List Float) → every (λ x. not (isNan x)) e ≡ true
 unfolding every
 narrow-numbers [] h = tt
 narrow-numbers (x ∷ e) h =
-    let a = and-yes (not (isNan x)) (every (λ y. not (isNan y)) e) h in
+    let a = and-eq-true-iff (not (isNan x)) (every (λ y. not (isNan y)) e) .0 h in
     ((narrow-lt x, narrow-nan x ∙ not-true (isNan x) (a .0)), narrow-numbers e (a .1))
 
 fine-row : (top : ℕ) (r : Row Float) → Good top r → Fine (suc top) (compared r)

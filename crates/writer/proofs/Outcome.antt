@@ -1,5 +1,6 @@
 -- Write's outcome by the answers to its questions, and what they say of builder and lists. Assumes nothing.
 use mathlib.Core.Path.{_≡_, refl, sym, _∙_}
+use Rattle.lists.proofs.Asking.{ask-yes, first-yes}
 use mathlib.Core.Bool.{Bool, true, false, cond}
 use mathlib.Core.List.{List}
 use Prim.Native.Nat.{ℕ, _+_, _*_, _≤_}
@@ -14,7 +15,7 @@ use Rattle.mesh.specs.Mesh.{Mesh}
 use Rattle.questions.specs.Lists.{Lists, slabs, rowsKnown}
 use Rattle.questions.specs.Refusals.{meshedRefusal}
 use Rattle.questions.specs.declared.Builder.{Builder}
-use Rattle.questions.proofs.Laws.{ask-yes, first-yes, meshed}
+use Rattle.questions.proofs.Laws.{meshed}
 use Rattle.writer.specs.Write.{writtenValues, fileFrom, writeRefusal, writeOut}
 use Rattle.writer.specs.Steps.{resolutions, total, Bounded, writeQuestion, Ready}
 use Rattle.writer.specs.declared.Written.the-variants.{Accepted as Writes, Refused as NotWritten}

@@ -1,6 +1,6 @@
 -- The file of a builder's rows, as the code writes it. Assumes nothing.
 use mathlib.Core.Path.{_≡_, refl, sym, ap, _∙_}
-use mathlib.Core.Bool.{Bool, true, false, cond, _&&_}
+use mathlib.Core.Bool.{Bool, true, false, cond, _&&_, and-eq-true-iff}
 use mathlib.Core.List.{List, [], _∷_, _++_, map, append-assoc}
 use Prim.Native.Nat.{ℕ, zero, suc, _+_, _*_, _≤_, _<_}
 use native.Mathlib.Nat.{suc-mul, zero-mul, add-zero}
@@ -10,7 +10,6 @@ use lib.ListN.{length, getD, take, drop, length-append, length-map}
 use lib.Dec.{leb, eqb}
 use lib.Ieee.{Float, binary32, binary64, ofBits, toBits}
 use borrow.Author.Tests.{leb-true, eqb-false, lt-leb}
-use Rattle.ieee.proofs.Fields.{both-true}
 use Rattle.lists.specs.Lists.{below, put}
 use Rattle.mesh.specs.Levels.{vertexCount, per}
 use Rattle.lists.proofs.Counting.{all-at}
@@ -74,7 +73,7 @@ held-by top k v y false true ea eb h = omega arith
 held-by top k v y false false ea eb h =
     let no : 1 < k = more k (eqb-false k 0 ea) (eqb-false k 1 eb) in
     let z : leb k 3 && leb v top ≡ true = rw (lt-leb k 1 no) at h in
-    per-mono v top (leb-true v top (both-true (leb k 3) (leb v top) z .1))
+    per-mono v top (leb-true v top (and-eq-true-iff (leb k 3) (leb v top) .0 z .1))
   where
     more : (k : ℕ) → (k ≡ 0 → ⊥) → (k ≡ 1 → ⊥) → 1 < k
     more zero p q = absurd (p refl)

@@ -1,8 +1,8 @@
 -- `grid_held` meets its contract. Assumes nothing.
-use mathlib.Core.Path.{_≡_}
+use Rattle.lists.proofs.Counting.{yes, no}
 use native.Mathlib.Omega.{arith}
 use Rattle.grid.specs.Settings.{gridHeld}
-use Rattle.grid.proofs.Laws.{yes, no, Ranged, ranged}
+use Rattle.grid.proofs.Laws.{Ranged, ranged}
 use borrow.Author.Needs.{needs}
 use Rattle.grid.proofs.grid_held.Statement.{statement}
 use Rattle.grid.proofs.grid_held.Tie as tie

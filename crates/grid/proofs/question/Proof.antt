@@ -1,9 +1,10 @@
 -- `question` meets its contract. Assumes nothing.
 use mathlib.Core.Path.{_≡_}
+use Rattle.lists.proofs.Counting.{yes, no}
 use mathlib.Core.Bool.{true}
 use Rattle.lists.specs.Questions.{ask}
 use Rattle.grid.specs.Settings.{inRange, levelsHeld, countsHeld, question}
-use Rattle.grid.proofs.Laws.{yes, no, counts-le, top-le}
+use Rattle.grid.proofs.Laws.{counts-le, top-le}
 use borrow.Author.Needs.{needs}
 use Rattle.grid.proofs.question.Statement.{statement}
 use Rattle.grid.proofs.question.Tie as tie

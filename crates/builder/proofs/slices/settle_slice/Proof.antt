@@ -35,9 +35,9 @@ cut c =
     let to = from + c .vertex-count .result in
     let e = total c in
     rw (
-      part from to (a .counts .now) (omega arith) (omega (arith, e, s .pre .counts-le)),
-      part (6 * from) (6 * to) (a .neighbours .now) (omega arith) (omega (arith, e, s .pre .neighbours-le)),
-      part (6 * from) (6 * to) (a .angles .now) (omega arith) (omega (arith, e, s .pre .angles-le)),
+      part from to (a .counts .now),
+      part (6 * from) (6 * to) (a .neighbours .now),
+      part (6 * from) (6 * to) (a .angles .now),
       e,
       c .before .vertices-below .ensures,
     ) refl

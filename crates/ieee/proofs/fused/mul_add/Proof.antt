@@ -1,10 +1,9 @@
 -- `mul_add` meets its contract. Assumes nothing.
 use mathlib.Core.Path.{_≡_, refl, sym, ap, _∙_}
 use Prim.Native.Nat.{_+_, _*_, _^_}
-use mathlib.Core.Bool.{Bool, true, _&&_}
+use mathlib.Core.Bool.{Bool, true, _&&_, and-eq-true-iff}
 use lib.Pow.{pow-pos}
 use lib.Ieee.Scale.{finite}
-use Rattle.ieee.proofs.Fields.{both-true}
 use Rattle.ieee.proofs.Terms.{fused-outside, fused-addend, fused-finite, scale-product, scale-addend}
 use borrow.Author.Needs.{needs}
 use Rattle.ieee.proofs.fused.mul_add.Statement.{statement}
@@ -13,8 +12,8 @@ use Rattle.ieee.proofs.fused.mul_add.Tie as tie
 all : (c : tie.Then1) → (let a = c .before .before .args in (finite (a .x) ≡ true) × (finite (a .y) ≡ true) × (finite (a .z) ≡ true))
 all c =
     let a = c .before .before .args in
-    let h = both-true (finite (a .x)) (finite (a .y) && finite (a .z)) (sym (c .before .all-finite .ensures) ∙ c .if1 .taken) in
-    let k = both-true (finite (a .y)) (finite (a .z)) (h .1) in
+    let h = and-eq-true-iff (finite (a .x)) (finite (a .y) && finite (a .z)) .0 (sym (c .before .all-finite .ensures) ∙ c .if1 .taken) in
+    let k = and-eq-true-iff (finite (a .y)) (finite (a .z)) .0 (h .1) in
     (h .0, k .0, k .1)
 
 -- the test of both factors

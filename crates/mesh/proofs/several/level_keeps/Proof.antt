@@ -94,10 +94,10 @@ returns c =
       c .keeps-rule .ensures,
       c .before .before .before .before .before .before .vertex-count .ensures,
       c .before .before .before .before .before .vertices-below .ensures,
-      part (3 * a) (3 * b) (g .vertices .now) (omega arith) (omega arith),
-      part a b (g .counts .now) (omega arith) (omega arith),
-      part (6 * a) (6 * b) (g .neighbours .now) (omega arith) (omega arith),
-      part (6 * a) (6 * b) (g .angles .now) (omega arith) (omega arith),
+      part (3 * a) (3 * b) (g .vertices .now),
+      part a b (g .counts .now),
+      part (6 * a) (6 * b) (g .neighbours .now),
+      part (6 * a) (6 * b) (g .angles .now),
       below-more (g .level),
     )
 

@@ -1,5 +1,6 @@
 -- `no_nan` meets its contract. Assumes nothing.
 use mathlib.Core.Path.{_≡_, refl, sym, _∙_}
+use Rattle.lists.proofs.Counting.{yes, no}
 use mathlib.Core.Bool.{not}
 use Prim.Native.Nat.{_-_}
 use native.Mathlib.Omega.{arith}
@@ -7,7 +8,6 @@ use lib.ListN.{length, drop}
 use lib.Ieee.{nan, isNan}
 use borrow.Author.Needs.{needs}
 use Rattle.lists.specs.Lists.{every}
-use Rattle.grid.proofs.Laws.{yes, no}
 use Rattle.lists.proofs.Loops.{every-fails, every-next, every-end}
 use Rattle.questions.proofs.room.no_nan.Statement.{statement}
 use Rattle.questions.proofs.room.no_nan.Tie as tie

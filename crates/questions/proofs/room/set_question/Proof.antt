@@ -1,7 +1,7 @@
 -- `set_question` meets its contract. Assumes nothing.
 use borrow.Author.Tests.{eq-eqb, ne-eqb}
+use Rattle.lists.proofs.Counting.{yes, no}
 use Rattle.lists.specs.Questions.{ask}
-use Rattle.grid.proofs.Laws.{yes, no}
 use Rattle.questions.specs.Refusals.{setQuestion}
 use borrow.Author.Needs.{needs}
 use Rattle.questions.proofs.room.set_question.Statement.{statement}

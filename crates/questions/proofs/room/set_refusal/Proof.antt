@@ -1,9 +1,9 @@
 -- `set_refusal` meets its contract. Assumes nothing.
 use mathlib.Core.Path.{sym, _∙_}
+use Rattle.lists.proofs.Counting.{yes, no}
 use native.Mathlib.Omega.{arith}
 use borrow.Author.Tests.{eq-eqb, ne-eqb}
 use Rattle.lists.specs.Questions.{ask, first}
-use Rattle.grid.proofs.Laws.{yes, no}
 use Rattle.questions.proofs.Laws.{Asked, asked}
 use borrow.Author.Needs.{needs}
 use Rattle.questions.proofs.room.set_refusal.Statement.{statement}

@@ -1,10 +1,10 @@
 -- `slab_below` meets its contract. Assumes nothing.
 use borrow.Author.Needs.{needs}
+use mathlib.Core.Bool.{and-eq-true-iff}
 use native.Mathlib.Omega.{arith}
 use Prim.Native.Nat.{_*_, _≤_}
 use native.Mathlib.Nat.{mul-le-mul}
 use borrow.Author.Tests.{ltb-true}
-use Rattle.lists.proofs.Counting.{and-yes}
 use lib.Dec.{ltb}
 use Rattle.reading.proofs.Inside.{not-past, quite-past}
 use Rattle.reading.proofs.places.slab_below.Statement.{statement}
@@ -19,7 +19,7 @@ sub-left c = search needs
 mul-p : tie.Need-mul-p
 mul-p c =
     let a = c .before .before .args in
-    let h = and-yes (ltb (a .ri) 4294967296) (ltb (a .n) 4294967296) (c .if2 .taken) in
+    let h = and-eq-true-iff (ltb (a .ri) 4294967296) (ltb (a .n) 4294967296) .0 (c .if2 .taken) in
     let x : a .ri ≤ 4294967295 = omega (arith, ltb-true (a .ri) 4294967296 (h .0)) in
     let y : a .n ≤ 4294967295 = omega (arith, ltb-true (a .n) 4294967296 (h .1)) in
     let z : a .ri * a .n ≤ 4294967295 * 4294967295 = mul-le-mul x y in

@@ -1,15 +1,16 @@
 -- `nearest_in_cell` meets its contract. Assumes nothing.
 use mathlib.Core.Path.{_≡_, refl, sym, _∙_}
+use Rattle.lists.proofs.Counting.{yes, no}
+use mathlib.Core.Bool.{and-eq-true-iff}
 use Prim.Native.Nat.{_+_, _-_, _*_, _≤_}
 use native.Mathlib.Omega.{arith}
 use lib.ListN.{length, drop}
 use lib.Dec.{leb, ltb}
 use borrow.Author.Needs.{needs}
 use borrow.Author.Tests.{leb-true}
-use Rattle.ieee.proofs.Fields.{both-true}
 use Rattle.search.specs.Search.{notNearest}
 use Rattle.search.specs.Steps.{nearestOver}
-use Rattle.search.proofs.Laws.{yes, no, nearest-turn, nearest-stop, nearest-end}
+use Rattle.search.proofs.Laws.{nearest-turn, nearest-stop, nearest-end}
 use Rattle.search.proofs.cells.nearest_in_cell.Statement.{statement}
 use Rattle.search.proofs.cells.nearest_in_cell.Tie as tie
 
@@ -60,7 +61,7 @@ room : (c : tie.Else1 Inv-loop μ-loop) → 3 * c .before .before .wide16 .resul
 room c =
     let v = c .before .before .wide16 .result in
     let a = c .before .before .before .before .before .before .before .before .before .args in
-    leb-true _ _ (both-true (ltb v (a .n)) (leb (3 * v + 3) (length (a .vertices .now))) (yes (c .before .inside .ensures) (c .if1 .left)) .1)
+    leb-true _ _ (and-eq-true-iff (ltb v (a .n)) (leb (3 * v + 3) (length (a .vertices .now))) .0 (yes (c .before .inside .ensures) (c .if1 .left)) .1)
 
 nearer-requires : tie.Need-nearer-requires Inv-loop μ-loop
 nearer-requires c κs =

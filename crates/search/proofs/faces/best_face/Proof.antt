@@ -1,6 +1,7 @@
 -- `best_face` meets its contract. Assumes nothing.
 use mathlib.Core.Path.{_≡_, refl, sym, _∙_}
-use mathlib.Core.Bool.{true, _&&_}
+use Rattle.lists.proofs.Counting.{yes, no}
+use mathlib.Core.Bool.{true, _&&_, and-eq-true-iff}
 use mathlib.Core.List.{List}
 use lib.Ieee.{Float}
 use Prim.Native.Nat.{ℕ, _+_, _-_, _*_, _%_, _≤_}
@@ -9,10 +10,9 @@ use lib.ListN.{length, drop}
 use lib.Dec.{leb, ltb}
 use borrow.Author.Needs.{needs}
 use borrow.Author.Tests.{leb-true}
-use Rattle.ieee.proofs.Fields.{both-true}
 use Rattle.search.specs.Search.{noFit}
 use Rattle.search.specs.Steps.{fitOver}
-use Rattle.search.proofs.Laws.{inside, yes, no, fit-turn, fit-stop, fit-end}
+use Rattle.search.proofs.Laws.{inside, fit-turn, fit-stop, fit-end}
 use Rattle.search.proofs.faces.best_face.Statement.{statement}
 use Rattle.search.proofs.faces.best_face.Tie as tie
 
@@ -36,7 +36,7 @@ tests : (c : tie.After-inside3 Inv-loop μ-loop)
 tests c = rw (c .before .before .inside .ensures, c .before .inside2 .ensures, c .inside3 .ensures)
 
 room : (vs : List Float) (n v : ℕ) → inside vs n v ≡ true → 3 * v + 3 ≤ length vs
-room vs n v h = leb-true _ _ (both-true (ltb v n) (leb (3 * v + 3) (length vs)) h .1)
+room vs n v h = leb-true _ _ (and-eq-true-iff (ltb v n) (leb (3 * v + 3) (length vs)) .0 h .1)
 
 no-fit-requires : tie.Need-no-fit-requires Inv-loop μ-loop
 no-fit-requires c κs = tt
@@ -115,8 +115,8 @@ better-requires c κs =
     let x = y .before .before in
     let a = x .before .before .before .before .before .before .before .args in
     let t = yes (tests i) (c .if1 .left) in
-    let k = both-true (inside (a .vertices .now) (a .n) (x .wide16 .result)) (inside (a .vertices .now) (a .n) (y .wide162 .result) && inside (a .vertices .now) (a .n) (z .wide163 .result)) t in
-    let m = both-true (inside (a .vertices .now) (a .n) (y .wide162 .result)) (inside (a .vertices .now) (a .n) (z .wide163 .result)) (k .1) in
+    let k = and-eq-true-iff (inside (a .vertices .now) (a .n) (x .wide16 .result)) (inside (a .vertices .now) (a .n) (y .wide162 .result) && inside (a .vertices .now) (a .n) (z .wide163 .result)) .0 t in
+    let m = and-eq-true-iff (inside (a .vertices .now) (a .n) (y .wide162 .result)) (inside (a .vertices .now) (a .n) (z .wide163 .result)) .0 (k .1) in
     (room (a .vertices .now) (a .n) (x .wide16 .result) (k .0), room (a .vertices .now) (a .n) (y .wide162 .result) (m .0), room (a .vertices .now) (a .n) (z .wide163 .result) (m .1))
 
 add-i : tie.Need-add-i Inv-loop μ-loop

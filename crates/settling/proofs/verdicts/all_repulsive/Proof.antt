@@ -1,12 +1,12 @@
 -- `all_repulsive` meets its contract. Assumes nothing.
 use mathlib.Core.Path.{_≡_, refl, sym, _∙_}
+use Rattle.lists.proofs.Counting.{yes, no}
 use Prim.Native.Nat.{_-_}
 use native.Mathlib.Omega.{arith}
 use lib.ListN.{length, drop}
 use lib.Ieee.{nan}
 use borrow.Author.Needs.{needs}
 use Rattle.lists.specs.Lists.{every}
-use Rattle.grid.proofs.Laws.{yes, no}
 use Rattle.settling.specs.Gradient.{repulsive, allRepulsive}
 use Rattle.lists.proofs.Loops.{every-fails, every-next, every-end}
 use Rattle.settling.proofs.verdicts.all_repulsive.Statement.{statement}

@@ -1,12 +1,13 @@
 -- `write_question` meets its contract. Assumes nothing.
 use mathlib.Core.Path.{_≡_, sym, _∙_}
+use Rattle.lists.proofs.Asking.{first-yes}
 use native.Mathlib.Nat.{mul-le-mul}
 use native.Mathlib.Omega.{arith}
 use borrow.Author.Needs.{needs}
 use Rattle.lists.specs.Questions.{ask}
 use Rattle.lists.proofs.Counting.{yes, no}
 use Rattle.questions.specs.Refusals.{builderQuestion}
-use Rattle.questions.proofs.Laws.{asked, first-yes}
+use Rattle.questions.proofs.Laws.{asked}
 use Rattle.writer.proofs.Outcome.{first-no, first-zero}
 use Rattle.writer.proofs.files.write_question.Statement.{statement}
 use Rattle.writer.proofs.files.write_question.Tie as tie

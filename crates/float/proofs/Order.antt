@@ -1,6 +1,6 @@
 -- The order of floats of any sign, and a rounded sum that does not shrink as one side grows. Assumes nothing.
 use mathlib.Core.Path.{_≡_, refl, sym, ap, _∙_, subst}
-use mathlib.Core.Bool.{Bool, true, false, not, _||_, Bool·beq, cond}
+use mathlib.Core.Bool.{Bool, true, false, not, _||_, Bool·beq, cond, true≢false}
 use mathlib.Core.Logic.{_⊎_, inl, inr}
 use Prim.Native.Nat.{ℕ, zero, suc, _+_, _*_, _-_, _^_, _≤_, _<_}
 use native.Mathlib.Nat.{add-comm, mul-pos, mul-le-mul-right}
@@ -13,7 +13,6 @@ use lib.Ieee.Positive.{through, first-pos}
 use borrow.Author.Tests.{ltb-true, lt-ltb, le-ltb}
 use Rattle.ieee.proofs.Pack.{le-or-lt}
 use Rattle.ieee.proofs.Sums.{sum-like, sum-less}
-use Rattle.grid.proofs.Reaches.{clash}
 
 -- ---- fractions a / b < c / d < e / f
 fractions : (a b c d e f : ℕ) → 0 < b → a * d < c * b → c * f < e * d → a * f < e * b
@@ -29,28 +28,28 @@ some x k y d h D = mul-pos (first-pos k y (omega (arith, h))) D
 
 pub lt-trans : (x y z : Float) → lt x y ≡ true → lt y z ≡ true → lt x z ≡ true
 unfolding lt
-lt-trans nan y z p q = clash (sym p)
-lt-trans (inf a) nan z p q = clash (sym p)
-lt-trans (inf a) (inf b) nan p q = clash (sym q)
+lt-trans nan y z p q = absurd (true≢false (sym p))
+lt-trans (inf a) nan z p q = absurd (true≢false (sym p))
+lt-trans (inf a) (inf b) nan p q = absurd (true≢false (sym q))
 lt-trans (inf true) (inf true) (inf c) p q = q
-lt-trans (inf false) (inf b) (inf c) p q = clash (sym p)
-lt-trans (inf true) (inf false) (inf c) p q = clash (sym q)
+lt-trans (inf false) (inf b) (inf c) p q = absurd (true≢false (sym p))
+lt-trans (inf true) (inf false) (inf c) p q = absurd (true≢false (sym q))
 lt-trans (inf true) (inf b) (fin t n d) p q = refl
-lt-trans (inf false) (inf b) (fin t n d) p q = clash (sym p)
-lt-trans (inf a) (fin t n d) nan p q = clash (sym q)
+lt-trans (inf false) (inf b) (fin t n d) p q = absurd (true≢false (sym p))
+lt-trans (inf a) (fin t n d) nan p q = absurd (true≢false (sym q))
 lt-trans (inf true) (fin t n d) (inf c) p q = q
-lt-trans (inf false) (fin t n d) (inf c) p q = clash (sym p)
+lt-trans (inf false) (fin t n d) (inf c) p q = absurd (true≢false (sym p))
 lt-trans (inf a) (fin t n d) (fin u k c) p q = p
-lt-trans (fin s m e) nan z p q = clash (sym p)
-lt-trans (fin s m e) (inf b) nan p q = clash (sym q)
-lt-trans (fin s m e) (inf true) (inf c) p q = clash (sym p)
-lt-trans (fin s m e) (inf false) (inf c) p q = clash (sym q)
-lt-trans (fin s m e) (inf true) (fin u k c) p q = clash (sym p)
-lt-trans (fin s m e) (inf false) (fin u k c) p q = clash (sym q)
-lt-trans (fin s m e) (fin t n d) nan p q = clash (sym q)
+lt-trans (fin s m e) nan z p q = absurd (true≢false (sym p))
+lt-trans (fin s m e) (inf b) nan p q = absurd (true≢false (sym q))
+lt-trans (fin s m e) (inf true) (inf c) p q = absurd (true≢false (sym p))
+lt-trans (fin s m e) (inf false) (inf c) p q = absurd (true≢false (sym q))
+lt-trans (fin s m e) (inf true) (fin u k c) p q = absurd (true≢false (sym p))
+lt-trans (fin s m e) (inf false) (fin u k c) p q = absurd (true≢false (sym q))
+lt-trans (fin s m e) (fin t n d) nan p q = absurd (true≢false (sym q))
 lt-trans (fin s m e) (fin t n d) (inf c) p q = q
-lt-trans (fin false m e) (fin true n d) (fin u k c) p q = clash (sym p)
-lt-trans (fin s m e) (fin false n d) (fin true k c) p q = clash (sym q)
+lt-trans (fin false m e) (fin true n d) (fin u k c) p q = absurd (true≢false (sym p))
+lt-trans (fin s m e) (fin false n d) (fin true k c) p q = absurd (true≢false (sym q))
 lt-trans (fin false m e) (fin false n d) (fin false k c) p q =
     lt-ltb _ _ (fractions (m * up e) (down e) (n * up d) (down d) (k * up c) (down c) (down-pos e) (ltb-true _ _ p) (ltb-true _ _ q))
 lt-trans (fin true m e) (fin false n d) (fin false k c) p q =
@@ -64,20 +63,20 @@ lt-trans (fin true m e) (fin true n d) (fin true k c) p q =
 below-asym : (s : Bool) (a : ℕ) (t : Bool) (b : ℕ) → below s a t b ≡ true → below t b s a ≡ false
 below-asym true a true b h = le-ltb a b (omega (arith, ltb-true b a h))
 below-asym true a false b h = refl
-below-asym false a true b h = clash (sym h)
+below-asym false a true b h = absurd (true≢false (sym h))
 below-asym false a false b h = le-ltb b a (omega (arith, ltb-true a b h))
 
 pub lt-asym : (x y : Float) → lt x y ≡ true → lt y x ≡ false
 unfolding lt
-lt-asym nan y p = clash (sym p)
-lt-asym (inf a) nan p = clash (sym p)
+lt-asym nan y p = absurd (true≢false (sym p))
+lt-asym (inf a) nan p = absurd (true≢false (sym p))
 lt-asym (inf true) (inf true) p = refl
 lt-asym (inf true) (inf false) p = refl
-lt-asym (inf false) (inf b) p = clash (sym p)
+lt-asym (inf false) (inf b) p = absurd (true≢false (sym p))
 lt-asym (inf true) (fin t n d) p = refl
-lt-asym (inf false) (fin t n d) p = clash (sym p)
-lt-asym (fin s m e) nan p = clash (sym p)
-lt-asym (fin s m e) (inf true) p = clash (sym p)
+lt-asym (inf false) (fin t n d) p = absurd (true≢false (sym p))
+lt-asym (fin s m e) nan p = absurd (true≢false (sym p))
+lt-asym (fin s m e) (inf true) p = absurd (true≢false (sym p))
 lt-asym (fin s m e) (inf false) p = refl
 lt-asym (fin s m e) (fin t n d) p = below-asym s (m * up e * down d) t (n * up d * down e) p
 
