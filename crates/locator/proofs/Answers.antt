@@ -1,7 +1,7 @@
 -- The search over the lists that the locator call makes is the search over the mesh. Other entries may stand behind them, as where levels are lent one after
 -- another and a reading has all of them from the level's first on.
 use mathlib.Core.Path.{_≡_, refl, sym, ap, _∙_}
-use mathlib.Core.Bool.{Bool, true, false, cond, _&&_, _||_, and-eq-true-iff}
+use mathlib.Core.Bool.{Bool, true, false, cond, _&&_, or-true, and-eq-true-iff}
 use mathlib.Core.List.{List, [], _∷_, _++_, append-assoc}
 use Prim.Native.Nat.{ℕ, zero, suc, _+_, _*_, _≤_, _<_}
 use native.Mathlib.Omega.{arith}
@@ -29,10 +29,6 @@ use Rattle.locator.proofs.Graphs.{rule}
 use Rattle.locator.proofs.Accepted.{Accepted, cells-fit}
 use Rattle.locator.proofs.Bound as Bound
 use Rattle.locator.proofs.Entries.{getD-put, getD-starts, part-of, every-filter, every-joined, every-below}
-
-or-true : (b : Bool) → (b || true) ≡ true
-or-true true = refl
-or-true false = refl
 
 -- ---- any lists that are written so: f is what the offsets count, F its entries, w of them for each
 
