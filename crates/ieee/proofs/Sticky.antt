@@ -5,7 +5,7 @@ use mathlib.Core.Logic.{_⊎_, inl, inr}
 use Prim.Native.Nat.{ℕ, suc, _+_, _-_, _*_, _/_, _%_, _^_, _≤_, _<_, compare, Ordering, Ordering·lt, Ordering·eq, Ordering·gt}
 use native.Mathlib.Nat.{le-trans, le-of-eq, le-of-lt, zero-lt-suc, lt-of-lt-of-le, lt-of-le-of-lt, eq-zero-or-pos, add-mul, one-mul, mul-assoc, mul-comm, mul-left-comm, mul-pos, mul-le-mul-right, mul-lt-mul-of-pos-right, lt-of-mul-lt-mul-right, le-of-mul-le-mul-right, le-div-iff-mul-le, div-lt-iff-lt-mul, div-add-mod', mod-lt, not-le-of-lt, add-assoc}
 use native.Mathlib.Omega.{arith}
-use mathlib.Core.Bool.{Bool, not, true≢false}
+use mathlib.Core.Bool.{Bool, not}
 use lib.Dec.{T, isLe, isEq, eqb, leb→le, nleb→lt, eqb→eq, eqb-refl}
 use lib.Arith.{lt-of-le-ne, digits-div, digits-mod}
 use lib.Pow.{pow-add, pow-pos, pow-mono}
@@ -31,31 +31,31 @@ cmp a b = go (compare a b) (leb→le a b) (nleb→lt a b) (eqb→eq a b) (λ (e 
     go Ordering·eq h k e n = e tt
     go Ordering·gt h k e n = k tt
 
-absurd (true≢false :) {A : Type 0} (x y : ℕ) → x < y → y ≤ x → A
-absurd (true≢false x) y a b = absurd (not-le-of-lt a b)
+clash : {A : Type 0} (x y : ℕ) → x < y → y ≤ x → A
+clash x y a b = absurd (not-le-of-lt a b)
 
 pub closest-lt : (a b : ℕ) → a % b * 2 < b → closest a b ≡ a / b
 closest-lt a b h = go (compare (a % b * 2) b) (cmp (a % b * 2) b)
   where
     go : (o : Ordering) → Cmp o (a % b * 2) b → nearest (a / b) o ≡ a / b
     go Ordering·lt c = refl
-    go Ordering·eq c = absurd (true≢false (a % b * 2)) b h (le-of-eq (sym c))
-    go Ordering·gt c = absurd (true≢false (a % b * 2)) b h (le-of-lt c)
+    go Ordering·eq c = clash (a % b * 2) b h (le-of-eq (sym c))
+    go Ordering·gt c = clash (a % b * 2) b h (le-of-lt c)
 
 pub closest-eq : (a b : ℕ) → a % b * 2 ≡ b → closest a b ≡ a / b + a / b % 2
 closest-eq a b h = go (compare (a % b * 2) b) (cmp (a % b * 2) b)
   where
     go : (o : Ordering) → Cmp o (a % b * 2) b → nearest (a / b) o ≡ a / b + a / b % 2
-    go Ordering·lt c = absurd (true≢false (a % b * 2)) b c (le-of-eq (sym h))
+    go Ordering·lt c = clash (a % b * 2) b c (le-of-eq (sym h))
     go Ordering·eq c = refl
-    go Ordering·gt c = absurd (true≢false b) (a % b * 2) c (le-of-eq h)
+    go Ordering·gt c = clash b (a % b * 2) c (le-of-eq h)
 
 pub closest-gt : (a b : ℕ) → b < a % b * 2 → closest a b ≡ suc (a / b)
 closest-gt a b h = go (compare (a % b * 2) b) (cmp (a % b * 2) b)
   where
     go : (o : Ordering) → Cmp o (a % b * 2) b → nearest (a / b) o ≡ suc (a / b)
-    go Ordering·lt c = absurd (true≢false (a % b * 2)) b c (le-of-lt h)
-    go Ordering·eq c = absurd (true≢false b) (a % b * 2) h (le-of-eq c)
+    go Ordering·lt c = clash (a % b * 2) b c (le-of-lt h)
+    go Ordering·eq c = clash b (a % b * 2) h (le-of-eq c)
     go Ordering·gt c = refl
 
 -- ---- a fraction rounded to odd
