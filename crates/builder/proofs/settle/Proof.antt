@@ -9,18 +9,6 @@ use borrow.Author.Needs.{needs}
 use Rattle.builder.proofs.settle.Statement.{statement}
 use Rattle.builder.proofs.settle.Tie as tie
 
-settle-refusal-requires : tie.Need-settle-refusal-requires
-settle-refusal-requires c κs = search needs
-
-same-length : tie.Need-same-length
-same-length c = search needs
-
-same-length-2 : tie.Need-same-length-2
-same-length-2 c = search needs
-
-same-length-3 : tie.Need-same-length-3
-same-length-3 c = search needs
-
 returns : tie.Need-returns
 unfolding settleOut
 returns c = rw (← c .before .settle-refusal .ensures, ne-eqb _ _ (c .if1 .taken))
@@ -32,18 +20,6 @@ settle-slice-requires c κs =
     let l : Lists = record { store = a .store .now; rows = record { kinds = a .kinds .now; levels = a .levels .now; values = a .values .now } } in
     let e = c .before .before .before in
     ready (a .b) m l (a .ri) (sym (e .before .settle-refusal .ensures) ∙ e .if1 .left)
-
-dropped-requires : tie.Need-dropped-requires
-dropped-requires c κs = search needs
-
-same-length-4 : tie.Need-same-length-4
-same-length-4 c = search needs
-
-same-length-5 : tie.Need-same-length-5
-same-length-5 c = search needs
-
-same-length-6 : tie.Need-same-length-6
-same-length-6 c = search needs
 
 returns-2 : tie.Need-returns-2
 unfolding settleOut
@@ -58,15 +34,4 @@ returns-2 c =
 pub settle-spec : {M : Type 1} → statement M
 settle-spec =
     tie.close
-    (tie.spec
-    settle-refusal-requires
-    same-length
-    same-length-2
-    same-length-3
-    returns
-    settle-slice-requires
-    dropped-requires
-    same-length-4
-    same-length-5
-    same-length-6
-    returns-2)
+    (tie.spec (λ c κs. search needs) (λ c. search needs) (λ c. search needs) (λ c. search needs) returns settle-slice-requires (λ c κs. search needs) (λ c. search needs) (λ c. search needs) (λ c. search needs) returns-2)

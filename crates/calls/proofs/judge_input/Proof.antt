@@ -10,37 +10,7 @@ Inv-loop store₀ kinds₀ levels₀ values₀ vertices₀ counts₀ neighbours�
 abbrev μ-loop : tie.MeasureT-loop
 μ-loop store₀ kinds₀ levels₀ values₀ vertices₀ counts₀ neighbours₀ angles₀ s₀ left₀ store kinds levels values vertices counts neighbours angles s left = left
 
-nothing-requires : tie.Need-nothing-requires Inv-loop μ-loop
-nothing-requires c κs = search needs
-
-loop-holds : tie.Need-loop-holds Inv-loop μ-loop
-loop-holds c = search needs
-
-sub-left : tie.Need-sub-left Inv-loop μ-loop
-sub-left c = search needs
-
-judge-next-requires : tie.Need-judge-next-requires Inv-loop μ-loop
-judge-next-requires c κs = search needs
-
-loop-less : tie.Need-loop-less Inv-loop μ-loop
-loop-less c = search needs
-
-loop-again : tie.Need-loop-again Inv-loop μ-loop
-loop-again c = search needs
-
-returns : tie.Need-returns Inv-loop μ-loop
-returns c = search needs
-
 pub judge-input-spec : {M : Type 1} → statement M
 judge-input-spec =
     tie.close
-    (tie.spec
-    Inv-loop
-    μ-loop
-    nothing-requires
-    loop-holds
-    sub-left
-    judge-next-requires
-    loop-less
-    loop-again
-    returns)
+    (tie.spec Inv-loop μ-loop (λ c κs. search needs) (λ c. search needs) (λ c. search needs) (λ c κs. search needs) (λ c. search needs) (λ c. search needs) (λ c. search needs))

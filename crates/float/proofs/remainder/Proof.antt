@@ -10,8 +10,6 @@ use Rattle.float.proofs.remainder.Tie as tie
 returns : tie.Need-returns
 returns c = let t = and-eq-true-iff _ _ .0 (c .if1 .taken) in sym (within-tau (c .before .args .x) (passes _ (c .before .good .0 .1)) (t .0) (t .1))
 
-returns-2 : tie.Need-returns-2
-returns-2 c = search needs
-
 pub remainder-spec : {M : Type 1} → statement M
-remainder-spec = tie.close (tie.spec returns returns-2)
+remainder-spec = tie.close
+    (tie.spec returns (λ c. search needs))

@@ -10,9 +10,6 @@ use Rattle.grid.proofs.grid_held.Tie as tie
 sizes : (c : tie.Else1) → Ranged (c .before .before .args .g) (c .before .before .args .levels)
 sizes c = ranged (c .before .before .args .g) (c .before .before .args .levels) (yes (c .before .grid-range .ensures) (c .if1 .left))
 
-grid-range-requires : tie.Need-grid-range-requires
-grid-range-requires c κs = search needs
-
 returns : tie.Need-returns
 unfolding gridHeld
 returns c = rw (no (c .before .grid-range .ensures) (c .if1 .taken))
@@ -30,4 +27,4 @@ returns-2 c = rw (yes (c .before .before .grid-range .ensures) (c .before .if1 .
 pub grid-held-spec : {M : Type 1} → statement M
 grid-held-spec =
     tie.close
-    (tie.spec grid-range-requires returns sub-slabs-held slabs-held-requires returns-2)
+    (tie.spec (λ c κs. search needs) returns sub-slabs-held slabs-held-requires returns-2)

@@ -19,29 +19,17 @@ levels c = yes (c .before .levels-held .ensures) (c .if2 .left)
 counts : (c : tie.Else3) → countsHeld (c .before .before .before .before .before .before .args .g) ≡ true
 counts c = yes (c .before .counts-held .ensures) (c .if3 .left)
 
-in-range-requires : tie.Need-in-range-requires
-in-range-requires c κs = search needs
-
 returns : tie.Need-returns
 unfolding question ask
 returns c = rw (no (c .before .in-range .ensures) (c .if1 .taken))
-
-levels-held-requires : tie.Need-levels-held-requires
-levels-held-requires c κs = search needs
 
 returns-2 : tie.Need-returns-2
 unfolding question ask
 returns-2 c = rw (ranges (c .before .before), no (c .before .levels-held .ensures) (c .if2 .taken))
 
-counts-held-requires : tie.Need-counts-held-requires
-counts-held-requires c κs = search needs
-
 returns-3 : tie.Need-returns-3
 unfolding question ask
 returns-3 c = rw (ranges (c .before .before .before .before), levels (c .before .before), no (c .before .counts-held .ensures) (c .if3 .taken))
-
-own-count-requires : tie.Need-own-count-requires
-own-count-requires c κs = search needs
 
 returns-4 : tie.Need-returns-4
 unfolding question ask
@@ -77,15 +65,4 @@ returns-6 c =
 pub question-spec : {M : Type 1} → statement M
 question-spec =
     tie.close
-    (tie.spec
-    in-range-requires
-    returns
-    levels-held-requires
-    returns-2
-    counts-held-requires
-    returns-3
-    own-count-requires
-    returns-4
-    slabs-held-requires
-    returns-5
-    returns-6)
+    (tie.spec (λ c κs. search needs) returns (λ c κs. search needs) returns-2 (λ c κs. search needs) returns-3 (λ c κs. search needs) returns-4 slabs-held-requires returns-5 returns-6)

@@ -10,12 +10,6 @@ use Rattle.grid.proofs.slabs_held.Tie as tie
 mul-result : tie.Need-mul-result
 mul-result c = omega (arith, mul-le-mul (c .pre .0) (c .pre .1))
 
-cast-per-level : tie.Need-cast-per-level
-cast-per-level c = search needs
-
-per-level-requires : tie.Need-per-level-requires
-per-level-requires c κs = search needs
-
 mul-result-2 : tie.Need-mul-result-2
 mul-result-2 c =
     let s = c .before in
@@ -27,4 +21,5 @@ returns c = rw (c .per-level .ensures)
 
 pub slabs-held-spec : {M : Type 1} → statement M
 slabs-held-spec =
-    tie.close (tie.spec mul-result cast-per-level per-level-requires mul-result-2 returns)
+    tie.close
+    (tie.spec mul-result (λ c. search needs) (λ c κs. search needs) mul-result-2 returns)

@@ -22,9 +22,6 @@ square c =
     let h : g ≤ 400 = omega (arith, facts (c .before .before) .small, c .grid-size .ensures) in
     mul-le-mul {n₁ = g} {m₁ = g} {n₂ = 400} {m₂ = 400} h h
 
-refusal-requires : tie.Need-refusal-requires
-refusal-requires c κs = search needs
-
 returns : tie.Need-returns
 returns c = let a = c .before .before .before .before .before .before .before .before .before .before .args in
     let m : Mesh = record { vertices = a .vertices .now; counts = a .counts .now; neighbours = a .neighbours .now; angles = a .angles .now } in let l : Locator = record { cellOffsets = a .cell-offsets .now; cellVertices = a .cell-vertices .now; faceOffsets = a .face-offsets .now; faces = a .faces .now } in
@@ -34,12 +31,6 @@ cast-k : tie.Need-cast-k
 cast-k c = let a = c .before .before .before .before .before .before .before .before .before .before .args in
     let m : Mesh = record { vertices = a .vertices .now; counts = a .counts .now; neighbours = a .neighbours .now; angles = a .angles .now } in
     omega (arith, low-level (a .level) m _ _ _ _ (sym (c .before .refusal .ensures) ∙ c .if1 .left))
-
-vertex-count-requires : tie.Need-vertex-count-requires
-vertex-count-requires c κs = search needs
-
-grid-size-requires : tie.Need-grid-size-requires
-grid-size-requires c κs = search needs
 
 mul-put-cells : tie.Need-mul-put-cells
 mul-put-cells c = omega (arith, square c)
@@ -69,18 +60,6 @@ put-faces-requires c κs = let a = c .before .before .before .before .before .be
     rw (c .before .before .before .before .before .before .before .before .before .before .before .before .before .vertex-count .ensures)
     (graph n m (f .kept) (omega (arith, f .few)), omega (arith, f .r3, c .before .before .before .before .before .before .before .before .put-cells .kept .1 .1 .1 .1 .0), omega (arith, f .r4, q), omega (arith, f .few, q))
 
-same-length : tie.Need-same-length
-same-length c = search needs
-
-same-length-2 : tie.Need-same-length-2
-same-length-2 c = search needs
-
-same-length-3 : tie.Need-same-length-3
-same-length-3 c = search needs
-
-same-length-4 : tie.Need-same-length-4
-same-length-4 c = search needs
-
 returns-2 : tie.Need-returns-2
 unfolding cellCount made
 returns-2 c = let a = c .before .before .before .before .before .before .before .before .before .before .before .before .before .before .before .before .before .before .before .before .before .before .before .before .before .before .before .before .before .args in
@@ -93,19 +72,4 @@ returns-2 c = let a = c .before .before .before .before .before .before .before 
 pub locator-spec : {M : Type 1} → statement M
 locator-spec =
     tie.close
-    (tie.spec
-    refusal-requires
-    returns
-    cast-k
-    vertex-count-requires
-    grid-size-requires
-    mul-put-cells
-    mul-put-cells-2
-    put-cells-requires
-    cast-put-faces
-    put-faces-requires
-    same-length
-    same-length-2
-    same-length-3
-    same-length-4
-    returns-2)
+    (tie.spec (λ c κs. search needs) returns cast-k (λ c κs. search needs) (λ c κs. search needs) mul-put-cells mul-put-cells-2 put-cells-requires cast-put-faces put-faces-requires (λ c. search needs) (λ c. search needs) (λ c. search needs) (λ c. search needs) returns-2)

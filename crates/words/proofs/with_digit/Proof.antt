@@ -5,15 +5,6 @@ use Rattle.words.specs.Words.{withDigit}
 use Rattle.words.proofs.with_digit.Statement.{statement}
 use Rattle.words.proofs.with_digit.Tie as tie
 
-mul-result : tie.Need-mul-result
-mul-result c = search needs
-
-digit-requires : tie.Need-digit-requires
-digit-requires c κs = search needs
-
-add-result : tie.Need-add-result
-add-result c = search needs
-
 returns : tie.Need-returns
 unfolding withDigit
 returns c = rw (c .digit .ensures, le-leb _ _ (c .before .if1 .taken))
@@ -23,4 +14,5 @@ unfolding withDigit
 returns-2 c = rw (lt-leb _ _ (c .if1 .left))
 
 pub with-digit-spec : {M : Type 1} → statement M
-with-digit-spec = tie.close (tie.spec mul-result digit-requires add-result returns returns-2)
+with-digit-spec = tie.close
+    (tie.spec (λ c. search needs) (λ c κs. search needs) (λ c. search needs) returns returns-2)

@@ -12,27 +12,9 @@ returns : tie.Need-returns
 unfolding wordAt
 returns c = rw (lt-ltb _ _ (c .if1 .taken))
 
-sub-if2 : tie.Need-sub-if2
-sub-if2 c = search needs
-
 returns-2 : tie.Need-returns-2
 unfolding wordAt
 returns-2 c = rw (le-ltb _ _ (c .before .if1 .left), lt-ltb _ _ (c .if2 .taken))
-
-add-spelled : tie.Need-add-spelled
-add-spelled c = search needs
-
-sub-spelled : tie.Need-sub-spelled
-sub-spelled c = search needs
-
-part-spelled-start : tie.Need-part-spelled-start
-part-spelled-start c = search needs
-
-part-spelled-end : tie.Need-part-spelled-end
-part-spelled-end c = search needs
-
-spelled-requires : tie.Need-spelled-requires
-spelled-requires c κs = search needs
 
 returns-3 : tie.Need-returns-3
 unfolding wordAt
@@ -45,13 +27,4 @@ returns-3 c =
 pub word-spec : {M : Type 1} → statement M
 word-spec =
     tie.close
-    (tie.spec
-    returns
-    sub-if2
-    returns-2
-    add-spelled
-    sub-spelled
-    part-spelled-start
-    part-spelled-end
-    spelled-requires
-    returns-3)
+    (tie.spec returns (λ c. search needs) returns-2 (λ c. search needs) (λ c. search needs) (λ c. search needs) (λ c. search needs) (λ c κs. search needs) returns-3)

@@ -48,9 +48,6 @@ cast-level c = let s = c .before .before .before .before .before .before .before
 cast-top : tie.Need-cast-top Inv-loop μ-loop
 cast-top c = let s = c .before .before .before .before .before .before .before .before .before in omega (arith, s .pre .top-le)
 
-per-level-requires : tie.Need-per-level-requires Inv-loop μ-loop
-per-level-requires c κs = search needs
-
 mul-base : tie.Need-mul-base Inv-loop μ-loop
 mul-base c = let s = c .before .before .before .before .before .before .before .before .before .before in omega (arith, s .pre .slice-le, s .pre .few)
 
@@ -113,21 +110,4 @@ returns c =
 pub settle-rows-spec : {M : Type 1} → statement M
 settle-rows-spec =
     tie.close
-    (tie.spec
-    Inv-loop
-    μ-loop
-    cast-level
-    cast-top
-    per-level-requires
-    mul-base
-    loop-holds
-    add-s
-    mul-settle-slab
-    settle-slab-requires
-    add-i
-    loop-less
-    loop-again
-    same-length
-    same-length-2
-    same-length-3
-    returns)
+    (tie.spec Inv-loop μ-loop cast-level cast-top (λ c κs. search needs) mul-base loop-holds add-s mul-settle-slab settle-slab-requires add-i loop-less loop-again same-length same-length-2 same-length-3 returns)

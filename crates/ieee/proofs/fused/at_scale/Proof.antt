@@ -14,12 +14,6 @@ use Rattle.ieee.proofs.fused.at_scale.Tie as tie
 low-b : (c : tie.Start) → c .args .b .lo < 2 ^ 64
 low-b c = search needs
 
-sub-jam : tie.Need-sub-jam
-sub-jam c = search needs
-
-jam-requires : tie.Need-jam-requires
-jam-requires c κs = search needs
-
 returns : tie.Need-returns
 returns c =
     let s = c .before in
@@ -40,4 +34,5 @@ returns c =
     }
 
 pub at-scale-spec : {M : Type 1} → statement M
-at-scale-spec = tie.close (tie.spec sub-jam jam-requires returns)
+at-scale-spec = tie.close
+    (tie.spec (λ c. search needs) (λ c κs. search needs) returns)

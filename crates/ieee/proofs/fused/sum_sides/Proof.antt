@@ -10,18 +10,6 @@ use borrow.Author.Needs.{needs}
 use Rattle.ieee.proofs.fused.sum_sides.Statement.{statement}
 use Rattle.ieee.proofs.fused.sum_sides.Tie as tie
 
-less-requires : tie.Need-less-requires
-less-requires c κs = search needs
-
-joined-requires : tie.Need-joined-requires
-joined-requires c κs = search needs
-
-sign-requires : tie.Need-sign-requires
-sign-requires c κs = search needs
-
-round-wide-requires : tie.Need-round-wide-requires
-round-wide-requires c κs = search needs
-
 returns : tie.Need-returns
 returns c =
     λ B m M ad.
@@ -42,4 +30,5 @@ returns c =
 
 pub sum-sides-spec : {M : Type 1} → statement M
 sum-sides-spec =
-    tie.close (tie.spec less-requires joined-requires sign-requires round-wide-requires returns)
+    tie.close
+    (tie.spec (λ c κs. search needs) (λ c κs. search needs) (λ c κs. search needs) (λ c κs. search needs) returns)

@@ -24,12 +24,6 @@ smaller c =
     let s = c .before .before .args in
     picked-wide (s .under) (s .a .hi) (s .a .lo) (s .b .hi) (s .b .lo) (c .pick2 .result .hi) (c .pick2 .result .lo) (c .pick2 .ensures .0) (c .pick2 .ensures .1)
 
-pick-requires : tie.Need-pick-requires
-pick-requires c κs = search needs
-
-pick-requires-2 : tie.Need-pick-requires-2
-pick-requires-2 c κs = search needs
-
 combined-requires : tie.Need-combined-requires
 combined-requires c κs =
     let p = c .before in
@@ -52,4 +46,5 @@ returns c =
     ∙ picked-size like (s .args .under) (A s) (B s)
 
 pub joined-spec : {M : Type 1} → statement M
-joined-spec = tie.close (tie.spec pick-requires pick-requires-2 combined-requires returns)
+joined-spec = tie.close
+    (tie.spec (λ c κs. search needs) (λ c κs. search needs) combined-requires returns)

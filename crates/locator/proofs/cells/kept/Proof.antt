@@ -12,9 +12,6 @@ use Rattle.locator.proofs.cells.kept.Tie as tie
 cast-n : tie.Need-cast-n
 cast-n c = let k = c .before .args .c in let h = c .before .fits .c in rw (read k h, as-positive k h (c .if1 .taken)) (tt, room k h)
 
-add-result : tie.Need-add-result
-add-result c = search needs
-
 returns : tie.Need-returns
 unfolding kept
 returns c = let k = c .before .before .args .c in let h = c .before .before .fits .c in rw (read k h, as-positive k h (c .before .if1 .taken)) (let q = rw (read k h, as-positive k h (c .before .if1 .taken)) at (c .if2 .taken) in rw (lt-ltb _ _ q))
@@ -30,4 +27,5 @@ returns-4 : tie.Need-returns-4
 returns-4 c = let k = c .before .before .args .c in let h = c .before .before .fits .c in rw (as-negative k h (c .before .if1 .left), kept-below (mag k) false (rw (read k h, as-negative k h (c .before .if1 .left)) at (c .if3 .left)))
 
 pub kept-spec : {M : Type 1} → statement M
-kept-spec = tie.close (tie.spec cast-n add-result returns returns-2 returns-3 returns-4)
+kept-spec = tie.close
+    (tie.spec cast-n (λ c. search needs) returns returns-2 returns-3 returns-4)

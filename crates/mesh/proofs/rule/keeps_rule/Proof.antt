@@ -17,9 +17,6 @@ Inv-loop n vertices counts neighbours angles v₀ v = (v ≤ n) × (allUpTo v (v
 abbrev μ-loop : tie.MeasureT-loop
 μ-loop n vertices counts neighbours angles v₀ v = n - v
 
-vertices-finite-requires : tie.Need-vertices-finite-requires Inv-loop μ-loop
-vertices-finite-requires c κs = search needs
-
 returns : tie.Need-returns Inv-loop μ-loop
 unfolding keepsRule
 returns c = rw (no (c .before .vertices-finite .ensures) (c .if1 .taken))
@@ -28,21 +25,12 @@ loop-holds : tie.Need-loop-holds Inv-loop μ-loop
 unfolding allUpTo
 loop-holds c = (omega arith, refl)
 
-vertex-kept-requires : tie.Need-vertex-kept-requires Inv-loop μ-loop
-vertex-kept-requires c κs = search needs
-
 returns-2 : tie.Need-returns-2 Inv-loop μ-loop
 unfolding keepsRule
 returns-2 c = let l = c .before .before .before in let a = l .before .before .before .before .before .before .before .args in
     let m : Mesh = record { vertices = a .vertices .now; counts = a .counts .now; neighbours = a .neighbours .now; angles = a .angles .now } in
     rw (yes (l .before .before .vertices-finite .ensures) (l .before .if1 .left))
     (sym (all-fails (vertexKept (a .n) m) (l .loop .v) (a .n) (omega arith) (no (c .before .vertex-kept .ensures ∙ kept-links (a .n) m (l .loop .v)) (c .if2 .taken))))
-
-add-v : tie.Need-add-v Inv-loop μ-loop
-add-v c = search needs
-
-loop-less : tie.Need-loop-less Inv-loop μ-loop
-loop-less c = search needs
 
 loop-again : tie.Need-loop-again Inv-loop μ-loop
 loop-again c = let l = c .before .before .before in let a = l .before .before .before .before .before .before .before .args in
@@ -58,15 +46,4 @@ returns-3 c = let l = c .before in
 pub keeps-rule-spec : {M : Type 1} → statement M
 keeps-rule-spec =
     tie.close
-    (tie.spec
-    Inv-loop
-    μ-loop
-    vertices-finite-requires
-    returns
-    loop-holds
-    vertex-kept-requires
-    returns-2
-    add-v
-    loop-less
-    loop-again
-    returns-3)
+    (tie.spec Inv-loop μ-loop (λ c κs. search needs) returns loop-holds (λ c κs. search needs) returns-2 (λ c. search needs) (λ c. search needs) loop-again returns-3)

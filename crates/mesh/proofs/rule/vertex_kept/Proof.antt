@@ -18,9 +18,6 @@ Inv-loop n counts neighbours angles v d k₀ k = (k ≤ d) × (allUpTo k (neighb
 abbrev μ-loop : tie.MeasureT-loop
 μ-loop n counts neighbours angles v d k₀ k = d - k
 
-degree-requires : tie.Need-degree-requires Inv-loop μ-loop
-degree-requires c κs = search needs
-
 returns : tie.Need-returns Inv-loop μ-loop
 unfolding vertexKept
 returns c = rw (← c .before .degree .ensures, lt-leb _ _ (c .if1 .taken))
@@ -33,21 +30,12 @@ loop-holds : tie.Need-loop-holds Inv-loop μ-loop
 unfolding allUpTo
 loop-holds c = (omega arith, refl)
 
-neighbour-kept-requires : tie.Need-neighbour-kept-requires Inv-loop μ-loop
-neighbour-kept-requires c κs = search needs
-
 returns-3 : tie.Need-returns-3 Inv-loop μ-loop
 unfolding vertexKept
 returns-3 c = let l = c .before .before .before in let a = l .before .before .before .before .before .before .before .args in
     let m : Mesh = record { vertices = []; counts = a .counts .now; neighbours = a .neighbours .now; angles = a .angles .now } in
     rw (← l .before .before .before .degree .ensures, le-leb _ _ (l .before .before .if1 .left), le-leb _ _ (l .before .if2 .left))
     (sym (all-fails (neighbourKept (a .n) m (a .v)) (l .loop .k) (l .before .before .before .degree .result) (omega arith) (no (c .before .neighbour-kept .ensures) (c .if3 .taken))))
-
-add-k : tie.Need-add-k Inv-loop μ-loop
-add-k c = search needs
-
-loop-less : tie.Need-loop-less Inv-loop μ-loop
-loop-less c = search needs
 
 loop-again : tie.Need-loop-again Inv-loop μ-loop
 loop-again c = let l = c .before .before .before in let a = l .before .before .before .before .before .before .before .args in
@@ -63,16 +51,4 @@ returns-4 c = let l = c .before in
 pub vertex-kept-spec : {M : Type 1} → statement M
 vertex-kept-spec =
     tie.close
-    (tie.spec
-    Inv-loop
-    μ-loop
-    degree-requires
-    returns
-    returns-2
-    loop-holds
-    neighbour-kept-requires
-    returns-3
-    add-k
-    loop-less
-    loop-again
-    returns-4)
+    (tie.spec Inv-loop μ-loop (λ c κs. search needs) returns returns-2 loop-holds (λ c κs. search needs) returns-3 (λ c. search needs) (λ c. search needs) loop-again returns-4)

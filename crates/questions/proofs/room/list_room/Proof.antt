@@ -11,12 +11,6 @@ use Rattle.questions.proofs.room.list_room.Tie as tie
 mul-n : tie.Need-mul-n
 mul-n c = omega (arith, mul-le-mul (c .pre .0) (c .pre .1))
 
-cast-per-level : tie.Need-cast-per-level
-cast-per-level c = search needs
-
-per-level-requires : tie.Need-per-level-requires
-per-level-requires c κs = search needs
-
 mul-result : tie.Need-mul-result
 mul-result c =
     let s = c .before in
@@ -27,4 +21,5 @@ unfolding listRoom rowRoom
 returns c = rw (c .per-level .ensures)
 
 pub list-room-spec : {M : Type 1} → statement M
-list-room-spec = tie.close (tie.spec mul-n cast-per-level per-level-requires mul-result returns)
+list-room-spec = tie.close
+    (tie.spec mul-n (λ c. search needs) (λ c κs. search needs) mul-result returns)

@@ -13,9 +13,6 @@ use Rattle.questions.proofs.room.meshed_refusal.Tie as tie
 held : (c : tie.Else1) → let a = c .before .before .before .before .before .before .before .args in Asked (a .b .grid) (a .b .top) (a .b .level)
 held c = asked _ _ _ (sym (c .before .question .ensures) ∙ c .if1 .left)
 
-question-requires : tie.Need-question-requires
-question-requires c κs = search needs
-
 returns : tie.Need-returns
 unfolding ask first
 returns c = rw (← c .before .question .ensures, ne-eqb _ _ (c .if1 .taken))
@@ -32,9 +29,6 @@ returns-2 c =
 cast-meshes-room : tie.Need-cast-meshes-room
 cast-meshes-room c = let a = held (c .before .before) in omega (arith, a .top-le)
 
-meshes-room-requires : tie.Need-meshes-room-requires
-meshes-room-requires c κs = search needs
-
 returns-3 : tie.Need-returns-3
 unfolding ask first
 returns-3 c =
@@ -44,9 +38,6 @@ returns-3 c =
 
 cast-meshes-keep : tie.Need-cast-meshes-keep
 cast-meshes-keep c = let a = held (c .before .before .before .before) in omega (arith, a .top-le)
-
-meshes-keep-requires : tie.Need-meshes-keep-requires
-meshes-keep-requires c κs = search needs
 
 returns-4 : tie.Need-returns-4
 unfolding ask first
@@ -69,15 +60,4 @@ returns-5 c =
 pub meshed-refusal-spec : {M : Type 1} → statement M
 meshed-refusal-spec =
     tie.close
-    (tie.spec
-    question-requires
-    returns
-    list-room-requires
-    returns-2
-    cast-meshes-room
-    meshes-room-requires
-    returns-3
-    cast-meshes-keep
-    meshes-keep-requires
-    returns-4
-    returns-5)
+    (tie.spec (λ c κs. search needs) returns list-room-requires returns-2 cast-meshes-room (λ c κs. search needs) returns-3 cast-meshes-keep (λ c κs. search needs) returns-4 returns-5)

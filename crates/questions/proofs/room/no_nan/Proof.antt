@@ -21,15 +21,6 @@ abbrev μ-loop : tie.MeasureT-loop
 loop-holds : tie.Need-loop-holds Inv-loop μ-loop
 loop-holds c = refl
 
-mul-is-number : tie.Need-mul-is-number Inv-loop μ-loop
-mul-is-number c = search needs
-
-shared-slice-read-is-number : tie.Need-shared-slice-read-is-number Inv-loop μ-loop
-shared-slice-read-is-number c = search needs
-
-is-number-requires : tie.Need-is-number-requires Inv-loop μ-loop
-is-number-requires c κs = search needs
-
 returns : tie.Need-returns Inv-loop μ-loop
 returns c =
     let l = c .before .before .before .before in
@@ -56,15 +47,4 @@ returns-2 c =
 pub no-nan-spec : {M : Type 1} → statement M
 no-nan-spec =
     tie.close
-    (tie.spec
-    Inv-loop
-    μ-loop
-    loop-holds
-    mul-is-number
-    shared-slice-read-is-number
-    is-number-requires
-    returns
-    add-i
-    loop-less
-    loop-again
-    returns-2)
+    (tie.spec Inv-loop μ-loop loop-holds (λ c. search needs) (λ c. search needs) (λ c κs. search needs) returns add-i loop-less loop-again returns-2)

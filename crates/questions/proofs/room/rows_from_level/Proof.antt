@@ -26,12 +26,6 @@ loop-holds c = (omega arith, refl)
 add-resolution-at : tie.Need-add-resolution-at Inv-loop μ-loop
 add-resolution-at c = let a = c .before .before .before .before .before in omega (arith, a .pre .0, a .pre .1)
 
-resolution-at-requires : tie.Need-resolution-at-requires Inv-loop μ-loop
-resolution-at-requires c κs = search needs
-
-from-level-requires : tie.Need-from-level-requires Inv-loop μ-loop
-from-level-requires c κs = search needs
-
 returns : tie.Need-returns Inv-loop μ-loop
 unfolding rowsFromLevel
 returns c =
@@ -65,15 +59,4 @@ returns-2 c =
 pub rows-from-level-spec : {M : Type 1} → statement M
 rows-from-level-spec =
     tie.close
-    (tie.spec
-    Inv-loop
-    μ-loop
-    loop-holds
-    add-resolution-at
-    resolution-at-requires
-    from-level-requires
-    returns
-    add-i
-    loop-less
-    loop-again
-    returns-2)
+    (tie.spec Inv-loop μ-loop loop-holds add-resolution-at (λ c κs. search needs) (λ c κs. search needs) returns add-i loop-less loop-again returns-2)

@@ -25,9 +25,6 @@ loop-holds c = (omega arith, refl)
 add-row-known : tie.Need-add-row-known Inv-loop μ-loop
 add-row-known c = let a = c .before .before .before .before in omega (arith, a .pre .0, a .pre .1)
 
-row-known-requires : tie.Need-row-known-requires Inv-loop μ-loop
-row-known-requires c κs = search needs
-
 returns : tie.Need-returns Inv-loop μ-loop
 unfolding rowsKnown
 returns c =
@@ -57,14 +54,4 @@ returns-2 c =
 pub rows-known-spec : {M : Type 1} → statement M
 rows-known-spec =
     tie.close
-    (tie.spec
-    Inv-loop
-    μ-loop
-    loop-holds
-    add-row-known
-    row-known-requires
-    returns
-    add-i
-    loop-less
-    loop-again
-    returns-2)
+    (tie.spec Inv-loop μ-loop loop-holds add-row-known (λ c κs. search needs) returns add-i loop-less loop-again returns-2)

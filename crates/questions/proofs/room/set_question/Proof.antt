@@ -7,25 +7,13 @@ use borrow.Author.Needs.{needs}
 use Rattle.questions.proofs.room.set_question.Statement.{statement}
 use Rattle.questions.proofs.room.set_question.Tie as tie
 
-bins-held-requires : tie.Need-bins-held-requires
-bins-held-requires c κs = search needs
-
 returns : tie.Need-returns
 unfolding setQuestion ask
 returns c = rw (no (c .before .bins-held .ensures) (c .if1 .taken))
 
-cast-per-level : tie.Need-cast-per-level
-cast-per-level c = search needs
-
-per-level-requires : tie.Need-per-level-requires
-per-level-requires c κs = search needs
-
 returns-2 : tie.Need-returns-2
 unfolding setQuestion ask
 returns-2 c = rw (yes (c .before .before .before .bins-held .ensures) (c .before .before .if1 .left), ← c .before .per-level .ensures, ne-eqb _ _ (c .if2 .taken))
-
-no-nan-requires : tie.Need-no-nan-requires
-no-nan-requires c κs = search needs
 
 returns-3 : tie.Need-returns-3
 unfolding setQuestion ask
@@ -42,12 +30,4 @@ returns-4 c =
 pub set-question-spec : {M : Type 1} → statement M
 set-question-spec =
     tie.close
-    (tie.spec
-    bins-held-requires
-    returns
-    cast-per-level
-    per-level-requires
-    returns-2
-    no-nan-requires
-    returns-3
-    returns-4)
+    (tie.spec (λ c κs. search needs) returns (λ c. search needs) (λ c κs. search needs) returns-2 (λ c κs. search needs) returns-3 returns-4)

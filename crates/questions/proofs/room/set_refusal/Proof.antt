@@ -13,9 +13,6 @@ use Rattle.questions.proofs.room.set_refusal.Tie as tie
 held : (c : tie.Else1) → let a = c .before .before .before .before .args in Asked (a .b .grid) (a .b .top) (a .b .level)
 held c = asked _ _ _ (sym (c .before .question .ensures) ∙ c .if1 .left)
 
-question-requires : tie.Need-question-requires
-question-requires c κs = search needs
-
 returns : tie.Need-returns
 unfolding ask first
 returns c = rw (← c .before .question .ensures, ne-eqb _ _ (c .if1 .taken))
@@ -42,10 +39,4 @@ returns-3 c =
 pub set-refusal-spec : {M : Type 1} → statement M
 set-refusal-spec =
     tie.close
-    (tie.spec
-    question-requires
-    returns
-    list-room-requires
-    returns-2
-    set-question-requires
-    returns-3)
+    (tie.spec (λ c κs. search needs) returns list-room-requires returns-2 set-question-requires returns-3)

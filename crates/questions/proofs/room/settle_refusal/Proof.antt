@@ -12,9 +12,6 @@ use borrow.Author.Needs.{needs}
 use Rattle.questions.proofs.room.settle_refusal.Statement.{statement}
 use Rattle.questions.proofs.room.settle_refusal.Tie as tie
 
-meshed-refusal-requires : tie.Need-meshed-refusal-requires
-meshed-refusal-requires c κs = search needs
-
 returns : tie.Need-returns
 unfolding first meshedRefusal
 returns c =
@@ -41,4 +38,5 @@ returns-2 c =
     rw (← asked-as (a .b) m l (a .ri), ← c .before .before .meshed-refusal .ensures, eq-eqb _ _ (c .before .if1 .left), c .settle-question .ensures)
 
 pub settle-refusal-spec : {M : Type 1} → statement M
-settle-refusal-spec = tie.close (tie.spec meshed-refusal-requires returns settle-question-requires returns-2)
+settle-refusal-spec = tie.close
+    (tie.spec (λ c κs. search needs) returns settle-question-requires returns-2)

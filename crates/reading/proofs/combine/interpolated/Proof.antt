@@ -17,16 +17,10 @@ smalls c =
     let b = both-found (s .args .x .number) (s .args .y .number) (found c) in
     (small (s .args .n) (s .args .x .face) (s .pre .1) (s .pre .2 (b .0)), small (s .args .n) (s .args .y .face) (s .pre .1) (s .pre .3 (b .1)))
 
-joint-requires : tie.Need-joint-requires
-joint-requires c κs = search needs
-
 returns : tie.Need-returns
 returns c =
     let a = c .before .before .before .before .before .before .before .args in
     face-none (a .file .now) (a .t) (a .offset) (a .n) (a .x) (a .y) (c .before .joint .result) (c .before .joint .ensures) (c .if1 .taken)
-
-items-inside-requires : tie.Need-items-inside-requires
-items-inside-requires c κs = search needs
 
 face-held-requires : tie.Need-face-held-requires
 face-held-requires c κs = let s = c .before .before .before .before .before .before .before .before in (s .pre .0, s .pre .1, smalls (c .before) .0, smalls (c .before) .1)
@@ -52,11 +46,4 @@ returns-3 c =
 pub interpolated-spec : {M : Type 1} → statement M
 interpolated-spec =
     tie.close
-    (tie.spec
-    joint-requires
-    returns
-    items-inside-requires
-    face-held-requires
-    returns-2
-    face-terms-requires
-    returns-3)
+    (tie.spec (λ c κs. search needs) returns (λ c κs. search needs) face-held-requires returns-2 face-terms-requires returns-3)

@@ -17,16 +17,10 @@ asked c = yes (c .before .query-held .ensures) (c .if1 .left)
 inner : (c : tie.Else2) → outside (c .before .before .before .before .before .before .args .t .grid) (c .before .before .before .before .before .before .args .r) ≡ false
 inner c = sym (c .before .outside .ensures) ∙ c .if2 .left
 
-query-held-requires : tie.Need-query-held-requires
-query-held-requires c κs = search needs
-
 returns : tie.Need-returns
 returns c =
     let a = c .before .before .before .before .args in
     refused-18 (a .file .now) (a .t) (query (c .before .before .before .before)) (no (c .before .query-held .ensures) (c .if1 .taken))
-
-outside-requires : tie.Need-outside-requires
-outside-requires c κs = search needs
 
 returns-2 : tie.Need-returns-2
 returns-2 c =
@@ -51,11 +45,4 @@ returns-4 c =
 pub row-place-spec : {M : Type 1} → statement M
 row-place-spec =
     tie.close
-    (tie.spec
-    query-held-requires
-    returns
-    outside-requires
-    returns-2
-    returns-3
-    slab-row-requires
-    returns-4)
+    (tie.spec (λ c κs. search needs) returns (λ c κs. search needs) returns-2 returns-3 slab-row-requires returns-4)

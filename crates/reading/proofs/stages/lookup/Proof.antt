@@ -13,18 +13,6 @@ lists s = record { cellOffsets = s .args .cell-offsets .now; cellVertices = s .a
 abbrev query : tie.Start → Query
 query s = record { r = s .args .r; omega = s .args .omega; a = s .args .a; b = s .args .b }
 
-row-place-requires : tie.Need-row-place-requires
-row-place-requires c κs = search needs
-
-enum-known-n : tie.Need-enum-known-n
-enum-known-n c = search needs
-
-enum-told : tie.Need-enum-told
-enum-told c = search needs
-
-enum-known-at : tie.Need-enum-known-at
-enum-known-at c = search needs
-
 read-row-requires : tie.Need-read-row-requires
 read-row-requires c κs =
     let p = c .before .before .before in
@@ -53,12 +41,4 @@ returns-3 c =
 pub lookup-spec : {M : Type 1} → statement M
 lookup-spec =
     tie.close
-    (tie.spec
-    row-place-requires
-    enum-known-n
-    enum-told
-    enum-known-at
-    read-row-requires
-    returns
-    returns-2
-    returns-3)
+    (tie.spec (λ c κs. search needs) (λ c. search needs) (λ c. search needs) (λ c. search needs) read-row-requires returns returns-2 returns-3)

@@ -5,24 +5,6 @@ use lib.Seq.{length-take-le}
 use Rattle.readings.proofs.answer.answer.Statement.{statement}
 use Rattle.readings.proofs.answer.answer.Tie as tie
 
-lent-requires : tie.Need-lent-requires
-lent-requires c κs = search needs
-
-lent-requires-2 : tie.Need-lent-requires-2
-lent-requires-2 c κs = search needs
-
-lent-requires-3 : tie.Need-lent-requires-3
-lent-requires-3 c κs = search needs
-
-lent-requires-4 : tie.Need-lent-requires-4
-lent-requires-4 c κs = search needs
-
-lent-requires-5 : tie.Need-lent-requires-5
-lent-requires-5 c κs = search needs
-
-lent-requires-6 : tie.Need-lent-requires-6
-lent-requires-6 c κs = search needs
-
 slice-aggregate-lookup : tie.Need-slice-aggregate-lookup
 slice-aggregate-lookup c = sym (length-take-le _ _ (c .before .before .before .before .before .before .lent .ensures))
 
@@ -41,43 +23,7 @@ slice-aggregate-lookup-5 c = sym (length-take-le _ _ (c .before .before .before 
 slice-aggregate-lookup-6 : tie.Need-slice-aggregate-lookup-6
 slice-aggregate-lookup-6 c = sym (length-take-le _ _ (c .before .before .before .before .before .before .lent6 .ensures))
 
-r-requires : tie.Need-r-requires
-r-requires c κs = search needs
-
-omega-requires : tie.Need-omega-requires
-omega-requires c κs = search needs
-
-first-requires : tie.Need-first-requires
-first-requires c κs = search needs
-
-second-requires : tie.Need-second-requires
-second-requires c κs = search needs
-
-lookup-requires : tie.Need-lookup-requires
-lookup-requires c κs = search needs
-
-returns : tie.Need-returns
-returns c = search needs
-
 pub answer-spec : {M : Type 1} → statement M
 answer-spec =
     tie.close
-    (tie.spec
-    lent-requires
-    lent-requires-2
-    lent-requires-3
-    lent-requires-4
-    lent-requires-5
-    lent-requires-6
-    slice-aggregate-lookup
-    slice-aggregate-lookup-2
-    slice-aggregate-lookup-3
-    slice-aggregate-lookup-4
-    slice-aggregate-lookup-5
-    slice-aggregate-lookup-6
-    r-requires
-    omega-requires
-    first-requires
-    second-requires
-    lookup-requires
-    returns)
+    (tie.spec (λ c κs. search needs) (λ c κs. search needs) (λ c κs. search needs) (λ c κs. search needs) (λ c κs. search needs) (λ c κs. search needs) slice-aggregate-lookup slice-aggregate-lookup-2 slice-aggregate-lookup-3 slice-aggregate-lookup-4 slice-aggregate-lookup-5 slice-aggregate-lookup-6 (λ c κs. search needs) (λ c κs. search needs) (λ c κs. search needs) (λ c κs. search needs) (λ c κs. search needs) (λ c. search needs))

@@ -38,44 +38,14 @@ tests c = rw (c .before .before .inside .ensures, c .before .inside2 .ensures, c
 room : (vs : List Float) (n v : ℕ) → inside vs n v ≡ true → 3 * v + 3 ≤ length vs
 room vs n v h = leb-true _ _ (and-eq-true-iff (ltb v n) (leb (3 * v + 3) (length vs)) .0 h .1)
 
-no-fit-requires : tie.Need-no-fit-requires Inv-loop μ-loop
-no-fit-requires c κs = tt
-
 loop-holds : tie.Need-loop-holds Inv-loop μ-loop
 loop-holds c = (omega arith, omega arith, refl)
-
-mul-wide16 : tie.Need-mul-wide16 Inv-loop μ-loop
-mul-wide16 c = search needs
-
-shared-slice-read-wide16 : tie.Need-shared-slice-read-wide16 Inv-loop μ-loop
-shared-slice-read-wide16 c = search needs
-
-wide16-requires : tie.Need-wide16-requires Inv-loop μ-loop
-wide16-requires c κs = tt
-
-add-wide16 : tie.Need-add-wide16 Inv-loop μ-loop
-add-wide16 c = search needs
-
-mul-wide16-2 : tie.Need-mul-wide16-2 Inv-loop μ-loop
-mul-wide16-2 c = search needs
 
 shared-slice-read-wide16-2 : tie.Need-shared-slice-read-wide16-2 Inv-loop μ-loop
 shared-slice-read-wide16-2 c = omega arith
 
-wide16-requires-2 : tie.Need-wide16-requires-2 Inv-loop μ-loop
-wide16-requires-2 c κs = tt
-
-add-wide16-2 : tie.Need-add-wide16-2 Inv-loop μ-loop
-add-wide16-2 c = search needs
-
-mul-wide16-3 : tie.Need-mul-wide16-3 Inv-loop μ-loop
-mul-wide16-3 c = search needs
-
 shared-slice-read-wide16-3 : tie.Need-shared-slice-read-wide16-3 Inv-loop μ-loop
 shared-slice-read-wide16-3 c = omega arith
-
-wide16-requires-3 : tie.Need-wide16-requires-3 Inv-loop μ-loop
-wide16-requires-3 c κs = tt
 
 inside-requires : tie.Need-inside-requires Inv-loop μ-loop
 inside-requires c κs =
@@ -91,9 +61,6 @@ inside-requires-3 : tie.Need-inside-requires-3 Inv-loop μ-loop
 inside-requires-3 c κs =
     let d = c .before .before in
     omega (arith, d .wide163 .ensures, d .before .shared-slice-known5 .given (d .before .before .before .before .before .before .before .loop .i + 2))
-
-not-located-requires : tie.Need-not-located-requires Inv-loop μ-loop
-not-located-requires c κs = tt
 
 returns : tie.Need-returns Inv-loop μ-loop
 returns c =
@@ -140,9 +107,6 @@ loop-again c =
           ∙ l .loop .inv .2),
     )
 
-fitted-requires : tie.Need-fitted-requires Inv-loop μ-loop
-fitted-requires c κs = tt
-
 returns-2 : tie.Need-returns-2 Inv-loop μ-loop
 returns-2 c =
     let l = c .before .before in
@@ -152,30 +116,4 @@ returns-2 c =
 pub best-face-spec : {M : Type 1} → statement M
 best-face-spec =
     tie.close
-    (tie.spec
-    Inv-loop
-    μ-loop
-    no-fit-requires
-    loop-holds
-    mul-wide16
-    shared-slice-read-wide16
-    wide16-requires
-    add-wide16
-    mul-wide16-2
-    shared-slice-read-wide16-2
-    wide16-requires-2
-    add-wide16-2
-    mul-wide16-3
-    shared-slice-read-wide16-3
-    wide16-requires-3
-    inside-requires
-    inside-requires-2
-    inside-requires-3
-    not-located-requires
-    returns
-    better-requires
-    add-i
-    loop-less
-    loop-again
-    fitted-requires
-    returns-2)
+    (tie.spec Inv-loop μ-loop (λ c κs. tt) loop-holds (λ c. search needs) (λ c. search needs) (λ c κs. tt) (λ c. search needs) (λ c. search needs) shared-slice-read-wide16-2 (λ c κs. tt) (λ c. search needs) (λ c. search needs) shared-slice-read-wide16-3 (λ c κs. tt) inside-requires inside-requires-2 inside-requires-3 (λ c κs. tt) returns better-requires add-i loop-less loop-again (λ c κs. tt) returns-2)

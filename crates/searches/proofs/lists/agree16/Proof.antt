@@ -11,57 +11,7 @@ Inv-loop text at list c₀ p₀ i₀ c p i = i ≤ length list
 abbrev μ-loop : tie.MeasureT-loop
 μ-loop text at list c₀ p₀ i₀ c p i = length list - i
 
-none-requires : tie.Need-none-requires Inv-loop μ-loop
-none-requires c κs = search needs
-
-loop-holds : tie.Need-loop-holds Inv-loop μ-loop
-loop-holds c = search needs
-
-mul-same16 : tie.Need-mul-same16 Inv-loop μ-loop
-mul-same16 c = search needs
-
-shared-slice-read-same16 : tie.Need-shared-slice-read-same16 Inv-loop μ-loop
-shared-slice-read-same16 c = search needs
-
-word-requires : tie.Need-word-requires Inv-loop μ-loop
-word-requires c κs = search needs
-
-same16-requires : tie.Need-same16-requires Inv-loop μ-loop
-same16-requires c κs = search needs
-
-with-requires : tie.Need-with-requires Inv-loop μ-loop
-with-requires c κs = search needs
-
-more-requires : tie.Need-more-requires Inv-loop μ-loop
-more-requires c κs = search needs
-
-add-i : tie.Need-add-i Inv-loop μ-loop
-add-i c = search needs
-
-loop-less : tie.Need-loop-less Inv-loop μ-loop
-loop-less c = search needs
-
-loop-again : tie.Need-loop-again Inv-loop μ-loop
-loop-again c = search needs
-
-returns : tie.Need-returns Inv-loop μ-loop
-returns c = search needs
-
 pub agree16-spec : {M : Type 1} → statement M
 agree16-spec =
     tie.close
-    (tie.spec
-    Inv-loop
-    μ-loop
-    none-requires
-    loop-holds
-    mul-same16
-    shared-slice-read-same16
-    word-requires
-    same16-requires
-    with-requires
-    more-requires
-    add-i
-    loop-less
-    loop-again
-    returns)
+    (tie.spec Inv-loop μ-loop (λ c κs. search needs) (λ c. search needs) (λ c. search needs) (λ c. search needs) (λ c κs. search needs) (λ c κs. search needs) (λ c κs. search needs) (λ c κs. search needs) (λ c. search needs) (λ c. search needs) (λ c. search needs) (λ c. search needs))

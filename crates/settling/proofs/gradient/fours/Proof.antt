@@ -21,9 +21,6 @@ loop-holds : tie.Need-loop-holds Inv-loop μ-loop
 unfolding firstColumns forEach
 loop-holds c = (omega arith, refl)
 
-cast-four-columns : tie.Need-cast-four-columns Inv-loop μ-loop
-cast-four-columns c = search needs
-
 mul-four-columns : tie.Need-mul-four-columns Inv-loop μ-loop
 mul-four-columns c = omega arith
 
@@ -51,14 +48,4 @@ returns c =
 pub fours-spec : {M : Type 1} → statement M
 fours-spec =
     tie.close
-    (tie.spec
-    Inv-loop
-    μ-loop
-    loop-holds
-    cast-four-columns
-    mul-four-columns
-    four-columns-requires
-    add-i
-    loop-less
-    loop-again
-    returns)
+    (tie.spec Inv-loop μ-loop loop-holds (λ c. search needs) mul-four-columns four-columns-requires add-i loop-less loop-again returns)

@@ -8,24 +8,6 @@ use borrow.Author.Needs.{needs}
 use Rattle.settling.proofs.gradient.line.Statement.{statement}
 use Rattle.settling.proofs.gradient.line.Tie as tie
 
-slice-aggregate-weigh : tie.Need-slice-aggregate-weigh
-slice-aggregate-weigh c = search needs
-
-weigh-requires : tie.Need-weigh-requires
-weigh-requires c κs = search needs
-
-sub-line-gradient : tie.Need-sub-line-gradient
-sub-line-gradient c = search needs
-
-part-line-gradient-start : tie.Need-part-line-gradient-start
-part-line-gradient-start c = search needs
-
-part-line-gradient-end : tie.Need-part-line-gradient-end
-part-line-gradient-end c = search needs
-
-line-gradient-requires : tie.Need-line-gradient-requires
-line-gradient-requires c κs = search needs
-
 returns : tie.Need-returns
 returns c =
     let a = c .before .before .before .before .before .before .before .before .before .before .args in
@@ -37,11 +19,4 @@ returns c =
 pub line-spec : {M : Type 1} → statement M
 line-spec =
     tie.close
-    (tie.spec
-    slice-aggregate-weigh
-    weigh-requires
-    sub-line-gradient
-    part-line-gradient-start
-    part-line-gradient-end
-    line-gradient-requires
-    returns)
+    (tie.spec (λ c. search needs) (λ c κs. search needs) (λ c. search needs) (λ c. search needs) (λ c. search needs) (λ c κs. search needs) returns)

@@ -29,9 +29,6 @@ loop-holds : tie.Need-loop-holds Inv-loop μ-loop
 unfolding forEach
 loop-holds c = (omega arith, refl, search needs)
 
-along-neighbours-requires : tie.Need-along-neighbours-requires Inv-loop μ-loop
-along-neighbours-requires c κs = search needs
-
 add-v : tie.Need-add-v Inv-loop μ-loop
 add-v c = omega arith
 
@@ -57,12 +54,4 @@ returns c =
 pub line-gradient-spec : {M : Type 1} → statement M
 line-gradient-spec =
     tie.close
-    (tie.spec
-    Inv-loop
-    μ-loop
-    loop-holds
-    along-neighbours-requires
-    add-v
-    loop-less
-    loop-again
-    returns)
+    (tie.spec Inv-loop μ-loop loop-holds (λ c κs. search needs) add-v loop-less loop-again returns)

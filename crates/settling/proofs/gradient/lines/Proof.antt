@@ -35,9 +35,6 @@ loop-holds : tie.Need-loop-holds Inv-loop μ-loop
 unfolding forEach
 loop-holds c = (omega arith, refl, search needs)
 
-cast-line : tie.Need-cast-line Inv-loop μ-loop
-cast-line c = search needs
-
 mul-line : tie.Need-mul-line Inv-loop μ-loop
 mul-line c = omega (arith, place c)
 
@@ -70,14 +67,4 @@ returns c =
 pub lines-spec : {M : Type 1} → statement M
 lines-spec =
     tie.close
-    (tie.spec
-    Inv-loop
-    μ-loop
-    loop-holds
-    cast-line
-    mul-line
-    line-requires
-    add-t
-    loop-less
-    loop-again
-    returns)
+    (tie.spec Inv-loop μ-loop loop-holds (λ c. search needs) mul-line line-requires add-t loop-less loop-again returns)

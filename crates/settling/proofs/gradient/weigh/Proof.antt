@@ -45,9 +45,6 @@ loop-again c =
       rw (c .weight-at .ensures) (weigh-turn (a .beta) (a .energies .now) (a .from) (a .step) (a .weights .now) (l .loop .weights) (l .loop .i) (l .loop .inv .2) (omega arith)),
     )
 
-same-length : tie.Need-same-length Inv-loop μ-loop
-same-length c = search needs
-
 returns : tie.Need-returns Inv-loop μ-loop
 returns c =
     let l = c .before in
@@ -57,15 +54,4 @@ returns c =
 pub weigh-spec : {M : Type 1} → statement M
 weigh-spec =
     tie.close
-    (tie.spec
-    Inv-loop
-    μ-loop
-    loop-holds
-    weight-at-requires
-    mul-weights
-    slice-write-weights
-    add-i
-    loop-less
-    loop-again
-    same-length
-    returns)
+    (tie.spec Inv-loop μ-loop loop-holds weight-at-requires mul-weights slice-write-weights add-i loop-less loop-again (λ c. search needs) returns)

@@ -5,26 +5,8 @@ use borrow.Author.Needs.{needs}
 use Rattle.settling.proofs.verdicts.replace_by.Statement.{statement}
 use Rattle.settling.proofs.verdicts.replace_by.Tie as tie
 
-stays-requires : tie.Need-stays-requires
-stays-requires c κs = search needs
-
 returns : tie.Need-returns
 returns c = let a = c .before .before .before .before .before .args in row-stays (record { kinds = a .kinds .now; levels = a .levels .now; values = a .values .now }) (a .s) (a .level) (a .v) (sym (c .before .stays .ensures) ∙ c .if1 .taken)
-
-becomes-requires : tie.Need-becomes-requires
-becomes-requires c κs = search needs
-
-replace-requires : tie.Need-replace-requires
-replace-requires c κs = search needs
-
-same-length : tie.Need-same-length
-same-length c = search needs
-
-same-length-2 : tie.Need-same-length-2
-same-length-2 c = search needs
-
-same-length-3 : tie.Need-same-length-3
-same-length-3 c = search needs
 
 returns-2 : tie.Need-returns-2
 returns-2 c =
@@ -36,12 +18,4 @@ returns-2 c =
 pub replace-by-spec : {M : Type 1} → statement M
 replace-by-spec =
     tie.close
-    (tie.spec
-    stays-requires
-    returns
-    becomes-requires
-    replace-requires
-    same-length
-    same-length-2
-    same-length-3
-    returns-2)
+    (tie.spec (λ c κs. search needs) returns (λ c κs. search needs) (λ c κs. search needs) (λ c. search needs) (λ c. search needs) (λ c. search needs) returns-2)

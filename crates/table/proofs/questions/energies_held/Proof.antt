@@ -24,9 +24,6 @@ loop-holds c = (c .before .pre, refl)
 u32-in-requires : tie.Need-u32-in-requires Inv-loop μ-loop
 u32-in-requires c κs = omega arith
 
-nan-bits-requires : tie.Need-nan-bits-requires Inv-loop μ-loop
-nan-bits-requires c κs = search needs
-
 returns : tie.Need-returns Inv-loop μ-loop
 unfolding numberAt
 returns c =
@@ -59,15 +56,4 @@ returns-2 c =
 pub energies-held-spec : {M : Type 1} → statement M
 energies-held-spec =
     tie.close
-    (tie.spec
-    Inv-loop
-    μ-loop
-    loop-holds
-    u32-in-requires
-    nan-bits-requires
-    returns
-    add-at
-    sub-left
-    loop-less
-    loop-again
-    returns-2)
+    (tie.spec Inv-loop μ-loop loop-holds u32-in-requires (λ c κs. search needs) returns add-at sub-left loop-less loop-again returns-2)

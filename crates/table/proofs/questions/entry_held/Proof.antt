@@ -5,9 +5,6 @@ use Rattle.table.specs.Read.{entryHeld}
 use Rattle.table.proofs.questions.entry_held.Statement.{statement}
 use Rattle.table.proofs.questions.entry_held.Tie as tie
 
-scalar-held-requires : tie.Need-scalar-held-requires
-scalar-held-requires c κs = search needs
-
 returns : tie.Need-returns
 unfolding entryHeld
 returns c = rw (eq-eqb _ _ (c .before .if1 .taken), c .scalar-held .ensures)
@@ -21,4 +18,5 @@ unfolding entryHeld
 returns-3 c = rw (ne-eqb _ _ (c .before .if1 .left), ne-eqb _ _ (c .if2 .left))
 
 pub entry-held-spec : {M : Type 1} → statement M
-entry-held-spec = tie.close (tie.spec scalar-held-requires returns returns-2 returns-3)
+entry-held-spec = tie.close
+    (tie.spec (λ c κs. search needs) returns returns-2 returns-3)

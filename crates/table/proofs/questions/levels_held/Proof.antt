@@ -32,14 +32,8 @@ add-u32-in c = omega arith
 u32-in-requires : tie.Need-u32-in-requires Inv-loop μ-loop
 u32-in-requires c κs = omega arith
 
-cast-if1 : tie.Need-cast-if1 Inv-loop μ-loop
-cast-if1 c = search needs
-
 cast-vertex-count : tie.Need-cast-vertex-count Inv-loop μ-loop
 cast-vertex-count c = omega arith
-
-vertex-count-requires : tie.Need-vertex-count-requires Inv-loop μ-loop
-vertex-count-requires c κs = search needs
 
 returns : tie.Need-returns Inv-loop μ-loop
 returns c =
@@ -67,18 +61,4 @@ returns-2 c =
 pub levels-held-spec : {M : Type 1} → statement M
 levels-held-spec =
     tie.close
-    (tie.spec
-    Inv-loop
-    μ-loop
-    loop-holds
-    mul-u32-in
-    add-u32-in
-    u32-in-requires
-    cast-if1
-    cast-vertex-count
-    vertex-count-requires
-    returns
-    add-m
-    loop-less
-    loop-again
-    returns-2)
+    (tie.spec Inv-loop μ-loop loop-holds mul-u32-in add-u32-in u32-in-requires (λ c. search needs) cast-vertex-count (λ c κs. search needs) returns add-m loop-less loop-again returns-2)

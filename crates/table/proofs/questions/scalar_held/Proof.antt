@@ -5,9 +5,6 @@ use Rattle.table.specs.Read.{scalarHeld}
 use Rattle.table.proofs.questions.scalar_held.Statement.{statement}
 use Rattle.table.proofs.questions.scalar_held.Tie as tie
 
-nan-bits-requires : tie.Need-nan-bits-requires
-nan-bits-requires c κs = search needs
-
 returns : tie.Need-returns
 unfolding scalarHeld
 returns c = rw (sym (c .before .nan-bits .ensures) ∙ c .if1 .taken)
@@ -17,4 +14,5 @@ unfolding scalarHeld
 returns-2 c = rw (sym (c .before .nan-bits .ensures) ∙ c .if1 .left)
 
 pub scalar-held-spec : {M : Type 1} → statement M
-scalar-held-spec = tie.close (tie.spec nan-bits-requires returns returns-2)
+scalar-held-spec = tie.close
+    (tie.spec (λ c κs. search needs) returns returns-2)

@@ -13,9 +13,6 @@ use Rattle.table.proofs.questions.table_held.Tie as tie
 sizes : (c : tie.Else1) → Ranged (c .before .before .before .before .args .t .grid) (c .before .before .before .before .args .t .levels)
 sizes c = held-ranged _ _ (yes (c .before .grid-held .ensures) (c .if1 .left))
 
-grid-held-requires : tie.Need-grid-held-requires
-grid-held-requires c κs = search needs
-
 returns : tie.Need-returns
 unfolding tableHeld
 returns c = rw (no (c .before .grid-held .ensures) (c .if1 .taken))
@@ -37,4 +34,4 @@ returns-3 c = rw (yes (c .before .before .before .grid-held .ensures) (c .before
 pub table-held-spec : {M : Type 1} → statement M
 table-held-spec =
     tie.close
-    (tie.spec grid-held-requires returns mul-if2 returns-2 levels-held-requires returns-3)
+    (tie.spec (λ c κs. search needs) returns mul-if2 returns-2 levels-held-requires returns-3)

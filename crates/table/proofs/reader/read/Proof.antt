@@ -18,12 +18,6 @@ placed c = laid _ _ (c .before .before .sections .ensures) (yes (c .before .laid
 asked : (c : tie.After-table-question) → c .table-question .result ≡ tableQuestion (c .before .before .before .before .before .before .args .file .now) (tableOf (c .before .before .before .before .before .before .args .file .now) (layout (c .before .before .before .before .before .before .args .file .now)))
 asked c = rw (← c .before .before .before .before .sections .ensures, ← c .before .table-of .ensures) (c .table-question .ensures)
 
-sections-requires : tie.Need-sections-requires
-sections-requires c κs = search needs
-
-laid-out-requires : tie.Need-laid-out-requires
-laid-out-requires c κs = search needs
-
 returns : tie.Need-returns
 returns c =
     let f = c .before .before .before .before .args .file .now in
@@ -48,11 +42,4 @@ returns-3 c =
 pub read-spec : {M : Type 1} → statement M
 read-spec =
     tie.close
-    (tie.spec
-    sections-requires
-    laid-out-requires
-    returns
-    table-of-requires
-    table-question-requires
-    returns-2
-    returns-3)
+    (tie.spec (λ c κs. search needs) (λ c κs. search needs) returns table-of-requires table-question-requires returns-2 returns-3)

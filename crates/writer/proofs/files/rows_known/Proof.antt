@@ -24,9 +24,6 @@ loop-holds : tie.Need-loop-holds Inv-loop μ-loop
 unfolding rowsKnown allUpTo
 loop-holds c = (omega arith, refl)
 
-row-known-requires : tie.Need-row-known-requires Inv-loop μ-loop
-row-known-requires c κs = search needs
-
 returns : tie.Need-returns Inv-loop μ-loop
 unfolding rowsKnown
 returns c =
@@ -55,13 +52,4 @@ returns-2 c =
 pub rows-known-spec : {M : Type 1} → statement M
 rows-known-spec =
     tie.close
-    (tie.spec
-    Inv-loop
-    μ-loop
-    loop-holds
-    row-known-requires
-    returns
-    add-s
-    loop-less
-    loop-again
-    returns-2)
+    (tie.spec Inv-loop μ-loop loop-holds (λ c κs. search needs) returns add-s loop-less loop-again returns-2)

@@ -33,9 +33,6 @@ certain c =
     let s = c .before .before .before .before .before .before .before .before .before .before .before in
     sure (s .args .b) (meshes s) (lists s) (sym (answer (c .before)) ∙ c .if1 .left)
 
-write-question-requires : tie.Need-write-question-requires
-write-question-requires c κs = search needs
-
 returns : tie.Need-returns
 returns c =
     let s = c .before .before .before .before .before .before .before .before .before .before .before in
@@ -91,9 +88,6 @@ put-file-requires c κs =
     let s = c .before .before .before .before .before .before .before .before .before .before .before .before .before .before in
     ready (s .args .b) (lists s) (c .before .before .energy-total .result) _ (certain (c .before .before .before)) (c .before .before .energy-total .ensures) (omega (arith, c .before .if2 .left))
 
-same-length : tie.Need-same-length
-same-length c = search needs
-
 returns-3 : tie.Need-returns-3
 returns-3 c =
     let s = c .before .before .before .before .before .before .before .before .before .before .before .before .before .before .before .before .before in
@@ -106,18 +100,4 @@ returns-3 c =
 pub write-spec : {M : Type 1} → statement M
 write-spec =
     tie.close
-    (tie.spec
-    write-question-requires
-    returns
-    mul-n
-    energy-total-requires
-    mul-size
-    add-size
-    mul-size-2
-    add-size-2
-    mul-size-3
-    add-size-3
-    returns-2
-    put-file-requires
-    same-length
-    returns-3)
+    (tie.spec (λ c κs. search needs) returns mul-n energy-total-requires mul-size add-size mul-size-2 add-size-2 mul-size-3 add-size-3 returns-2 put-file-requires (λ c. search needs) returns-3)

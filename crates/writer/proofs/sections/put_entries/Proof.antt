@@ -26,29 +26,11 @@ loop-holds c =
     let r : Rows = record { kinds = s .args .kinds .now; levels = s .args .levels .now; values = s .args .values .now } in
     (omega arith, s .pre .0, omega (arith, s .pre .1), begun (s .args .out .now) (s .args .at) _ (omega (arith, s .pre .0, entries-length r 0 0 (s .args .n))))
 
-resolution-at-requires : tie.Need-resolution-at-requires Inv-loop μ-loop
-resolution-at-requires c κs = search needs
-
 cast-offset-of : tie.Need-cast-offset-of Inv-loop μ-loop
 cast-offset-of c = omega arith
 
-offset-of-requires : tie.Need-offset-of-requires Inv-loop μ-loop
-offset-of-requires c κs = search needs
-
-kind-of-requires : tie.Need-kind-of-requires Inv-loop μ-loop
-kind-of-requires c κs = search needs
-
-level-of-requires : tie.Need-level-of-requires Inv-loop μ-loop
-level-of-requires c κs = search needs
-
-value-of-requires : tie.Need-value-of-requires Inv-loop μ-loop
-value-of-requires c κs = search needs
-
 put-row-requires : tie.Need-put-row-requires Inv-loop μ-loop
 put-row-requires c κs = let l = c .before .before .before .before .before .before .before in omega (arith, l .loop .inv .3 .size)
-
-energy-count-requires : tie.Need-energy-count-requires Inv-loop μ-loop
-energy-count-requires c κs = search needs
 
 add-o : tie.Need-add-o Inv-loop μ-loop
 add-o c =
@@ -101,23 +83,4 @@ returns c =
 pub put-entries-spec : {M : Type 1} → statement M
 put-entries-spec =
     tie.close
-    (tie.spec
-    Inv-loop
-    μ-loop
-    loop-holds
-    resolution-at-requires
-    cast-offset-of
-    offset-of-requires
-    kind-of-requires
-    level-of-requires
-    value-of-requires
-    put-row-requires
-    energy-count-requires
-    add-o
-    add-to
-    add-s
-    sub-left
-    loop-less
-    loop-again
-    same-length
-    returns)
+    (tie.spec Inv-loop μ-loop loop-holds (λ c κs. search needs) cast-offset-of (λ c κs. search needs) (λ c κs. search needs) (λ c κs. search needs) (λ c κs. search needs) put-row-requires (λ c κs. search needs) add-o add-to add-s sub-left loop-less loop-again same-length returns)

@@ -44,12 +44,6 @@ loop-holds c =
       begun (a .out .now) (a .at) _ (omega (arith, s .pre .0, energies-bytes (a .z) (a .store .now) 0 (resolutions r 0 (a .n)) (s .pre .2) (rw (res-length r 0 (a .n)) (omega (arith, s .pre .1))))),
     )
 
-resolution-at-requires : tie.Need-resolution-at-requires Inv-loop μ-loop
-resolution-at-requires c κs = search needs
-
-energy-count-requires : tie.Need-energy-count-requires Inv-loop μ-loop
-energy-count-requires c κs = search needs
-
 put-energies-requires : tie.Need-put-energies-requires Inv-loop μ-loop
 put-energies-requires c κs = let t = turn (c .before) in (omega (arith, t .fits, c .before .before .before .before .loop .inv .4 .size), t .inside)
 
@@ -100,19 +94,4 @@ returns c =
 pub put-slabs-spec : {M : Type 1} → statement M
 put-slabs-spec =
     tie.close
-    (tie.spec
-    Inv-loop
-    μ-loop
-    loop-holds
-    resolution-at-requires
-    energy-count-requires
-    put-energies-requires
-    mul-to
-    add-to
-    add-p
-    add-s
-    sub-left
-    loop-less
-    loop-again
-    same-length
-    returns)
+    (tie.spec Inv-loop μ-loop loop-holds (λ c κs. search needs) (λ c κs. search needs) put-energies-requires mul-to add-to add-p add-s sub-left loop-less loop-again same-length returns)

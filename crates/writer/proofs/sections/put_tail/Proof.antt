@@ -13,21 +13,6 @@ use Rattle.writer.proofs.Filed.{energies-length, res-length}
 use Rattle.writer.proofs.sections.put_tail.Statement.{statement}
 use Rattle.writer.proofs.sections.put_tail.Tie as tie
 
-cast-put-u32 : tie.Need-cast-put-u32
-cast-put-u32 c = search needs
-
-put-u32-requires : tie.Need-put-u32-requires
-put-u32-requires c κs = search needs
-
-add-put-slabs : tie.Need-add-put-slabs
-add-put-slabs c = search needs
-
-put-slabs-requires : tie.Need-put-slabs-requires
-put-slabs-requires c κs = search needs
-
-same-length : tie.Need-same-length
-same-length c = search needs
-
 returns : tie.Need-returns
 unfolding section
 returns c =
@@ -43,4 +28,4 @@ returns c =
 pub put-tail-spec : {M : Type 1} → statement M
 put-tail-spec =
     tie.close
-    (tie.spec cast-put-u32 put-u32-requires add-put-slabs put-slabs-requires same-length returns)
+    (tie.spec (λ c. search needs) (λ c κs. search needs) (λ c. search needs) (λ c κs. search needs) (λ c. search needs) returns)
