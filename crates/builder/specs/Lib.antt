@@ -1,2 +1,4 @@
+pub mod BuilderLists
+pub mod Refusals
 pub mod Calls
-pub mod Steps
+pub mod Internal

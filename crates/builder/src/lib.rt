@@ -2,11 +2,21 @@
 ghost use mathlib.Core.Path.{_≡_};
 ghost use Rattle.builder.specs.Calls.{BuiltOut, SettleOut, builtValues, settledValues, noBuilder, freshBuilder, freshOut, setOut, settleOut};
 use grid::Grid;
-use questions::Builder;
 use rows::SlabResolution;
 
 mod copies;
+mod questions;
 mod slices;
+
+pub use questions::meshed_refusal;
+
+// The settings, the top level and the current one.
+#[repr(C)]
+pub struct Builder {
+    pub grid: Grid,
+    pub top: u64,
+    pub level: u64,
+}
 
 // What fresh and set answer.
 pub enum Built {

@@ -5,8 +5,8 @@ ghost use Prim.Native.Nat.{_+_, _*_, _≤_};
 ghost use lib.ListN.{length, take, drop};
 ghost use Rattle.mesh.specs.Levels.{vertexCount};
 ghost use Rattle.rows.specs.Rows.{resolutionAt, rowWith};
-ghost use Rattle.builder.specs.Steps.{Ready, ReadyIn, partLinks, settledSlab, settledRows, dropsBy, droppedBy};
-use questions::Builder;
+ghost use Rattle.builder.specs.Internal.{SettleReady, SettleReadyIn, partLinks, settledSlab, SliceSettled, dropsBy, droppedBy};
+use crate::Builder;
 use settling::Tally;
 
 // Settles slab s, whose energies are at place `at` of the store.
@@ -60,8 +60,8 @@ pub(crate) fn settle_rows(
     levels: &mut [u8],
     values: &mut [u32],
 ) -> Tally
-    requires { ⌜ Ready b (record { store = now store; rows = record { kinds = now kinds; levels = now levels; values = now values } }) ri ⌝ }
-    ensures { λ r. ⌜ settledRows b (record { vertices = []; counts = now (counts .entry); neighbours = now (neighbours .entry); angles = now (angles .entry) })
+    requires { ⌜ SettleReady b (record { store = now store; rows = record { kinds = now kinds; levels = now levels; values = now values } }) ri ⌝ }
+    ensures { λ r. ⌜ SliceSettled b (record { vertices = []; counts = now (counts .entry); neighbours = now (neighbours .entry); angles = now (angles .entry) })
         (record { store = now (store .entry); rows = record { kinds = now (kinds .entry); levels = now (levels .entry); values = now (values .entry) } }) ri
         r (record { kinds = now (kinds .exit); levels = now (levels .exit); values = now (values .exit) }) ⌝ }
 {
@@ -112,9 +112,9 @@ pub(crate) fn settle_slice(
     levels: &mut [u8],
     values: &mut [u32],
 ) -> Tally
-    requires { ⌜ ReadyIn b (record { vertices = []; counts = now counts; neighbours = now neighbours; angles = now angles })
+    requires { ⌜ SettleReadyIn b (record { vertices = []; counts = now counts; neighbours = now neighbours; angles = now angles })
         (record { store = now store; rows = record { kinds = now kinds; levels = now levels; values = now values } }) ri ⌝ }
-    ensures { λ r. ⌜ settledRows b (partLinks (b .level) (record { vertices = []; counts = now (counts .entry); neighbours = now (neighbours .entry); angles = now (angles .entry) }))
+    ensures { λ r. ⌜ SliceSettled b (partLinks (b .level) (record { vertices = []; counts = now (counts .entry); neighbours = now (neighbours .entry); angles = now (angles .entry) }))
         (record { store = now (store .entry); rows = record { kinds = now (kinds .entry); levels = now (levels .entry); values = now (values .entry) } }) ri
         r (record { kinds = now (kinds .exit); levels = now (levels .exit); values = now (values .exit) }) ⌝ }
 {

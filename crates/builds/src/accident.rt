@@ -7,9 +7,9 @@ use crate::settings;
 use crate::settled;
 use crate::settled_number;
 use crate::written;
+use builder::Builder;
 use builder::Settled;
 use libc::STDOUT_FILENO;
-use questions::Builder;
 
 // Energies of a slab of level 1 that settles as Mesh nearest at threshold 0.1: zeros but for one.
 fn smooth() -> [f64; 1764] {

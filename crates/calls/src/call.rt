@@ -1,9 +1,9 @@
 // The calls, with as much of each list lent as the line says.
 use crate::line;
 use crate::line::lent;
+use builder::Builder;
 use builder::Built;
 use builder::Settled;
-use questions::Builder;
 use words::word;
 
 // What a call answers.

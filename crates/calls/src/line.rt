@@ -1,7 +1,7 @@
 // What a line of the input holds, and where. Every number is in hexadecimal of a fixed width, a float by its bits.
 ghost use Prim.Native.Nat.{_≤_};
+use builder::Builder;
 use grid::Grid;
-use questions::Builder;
 use words::float;
 use words::place;
 use words::word;

@@ -1,8 +1,8 @@
 // Runs lists of calls of fresh, set and settle, and compares each call's answer and what it leaves with what the Rust gives, which its standard input holds; a refused call's number is
 // document 01's. A line has 574 letters and is one of these: entries of a lent list; a builder that is held from there on; a call with its answer, the level, rows and store after it, and
 // its arguments.
+use builder::Builder;
 use libc::STDIN_FILENO;
-use questions::Builder;
 
 mod call;
 mod energies;

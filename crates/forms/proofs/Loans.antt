@@ -13,9 +13,9 @@ use denote.Laws.{Is, shows}
 use denote.Memory.{mem, cellAt, partOf}
 use denote.Struct.Steps.{spelt}
 use denote.Struct.Laws as LL
-use Rattle.questions.specs.declared.Builder.{Builder}
-use Rattle.questions.proofs.Builder as T
-use Rattle.questions.proofs.Builder.Laws as T′
+use Rattle.builder.specs.declared.Builder.{Builder}
+use Rattle.builder.proofs.Builder as T
+use Rattle.builder.proofs.Builder.Laws as T′
 
 abbrev pub mach : Builder → Val
 mach h = LL.val T.the-type T′.the-laws h

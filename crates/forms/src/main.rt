@@ -1,12 +1,12 @@
 // One short build twice: by value over the three lists of numbers, and with the builder lent over row records. Each answer and each row is compared, and both files are printed and compared.
 ghost use Prim.Native.Nat.{_≤_};
+use builder::Builder;
 use builder::Built;
 use builder::Settled;
 use grid::Grid;
 use lent::LentSettled;
 use lent::RowRecord;
 use libc::STDOUT_FILENO;
-use questions::Builder;
 use rows::SlabResolution;
 use writer::Written;
 
@@ -34,7 +34,7 @@ struct Lent {
 }
 
 // The three lists that a call works on, of the records.
-struct Lists {
+struct BuilderLists {
     kinds: [u8; 2],
     levels: [u8; 2],
     values: [u32; 2],
@@ -161,19 +161,19 @@ fn fresh_by_value() -> ByValue {
     }
 }
 
-fn gather_lists(rows: [RowRecord; 2], l: Lists) -> [RowRecord; 2] {
+fn gather_lists(rows: [RowRecord; 2], l: BuilderLists) -> [RowRecord; 2] {
     let kinds = l.kinds;
     let levels = l.levels;
     let values = l.values;
     through::gather_in(rows, &kinds, &levels, &values)
 }
 
-fn spread_lists(rows: [RowRecord; 2]) -> Lists {
+fn spread_lists(rows: [RowRecord; 2]) -> BuilderLists {
     let mut kinds: [u8; 2] = [7; 2];
     let mut levels: [u8; 2] = [7; 2];
     let mut values: [u32; 2] = [7; 2];
     through::spread_of(rows, &mut kinds, &mut levels, &mut values);
-    Lists {
+    BuilderLists {
         kinds,
         levels,
         values,
@@ -192,7 +192,7 @@ fn fresh_records(s: ByValue) -> Lent {
         level: 9,
         value: 9,
     };
-    let lists = Lists {
+    let lists = BuilderLists {
         kinds,
         levels,
         values,
@@ -252,7 +252,7 @@ fn set_records(s: Lent, ri: u64, energies: &[f64]) -> Lent {
         energies,
     );
     let builder = a.builder;
-    let left = Lists {
+    let left = BuilderLists {
         kinds,
         levels,
         values,
@@ -317,7 +317,7 @@ fn settle_records(s: Lent, ri: u64) -> Lent {
     );
     let builder = a.builder;
     let answer = a.answer;
-    let left = Lists {
+    let left = BuilderLists {
         kinds,
         levels,
         values,
@@ -351,7 +351,7 @@ fn compare(what: &[u8], s: ByValue, t: Lent) {
 }
 
 // The file of a builder and its lists; where write is refused, its number for a length.
-fn written(b: Builder, store: [f64; 3528], l: Lists) -> Output {
+fn written(b: Builder, store: [f64; 3528], l: BuilderLists) -> Output {
     let kinds = l.kinds;
     let levels = l.levels;
     let values = l.values;
@@ -387,7 +387,7 @@ fn file_by_value(s: ByValue) -> Output {
     let kinds = s.kinds;
     let levels = s.levels;
     let values = s.values;
-    let lists = Lists {
+    let lists = BuilderLists {
         kinds,
         levels,
         values,

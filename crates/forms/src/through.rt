@@ -4,9 +4,9 @@ ghost use Prim.Native.Nat.{ℕ};
 ghost use lib.ListN.{set};
 ghost use Rattle.lent.specs.Calls.{LentOut, LentValues, lentValues, setLent, settleLent};
 ghost use Rattle.lent.specs.Records.{columns, recordAt, gathered, SpreadOut, spreadOut};
+use builder::Builder;
 use lent::LentSettled;
 use lent::RowRecord;
-use questions::Builder;
 
 // What is left of a call: the builder, and the rest of the answer.
 pub(crate) struct SetLeft {

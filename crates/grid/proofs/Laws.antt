@@ -10,7 +10,7 @@ use borrow.Author.Tests.{leb-true}
 use Rattle.mesh.specs.Levels.{per}
 use Rattle.mesh.proofs.Laws.{per-le}
 use Rattle.grid.specs.Bins.{distanceCount, dihedralCount}
-use Rattle.grid.specs.Settings.{above, levelsHeld, binsInRange, countsHeld, gridRange}
+use Rattle.grid.specs.Settings.{above, levelsValid, binsInRange, countsValid, gridRange}
 use Rattle.grid.specs.declared.Grid.{Grid}
 
 pub bins-le : (n m : ℕ) → binsInRange n m ≡ true → (n ≤ 65535) × (m ≤ 65535)
@@ -20,12 +20,12 @@ bins-le n m h =
     let b = and-eq-true-iff (leb n 65535) (leb 1 m && leb m 65535) .0 a in
     (leb-true n 65535 (b .0), leb-true m 65535 (and-eq-true-iff (leb 1 m) (leb m 65535) .0 (b .1) .1))
 
-pub counts-le : (g : Grid) → countsHeld g ≡ true → (g .«n_r» ≤ 65535) × (g .«n_omega» ≤ 65535)
-unfolding countsHeld
+pub counts-le : (g : Grid) → countsValid g ≡ true → (g .«n_r» ≤ 65535) × (g .«n_omega» ≤ 65535)
+unfolding countsValid
 counts-le g h = bins-le (g .«n_r») (g .«n_omega») (and-eq-true-iff (binsInRange (g .«n_r») (g .«n_omega»)) (eqb (g .«n_r») (distanceCount (g .rmin) (g .rmax) (g .dr)) && eqb (g .«n_omega») (dihedralCount (g .«omega_step»))) .0 h .0)
 
-pub top-le : (top level : ℕ) → levelsHeld top level ≡ true → top ≤ 15
-unfolding levelsHeld
+pub top-le : (top level : ℕ) → levelsValid top level ≡ true → top ≤ 15
+unfolding levelsValid
 top-le top level h = leb-true top 15 (and-eq-true-iff (leb top 15) (leb level top) .0 h .0)
 
 -- the energies that slabs hold at the top level

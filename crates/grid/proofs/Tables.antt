@@ -11,19 +11,19 @@ use borrow.Author.Tests.{leb-true, le-leb, ne-eqb}
 use Rattle.float.specs.Order.{angle}
 use Rattle.lists.proofs.Asking.{ask-yes}
 use Rattle.grid.specs.Bins.{nearestBin, distanceCount, dihedralCount, distanceBin, dihedralBin}
-use Rattle.grid.specs.Settings.{above, inRange, levelsHeld, binsInRange, countsHeld, ownCount, slabsHeld, question, gridHeld}
+use Rattle.grid.specs.Settings.{above, inRange, levelsValid, binsInRange, countsValid, ownCount, slabsFit, question, gridValid}
 use Rattle.grid.specs.declared.Grid.{Grid}
 use Rattle.grid.proofs.Laws.{top-le}
 
 -- 1 to 5 answered yes of a builder: 14 is answered yes of its table
-pub table-held : (g : Grid) (top level : ℕ) → question g top level ≡ 0 → gridHeld g (suc top) ≡ true
-unfolding question inRange countsHeld gridHeld
-table-held g top level e =
+pub table-valid : (g : Grid) (top level : ℕ) → question g top level ≡ 0 → gridValid g (suc top) ≡ true
+unfolding question inRange countsValid gridValid
+table-valid g top level e =
     let q1 = ask-yes (lit< tt) e in
-    let q2 = ask-yes {q = levelsHeld top level} (lit< tt) (q1 .1) in
+    let q2 = ask-yes {q = levelsValid top level} (lit< tt) (q1 .1) in
     let q3 = ask-yes (lit< tt) (q2 .1) in
     let q4 = ask-yes {q = ownCount (g .«n_r») (g .dr) (g .rmin)} (lit< tt) (q3 .1) in
-    let q5 = ask-yes {q = slabsHeld (g .«n_r») (g .«n_omega») top} (lit< tt) (q4 .1) in
+    let q5 = ask-yes {q = slabsFit (g .«n_r») (g .«n_omega») top} (lit< tt) (q4 .1) in
     let a = and-eq-true-iff (finite (g .rmin)) _ .0 (q1 .0) in
     let d = and-eq-true-iff (above (g .dr)) _ .0 (and-eq-true-iff (lt (g .rmin) (g .rmax)) _ .0 (a .1) .1) in
     let s = and-eq-true-iff (above (g .«omega_step»)) _ .0 (d .1) in
@@ -34,10 +34,10 @@ table-held g top level e =
     rw (a .0, d .0, s .0, le-leb 1 (suc top) (omega arith), le-leb (suc top) 16 (omega arith), b .0, m .1, q4 .0, z, q5 .0)
 
 -- both bin counts are above 0
-pub some-bins : (g : Grid) (levels : ℕ) → gridHeld g levels ≡ true → (0 < g .«n_r») × (0 < g .«n_omega»)
-unfolding gridHeld binsInRange
+pub some-bins : (g : Grid) (levels : ℕ) → gridValid g levels ≡ true → (0 < g .«n_r») × (0 < g .«n_omega»)
+unfolding gridValid binsInRange
 some-bins g levels h =
-    let a = and-eq-true-iff (finite (g .rmin)) _ .0 (and-eq-true-iff _ (slabsHeld (g .«n_r») (g .«n_omega») (levels - 1)) .0 h .0) .1 in
+    let a = and-eq-true-iff (finite (g .rmin)) _ .0 (and-eq-true-iff _ (slabsFit (g .«n_r») (g .«n_omega») (levels - 1)) .0 h .0) .1 in
     let b = and-eq-true-iff (above (g .dr)) _ .0 a .1 in
     let d = and-eq-true-iff (above (g .«omega_step»)) _ .0 b .1 in
     let e = and-eq-true-iff (leb levels 16) _ .0 (and-eq-true-iff (leb 1 levels) _ .0 d .1) .1 in

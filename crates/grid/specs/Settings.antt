@@ -20,17 +20,17 @@ unfolding above lt
 inRange g = finite (g .rmin) && (lt (g .rmin) (g .rmax) && (above (g .dr) && (above (g .«omega_step») && (above (g .beta) && (finite (g .threshold) && not (lt (g .threshold) (ofBits binary64 0)))))))
 
 -- 2: "Is the top level at most 15?", and of a held builder "also the current level, at most the top"
-unfoldable pub levelsHeld : ℕ → ℕ → Bool
-levelsHeld top level = leb top 15 && leb level top
+unfoldable pub levelsValid : ℕ → ℕ → Bool
+levelsValid top level = leb top 15 && leb level top
 
 -- 3: "Are both bin counts from 1 to 65,535"
 unfoldable pub binsInRange : ℕ → ℕ → Bool
 binsInRange n m = leb 1 n && (leb n 65535 && (leb 1 m && leb m 65535))
 
 -- 3: ".. and in a held builder those that its settings give?"
-unfoldable pub countsHeld : Grid → Bool
+unfoldable pub countsValid : Grid → Bool
 unfolding binsInRange distanceCount dihedralCount
-countsHeld g = binsInRange (g .«n_r») (g .«n_omega») && (eqb (g .«n_r») (distanceCount (g .rmin) (g .rmax) (g .dr)) && eqb (g .«n_omega») (dihedralCount (g .«omega_step»)))
+countsValid g = binsInRange (g .«n_r») (g .«n_omega») && (eqb (g .«n_r») (distanceCount (g .rmin) (g .rmax) (g .dr)) && eqb (g .«n_omega») (dihedralCount (g .«omega_step»)))
 
 -- 4: "Does the distance count come out the same with the table's own rmax?"
 unfoldable pub ownCount : ℕ → Float → Float → Bool
@@ -38,17 +38,17 @@ unfolding distanceCount tableRmax
 ownCount n dr rmin = eqb n (distanceCount rmin (tableRmax n dr rmin) dr)
 
 -- 5: "Is slabs × n·n of the top level at most 4,294,967,295?"
-unfoldable pub slabsHeld : ℕ → ℕ → ℕ → Bool
-slabsHeld n m top = leb (n * m * per top) 4294967295
+unfoldable pub slabsFit : ℕ → ℕ → ℕ → Bool
+slabsFit n m top = leb (n * m * per top) 4294967295
 
 -- "the first one answered no gives its number": 1 to 5 put to the settings, counts and levels of a held builder; 0 where none is answered no
 unfoldable pub question : Grid → ℕ → ℕ → ℕ
 question g top level =
     ask (inRange g) 1
-    (ask (levelsHeld top level) 2
-    (ask (countsHeld g) 3
+    (ask (levelsValid top level) 2
+    (ask (countsValid g) 3
     (ask (ownCount (g .«n_r») (g .dr) (g .rmin)) 4
-    (ask (slabsHeld (g .«n_r») (g .«n_omega») top) 5 0))))
+    (ask (slabsFit (g .«n_r») (g .«n_omega») top) 5 0))))
 
 -- the settings with the counts that they give, whatever counts were handed in
 unfoldable pub counted : Grid → Grid
@@ -76,5 +76,5 @@ gridRange g levels =
     && (leb 1 levels && (leb levels 16
     && (binsInRange (g .«n_r») (g .«n_omega») && (eqb (g .«n_omega») (dihedralCount (g .«omega_step»)) && ownCount (g .«n_r») (g .dr) (g .rmin)))))))
 
-unfoldable pub gridHeld : Grid → ℕ → Bool
-gridHeld g levels = gridRange g levels && slabsHeld (g .«n_r») (g .«n_omega») (levels - 1)
+unfoldable pub gridValid : Grid → ℕ → Bool
+gridValid g levels = gridRange g levels && slabsFit (g .«n_r») (g .«n_omega») (levels - 1)

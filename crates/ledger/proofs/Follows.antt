@@ -15,11 +15,11 @@ use Rattle.ieee.proofs.Pack.{le-or-lt}
 use Rattle.lists.specs.Questions.{ask, first}
 use Rattle.lists.specs.Lists.{put}
 use Rattle.mesh.specs.Levels.{per, vertexCount, verticesBelow}
-use Rattle.mesh.specs.Mesh.{Mesh, levelPart, meshHeld, meshesKeep}
+use Rattle.mesh.specs.Mesh.{Mesh, levelPart, meshLong, meshesKeep}
 use Rattle.mesh.proofs.Sizes.{per-mono}
 use Rattle.lists.proofs.Places.{place}
 use Rattle.lists.proofs.Written.{length-put}
-use Rattle.grid.specs.Settings.{inRange, levelsHeld, countsHeld, ownCount, slabsHeld, question}
+use Rattle.grid.specs.Settings.{inRange, levelsValid, countsValid, ownCount, slabsFit, question}
 use Rattle.grid.specs.declared.Grid.{Grid}
 use Rattle.grid.proofs.Laws.{top-le}
 use Rattle.rows.specs.declared.SlabResolution.the-variants.{Mesh as OnMesh}
@@ -27,15 +27,15 @@ use Rattle.rows.specs.Rows.{Rows, replaced, rowRoom, Row, scalar, repulsive, me
 use Rattle.locator.proofs.Entries.{getD-put}
 use Rattle.settling.specs.Gradient.{zero as nought}
 use Rattle.settling.specs.Settling.{verdictOf, verdicts, settledRows, settledSlice, drops}
-use Rattle.questions.specs.Lists.{Lists, slabs, slab, sliceAt, listRoom, listsHeld}
+use Rattle.builder.specs.BuilderLists.{BuilderLists, slabs, slab, sliceAt, listRoom, listsLong}
 use Rattle.builder.specs.Calls.{settledLists, filled, setLists, setOut, settleAccepted, settleOut}
-use Rattle.questions.specs.Refusals.{meshedRefusal, setQuestion, setRefusal, settleRefusal}
-use Rattle.questions.specs.declared.Builder.{Builder}
+use Rattle.builder.specs.Refusals.{meshedRefusal, setQuestion, setRefusal, settleRefusal}
+use Rattle.builder.specs.declared.Builder.{Builder}
 use Rattle.settling.specs.declared.Verdict.{Verdict}
-use Rattle.questions.proofs.Laws.{Roomy}
+use Rattle.builder.proofs.Laws.{Roomy}
 use Rattle.writer.specs.Write.{writeRefusal, writeOut}
 use Rattle.table.proofs.OfRows.{Good}
-use Rattle.ledger.specs.Ledger.{Call, set-call, settle-call, write-call, State, called, run, Ledger, opened, ledgerSlice, settleQuestion, setEntered, settleEntered, entered, ledger}
+use Rattle.ledger.specs.Ledger.{Call, set-call, settle-call, write-call, State, called, run, Ledger, opened, ledgerSlice, ledgerQuestion, setEntered, settleEntered, entered, ledger}
 use Rattle.ledger.proofs.Store.{put-same, other-slab, put-sets, all-replicate}
 use Rattle.ledger.proofs.Invariant.{Fit, rows-are, rows-known, fit-set, settled-fit, verdict-fits}
 
@@ -43,7 +43,7 @@ use Rattle.ledger.proofs.Invariant.{Fit, rows-are, rows-known, fit-set,
 
 pub record Basis (g : Grid) (top : ℕ) (m : Mesh) : Type 0 where
   pub asked : question g top top ≡ 0
-  pub held : meshHeld (verticesBelow (suc top)) m ≡ true
+  pub held : meshLong (verticesBelow (suc top)) m ≡ true
   pub kept : meshesKeep top m ≡ true
 
 abbrev pub builderAt : Grid → ℕ → ℕ → Builder
@@ -51,13 +51,13 @@ builderAt g top v = record { grid = g; top = top; level = v }
 
 -- 1 to 5, at a lower level
 lower-asked : (g : Grid) (top v : ℕ) → question g top top ≡ 0 → v ≤ top → question g top v ≡ 0
-unfolding question levelsHeld ask
+unfolding question levelsValid ask
 lower-asked g top v e h =
     let q1 = ask-yes {q = inRange g} (lit< tt) e in
-    let q2 = ask-yes {q = levelsHeld top top} (lit< tt) (q1 .1) in
-    let q3 = ask-yes {q = countsHeld g} (lit< tt) (q2 .1) in
+    let q2 = ask-yes {q = levelsValid top top} (lit< tt) (q1 .1) in
+    let q3 = ask-yes {q = countsValid g} (lit< tt) (q2 .1) in
     let q4 = ask-yes {q = ownCount (g .«n_r») (g .dr) (g .rmin)} (lit< tt) (q3 .1) in
-    let q5 = ask-yes {q = slabsHeld (g .«n_r») (g .«n_omega») top} (lit< tt) (q4 .1) in
+    let q5 = ask-yes {q = slabsFit (g .«n_r») (g .«n_omega») top} (lit< tt) (q4 .1) in
     rw (q1 .0, le-leb top 15 (top-le top top (q2 .0)), le-leb v top h, q3 .0, q4 .0, q5 .0)
 
 room-held : (g : Grid) (top store kinds levels values : ℕ) → Roomy g top store kinds levels values → listRoom g top store kinds levels values ≡ true
@@ -89,7 +89,7 @@ module _ (g : Grid) (top : ℕ) (m : Mesh) (base : Basis g top m) (v : ℕ) (low
   abbrev b : Builder
   b = builderAt g top v
 
-  abbrev ls : Lists
+  abbrev ls : BuilderLists
   ls = record { store = store; rows = l }
 
   abbrev st : State
@@ -104,7 +104,7 @@ module _ (g : Grid) (top : ℕ) (m : Mesh) (base : Basis g top m) (v : ℕ) (low
   abbrev asked : question g top v ≡ 0
   asked = lower-asked g top v (base .asked) low
 
-  abbrev roomy : listsHeld b ls ≡ true
+  abbrev roomy : listsLong b ls ≡ true
   roomy = room-held g top (length store) (length (l .kinds)) (length (l .levels)) (length (l .values)) (a .room)
 
   pub meshed-yes : meshedRefusal b m ls ≡ 0
@@ -148,17 +148,17 @@ module _ (g : Grid) (top : ℕ) (m : Mesh) (base : Basis g top m) (v : ℕ) (low
   slice-is : (ri : ℕ) → ltb ri (g .«n_r») ≡ true → sliceAt b ls ri ≡ ledgerSlice g bk ri
   slice-is ri d = rows-are g top store l rows a (g .«n_omega») (slab g ri 0) (slice-in ri d)
 
-  settle-number : (ri : ℕ) (x : Bool) → ltb ri (g .«n_r») ≡ x → settleRefusal b m ls ri ≡ settleQuestion g bk ri
-  unfolding settleRefusal settleQuestion first ask
+  settle-number : (ri : ℕ) (x : Bool) → ltb ri (g .«n_r») ≡ x → settleRefusal b m ls ri ≡ ledgerQuestion g bk ri
+  unfolding settleRefusal ledgerQuestion first ask
   settle-number ri true d = rw (meshed-yes, d, rows-known g top store l rows a (g .«n_omega») (slab g ri 0) (slice-in ri d), slice-is ri d)
   settle-number ri false d = rw (meshed-yes, d)
 
   abbrev seen : Row Float → Verdict
   seen = verdictOf (g .threshold) (g .beta) (levelPart v m) (vertexCount v)
 
-  settle-fit : (ri : ℕ) → settleQuestion g bk ri ≡ 0
+  settle-fit : (ri : ℕ) → ledgerQuestion g bk ri ≡ 0
       → (let rs = ledgerSlice g bk ri in Fit g top store (settledLists v l (slab g ri 0) (map seen rs)) (put rows (slab g ri 0) (settledRows v rs (map seen rs))))
-  unfolding settleQuestion
+  unfolding ledgerQuestion
   settle-fit ri p =
       let q8 = ask-yes (lit< tt) p in
       let q11 = ask-yes (lit< tt) (q8 .1) in
@@ -170,8 +170,8 @@ module _ (g : Grid) (top : ℕ) (m : Mesh) (base : Basis g top m) (v : ℕ) (low
       rw (put-sets rows s (settledRows v rs (map seen rs)) (omega (arith, settled-many v seen rs, a .many)))
       (settled-fit g top v seen (λ x. refl) refl (verdict-fits (g .threshold) (g .beta) (levelPart v m) (vertexCount v)) n s store l rows a i (q11 .0))
 
-  settle-step : (ri : ℕ) (x : Bool) → eqb (settleQuestion g bk ri) 0 ≡ x → Agree g top (called m st (settle-call ri)) (entered g m bk (settle-call ri))
-  unfolding called entered settleOut settleAccepted settleEntered settledSlice settleQuestion verdicts
+  settle-step : (ri : ℕ) (x : Bool) → eqb (ledgerQuestion g bk ri) 0 ≡ x → Agree g top (called m st (settle-call ri)) (entered g m bk (settle-call ri))
+  unfolding called entered settleOut settleAccepted settleEntered settledSlice ledgerQuestion verdicts
   settle-step ri true d =
       let q8 = ask-yes (lit< tt) (eqb-true _ _ d) in
       let rs = ledgerSlice g bk ri in
@@ -207,7 +207,7 @@ filled-at d n s h = getD-put d (replicate n 0) s (omega (arith, length-replicate
 filled-wide : {A : Type 0} (d : List A) (n : ℕ) (x : A) → n ≤ length d → length (put d 0 (replicate n x)) ≡ length d
 filled-wide d n x h = length-put d 0 (replicate n x) (omega (arith, length-replicate n x))
 
-pub starts : (g : Grid) (top : ℕ) (l : Lists) → Roomy g top (length (l .store)) (length (l .rows .kinds)) (length (l .rows .levels)) (length (l .rows .values))
+pub starts : (g : Grid) (top : ℕ) (l : BuilderLists) → Roomy g top (length (l .store)) (length (l .rows .kinds)) (length (l .rows .levels)) (length (l .rows .values))
     → Agree g top (record { builder = builderAt g top top; lists = filled (builderAt g top top) l }) (opened g top)
 unfolding filled opened fits ofBits toBits
 starts g top l r =

@@ -21,12 +21,12 @@ use Rattle.rows.specs.Rows.{Rows, kindOf, levelOf, valueOf, resolutionAt, repla
 use Rattle.rows.proofs.Replaced.{Held, numbers-back}
 use Rattle.rows.proofs.Compared.{narrowed-fits}
 use Rattle.settling.specs.Gradient.{allRepulsive, gradient, meanNarrowed}
-use Rattle.settling.specs.Settling.{byGradient, verdict, verdictOf, newRow, inPlaceOf, settledRows, fromLevel, energiesOf, replacedBy}
-use Rattle.questions.specs.Lists.{slabs, rowAt, rowsFrom, rowsKnown}
+use Rattle.settling.specs.Settling.{byGradient, verdict, verdictOf, newRow, inPlaceOf, settledRows, fromLevel, rowEnergies, replacedBy}
+use Rattle.builder.specs.BuilderLists.{slabs, rowAt, rowsFrom, rowsKnown}
 use Rattle.builder.specs.Calls.{settledLists}
 use Rattle.settling.specs.declared.Verdict.{Verdict}
 use Rattle.settling.specs.declared.Verdict.the-variants.{Empty as empty, Blocked as blocked, Isotropic as isotropic, Smooth as smooth, Rough as rough}
-use Rattle.questions.proofs.Laws.{Roomy}
+use Rattle.builder.proofs.Laws.{Roomy}
 use Rattle.table.proofs.Accepts.{all-is}
 use Rattle.table.proofs.Back.{All}
 use Rattle.table.proofs.OfRows.{Good}
@@ -41,7 +41,7 @@ numbersOf (mesh v b e) = OnMesh v b
 
 -- slab s of a store begins with a row's energies
 abbrev Stored : ℕ → List Float → ℕ → Row Float → Type 0
-Stored top store s r = take (length (energiesOf r)) (drop (s * per top) store) ≡ energiesOf r
+Stored top store s r = take (length (rowEnergies r)) (drop (s * per top) store) ≡ rowEnergies r
 
 abbrev Holds : ℕ → List Float → Rows → ℕ → Row Float → Type 0
 Holds top store l s r =
@@ -54,7 +54,7 @@ pub record Fit (g : Grid) (top : ℕ) (store : List Float) (l : Rows) (rows : Li
   pub good : All (Good top) rows
   pub each : (s : ℕ) → s < slabs g → Holds top store l s (getD rows s repulsive)
 
-short : (top : ℕ) (r : Row Float) → Good top r → length (energiesOf r) ≤ per top
+short : (top : ℕ) (r : Row Float) → Good top r → length (rowEnergies r) ≤ per top
 short top (scalar x) q = omega arith
 short top repulsive q = omega arith
 short top (mesh v b e) q = omega (arith, q .1, per-mono v top (q .0))
@@ -80,7 +80,7 @@ module _ (g : Grid) (top : ℕ) (store : List Float) (l : Rows) (rows : List (Ro
         getD-set-other (l .kinds) s t (kindOf (numbersOf r)) 0 e ∙ o .0,
         getD-set-other (l .levels) s t (levelOf (numbersOf r)) 0 e ∙ o .1,
         getD-set-other (l .values) s t (valueOf (numbersOf r)) 0 e ∙ o .2,
-        others t (length (energiesOf (getD rows t repulsive))) e (short top (getD rows t repulsive) z) ∙ o .3,
+        others t (length (rowEnergies (getD rows t repulsive))) e (short top (getD rows t repulsive) z) ∙ o .3,
       )
 
   pub fit-set : Fit g top store′ (replaced l s (numbersOf r)) (set rows s r)

@@ -10,7 +10,7 @@ use lib.Dec.{ltb, eqb}
 use borrow.Author.Tests.{eqb-true, eqb-false, lt-ltb, le-leb}
 use Rattle.lists.specs.Lists.{every}
 use Rattle.mesh.specs.Levels.{vertexCount, per, verticesBelow}
-use Rattle.mesh.specs.Mesh.{Mesh, meshHeld, meshesKeep}
+use Rattle.mesh.specs.Mesh.{Mesh, meshLong, meshesKeep}
 use Rattle.grid.specs.Bins.{distanceBin, dihedralBin}
 use Rattle.grid.specs.declared.Grid.{Grid}
 use Rattle.grid.proofs.Tables.{some-bins, distance-below, dihedral-below}
@@ -22,15 +22,15 @@ use Rattle.search.specs.declared.Located.{Located}
 use Rattle.locator.specs.Several.{locators, Roomy}
 use Rattle.locator.proofs.Laid.{nearest-at, locate-at}
 use Rattle.locator.proofs.Picked.{FaceBelow, nearest-vertex, located-face}
-use Rattle.questions.specs.Lists.{slabs}
+use Rattle.builder.specs.BuilderLists.{slabs}
 use Rattle.lists.proofs.Places.{place}
-use Rattle.table.specs.File.{energiesIn, energiesOf, entry, fileOf}
+use Rattle.table.specs.File.{energiesIn, packedEnergies, entry, fileOf}
 use Rattle.table.specs.declared.Table.{Table}
 use Rattle.table.proofs.Back.{All}
 use Rattle.table.proofs.Sound.{Fine}
 use Rattle.table.proofs.OfRows.{before}
 use Rattle.table.proofs.OfFile.{Filable, gridIn, tableIn, file-length, entry-of, energy-of}
-use Rattle.reading.specs.Resolve.{readingValues, Query, queryHeld, outside, Resolved, unresolved, beyond, slabAt, resolve, Picks, unpicked, picked, joint, pairPlace, nearestPick, facePick}
+use Rattle.reading.specs.Resolve.{readingValues, Query, queryValid, outside, Resolved, unresolved, beyond, slabAt, resolve, Picks, unpicked, picked, joint, pairPlace, nearestPick, facePick}
 use Rattle.reading.specs.Reading.{rowInside, energyInside, entryAt, energyAt, searchIn, readPicks, readEntry, readSlab, readingOut}
 use Rattle.reading.specs.Rule.{search, rulePicks, ruleRow, ruleSlab, ruled}
 use Rattle.ledger.proofs.Store.{all-at}
@@ -54,7 +54,7 @@ resolve-below g q a b =
           (omega (arith, dihedral-below (q .omega) (g .«omega_step») n b)),
     ) in
     let some = ltb 0 (g .«n_r») && ltb 0 n in
-    chosen (SlabBelow (slabs g)) (queryHeld q) (cond (outside g (q .r)) beyond (cond some (slabAt s) (unresolved 19))) (unresolved 18)
+    chosen (SlabBelow (slabs g)) (queryValid q) (cond (outside g (q .r)) beyond (cond some (slabAt s) (unresolved 19))) (unresolved 18)
     (λ e. chosen (SlabBelow (slabs g)) (outside g (q .r)) beyond (cond some (slabAt s) (unresolved 19)) (λ f. tt) (chosen (SlabBelow (slabs g)) some (slabAt s) (unresolved 19) (λ f. h) tt)) tt
 
 -- ---- places that a search picks are a slab's
@@ -118,7 +118,7 @@ every-yes P p h (k ∷ ks) q = rw (h k (q .0), every-yes P p h ks (q .1))
 
 -- ---- the meshes of an accepted fresh, and locators made of them
 
-module _ (top : ℕ) (m : Mesh) (l : Locator) (low : top ≤ 15) (held : meshHeld (verticesBelow (suc top)) m ≡ true) (kept : meshesKeep top m ≡ true) (roomy : Roomy top l) (q : Query) where
+module _ (top : ℕ) (m : Mesh) (l : Locator) (low : top ≤ 15) (held : meshLong (verticesBelow (suc top)) m ≡ true) (kept : meshesKeep top m ≡ true) (roomy : Roomy top l) (q : Query) where
   search-same : (v : ℕ) (b : Bool) → v ≤ top → searchIn (m .vertices) (locators top m l) q v b ≡ search m q v b
   unfolding searchIn search
   search-same v b h =
@@ -149,10 +149,10 @@ module _ (top : ℕ) (m : Mesh) (l : Locator) (low : top ≤ 15) (held : meshHel
     unfolding rowInside
     row-in s h = rw (lt-ltb s (length rows) h, le-leb (t .«rows_start» + s * 10 + 10) (length file) (omega (arith, file-length g (suc top) rows ok)))
 
-    energy-in : (k : ℕ) → k < length (energiesOf rows) → energyInside file t k ≡ true
+    energy-in : (k : ℕ) → k < length (packedEnergies rows) → energyInside file t k ≡ true
     unfolding energyInside
     energy-in k h =
-        rw (lt-ltb k (length (energiesOf rows)) h, le-leb (t .«energies_start» + k * 4 + 4) (length file) (omega (arith, file-length g (suc top) rows ok)))
+        rw (lt-ltb k (length (packedEnergies rows)) h, le-leb (t .«energies_start» + k * 4 + 4) (length file) (omega (arith, file-length g (suc top) rows ok)))
 
     -- the energies of a row are in the file, from place o on
     abbrev Found : ℕ → List ℕ → Type 0

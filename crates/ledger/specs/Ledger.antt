@@ -1,4 +1,4 @@
--- Lists of calls: what running them means, and document 01's ledger of them. Definitions only.
+-- BuilderLists of calls: what running them means, and document 01's ledger of them. Definitions only.
 use mathlib.Core.Bool.{true, cond}
 use mathlib.Core.List.{List, [], _∷_}
 use Prim.Native.Nat.{ℕ}
@@ -12,10 +12,10 @@ use Rattle.grid.specs.declared.Grid.{Grid}
 use Rattle.rows.specs.Rows.{Row, scalar, mesh}
 use Rattle.settling.specs.Gradient.{zero}
 use Rattle.settling.specs.Settling.{verdicts, settledSlice, fromLevel}
-use Rattle.questions.specs.Lists.{Lists, slabs, slab}
+use Rattle.builder.specs.BuilderLists.{BuilderLists, slabs, slab}
 use Rattle.builder.specs.Calls.{setOut, settleOut}
-use Rattle.questions.specs.Refusals.{setQuestion}
-use Rattle.questions.specs.declared.Builder.{Builder}
+use Rattle.builder.specs.Refusals.{setQuestion}
+use Rattle.builder.specs.declared.Builder.{Builder}
 use Rattle.writer.specs.Write.{writeOut}
 
 -- "lists of set, settle and write calls": set's bins and energies, settle's distance bin, write's output
@@ -29,7 +29,7 @@ pub data Call : Type 0 where
 -- "the store, rows and meshes are the same lists, altered by these calls only, and each call gets the builder as the call before left it"
 pub record State : Type 0 where
   pub builder : Builder
-  pub lists : Lists
+  pub lists : BuilderLists
 
 unfoldable pub called : Mesh → State → Call → State
 called m st (set-call ri oi e) =
@@ -61,8 +61,8 @@ abbrev pub ledgerSlice : Grid → Ledger → ℕ → List (Row Float)
 ledgerSlice g b ri = take (g .«n_omega») (drop (slab g ri 0) (b .rows))
 
 -- "It puts 8 to 11 to these and to its own level and rows": 8 and 11 of settle, and 8 to 10 of set by `setQuestion`
-unfoldable pub settleQuestion : Grid → Ledger → ℕ → ℕ
-settleQuestion g b ri = ask (ltb ri (g .«n_r»)) 8 (ask (every (fromLevel (b .level)) (ledgerSlice g b ri)) 11 0)
+unfoldable pub ledgerQuestion : Grid → Ledger → ℕ → ℕ
+ledgerQuestion g b ri = ask (ltb ri (g .«n_r»)) 8 (ask (every (fromLevel (b .level)) (ledgerSlice g b ri)) 11 0)
 
 -- "Set accepted: the row becomes Mesh, current level, flag true, the energies given."
 unfoldable pub setEntered : Grid → Ledger → ℕ → List Float → Ledger
@@ -78,7 +78,7 @@ settleEntered g m b ri =
 -- "Refused calls and writes change nothing."
 unfoldable pub entered : Grid → Mesh → Ledger → Call → Ledger
 entered g m b (set-call ri oi e) = cond (eqb (setQuestion g (b .level) ri oi e) 0) (setEntered g b (slab g ri oi) e) b
-entered g m b (settle-call ri) = cond (eqb (settleQuestion g b ri) 0) (settleEntered g m b ri) b
+entered g m b (settle-call ri) = cond (eqb (ledgerQuestion g b ri) 0) (settleEntered g m b ri) b
 entered g m b (write-call out) = b
 
 unfoldable pub ledger : Grid → Mesh → Ledger → List Call → Ledger

@@ -13,7 +13,7 @@ use Rattle.rows.specs.Rows.{Row, repulsive, compared}
 use Rattle.search.specs.Search.{Locator}
 use Rattle.locator.specs.Locator.{locatorOut}
 use Rattle.locator.specs.Several.{locatorPart, locators, Roomy}
-use Rattle.questions.specs.Lists.{Lists, slabs}
+use Rattle.builder.specs.BuilderLists.{BuilderLists, slabs}
 use Rattle.builder.specs.Calls.{BuiltOut, freshOut}
 use Rattle.writer.specs.Write.{WriteOut, writeOut}
 use Rattle.table.specs.Read.{readOut}
@@ -28,7 +28,7 @@ pub record History : Type 0 where
   pub grid : Grid
   pub top : ℕ
   pub meshes : Mesh
-  pub lists : Lists
+  pub lists : BuilderLists
   pub calls : List Call
   pub output : List ℕ
 

@@ -4,9 +4,9 @@ ghost use Prim.Native.Nat.{ℕ};
 ghost use Rattle.builder.specs.Calls.{builtValues, settledValues};
 ghost use Rattle.lent.specs.Calls.{LentOut, LentValues, lentValues, setLent, settleLent};
 use crate::LentSettled;
+use builder::Builder;
 use builder::Built;
 use builder::Settled;
-use questions::Builder;
 
 // What the by-value calls leave: the builder, a refused call's being the one it was handed, and the rest of the answer.
 struct SetDone {

@@ -10,10 +10,10 @@ use lib.Dec.{leb, eqb, lit<}
 use borrow.Author.Tests.{leb-true, le-leb, eq-eqb, ne-eqb, eqb-true, eqb-false}
 use Rattle.lists.specs.Lists.{put, starts, joined, allUpTo}
 use Rattle.mesh.specs.Levels.{vertexCount, gridSize, cellCount}
-use Rattle.mesh.specs.Mesh.{Mesh, within, lists, vertexKept, verticesFinite, keepsRule, meshHeld}
+use Rattle.mesh.specs.Mesh.{Mesh, within, lists, vertexKept, verticesFinite, keepsRule, meshLong}
 use Rattle.mesh.specs.Faces.{isFace, facesFrom, extractFaces}
 use Rattle.lists.specs.Questions.{ask}
-use Rattle.mesh.specs.Steps.{links}
+use Rattle.mesh.specs.Internal.{links}
 use Rattle.mesh.proofs.Laws.{count-le}
 use Rattle.mesh.proofs.Tables.{grid-le, grid-ge}
 use Rattle.mesh.proofs.Kept.{Held, held}
@@ -21,8 +21,8 @@ use Rattle.lists.proofs.Asking.{ask-yes}
 use Rattle.lists.proofs.Written.{length-starts}
 use Rattle.search.specs.Cells.{cell, facesOf}
 use Rattle.search.specs.Search.{Locator}
-use Rattle.locator.specs.Locator.{locatorRoom, locatorHeld, locatorRefusal, located, LocatorOut, locatorOut}
-use Rattle.locator.specs.Steps.{Graph, CellsOut, cellsOut, FacesOut, facesOut, refusal}
+use Rattle.locator.specs.Locator.{locatorRoom, locatorLong, locatorRefusal, locatorLists, LocatorOut, locatorOut}
+use Rattle.locator.specs.Internal.{Graph, CellsOut, cellsOut, FacesOut, facesOut, refusal}
 use Rattle.locator.proofs.Room as Room
 use Rattle.locator.proofs.Bound as Bound
 use Rattle.locator.proofs.Graphs as Graphs
@@ -49,9 +49,9 @@ accepted level m o1 o2 o3 o4 e =
     let g = gridSize n in
     let low = low-level level m o1 o2 o3 o4 e in
     let a = ask-yes {q = leb level 15} (lit< tt) e in
-    let b = ask-yes {q = meshHeld n m && locatorRoom n g o1 o2 o3 o4} (lit< tt) (a .1) in
+    let b = ask-yes {q = meshLong n m && locatorRoom n g o1 o2 o3 o4} (lit< tt) (a .1) in
     let d = ask-yes {q = keepsRule n m} (lit< tt) (b .1) in
-    let p = and-eq-true-iff (meshHeld n m) (locatorRoom n g o1 o2 o3 o4) .0 (b .0) in
+    let p = and-eq-true-iff (meshLong n m) (locatorRoom n g o1 o2 o3 o4) .0 (b .0) in
     let p1 = and-eq-true-iff (leb (cellCount g + 1) o1) (leb (27 * n) o2 && (leb (n + 1) o3 && leb (45 * n) o4)) .0 (p .1) in
     let p2 = and-eq-true-iff (leb (27 * n) o2) (leb (n + 1) o3 && leb (45 * n) o4) .0 (p1 .1) in
     let p3 = and-eq-true-iff (leb (n + 1) o3) (leb (45 * n) o4) .0 (p2 .1) in
@@ -102,24 +102,24 @@ module _ (level : ℕ) (m : Mesh) (l : Locator) where
   pub answered : (r : ℕ) → r ≡ refusal level m (length (l .cellOffsets)) (length (l .cellVertices)) (length (l .faceOffsets)) (length (l .faces)) → r ≡ 0
       → locatorOut level m l
       ≡ (let n = vertexCount level in let g = gridSize n in made 0 (cellsOut (m .vertices) n g (cellCount g) (l .cellOffsets) (l .cellVertices)) (facesOut m n (l .faceOffsets) (l .faces)))
-  unfolding locatorOut locatorRefusal refusal located cellsOut facesOut made
+  unfolding locatorOut locatorRefusal refusal locatorLists cellsOut facesOut made
   answered r e z = rw (← e, eq-eqb r 0 z)
 
   -- where the call answers 0, nothing was refused and the lists are those of the level
   pub by-call : locatorOut level m l .number ≡ 0
       → (refusal level m (length (l .cellOffsets)) (length (l .cellVertices)) (length (l .faceOffsets)) (length (l .faces)) ≡ 0)
-      × (locatorOut level m l .lists ≡ located (vertexCount level) (gridSize (vertexCount level)) m l)
+      × (locatorOut level m l .lists ≡ locatorLists (vertexCount level) (gridSize (vertexCount level)) m l)
   unfolding locatorOut locatorRefusal refusal
   by-call e = by (eqb (locatorRefusal level m l) 0) refl e
     where
       by : (t : Bool) → eqb (locatorRefusal level m l) 0 ≡ t
-          → (let o : LocatorOut = cond t (record { number = 0; lists = located (vertexCount level) (gridSize (vertexCount level)) m l }) (record { number = locatorRefusal level m l; lists = l }) in
-          o .number ≡ 0 → (locatorRefusal level m l ≡ 0) × (o .lists ≡ located (vertexCount level) (gridSize (vertexCount level)) m l))
+          → (let o : LocatorOut = cond t (record { number = 0; lists = locatorLists (vertexCount level) (gridSize (vertexCount level)) m l }) (record { number = locatorRefusal level m l; lists = l }) in
+          o .number ≡ 0 → (locatorRefusal level m l ≡ 0) × (o .lists ≡ locatorLists (vertexCount level) (gridSize (vertexCount level)) m l))
       by true q h = (eqb-true (locatorRefusal level m l) 0 q, refl)
       by false q h = absurd (eqb-false (locatorRefusal level m l) 0 q h)
 
   -- what the questions ask
-  pub not-refused : level ≤ 15 → meshHeld (vertexCount level) m ≡ true → locatorHeld (vertexCount level) (gridSize (vertexCount level)) l ≡ true → keepsRule (vertexCount level) m ≡ true
+  pub not-refused : level ≤ 15 → meshLong (vertexCount level) m ≡ true → locatorLong (vertexCount level) (gridSize (vertexCount level)) l ≡ true → keepsRule (vertexCount level) m ≡ true
       → locatorRefusal level m l ≡ 0
   unfolding locatorRefusal ask
   not-refused low a b k = rw (le-leb level 15 low, a, b, k)

@@ -23,7 +23,7 @@ use Rattle.search.specs.Search.{Locator, squared, notNearest, nearer, nearestFr
 use Rattle.search.specs.declared.Vector3.{Vector3}
 use Rattle.search.specs.declared.Nearest.{Nearest}
 use Rattle.search.proofs.Bounds.{cell-index-lt}
-use Rattle.locator.specs.Locator.{located}
+use Rattle.locator.specs.Locator.{locatorLists}
 use Rattle.locator.proofs.Blocks.{flat-append, length-flat}
 use Rattle.locator.proofs.Graphs.{rule}
 use Rattle.locator.proofs.Accepted.{Accepted, cells-fit}
@@ -173,7 +173,7 @@ module _ (n g : ℕ) (m : Mesh) (l : Locator)
   vertices = m .vertices ++ after
 
   abbrev lists : Locator
-  lists = ahead (located n g m l) behind
+  lists = ahead (locatorLists n g m l) behind
 
   vertex-in : (vs : List Float) (v : ℕ) → length (m .vertices) ≤ length vs → v < n → vertexInside vs n v ≡ true
   unfolding vertexInside
@@ -210,7 +210,7 @@ module _ (n g : ℕ) (m : Mesh) (l : Locator)
 
   whole-cells : (lists .cellOffsets ≡ put (l .cellOffsets ++ behind .cellOffsets) 0 (starts (cellCount g + 1) (cell (m .vertices) n g)))
       × (lists .cellVertices ≡ put (l .cellVertices ++ behind .cellVertices) 0 (joined (cellCount g) (cell (m .vertices) n g)))
-  unfolding ahead located
+  unfolding ahead locatorLists
   whole-cells = (
     put-append (l .cellOffsets) (starts (cellCount g + 1) (cell (m .vertices) n g)) (behind .cellOffsets) (omega (arith, ok .r1, length-starts (cellCount g + 1) (cell (m .vertices) n g))),
     put-append (l .cellVertices) (joined (cellCount g) (cell (m .vertices) n g)) (behind .cellVertices) cells-held,
@@ -247,16 +247,16 @@ module _ (n g : ℕ) (m : Mesh) (l : Locator)
 
   whole-faces : (lists .faceOffsets ≡ put (l .faceOffsets ++ behind .faceOffsets) 0 (starts (n + 1) (facesOf m n)))
       × (lists .faces ≡ put (l .faces ++ behind .faces) 0 (joined n (λ v. flat (facesOf m n v))))
-  unfolding ahead located
+  unfolding ahead locatorLists
   whole-faces = (
     put-append (l .faceOffsets) (starts (n + 1) (facesOf m n)) (behind .faceOffsets) (omega (arith, ok .r3, length-starts (n + 1) (facesOf m n))),
     rw (flat-joined n (facesOf m n)) (put-append (l .faces) (joined n (λ v. flat (facesOf m n v))) (behind .faces) faces-held),
   )
 
   -- each list stays as long as it was
-  pub kept-sizes : (length (located n g m l .cellOffsets) ≡ length (l .cellOffsets)) × (length (located n g m l .cellVertices) ≡ length (l .cellVertices))
-      × (length (located n g m l .faceOffsets) ≡ length (l .faceOffsets)) × (length (located n g m l .faces) ≡ length (l .faces))
-  unfolding located
+  pub kept-sizes : (length (locatorLists n g m l .cellOffsets) ≡ length (l .cellOffsets)) × (length (locatorLists n g m l .cellVertices) ≡ length (l .cellVertices))
+      × (length (locatorLists n g m l .faceOffsets) ≡ length (l .faceOffsets)) × (length (locatorLists n g m l .faces) ≡ length (l .faces))
+  unfolding locatorLists
   kept-sizes = (
     length-put (l .cellOffsets) 0 (starts (cellCount g + 1) (cell (m .vertices) n g)) (omega (arith, ok .r1, length-starts (cellCount g + 1) (cell (m .vertices) n g))),
     length-put (l .cellVertices) 0 (joined (cellCount g) (cell (m .vertices) n g)) (omega (arith, cells-held)),

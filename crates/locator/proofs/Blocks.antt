@@ -15,7 +15,7 @@ use Rattle.mesh.specs.declared.Face.{Face}
 use Rattle.lists.proofs.Counting.{any-none, or-none}
 use Rattle.lists.proofs.Written.{filter-append, joined-more, Written, nothing, pushed, chunk}
 use Rattle.search.specs.Cells.{facesOf, flat}
-use Rattle.locator.specs.Steps.{only, wanted, touches, block}
+use Rattle.locator.specs.Internal.{only, wanted, touches, block}
 
 module _ {A : Type 0} where
   -- lists that are equal one by one

@@ -16,7 +16,7 @@ use Rattle.mesh.specs.declared.Face.{Face}
 use Rattle.lists.proofs.Sums.{one, count, sum-eq, sum-le, sum-add, sum-const, sum-grid, sum-mul, sum-none}
 use Rattle.lists.proofs.Written.{length-joined}
 use Rattle.search.specs.Cells.{facesOf}
-use Rattle.locator.specs.Steps.{wanted, touches, block}
+use Rattle.locator.specs.Internal.{wanted, touches, block}
 use Rattle.locator.proofs.Blocks.{piece, block-is, faces-of-is}
 
 -- what the mesh rule says of the lists

@@ -7,7 +7,7 @@ use borrow.Author.Tests.{ltb-true, leb-true, eqb-false, not-true}
 use Rattle.lists.specs.Lists.{allUpTo}
 use Rattle.mesh.specs.Mesh.{Mesh, degree, neighbour, angleTo, within, lists, angleKept, neighbourKept, vertexKept, verticesFinite, keepsRule}
 use Rattle.lists.proofs.Counting.{all-at, any-none}
-use Rattle.locator.specs.Steps.{Graph}
+use Rattle.locator.specs.Internal.{Graph}
 use Rattle.locator.proofs.Bound.{Rule, mutual′}
 
 record Near (n : ℕ) (m : Mesh) (v k : ℕ) : Type 0 where

@@ -18,7 +18,7 @@ use Rattle.lists.proofs.Written.{filter-append}
 use Rattle.search.specs.Geometry.{vertexAt, cubeFaceProject}
 use Rattle.search.specs.Geometry as Geometry
 use Rattle.search.specs.Cells.{near, cellNumber, nearCell, inCell, cell}
-use Rattle.locator.specs.Steps.{kept, nearKept, keyOf, vertexKey, hit, Keyed, keyCell}
+use Rattle.locator.specs.Internal.{kept, nearKept, keyOf, vertexKey, hit, Keyed, keyCell}
 
 pub kept-le : (c : ℤ) → kept c ≤ 65535
 unfolding kept

@@ -13,7 +13,7 @@ use borrow.Author.Tests.{le-leb, eq-eqb}
 use Rattle.ieee.proofs.Pack.{le-or-lt}
 use Rattle.lists.specs.Lists.{joined, sum}
 use Rattle.mesh.specs.Levels.{vertexCount, gridSize, cellCount, verticesBelow, cellOffsetsBelow}
-use Rattle.mesh.specs.Mesh.{Mesh, keepsRule, levelPart, meshRoom, meshHeld, meshesKeep}
+use Rattle.mesh.specs.Mesh.{Mesh, keepsRule, levelPart, meshRoom, meshLong, meshesKeep}
 use Rattle.mesh.proofs.Laws.{below-more, below-le}
 use Rattle.lists.proofs.Counting.{all-at}
 use Rattle.mesh.proofs.Kept.{held as heldBy}
@@ -21,8 +21,8 @@ use Rattle.lists.proofs.Sums.{sum-eq}
 use Rattle.lists.proofs.Written.{length-joined, part}
 use Rattle.search.specs.declared.Vector3.{Vector3}
 use Rattle.search.specs.Search.{Locator, locatorFrom, verticesFrom, nearestIn, nearestOf, locateIn, locate}
-use Rattle.locator.specs.Locator.{locatorRoom, locatorHeld, locatorRefusal, located, LocatorOut, locatorOut}
-use Rattle.locator.specs.Steps.{refusal}
+use Rattle.locator.specs.Locator.{locatorRoom, locatorLong, locatorRefusal, locatorLists, LocatorOut, locatorOut}
+use Rattle.locator.specs.Internal.{refusal}
 use Rattle.locator.proofs.Accepted.{Accepted, accepted, not-refused}
 use Rattle.locator.proofs.Answers.{ahead, kept-sizes, nearest-in, locate-in}
 use Rattle.locator.specs.Several.{locatorPart, madeAt, locators, Roomy}
@@ -93,8 +93,8 @@ cut-at {A} a b l h k =
 cut-room : {A : Type 0} (a b n k : ℕ) (l : List A) → b ≡ a + k * n → b ≤ length l → leb (k * n) (length (slice a b l)) ≡ true
 cut-room a b n k l e h = le-leb (k * n) (length (slice a b l)) (omega (arith, length-slice a b l h))
 
-module _ (top : ℕ) (ms : Mesh) (l : Locator) (low : top ≤ 15) (held : meshHeld (verticesBelow (suc top)) ms ≡ true) (kept : meshesKeep top ms ≡ true) (roomy : Roomy top l) where
-  part-held : (m : ℕ) → m ≤ top → meshHeld (vertexCount m) (levelPart m ms) ≡ true
+module _ (top : ℕ) (ms : Mesh) (l : Locator) (low : top ≤ 15) (held : meshLong (verticesBelow (suc top)) ms ≡ true) (kept : meshesKeep top ms ≡ true) (roomy : Roomy top l) where
+  part-held : (m : ℕ) → m ≤ top → meshLong (vertexCount m) (levelPart m ms) ≡ true
   unfolding meshRoom levelPart
   part-held m h =
       let n = vertexCount m in
@@ -140,7 +140,7 @@ module _ (top : ℕ) (ms : Mesh) (l : Locator) (low : top ≤ 15) (held : meshHe
         faces = omega (arith, length-slice (45 * a) (45 * b) (l .faces) (omega (arith, roomy .faces)));
       }
 
-  room : (m : ℕ) → m ≤ top → locatorHeld (vertexCount m) (gridSize (vertexCount m)) (locatorPart m l) ≡ true
+  room : (m : ℕ) → m ≤ top → locatorLong (vertexCount m) (gridSize (vertexCount m)) (locatorPart m l) ≡ true
   unfolding locatorRoom
   room m h =
       let s = part-sizes m h in
@@ -166,14 +166,14 @@ module _ (top : ℕ) (ms : Mesh) (l : Locator) (low : top ≤ 15) (held : meshHe
   unfolding refusal locatorRefusal
   ok m h = let p = locatorPart m l in accepted m (levelPart m ms) (length (p .cellOffsets)) (length (p .cellVertices)) (length (p .faceOffsets)) (length (p .faces)) (answered-yes m h)
 
-  accepted-out : (m : ℕ) → m ≤ top → locatorOut m (levelPart m ms) (locatorPart m l) ≡ record { number = 0; lists = located (vertexCount m) (gridSize (vertexCount m)) (levelPart m ms) (locatorPart m l) }
+  accepted-out : (m : ℕ) → m ≤ top → locatorOut m (levelPart m ms) (locatorPart m l) ≡ record { number = 0; lists = locatorLists (vertexCount m) (gridSize (vertexCount m)) (levelPart m ms) (locatorPart m l) }
   unfolding locatorOut
   accepted-out m h =
-      ap (λ (t : Bool). cond t (record { number = 0; lists = located (vertexCount m) (gridSize (vertexCount m)) (levelPart m ms) (locatorPart m l) })
+      ap (λ (t : Bool). cond t (record { number = 0; lists = locatorLists (vertexCount m) (gridSize (vertexCount m)) (levelPart m ms) (locatorPart m l) })
       (record { number = locatorRefusal m (levelPart m ms) (locatorPart m l); lists = locatorPart m l }))
       (eq-eqb (locatorRefusal m (levelPart m ms) (locatorPart m l)) 0 (answered-yes m h))
 
-  pub made : (m : ℕ) → m ≤ top → madeAt ms l m ≡ located (vertexCount m) (gridSize (vertexCount m)) (levelPart m ms) (locatorPart m l)
+  pub made : (m : ℕ) → m ≤ top → madeAt ms l m ≡ locatorLists (vertexCount m) (gridSize (vertexCount m)) (levelPart m ms) (locatorPart m l)
   made m h = ap (λ (o : LocatorOut). o .lists) (accepted-out m h)
 
   pub made-yes : (m : ℕ) → m ≤ top → locatorOut m (levelPart m ms) (locatorPart m l) .number ≡ 0
@@ -181,7 +181,7 @@ module _ (top : ℕ) (ms : Mesh) (l : Locator) (low : top ≤ 15) (held : meshHe
 
   -- the call leaves each list as long as it was
   made-sizes : (m : ℕ) → m ≤ top → Sizes m (madeAt ms l m)
-  unfolding located
+  unfolding locatorLists
   made-sizes m h =
       let n = vertexCount m in
       let p = locatorPart m l in
@@ -205,13 +205,13 @@ module _ (top : ℕ) (ms : Mesh) (l : Locator) (low : top ≤ 15) (held : meshHe
   one-list : (f : Locator → List ℕ) (v : ℕ) (size : ℕ → ℕ) (rest : List ℕ) (from to : ℕ) → v ≤ top → ((i : ℕ) → i ≤ top → length (f (madeAt ms l i)) ≡ size i)
       → sum v size ≡ from → sum (suc v) size ≡ to
       → drop from (joined (suc top) (λ m. f (madeAt ms l m)) ++ rest)
-      ≡ f (located (vertexCount v) (gridSize (vertexCount v)) (levelPart v ms) (locatorPart v l)) ++ drop to (joined (suc top) (λ m. f (madeAt ms l m)) ++ rest)
+      ≡ f (locatorLists (vertexCount v) (gridSize (vertexCount v)) (levelPart v ms) (locatorPart v l)) ++ drop to (joined (suc top) (λ m. f (madeAt ms l m)) ++ rest)
   one-list f v size rest from to h e p q =
       rw (← p, ← q)
       (from-place (λ m. f (madeAt ms l m)) (suc top) v rest size (omega arith) (λ i k. e i (omega arith))
       ∙ ap (λ (z : Locator). f z ++ drop (sum (suc v) size) (joined (suc top) (λ m. f (madeAt ms l m)) ++ rest)) (made v h))
 
-  pub at-level : (v : ℕ) → v ≤ top → locatorFrom v (locators top ms l) ≡ ahead (located (vertexCount v) (gridSize (vertexCount v)) (levelPart v ms) (locatorPart v l)) (behind v)
+  pub at-level : (v : ℕ) → v ≤ top → locatorFrom v (locators top ms l) ≡ ahead (locatorLists (vertexCount v) (gridSize (vertexCount v)) (levelPart v ms) (locatorPart v l)) (behind v)
   unfolding locatorFrom locators ahead behind cellOffsetsBelow verticesBelow
   at-level v h =
       let k = suc top in

@@ -12,7 +12,7 @@ use borrow.Author.Tests.{ltb-true}
 use Rattle.float.specs.Order.{smaller}
 use Rattle.lists.specs.Lists.{every}
 use Rattle.mesh.specs.Levels.{vertexCount, gridSize, verticesBelow}
-use Rattle.mesh.specs.Mesh.{Mesh, levelPart, meshHeld, meshesKeep}
+use Rattle.mesh.specs.Mesh.{Mesh, levelPart, meshLong, meshesKeep}
 use Rattle.mesh.specs.declared.Face.{Face}
 use Rattle.search.specs.Geometry.{vertexAt, projectedBarycentric}
 use Rattle.search.specs.Cells.{facesOf}
@@ -61,7 +61,7 @@ some-vertices : (v : ℕ) → 0 < vertexCount v
 unfolding vertexCount
 some-vertices v = omega arith
 
-module _ (top : ℕ) (ms : Mesh) (l : Locator) (low : top ≤ 15) (held : meshHeld (verticesBelow (suc top)) ms ≡ true) (kept : meshesKeep top ms ≡ true) (roomy : Roomy top l)
+module _ (top : ℕ) (ms : Mesh) (l : Locator) (low : top ≤ 15) (held : meshLong (verticesBelow (suc top)) ms ≡ true) (kept : meshesKeep top ms ≡ true) (roomy : Roomy top l)
     (v : ℕ) (h : v ≤ top) (p : Vector3) where
   abbrev m : Mesh
   m = levelPart v ms
@@ -75,9 +75,9 @@ module _ (top : ℕ) (ms : Mesh) (l : Locator) (low : top ≤ 15) (held : meshHe
   pub nearest-vertex : nearestOf m n g p .number ≡ 0 → nearestOf m n g p .vertex < n
   nearest-vertex e = nearest-below n g m (locatorPart v l) (ok top ms l low held kept roomy v h) [] (locatorPart v l) p e
 
-  pub located-face : FaceBelow n (locate m n g p .face)
+  pub locatorLists-face : FaceBelow n (locate m n g p .face)
   unfolding locate bestFace
-  located-face =
+  locatorLists-face =
       chosen (λ (r : Located). FaceBelow n (r .face)) (eqb (nearestOf m n g p .number) 0) (bestFace (m .vertices) p (facesOf m n (nearestOf m n g p .vertex))) (notLocated (nearestOf m n g p .number))
       (λ e. fit-below (m .vertices) p n (facesOf m n (nearestOf m n g p .vertex)) (some-vertices v)
       (faces-in n g m (locatorPart v l) (ok top ms l low held kept roomy v h) [] (locatorPart v l) (m .vertices) (nearestOf m n g p .vertex) (omega arith)))

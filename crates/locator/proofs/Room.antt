@@ -21,7 +21,7 @@ use Rattle.search.specs.Geometry.{vertexAt, cubeFaceProject}
 use Rattle.search.specs.Geometry as Geometry
 use Rattle.search.specs.Cells.{near, cellNumber, nearCell, inCell, cell}
 use Rattle.search.specs.declared.Vector3.{Vector3}
-use Rattle.locator.specs.Steps.{kept, nearKept}
+use Rattle.locator.specs.Internal.{kept, nearKept}
 use Rattle.locator.proofs.Keys.{near-kept}
 
 -- of n cells in a row, at most 3 are near a cell number

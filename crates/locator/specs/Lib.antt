@@ -1,3 +1,3 @@
 pub mod Locator
 pub mod Several
-pub mod Steps
+pub mod Internal

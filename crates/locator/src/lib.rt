@@ -2,7 +2,7 @@
 ghost use mathlib.Core.Path.{_≡_};
 ghost use Prim.Native.Nat.{_≤_};
 ghost use Rattle.locator.specs.Locator.{locatorRoom, LocatorOut, locatorOut};
-ghost use Rattle.locator.specs.Steps.{refusal};
+ghost use Rattle.locator.specs.Internal.{refusal};
 
 mod cells;
 mod faces;

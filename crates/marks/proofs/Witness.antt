@@ -12,7 +12,7 @@ use lib.Seq.{ext-getD}
 use Rattle.grid.specs.Settings.{counted}
 use Rattle.grid.specs.declared.Grid.{Grid}
 use Rattle.rows.specs.Rows.{Row, scalar, repulsive, mesh}
-use Rattle.questions.specs.Lists.{slabs}
+use Rattle.builder.specs.BuilderLists.{slabs}
 use Rattle.builder.specs.Calls.{freshOut}
 use Rattle.writer.specs.Write.{writeOut}
 use Rattle.ledger.specs.Ledger.{Call, set-call, settle-call, write-call, State, run, Ledger, opened, ledger}

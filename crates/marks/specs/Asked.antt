@@ -5,7 +5,7 @@ use Prim.Native.Nat.{ℕ}
 use lib.Ieee.{binary64, ofBits}
 use Rattle.lists.specs.Questions.{ask}
 use Rattle.mesh.specs.Levels.{per}
-use Rattle.grid.specs.Settings.{inRange, levelsHeld, countsHeld, ownCount, slabsHeld, question, freshQuestion}
+use Rattle.grid.specs.Settings.{inRange, levelsValid, countsValid, ownCount, slabsFit, question, freshQuestion}
 use Rattle.grid.specs.declared.Grid.{Grid}
 
 -- rmin, rmax, dr, omega step, threshold, beta by their bits, and the counts
@@ -56,7 +56,7 @@ pub record Asked : Type 0 where
   pub held-level : question (settings 0 0x3FF0_0000_0000_0000 0x3FF0_0000_0000_0000 0x4018_0000_0000_0000 0x3FB9_9999_9999_999A 0x3FF0_0000_0000_0000 1 1) 0 1 ≡ 2
 
 pub asked : Asked
-unfolding ask question freshQuestion inRange levelsHeld countsHeld ownCount slabsHeld per
+unfolding ask question freshQuestion inRange levelsValid countsValid ownCount slabsFit per
 asked = record {
   accepted = refl;
   threshold-zero = refl;

@@ -17,25 +17,25 @@ use Rattle.mesh.specs.Faces.{isFace, facesFrom, extractFaces, has}
 use Rattle.search.specs.Geometry.{dot, norm, unit, difference, vertexAt, cubeFaceProject, cubeFace, cubeProject, inCells, clamp, cellCoordinate, cellIndex, projectedBarycentric}
 use Rattle.search.specs.Cells.{near, cellNumber, nearCell, inCell, cell, facesOf, flat, triples}
 use Rattle.search.specs.Search.{squared, nearer, nearestFrom, nearestAmong, better, fitFrom, bestFace, nearestOf, locate, locatorFrom, verticesFrom, vertexInside, entriesAt, entriesInside, nearestIn, locateIn}
-use Rattle.locator.specs.Locator.{locatorRoom, locatorRefusal, located, locatorOut}
+use Rattle.locator.specs.Locator.{locatorRoom, locatorRefusal, locatorLists, locatorOut}
 use Rattle.locator.specs.Several.{locatorPart, locators}
 use Rattle.grid.specs.Bins.{distanceBin, dihedralBin}
-use Rattle.grid.specs.Settings.{above, question, inRange, levelsHeld, countsHeld, ownCount, slabsHeld, counted}
+use Rattle.grid.specs.Settings.{above, question, inRange, levelsValid, countsValid, ownCount, slabsFit, counted}
 use Rattle.grid.specs.declared.Grid.{Grid}
 use Rattle.rows.specs.Rows.{resolutionOf, resolutionAt, replaced, known, rowRoom}
 use Rattle.settling.specs.Gradient.{weight, repulsive, allRepulsive, steeper, alongNeighbours, pairWeight, gradientOf, gradient, sumFrom, meanNarrowed}
 use Rattle.settling.specs.Settling.{byGradient, verdict, verdicts, settledRows, largestFrom, someSettle, drops, settledSlice}
-use Rattle.questions.specs.Lists.{Lists, rowAt, rowsFrom, listRoom, rowsKnown}
+use Rattle.builder.specs.BuilderLists.{BuilderLists, rowAt, rowsFrom, listRoom, rowsKnown}
 use Rattle.builder.specs.Calls.{settledLists, freshBuilder, filled, freshOut, setLists, setOut, settleAccepted, settleOut}
-use Rattle.questions.specs.Refusals.{meshedRefusal, setQuestion, setRefusal, settleRefusal}
+use Rattle.builder.specs.Refusals.{meshedRefusal, setQuestion, setRefusal, settleRefusal}
 use Rattle.table.specs.Bytes.{bytesOf, numberOf, numberAt, packed, section, items}
-use Rattle.table.specs.File.{entryBytes, entryOf, entries, energiesOf, fileOf}
+use Rattle.table.specs.File.{entryBytes, entryOf, entries, packedEnergies, fileOf}
 use Rattle.writer.specs.Write.{fileFrom, writeRefusal, writeOut}
-use Rattle.table.specs.Read.{layout, laidOut, gridOf, tableOf, gridHeld, tableHeld, scalarHeld, entryHeld, tiled, readRefusal, readOut}
-use Rattle.reading.specs.Resolve.{queryHeld, outside, resolve, joint, nearestPick, facePick, nineTerms, combined}
+use Rattle.table.specs.Read.{layout, laidOut, gridOf, tableOf, gridValid, tableValid, scalarValid, entryValid, tiled, readRefusal, readOut}
+use Rattle.reading.specs.Resolve.{queryValid, outside, resolve, joint, nearestPick, facePick, nineTerms, combined}
 use Rattle.reading.specs.Reading.{rowInside, energyInside, entryAt, energyAt, searchIn, readEntry, readingOut}
 use Rattle.reading.specs.Rule.{search, ruled}
-use Rattle.ledger.specs.Ledger.{Call, called, run, opened, settleQuestion, setEntered, settleEntered, entered, ledger}
+use Rattle.ledger.specs.Ledger.{Call, called, run, opened, ledgerQuestion, setEntered, settleEntered, entered, ledger}
 use Rattle.ledger.specs.Promise.{History, ended, file, rows}
 use Rattle.marks.specs.Icospheres.{icosahedron, twoLevels}
 
@@ -61,7 +61,7 @@ abbrev pub plain : Grid
 plain = settings 0x3FF0_0000_0000_0000 0x4018_0000_0000_0000
 
 -- n energies' places and k rows, with other contents and a place more than needed
-abbrev pub lent : ℕ → ℕ → Lists
+abbrev pub lent : ℕ → ℕ → BuilderLists
 lent n k =
     let nines : List ℕ = replicate (1 + k) 9 in
     record { store = replicate (1 + n) (f64 0x4000_0000_0000_0000); rows = record { kinds = nines; levels = nines; values = nines } }
@@ -85,11 +85,11 @@ unfolding ask first allUpTo anyUpTo forEach sum below every filter joined starts
 meshes x = x
 
 unfoldable searches : {A : Type 0} → A → A
-unfolding dot norm unit difference vertexAt cubeFaceProject cubeFace cubeProject inCells clamp cellCoordinate cellIndex projectedBarycentric near cellNumber nearCell inCell cell facesOf flat triples squared nearer nearestFrom nearestAmong better fitFrom bestFace nearestOf locate locatorFrom verticesFrom vertexInside entriesAt entriesInside nearestIn locateIn locatorRoom locatorRefusal located locatorOut
+unfolding dot norm unit difference vertexAt cubeFaceProject cubeFace cubeProject inCells clamp cellCoordinate cellIndex projectedBarycentric near cellNumber nearCell inCell cell facesOf flat triples squared nearer nearestFrom nearestAmong better fitFrom bestFace nearestOf locate locatorFrom verticesFrom vertexInside entriesAt entriesInside nearestIn locateIn locatorRoom locatorRefusal locatorLists locatorOut
 searches x = x
 
 unfoldable calls : {A : Type 0} → A → A
-unfolding distanceBin dihedralBin above question counted inRange levelsHeld countsHeld ownCount slabsHeld resolutionOf resolutionAt replaced known rowRoom rowAt rowsFrom settledLists listRoom rowsKnown meshedRefusal freshBuilder filled freshOut setQuestion setRefusal setLists setOut settleRefusal settleAccepted settleOut
+unfolding distanceBin dihedralBin above question counted inRange levelsValid countsValid ownCount slabsFit resolutionOf resolutionAt replaced known rowRoom rowAt rowsFrom settledLists listRoom rowsKnown meshedRefusal freshBuilder filled freshOut setQuestion setRefusal setLists setOut settleRefusal settleAccepted settleOut
 calls x = x
 
 unfoldable settling : {A : Type 0} → A → A
@@ -97,15 +97,15 @@ unfolding weight repulsive allRepulsive steeper alongNeighbours pairWeight gradi
 settling x = x
 
 unfoldable tables : {A : Type 0} → A → A
-unfolding bytesOf numberOf numberAt packed section items entryBytes entryOf entries energiesOf fileOf fileFrom writeRefusal writeOut layout laidOut gridOf tableOf gridHeld tableHeld scalarHeld entryHeld tiled readRefusal readOut
+unfolding bytesOf numberOf numberAt packed section items entryBytes entryOf entries packedEnergies fileOf fileFrom writeRefusal writeOut layout laidOut gridOf tableOf gridValid tableValid scalarValid entryValid tiled readRefusal readOut
 tables x = x
 
 unfoldable readings : {A : Type 0} → A → A
-unfolding queryHeld outside resolve joint nearestPick facePick nineTerms combined rowInside energyInside entryAt energyAt searchIn readEntry readingOut search ruled
+unfolding queryValid outside resolve joint nearestPick facePick nineTerms combined rowInside energyInside entryAt energyAt searchIn readEntry readingOut search ruled
 readings x = x
 
 unfoldable runs : {A : Type 0} → A → A
-unfolding called run opened settleQuestion setEntered settleEntered entered ledger ended file rows locatorPart locators
+unfolding called run opened ledgerQuestion setEntered settleEntered entered ledger ended file rows locatorPart locators
 runs x = x
 
 unfoldable pub computed : {A : Type 0} → A → A

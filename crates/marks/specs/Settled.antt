@@ -6,9 +6,9 @@ use lib.ListN.{replicate, set}
 use lib.Ieee.{Float, nan}
 use Rattle.mesh.specs.Mesh.{Mesh}
 use Rattle.grid.specs.Settings.{counted}
-use Rattle.questions.specs.Lists.{Lists}
+use Rattle.builder.specs.BuilderLists.{BuilderLists}
 use Rattle.builder.specs.Calls.{freshOut, setOut, settleOut}
-use Rattle.questions.specs.declared.Builder.{Builder}
+use Rattle.builder.specs.declared.Builder.{Builder}
 use Rattle.writer.specs.Write.{writeOut}
 use Rattle.ledger.specs.Ledger.{Call, set-call, settle-call, State, run}
 use Rattle.ledger.specs.Promise.{History, ended}
@@ -54,7 +54,7 @@ then cs ri = let st = run twoLevels after cs in settleOut (st .builder) twoLevel
 abbrev by-hand : Builder
 by-hand = record { grid = counted (settings 0x3FF0_0000_0000_0000 0x4008_0000_0000_0000); top = 1; level = 0 }
 
-abbrev made : List ℕ → List ℕ → Lists
+abbrev made : List ℕ → List ℕ → BuilderLists
 made kinds levels = record { store = zeros 3528; rows = record { kinds = kinds; levels = levels; values = 0 ∷ 0 ∷ [] } }
 
 abbrev settledByHand : Mesh → List ℕ → List ℕ → ℕ → ℕ

@@ -6,7 +6,7 @@ use Prim.Native.Nat.{ℕ, _*_, _≤_}
 use lib.ListN.{length}
 use lib.Dec.{leb}
 use borrow.Author.Tests.{leb-true}
-use Rattle.mesh.specs.Mesh.{Mesh, within, lists, neighbourKept, vertexKept, meshRoom, meshHeld}
+use Rattle.mesh.specs.Mesh.{Mesh, within, lists, neighbourKept, vertexKept, meshRoom, meshLong}
 
 -- a vertex and its neighbours keep the rule whatever the coordinates are
 pub kept-links : (n : ℕ) (m : Mesh) (v : ℕ)
@@ -21,7 +21,7 @@ pub record Held (n : ℕ) (m : Mesh) : Type 0 where
   pub neighbours : 6 * n ≤ length (m .neighbours)
   pub angles : 6 * n ≤ length (m .angles)
 
-pub held : (n : ℕ) (m : Mesh) → meshHeld n m ≡ true → Held n m
+pub held : (n : ℕ) (m : Mesh) → meshLong n m ≡ true → Held n m
 unfolding meshRoom
 held n m e =
     let a = and-eq-true-iff (leb (3 * n) (length (m .vertices))) (leb n (length (m .counts)) && (leb (6 * n) (length (m .neighbours)) && leb (6 * n) (length (m .angles)))) .0 e in

@@ -1,4 +1,4 @@
 pub mod Levels
 pub mod Mesh
 pub mod Faces
-pub mod Steps
+pub mod Internal

@@ -72,8 +72,8 @@ levelPart m l =
 unfoldable pub meshRoom : ℕ → ℕ → ℕ → ℕ → ℕ → Bool
 meshRoom n vertices counts neighbours angles = leb (3 * n) vertices && (leb n counts && (leb (6 * n) neighbours && leb (6 * n) angles))
 
-abbrev pub meshHeld : ℕ → Mesh → Bool
-meshHeld n m = meshRoom n (length (m .vertices)) (length (m .counts)) (length (m .neighbours)) (length (m .angles))
+abbrev pub meshLong : ℕ → Mesh → Bool
+meshLong n m = meshRoom n (length (m .vertices)) (length (m .counts)) (length (m .neighbours)) (length (m .angles))
 
 -- 7: "Does every lent mesh keep the mesh rule?", of the levels from 0 to the top
 unfoldable pub meshesKeep : ℕ → Mesh → Bool

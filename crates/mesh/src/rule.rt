@@ -6,8 +6,8 @@ ghost use Prim.Native.Nat.{_+_, _*_};
 ghost use lib.ListN.{getD};
 ghost use lib.Ieee.{nan};
 ghost use Rattle.mesh.specs.Levels.{vertexCount};
-ghost use Rattle.mesh.specs.Mesh.{within, lists, angleKept, neighbourKept, vertexKept, verticesFinite, keepsRule, meshRoom, meshHeld};
-ghost use Rattle.mesh.specs.Steps.{links};
+ghost use Rattle.mesh.specs.Mesh.{within, lists, angleKept, neighbourKept, vertexKept, verticesFinite, keepsRule, meshRoom, meshLong};
+ghost use Rattle.mesh.specs.Internal.{links};
 use crate::levels::vertex_count;
 
 // How many neighbours v has; 0 where no count was lent.
@@ -162,7 +162,7 @@ pub fn mesh_keeps(
     neighbours: &[u16],
     angles: &[f64],
 ) -> bool
-    ensures { λ r. ⌜ r ≡ meshHeld (vertexCount level) (record { vertices = now (vertices .entry); counts = now (counts .entry); neighbours = now (neighbours .entry); angles = now (angles .entry) })
+    ensures { λ r. ⌜ r ≡ meshLong (vertexCount level) (record { vertices = now (vertices .entry); counts = now (counts .entry); neighbours = now (neighbours .entry); angles = now (angles .entry) })
         && keepsRule (vertexCount level) (record { vertices = now (vertices .entry); counts = now (counts .entry); neighbours = now (neighbours .entry); angles = now (angles .entry) }) ⌝ }
 {
     let n = vertex_count(level) as u32;

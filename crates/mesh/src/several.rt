@@ -4,7 +4,7 @@ ghost use mathlib.Core.Bool.{_&&_, true};
 ghost use Prim.Native.Nat.{suc, _+_, _*_, _≤_};
 ghost use lib.ListN.{length};
 ghost use Rattle.mesh.specs.Levels.{vertexCount, verticesBelow};
-ghost use Rattle.mesh.specs.Mesh.{keepsRule, levelPart, meshRoom, meshHeld, meshesKeep};
+ghost use Rattle.mesh.specs.Mesh.{keepsRule, levelPart, meshRoom, meshLong, meshesKeep};
 use crate::levels::vertex_count;
 use crate::levels::vertices_below;
 use crate::rule::keeps_rule;
@@ -60,7 +60,7 @@ pub fn meshes_keep(
     neighbours: &[u16],
     angles: &[f64],
 ) -> bool
-    ensures { λ r. ⌜ r ≡ meshHeld (verticesBelow (suc top)) (record { vertices = now (vertices .entry); counts = now (counts .entry); neighbours = now (neighbours .entry); angles = now (angles .entry) })
+    ensures { λ r. ⌜ r ≡ meshLong (verticesBelow (suc top)) (record { vertices = now (vertices .entry); counts = now (counts .entry); neighbours = now (neighbours .entry); angles = now (angles .entry) })
         && meshesKeep top (record { vertices = now (vertices .entry); counts = now (counts .entry); neighbours = now (neighbours .entry); angles = now (angles .entry) }) ⌝ }
 {
     if !meshes_room(

@@ -18,9 +18,9 @@ use Rattle.rows.specs.declared.SlabResolution.the-variants.{Scalar, Mesh, Repul
 use Rattle.search.specs.Search.{Locator}
 use Rattle.table.specs.File.{Entry}
 use Rattle.table.specs.declared.Table.{Table}
-use Rattle.reading.specs.Resolve.{readingValues, Query, Resolved, unresolved, beyond, slabAt, queryHeld, outside, resolve, widened}
+use Rattle.reading.specs.Resolve.{readingValues, Query, Resolved, unresolved, beyond, slabAt, queryValid, outside, resolve, widened}
 use Rattle.reading.specs.Reading.{rowInside, entryAt, readEntry, readSlab, readingOut, searchIn, readPicks}
-use Rattle.reading.specs.Steps.{itemsInside, slabOf, rowPlace, toward, readPlaced, readResolution}
+use Rattle.reading.specs.Internal.{itemsInside, slabOf, rowPlace, toward, readPlaced, readResolution}
 use Rattle.reading.specs.declared.Reading.the-variants.{Energy, Refused}
 use Rattle.reading.specs.declared.resolve.RowPlace.{RowPlace}
 use Rattle.reading.specs.declared.resolve.RowPlace.the-variants.{At, Outside, NoRow}
@@ -64,22 +64,22 @@ quite-past ri n oi limit N h l =
 -- ---- rows
 
 module _ (file : List ℕ) (t : Table) where
-  row-held : (s held : ℕ) → held ≡ itemsInside (t .«rows_start») 10 (t .rows) (length file) → rowInside file t s ≡ ltb s held
+  places-below : (s held : ℕ) → held ≡ itemsInside (t .«rows_start») 10 (t .rows) (length file) → rowInside file t s ≡ ltb s held
   unfolding rowInside
-  row-held s held h = rw h (items-inside (t .«rows_start») 10 (t .rows) (length file) (omega arith) s)
+  places-below s held h = rw h (items-inside (t .«rows_start») 10 (t .rows) (length file) (omega arith) s)
 
   pub row-at : (s r held : ℕ) → held ≡ itemsInside (t .«rows_start») 10 (t .rows) (length file) → r ≡ min s held → r < held
       → At (t .«rows_start» + r * 10) ≡ rowPlace file t (slabAt s)
-  row-at s r held h e l = let z : r ≡ s = omega arith in rw (row-held s held h, lt-ltb s held (omega arith), z)
+  row-at s r held h e l = let z : r ≡ s = omega arith in rw (places-below s held h, lt-ltb s held (omega arith), z)
 
   pub row-none : (s r held : ℕ) → held ≡ itemsInside (t .«rows_start») 10 (t .rows) (length file) → r ≡ min s held → held ≤ r
       → NoRow 19 ≡ rowPlace file t (slabAt s)
-  row-none s r held h e l = rw (row-held s held h, le-ltb s held (omega arith))
+  row-none s r held h e l = rw (places-below s held h, le-ltb s held (omega arith))
 
   -- the bytes of a row that was placed
   pub row-fits : (r held : ℕ) → held ≡ itemsInside (t .«rows_start») 10 (t .rows) (length file) → r < held → t .«rows_start» + r * 10 + 10 ≤ length file
   unfolding rowInside
-  row-fits r held h l = leb-true _ _ (and-eq-true-iff (ltb r (t .rows)) (leb (t .«rows_start» + r * 10 + 10) (length file)) .0 (row-held r held h ∙ lt-ltb r held l) .1)
+  row-fits r held h l = leb-true _ _ (and-eq-true-iff (ltb r (t .rows)) (leb (t .«rows_start» + r * 10 + 10) (length file)) .0 (places-below r held h ∙ lt-ltb r held l) .1)
 
   place : RowPlace → ℕ
   place (At a) = suc a
@@ -153,11 +153,11 @@ bins-none a b h =
     (le-or-lt a 0)
 
 module _ (file : List ℕ) (t : Table) (q : Query) where
-  pub refused-18 : queryHeld q ≡ false → NoRow 18 ≡ rowPlace file t (resolve (t .grid) q)
+  pub refused-18 : queryValid q ≡ false → NoRow 18 ≡ rowPlace file t (resolve (t .grid) q)
   unfolding resolve
   refused-18 h = rw h
 
-  module _ (h : queryHeld q ≡ true) where
+  module _ (h : queryValid q ≡ true) where
     pub beyond-out : outside (t .grid) (q .r) ≡ true → Outside ≡ rowPlace file t (resolve (t .grid) q)
     unfolding resolve
     beyond-out k = rw (h, k)

@@ -1,4 +1,4 @@
 pub mod Resolve
 pub mod Reading
 pub mod Rule
-pub mod Steps
+pub mod Internal

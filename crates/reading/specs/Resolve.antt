@@ -36,8 +36,8 @@ pub record Query : Type 0 where
   pub b : Vector3
 
 -- 18: "is r not a NaN, omega finite, and the length of each direction finite and above 0?"
-unfoldable pub queryHeld : Query → Bool
-queryHeld q = not (isNan (q .r)) && (finite (q .omega) && (above (norm (q .a)) && above (norm (q .b))))
+unfoldable pub queryValid : Query → Bool
+queryValid q = not (isNan (q .r)) && (finite (q .omega) && (above (norm (q .a)) && above (norm (q .b))))
 
 -- "A distance below rmin or above rmax"; "a reading's rmax is this one, not the settings'"
 unfoldable pub outside : Grid → Float → Bool
@@ -51,7 +51,7 @@ pub data Resolved : Type 0 where
 -- `resolve_slab_idx`, after 18; of 19: "Are bin counts above 0"
 unfoldable pub resolve : Grid → Query → Resolved
 resolve g q =
-    cond (queryHeld q)
+    cond (queryValid q)
     (cond (outside g (q .r)) beyond
     (cond (ltb 0 (g .«n_r») && ltb 0 (g .«n_omega»))
     (slabAt (distanceBin (q .r) (g .rmin) (g .dr) (g .«n_r») * g .«n_omega» + dihedralBin (q .omega) (g .«omega_step») (g .«n_omega»)))
@@ -69,8 +69,8 @@ pub data Picks : Type 0 where
 unfoldable pub joint : ℕ → ℕ → ℕ
 joint a b = cond (eqb a 19 || eqb b 19) 19 (cond (eqb a 0) b a)
 
-abbrev noWeights : Weights
-noWeights = record { a = nan; b = nan; c = nan }
+abbrev unusedWeights : Weights
+unusedWeights = record { a = nan; b = nan; c = nan }
 
 -- the place of a pair of vertices in a slab: `va * n_v + vb`
 abbrev pub pairPlace : ℕ → ℕ → ℕ → ℕ
@@ -79,7 +79,7 @@ pairPlace n va vb = va * n + vb
 unfoldable pub nearestPick : ℕ → Nearest → Nearest → Picks
 nearestPick n a b =
     let r = joint (a .number) (b .number) in
-    cond (eqb r 0) (picked (pairPlace n (a .vertex) (b .vertex) ∷ []) noWeights noWeights) (unpicked r)
+    cond (eqb r 0) (picked (pairPlace n (a .vertex) (b .vertex) ∷ []) unusedWeights unusedWeights) (unpicked r)
 
 -- nine places: `face_a[i]` against `face_b[j]`
 abbrev rowPlaces : ℕ → ℕ → Face → List ℕ

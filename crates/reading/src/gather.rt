@@ -8,7 +8,7 @@ ghost use Rattle.search.specs.Geometry.{unit};
 ghost use Rattle.search.specs.Search.{nearestInCells, locateIn, verticesFrom};
 ghost use Rattle.reading.specs.Resolve.{nearestPick, facePick};
 ghost use Rattle.reading.specs.Reading.{readPicks, searchIn};
-ghost use Rattle.reading.specs.Steps.{toward, partFrom};
+ghost use Rattle.reading.specs.Internal.{toward, partFrom};
 use crate::Reading;
 use crate::combine::interpolated;
 use crate::combine::nearest;

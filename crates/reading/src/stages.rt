@@ -5,7 +5,7 @@ ghost use lib.ListN.{length, take, drop};
 ghost use Rattle.table.specs.File.{entryOf};
 ghost use Rattle.reading.specs.Resolve.{readingValues};
 ghost use Rattle.reading.specs.Reading.{readEntry, readingOut};
-ghost use Rattle.reading.specs.Steps.{toward, readResolution};
+ghost use Rattle.reading.specs.Internal.{toward, readResolution};
 use crate::Reading;
 use crate::gather::read_interpolated;
 use crate::gather::read_nearest;

@@ -17,7 +17,7 @@ use Rattle.mesh.specs.Faces.{face}
 use Rattle.search.specs.Geometry.{cellIndex}
 use Rattle.search.specs.Cells.{triples}
 use Rattle.search.specs.Search.{notNearest, nearer, nearestFrom, nearestAmong, nearestInCells, nearestIn, noFit, notLocated, better, fitFrom, bestFace, Locator, vertexInside, entriesAt, entriesInside, locateIn}
-use Rattle.search.specs.Steps.{spanOf, nearestOver, located, fitOver}
+use Rattle.search.specs.Internal.{spanOf, nearestOver, locatedFit, fitOver}
 use Rattle.search.specs.declared.Vector3.{Vector3}
 use Rattle.search.specs.declared.Nearest.{Nearest}
 use Rattle.search.specs.declared.cells.Span.{Span}
@@ -176,7 +176,7 @@ module _ (vs : List Float) (n : ℕ) (p : Vector3) (l : List ℕ) where
       stops true false r s h = refl
       stops false q r s h = refl
 
-  pub fit-end : (best : Fit) (i : ℕ) → length l ≤ i → fitOver vs n p best (drop i l) ≡ located best
+  pub fit-end : (best : Fit) (i : ℕ) → length l ≤ i → fitOver vs n p best (drop i l) ≡ locatedFit best
   unfolding fitOver every triples fitFrom
   fit-end best i h = rw (drop-of-length-le l h)
 

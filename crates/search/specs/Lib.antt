@@ -1,4 +1,4 @@
 pub mod Geometry
 pub mod Cells
 pub mod Search
-pub mod Steps
+pub mod Internal

@@ -45,14 +45,14 @@ nearestAmong vs p l = nearestFrom vs p (notNearest 20) l
 
 -- ---- the face (`locate`)
 
-abbrev pub noWeights : Weights
-noWeights = record { a = zero; b = zero; c = zero }
+abbrev pub zeroWeights : Weights
+zeroWeights = record { a = zero; b = zero; c = zero }
 
 abbrev pub notLocated : ℕ → Located
-notLocated number = record { number = number; face = face 0 0 0; weights = noWeights }
+notLocated number = record { number = number; face = face 0 0 0; weights = zeroWeights }
 
 abbrev pub noFit : Fit
-noFit = record { face = face 0 0 0; weights = noWeights; least = inf true }
+noFit = record { face = face 0 0 0; weights = zeroWeights; least = inf true }
 
 unfoldable pub better : List Float → Vector3 → Fit → Face → Fit
 better vs p best f =

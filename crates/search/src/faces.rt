@@ -6,7 +6,7 @@ ghost use Rattle.mesh.specs.Levels.{vertexCount, gridSize};
 ghost use Rattle.mesh.specs.Faces.{face};
 ghost use Rattle.search.specs.Geometry.{vertexAt, projectedBarycentric};
 ghost use Rattle.search.specs.Search.{noFit, notLocated, better, locateIn};
-ghost use Rattle.search.specs.Steps.{located, fitOver};
+ghost use Rattle.search.specs.Internal.{locatedFit, fitOver};
 use crate::Located;
 use crate::Vector3;
 use crate::Weights;
@@ -64,7 +64,7 @@ fn not_located(number: u64) -> Located
 }
 
 fn fitted(best: Fit) -> Located
-    ensures { λ r. ⌜ r ≡ located best ⌝ }
+    ensures { λ r. ⌜ r ≡ locatedFit best ⌝ }
 {
     let face = best.face;
     let weights = best.weights;

@@ -1,4 +1,4 @@
-// Lists in the input: to fill one from it, and to count the entries that agree with it.
+// BuilderLists in the input: to fill one from it, and to count the entries that agree with it.
 use crate::tally;
 use crate::tally::Count;
 use words::float;

@@ -8,7 +8,7 @@ use Rattle.rows.specs.declared.SlabResolution.{SlabResolution}
 use Rattle.rows.specs.declared.SlabResolution.the-variants.{Scalar, Mesh, Repulsive}
 use Rattle.rows.specs.Rows.{Rows, replaced, rowWith}
 use Rattle.settling.specs.Settling.{newRow, inPlaceOf, notRepulsive, replacedBy}
-use Rattle.settling.specs.Steps.{stays, becomes, leftRow, isClear}
+use Rattle.settling.specs.Internal.{stays, becomes, leftRow, isClear}
 use Rattle.settling.specs.declared.Verdict.{Verdict}
 use Rattle.settling.specs.declared.Verdict.the-variants.{Empty, Blocked, Isotropic, Smooth, Rough}
 

@@ -12,7 +12,7 @@ use Rattle.ieee.proofs.Pack.{le-or-lt}
 use Rattle.lists.specs.Lists.{put}
 use Rattle.lists.proofs.Written.{put-push}
 use Rattle.settling.specs.Gradient.{weight}
-use Rattle.settling.specs.Steps.{lineWeights}
+use Rattle.settling.specs.Internal.{lineWeights}
 
 module _ (beta : Float) (e : List Float) (from step : ℕ) where
   pub length-line : (n : ℕ) → length (lineWeights beta e from step n) ≡ n

@@ -19,7 +19,7 @@ use Rattle.lists.specs.Lists.{forEach}
 use Rattle.mesh.specs.Mesh.{Mesh, degree, neighbour, angleTo}
 use Rattle.float.proofs.Order.{clear, round-clear}
 use Rattle.settling.specs.Gradient.{zero, weight, steeper, alongNeighbours, pairWeight, gradientOf, gradient}
-use Rattle.settling.specs.Steps.{lineWeights, lineGradient, linesGradient}
+use Rattle.settling.specs.Internal.{lineWeights, lineGradient, linesGradient}
 use Rattle.settling.proofs.Largest.{Slope, larger-swap}
 use Rattle.settling.proofs.Orders.{Commute, loops-commute, each-split, each-swap, each-same}
 use Rattle.settling.proofs.Lines.{length-line, line-at}

@@ -1,3 +1,3 @@
 pub mod Gradient
 pub mod Settling
-pub mod Steps
+pub mod Internal

@@ -49,14 +49,14 @@ abbrev pub replacedBy : Rows → ℕ → Option SlabResolution → Rows
 replacedBy r s none = r
 replacedBy r s (some x) = replaced r s x
 
-abbrev pub energiesOf : Row Float → List Float
-energiesOf (scalar x) = []
-energiesOf repulsive = []
-energiesOf (mesh v b e) = e
+abbrev pub rowEnergies : Row Float → List Float
+rowEnergies (scalar x) = []
+rowEnergies repulsive = []
+rowEnergies (mesh v b e) = e
 
 abbrev pub inPlaceOf : Row Float → Option SlabResolution → Row Float
 inPlaceOf r none = r
-inPlaceOf r (some x) = rowWith x (energiesOf r)
+inPlaceOf r (some x) = rowWith x (rowEnergies r)
 
 unfoldable pub settledRows : ℕ → List (Row Float) → List Verdict → List (Row Float)
 settledRows c [] vs = []

@@ -7,7 +7,7 @@ ghost use mathlib.Core.Bool.{false};
 ghost use lib.Ieee.{nan, isNan};
 ghost use Rattle.lists.specs.Lists.{put};
 ghost use Rattle.settling.specs.Gradient.{weight, steeper, alongNeighbours};
-ghost use Rattle.settling.specs.Steps.{lineWeights, lineGradient, fourColumns, firstColumns, linesGradient, byLines};
+ghost use Rattle.settling.specs.Internal.{lineWeights, lineGradient, fourColumns, firstColumns, linesGradient, byLines};
 
 // The Boltzmann weight of an energy.
 pub(crate) fn weight(beta: f64, e: f64) -> f64

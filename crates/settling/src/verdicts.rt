@@ -9,7 +9,7 @@ ghost use Rattle.rows.specs.Rows.{Rows, rowWith};
 ghost use Rattle.settling.specs.Gradient.{repulsive, allRepulsive, sumFrom, meanNarrowed};
 ghost use Rattle.settling.specs.Settling.{byGradient, verdict, verdictOf, newRow, replacedBy, steeperOf, settles};
 ghost use Rattle.settling.specs.declared.Verdict.the-variants.{Empty};
-ghost use Rattle.settling.specs.Steps.{stays, becomes, leftRow, isClear};
+ghost use Rattle.settling.specs.Internal.{stays, becomes, leftRow, isClear};
 use crate::Tally;
 use crate::Verdict;
 use crate::gradient;

@@ -14,7 +14,7 @@ use Rattle.mesh.specs.Levels.{per}
 use Rattle.table.specs.Bytes.{numberOf, numberAt, items}
 use Rattle.table.specs.File.{Entry, entryOf}
 use Rattle.table.specs.Read.{tiled}
-use Rattle.table.specs.Steps.{placedAt, nextPlace}
+use Rattle.table.specs.Internal.{placedAt, nextPlace}
 use Rattle.table.proofs.Numbers.{number-suc, none}
 
 module _ {A : Type 0} (dec : List ℕ → A) (w : ℕ) (file : List ℕ) where

@@ -46,9 +46,9 @@ energiesIn (scalar x) = []
 energiesIn repulsive = []
 energiesIn (mesh v b e) = e
 
-unfoldable pub energiesOf : List (Row ℕ) → List ℕ
-energiesOf [] = []
-energiesOf (r ∷ rs) = energiesIn r ++ energiesOf rs
+unfoldable pub packedEnergies : List (Row ℕ) → List ℕ
+packedEnergies [] = []
+packedEnergies (r ∷ rs) = energiesIn r ++ packedEnergies rs
 
 -- "(1) count 3: rmin, dr, omega step, f64; (2) count 2: distance and dihedral bins, u32; (3) levels: each n, u32, from level 0; (4) rows ..; (5) energies, f32"
 unfoldable pub fileOf : Grid → ℕ → List (Row ℕ) → List ℕ
@@ -57,4 +57,4 @@ fileOf g levels rows =
     ++ (section (bytesOf 4) (g .«n_r» ∷ g .«n_omega» ∷ [])
     ++ (section (bytesOf 4) (map vertexCount (below levels))
     ++ (section entryBytes (entries 0 rows)
-    ++ section (bytesOf 4) (energiesOf rows))))
+    ++ section (bytesOf 4) (packedEnergies rows))))

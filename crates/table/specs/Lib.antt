@@ -1,5 +1,5 @@
 pub mod Bytes
 pub mod File
 pub mod Read
-pub mod Steps
+pub mod Internal
 pub mod Checks

@@ -7,11 +7,11 @@ ghost use lib.ListN.{length};
 ghost use Rattle.lists.specs.Questions.{ask, first};
 ghost use Rattle.lists.specs.Lists.{put};
 ghost use Rattle.mesh.specs.Levels.{verticesBelow};
-ghost use Rattle.mesh.specs.Mesh.{meshHeld, meshesKeep};
-ghost use Rattle.questions.specs.Lists.{slabs, listRoom, rowsKnown};
-ghost use Rattle.questions.specs.Refusals.{builderQuestion};
+ghost use Rattle.mesh.specs.Mesh.{meshLong, meshesKeep};
+ghost use Rattle.builder.specs.BuilderLists.{slabs, listRoom, rowsKnown};
+ghost use Rattle.builder.specs.Refusals.{builderQuestion};
 ghost use Rattle.writer.specs.Write.{WriteOut, writtenValues, fileFrom, writeOut};
-ghost use Rattle.writer.specs.Steps.{headBytes, Ready};
+ghost use Rattle.writer.specs.Internal.{headBytes, WriteReady};
 use crate::Written;
 use crate::sections::energy_total;
 use crate::sections::put_bins;
@@ -19,8 +19,8 @@ use crate::sections::put_grid;
 use crate::sections::put_levels;
 use crate::sections::put_rows;
 use crate::sections::put_tail;
+use builder::Builder;
 use grid::Grid;
-use questions::Builder;
 
 // The kind and level part of question 15, of every row.
 fn rows_known(top: u64, kinds: &[u8], levels: &[u8], n: u64) -> bool
@@ -49,14 +49,14 @@ fn write_question(
     angles: &[f64],
 ) -> u64
     ensures { λ r. ⌜ r ≡ first (first (builderQuestion b)
-        (ask (listRoom (b .grid) (b .top) store (length (now (kinds .entry))) (length (now (levels .entry))) values && meshHeld (verticesBelow (suc (b .top))) (record { vertices = now (vertices .entry); counts = now (counts .entry); neighbours = now (neighbours .entry); angles = now (angles .entry) })) 6
+        (ask (listRoom (b .grid) (b .top) store (length (now (kinds .entry))) (length (now (levels .entry))) values && meshLong (verticesBelow (suc (b .top))) (record { vertices = now (vertices .entry); counts = now (counts .entry); neighbours = now (neighbours .entry); angles = now (angles .entry) })) 6
         (ask (meshesKeep (b .top) (record { vertices = now (vertices .entry); counts = now (counts .entry); neighbours = now (neighbours .entry); angles = now (angles .entry) })) 7 0)))
         (ask (rowsKnown (b .top) (record { kinds = now (kinds .entry); levels = now (levels .entry); values = [] }) 0 (slabs (b .grid))) 15 0) ⌝ }
 {
     let n_r = b.grid.n_r;
     let n_omega = b.grid.n_omega;
     let top = b.top;
-    let no = questions::meshed_refusal(
+    let no = builder::meshed_refusal(
         b,
         store,
         kinds.len() as u64,
@@ -101,7 +101,7 @@ fn put_file(
     e: u64,
     out: &mut [u8],
 )
-    requires { ⌜ Ready b (record { store = now store; rows = record { kinds = now kinds; levels = now levels; values = now values } }) e (length (now out)) ⌝ }
+    requires { ⌜ WriteReady b (record { store = now store; rows = record { kinds = now kinds; levels = now levels; values = now values } }) e (length (now out)) ⌝ }
     ensures { λ _. ⌜ now (out .exit) ≡ put (now (out .entry)) 0 (fileFrom b (record { store = now (store .entry); rows = record { kinds = now (kinds .entry); levels = now (levels .entry); values = now (values .entry) } })) ⌝ }
 {
     let g = b.grid;

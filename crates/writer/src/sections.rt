@@ -9,7 +9,7 @@ ghost use Rattle.mesh.specs.Levels.{vertexCount};
 ghost use Rattle.rows.specs.Rows.{narrowBits};
 ghost use Rattle.table.specs.Bytes.{bytesOf, packed, section};
 ghost use Rattle.table.specs.File.{entryBytes};
-ghost use Rattle.writer.specs.Steps.{heldBy, offsetOf, resolutions, entriesFor, total, energiesFor, Bounded};
+ghost use Rattle.writer.specs.Internal.{heldBy, offsetOf, resolutions, entriesFor, total, energiesFor, Bounded};
 use crate::bytes::put_f64;
 use crate::bytes::put_u32;
 use rows::SlabResolution;

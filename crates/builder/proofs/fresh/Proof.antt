@@ -5,8 +5,8 @@ use lib.ListN.{length}
 use borrow.Author.Needs.{needs}
 use borrow.Author.Tests.{eq-eqb, ne-eqb}
 use Rattle.builder.specs.Calls.{freshOut, filled}
-use Rattle.questions.specs.Refusals.{meshedRefusal}
-use Rattle.questions.proofs.Laws.{Meshed, meshed}
+use Rattle.builder.specs.Refusals.{meshedRefusal}
+use Rattle.builder.proofs.Laws.{Meshed, meshed}
 use Rattle.builder.proofs.fresh.Statement.{statement}
 use Rattle.builder.proofs.fresh.Tie as tie
 

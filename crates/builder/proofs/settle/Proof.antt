@@ -2,7 +2,7 @@
 use mathlib.Core.Path.{sym, _∙_}
 use borrow.Author.Tests.{eq-eqb, ne-eqb}
 use Rattle.mesh.specs.Mesh.{Mesh}
-use Rattle.questions.specs.Lists.{Lists}
+use Rattle.builder.specs.BuilderLists.{BuilderLists}
 use Rattle.builder.specs.Calls.{settleOut}
 use Rattle.builder.proofs.Accepted.{ready, given}
 use borrow.Author.Needs.{needs}
@@ -17,7 +17,7 @@ settle-slice-requires : tie.Need-settle-slice-requires
 settle-slice-requires c κs =
     let a = c .before .before .before .before .before .before .before .before .before .before .before .before .before .before .before .before .args in
     let m : Mesh = record { vertices = a .vertices .now; counts = a .counts .now; neighbours = a .neighbours .now; angles = a .angles .now } in
-    let l : Lists = record { store = a .store .now; rows = record { kinds = a .kinds .now; levels = a .levels .now; values = a .values .now } } in
+    let l : BuilderLists = record { store = a .store .now; rows = record { kinds = a .kinds .now; levels = a .levels .now; values = a .values .now } } in
     let e = c .before .before .before in
     ready (a .b) m l (a .ri) (sym (e .before .settle-refusal .ensures) ∙ e .if1 .left)
 
@@ -26,7 +26,7 @@ unfolding settleOut
 returns-2 c =
     let a = c .before .before .before .before .before .before .before .before .before .before .before .before .before .before .before .before .before .before .before .before .before .before .before .before .args in
     let m : Mesh = record { vertices = a .vertices .now; counts = a .counts .now; neighbours = a .neighbours .now; angles = a .angles .now } in
-    let l : Lists = record { store = a .store .now; rows = record { kinds = a .kinds .now; levels = a .levels .now; values = a .values .now } } in
+    let l : BuilderLists = record { store = a .store .now; rows = record { kinds = a .kinds .now; levels = a .levels .now; values = a .values .now } } in
     let e = c .before .before .before .before .before .before .before .before .before .before .before in
     rw (← e .before .settle-refusal .ensures, eq-eqb _ _ (e .if1 .left), c .dropped .ensures)
     (given (a .b) m l (a .ri) _ _ (c .before .before .before .before .before .before .before .settle-slice .ensures))

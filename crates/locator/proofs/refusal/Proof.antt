@@ -6,7 +6,7 @@ use Rattle.lists.specs.Questions.{ask}
 use Rattle.mesh.proofs.Laws.{count-le}
 use Rattle.mesh.proofs.Tables.{grid-le}
 use Rattle.lists.proofs.Counting.{yes, no}
-use Rattle.locator.specs.Steps.{refusal}
+use Rattle.locator.specs.Internal.{refusal}
 use Rattle.locator.proofs.refusal.Statement.{statement}
 use Rattle.locator.proofs.refusal.Tie as tie
 

@@ -1,7 +1,7 @@
 -- `dropped` meets its contract. Assumes nothing.
 use mathlib.Core.Path.{sym, _∙_}
 use native.Mathlib.Omega.{arith}
-use Rattle.builder.specs.Steps.{droppedBy}
+use Rattle.builder.specs.Internal.{droppedBy}
 use Rattle.builder.proofs.Changes.{drops-above}
 use borrow.Author.Needs.{needs}
 use Rattle.builder.proofs.slices.dropped.Statement.{statement}

@@ -12,8 +12,8 @@ use Rattle.mesh.proofs.Sizes.{per-mono}
 use Rattle.lists.proofs.Places.{place}
 use Rattle.rows.specs.Rows.{Rows, Row}
 use Rattle.settling.specs.Settling.{verdictOf, fromLevel}
-use Rattle.questions.specs.Lists.{Lists, slabs, rowAt}
-use Rattle.builder.specs.Steps.{start}
+use Rattle.builder.specs.BuilderLists.{BuilderLists, slabs, rowAt}
+use Rattle.builder.specs.Internal.{start}
 use Rattle.settling.specs.declared.Verdict.{Verdict}
 use Rattle.builder.proofs.Turns.{After, begin, again, end, row-passes, read-row}
 use Rattle.builder.proofs.slices.settle_rows.Statement.{statement}
@@ -78,7 +78,7 @@ loop-again c =
     let l = c .before .before .before .before .before .before .before .before .before .before .before in
     let s = l .before .before .before .before .before .before .before .before .before .before .before in
     let a = s .args in
-    let lent : Lists = record { store = a .store .now; rows = record { kinds = a .kinds .now; levels = a .levels .now; values = a .values .now } } in
+    let lent : BuilderLists = record { store = a .store .now; rows = record { kinds = a .kinds .now; levels = a .levels .now; values = a .values .now } } in
     let now : Rows = record { kinds = l .loop .kinds; levels = l .loop .levels; values = l .loop .values } in
     let n = a .b .grid .«n_omega» in
     let base = a .ri * n in

@@ -11,7 +11,7 @@ use Rattle.mesh.specs.Levels.{vertexCount}
 use Rattle.mesh.specs.Mesh.{Mesh}
 use Rattle.rows.specs.Rows.{Rows, resolutionAt, rowWith}
 use Rattle.settling.specs.Settling.{verdictOf}
-use Rattle.settling.specs.Steps.{tallied}
+use Rattle.settling.specs.Internal.{tallied}
 use Rattle.mesh.proofs.Laws.{count-le}
 use Rattle.lists.proofs.Loops.{part-is}
 use Rattle.settling.proofs.Changes.{row-clear}

@@ -8,7 +8,7 @@ use Rattle.mesh.specs.Levels.{verticesBelow}
 use Rattle.mesh.specs.Mesh.{Mesh, levelPart}
 use Rattle.mesh.proofs.Laws.{below-more, below-few}
 use Rattle.lists.proofs.Written.{part}
-use Rattle.builder.specs.Steps.{partLinks}
+use Rattle.builder.specs.Internal.{partLinks}
 use borrow.Author.Needs.{needs}
 use Rattle.builder.proofs.slices.settle_slice.Statement.{statement}
 use Rattle.builder.proofs.slices.settle_slice.Tie as tie

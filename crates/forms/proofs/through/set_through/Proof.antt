@@ -43,9 +43,9 @@ use denote.Triple.Walked.{says, Stays, stay-none, stay-none-slice, gave-slice, w
 use denote.Exit.{yes}
 use denote.Struct.Laws as LL
 use Rattle.lent.specs.Calls.{LentOut, setLent}
-use Rattle.questions.specs.declared.Builder.{Builder}
-use Rattle.questions.proofs.Builder as T
-use Rattle.questions.proofs.Builder.Laws as T′
+use Rattle.builder.specs.declared.Builder.{Builder}
+use Rattle.builder.proofs.Builder as T
+use Rattle.builder.proofs.Builder.Laws as T′
 use Rattle.forms.proofs.Loans.{mach, lies-in, lies-out}
 use Rattle.forms.specs.declared.through.SetLeft.{SetLeft}
 use Rattle.forms.proofs.through.SetLeft as N

@@ -44,9 +44,9 @@ use denote.Exit.{yes}
 use denote.Struct.Laws as LL
 use denote.Enum.Laws as LE
 use Rattle.lent.specs.Calls.{LentOut, LentValues, lentValues, settleLent}
-use Rattle.questions.specs.declared.Builder.{Builder}
-use Rattle.questions.proofs.Builder as T
-use Rattle.questions.proofs.Builder.Laws as T′
+use Rattle.builder.specs.declared.Builder.{Builder}
+use Rattle.builder.proofs.Builder as T
+use Rattle.builder.proofs.Builder.Laws as T′
 use Rattle.forms.proofs.Loans.{mach, lies-in, lies-out}
 use Rattle.forms.specs.declared.through.SettleLeft.{SettleLeft}
 use Rattle.forms.proofs.through.SettleLeft as N

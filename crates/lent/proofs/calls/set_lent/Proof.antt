@@ -43,10 +43,10 @@ use denote.Triple.Table.{entered, cited}
 use denote.Triple.Walked.{says, Stays, stay-ref, stay-none, stay-none-slice, gave-slice, walkOf, AllGo, goes-ref, goes-none, goes-none-slice, goes-gave-slice, Walks, ends-at, walked, walk-meets}
 use denote.Exit.{yes}
 use Rattle.lent.specs.Calls.{LentOut, setLent}
-use Rattle.questions.specs.declared.Builder.{Builder}
+use Rattle.builder.specs.declared.Builder.{Builder}
 use Rattle.lent.specs.declared.calls.SetDone.{SetDone}
-use Rattle.questions.proofs.Builder as T
-use Rattle.questions.proofs.Builder.Laws as T′
+use Rattle.builder.proofs.Builder as T
+use Rattle.builder.proofs.Builder.Laws as T′
 use Rattle.lent.proofs.calls.SetDone as N
 use Rattle.lent.proofs.calls.SetDone.Laws as N′
 use Rattle.lent.proofs.calls.set_kept as callee

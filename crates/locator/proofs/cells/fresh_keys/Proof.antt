@@ -6,7 +6,7 @@ use native.Mathlib.Omega.{arith}
 use lib.ListN.{length, getD, drop, length-set}
 use lib.Seq.{drop-set-lt}
 use borrow.Author.Needs.{needs}
-use Rattle.locator.specs.Steps.{vertexKey}
+use Rattle.locator.specs.Internal.{vertexKey}
 use Rattle.locator.proofs.Keys.{one-more}
 use Rattle.locator.proofs.cells.fresh_keys.Statement.{statement}
 use Rattle.locator.proofs.cells.fresh_keys.Tie as tie

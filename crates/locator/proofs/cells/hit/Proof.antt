@@ -1,7 +1,7 @@
 -- `hit` meets its contract. Assumes nothing.
 use mathlib.Core.Path.{refl}
 use borrow.Author.Needs.{needs}
-use Rattle.locator.specs.Steps.{hit, nearKept}
+use Rattle.locator.specs.Internal.{hit, nearKept}
 use Rattle.locator.proofs.cells.hit.Statement.{statement}
 use Rattle.locator.proofs.cells.hit.Tie as tie
 

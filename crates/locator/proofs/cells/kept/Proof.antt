@@ -4,7 +4,7 @@ use lib.Signed.{mag}
 use borrow.Author.Tests.{lt-ltb, le-ltb}
 use borrow.Author.Needs.{needs}
 use Rattle.float.proofs.Powers.{room, read, as-positive, as-negative}
-use Rattle.locator.specs.Steps.{kept}
+use Rattle.locator.specs.Internal.{kept}
 use Rattle.locator.proofs.Keys.{kept-below}
 use Rattle.locator.proofs.cells.kept.Statement.{statement}
 use Rattle.locator.proofs.cells.kept.Tie as tie

@@ -2,7 +2,7 @@
 use native.Mathlib.Omega.{arith}
 use borrow.Author.Needs.{needs}
 use Rattle.search.specs.Cells.{cellNumber}
-use Rattle.locator.specs.Steps.{keyOf}
+use Rattle.locator.specs.Internal.{keyOf}
 use Rattle.locator.proofs.Keys.{kept-le}
 use Rattle.locator.proofs.cells.key.Statement.{statement}
 use Rattle.locator.proofs.cells.key.Tie as tie

@@ -8,7 +8,7 @@ use lib.ListN.{length, getD}
 use borrow.Author.Needs.{needs}
 use Rattle.lists.specs.Lists.{filter, below}
 use Rattle.lists.proofs.Written.{Written, nothing, found, kept, passed}
-use Rattle.locator.specs.Steps.{hit, keyCell}
+use Rattle.locator.specs.Internal.{hit, keyCell}
 use Rattle.locator.proofs.Keys.{spots}
 use Rattle.locator.proofs.cells.put_cell.Statement.{statement}
 use Rattle.locator.proofs.cells.put_cell.Tie as tie

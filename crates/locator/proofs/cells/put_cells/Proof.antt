@@ -8,7 +8,7 @@ use borrow.Author.Needs.{needs}
 use Rattle.lists.specs.Lists.{joined, starts}
 use Rattle.lists.proofs.Written.{Written, nothing, pushed, chunk, joined-more, joined-le, next-fits, starts-more}
 use Rattle.search.specs.Cells.{cell}
-use Rattle.locator.specs.Steps.{Keyed, cellsOut}
+use Rattle.locator.specs.Internal.{Keyed, cellsOut}
 use Rattle.locator.proofs.Keys.{keyed-cell, same-face}
 use Rattle.locator.proofs.cells.put_cells.Statement.{statement}
 use Rattle.locator.proofs.cells.put_cells.Tie as tie

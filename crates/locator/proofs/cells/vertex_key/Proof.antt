@@ -1,7 +1,7 @@
 -- `vertex_key` meets its contract. Assumes nothing.
 use borrow.Author.Needs.{needs}
 use Rattle.search.specs.Geometry.{vertexAt}
-use Rattle.locator.specs.Steps.{vertexKey}
+use Rattle.locator.specs.Internal.{vertexKey}
 use Rattle.locator.proofs.cells.vertex_key.Statement.{statement}
 use Rattle.locator.proofs.cells.vertex_key.Tie as tie
 

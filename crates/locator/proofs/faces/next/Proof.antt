@@ -4,7 +4,7 @@ use native.Mathlib.Omega.{arith}
 use borrow.Author.Needs.{needs}
 use borrow.Author.Count.{below-more}
 use Rattle.mesh.specs.Mesh.{Mesh, neighbour}
-use Rattle.mesh.specs.Steps.{links}
+use Rattle.mesh.specs.Internal.{links}
 use Rattle.locator.proofs.Bound.{untouching}
 use Rattle.locator.proofs.faces.next.Statement.{statement}
 use Rattle.locator.proofs.faces.next.Tie as tie

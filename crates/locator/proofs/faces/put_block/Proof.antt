@@ -6,7 +6,7 @@ use native.Mathlib.Omega.{arith}
 use lib.ListN.{length}
 use borrow.Author.Needs.{needs}
 use Rattle.lists.specs.Lists.{joined}
-use Rattle.mesh.specs.Steps.{links}
+use Rattle.mesh.specs.Internal.{links}
 use Rattle.lists.proofs.Written.{Written, nothing, put-nil, next-fits}
 use Rattle.lists.proofs.Counting.{no}
 use Rattle.search.specs.Cells.{flat}

@@ -5,10 +5,10 @@ use native.Mathlib.Omega.{arith}
 use lib.ListN.{length}
 use borrow.Author.Needs.{needs}
 use Rattle.lists.specs.Lists.{joined, starts}
-use Rattle.mesh.specs.Steps.{links}
+use Rattle.mesh.specs.Internal.{links}
 use Rattle.lists.proofs.Written.{Written, nothing, pushed, joined-le, next-fits, starts-more}
 use Rattle.search.specs.Cells.{facesOf, flat}
-use Rattle.locator.specs.Steps.{facesOut}
+use Rattle.locator.specs.Internal.{facesOut}
 use Rattle.locator.proofs.Blocks.{come, more-flat}
 use Rattle.locator.proofs.faces.put_faces.Statement.{statement}
 use Rattle.locator.proofs.faces.put_faces.Tie as tie

@@ -6,10 +6,10 @@ use lib.ListN.{length}
 use borrow.Author.Needs.{needs}
 use Rattle.lists.specs.Lists.{joined}
 use Rattle.mesh.specs.Mesh.{Mesh}
-use Rattle.mesh.specs.Steps.{links}
+use Rattle.mesh.specs.Internal.{links}
 use Rattle.lists.proofs.Written.{Written, nothing, next-fits}
 use Rattle.search.specs.Cells.{flat}
-use Rattle.locator.specs.Steps.{block, Next}
+use Rattle.locator.specs.Internal.{block, Next}
 use Rattle.locator.proofs.Blocks.{come, more-flat, faces-of-is, joined-skip, untouched}
 use Rattle.locator.proofs.faces.put_faces_of.Statement.{statement}
 use Rattle.locator.proofs.faces.put_faces_of.Tie as tie

@@ -1,7 +1,7 @@
 -- `touches` meets its contract. Assumes nothing.
 use borrow.Author.Tests.{eq-eqb, ne-eqb}
 use borrow.Author.Needs.{needs}
-use Rattle.locator.specs.Steps.{touches}
+use Rattle.locator.specs.Internal.{touches}
 use Rattle.locator.proofs.faces.touches.Statement.{statement}
 use Rattle.locator.proofs.faces.touches.Tie as tie
 

@@ -3,11 +3,11 @@ use mathlib.Core.Path.{sym}
 use mathlib.Core.Bool.{and-true}
 use borrow.Author.Tests.{lt-ltb, le-ltb, not-true, not-false}
 use borrow.Author.Needs.{needs}
-use Rattle.mesh.specs.Steps.{links}
+use Rattle.mesh.specs.Internal.{links}
 use Rattle.mesh.specs.Mesh.{lists}
 use Rattle.mesh.specs.Faces.{face, isFace, has}
 use Rattle.lists.proofs.Counting.{and-no}
-use Rattle.locator.specs.Steps.{wanted}
+use Rattle.locator.specs.Internal.{wanted}
 use Rattle.locator.proofs.faces.wanted.Statement.{statement}
 use Rattle.locator.proofs.faces.wanted.Tie as tie
 

@@ -10,7 +10,7 @@ use borrow.Author.Tests.{eq-eqb, ne-eqb}
 use borrow.Author.Needs.{needs}
 use Rattle.lists.specs.Lists.{anyUpTo}
 use Rattle.mesh.specs.Mesh.{within}
-use Rattle.mesh.specs.Steps.{links}
+use Rattle.mesh.specs.Internal.{links}
 use Rattle.lists.proofs.Counting.{any-turn, any-found}
 use Rattle.mesh.proofs.rule.within.Statement.{statement}
 use Rattle.mesh.proofs.rule.within.Tie as tie

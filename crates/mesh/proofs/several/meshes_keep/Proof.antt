@@ -6,7 +6,7 @@ use native.Mathlib.Omega.{arith}
 use borrow.Author.Needs.{needs}
 use Rattle.lists.specs.Lists.{allUpTo}
 use Rattle.mesh.specs.Levels.{vertexCount, verticesBelow}
-use Rattle.mesh.specs.Mesh.{Mesh, keepsRule, levelPart, meshHeld, meshesKeep}
+use Rattle.mesh.specs.Mesh.{Mesh, keepsRule, levelPart, meshLong, meshesKeep}
 use Rattle.mesh.proofs.Laws.{below-le}
 use Rattle.lists.proofs.Counting.{all-turn, all-fails, yes, no}
 use Rattle.mesh.proofs.Kept.{held}
@@ -29,7 +29,7 @@ loop-holds c = (omega arith, refl)
 level-keeps-requires : tie.Need-level-keeps-requires Inv-loop μ-loop
 level-keeps-requires c κs = let l = c .before in let a = l .before .before .before .before .before .before .before .args in
     let m : Mesh = record { vertices = a .vertices .now; counts = a .counts .now; neighbours = a .neighbours .now; angles = a .angles .now } in
-    let room : meshHeld (verticesBelow (suc (a .top))) m ≡ true = yes (l .before .before .meshes-room .ensures) (l .before .if1 .left) in
+    let room : meshLong (verticesBelow (suc (a .top))) m ≡ true = yes (l .before .before .meshes-room .ensures) (l .before .if1 .left) in
     let h = held (verticesBelow (suc (a .top))) m room in
     let le : verticesBelow (suc (l .loop .m)) ≤ verticesBelow (suc (a .top)) = below-le (suc (l .loop .m)) (suc (a .top)) (omega arith) in
     (omega (arith, h .vertices), omega (arith, h .counts), omega (arith, h .neighbours), omega (arith, h .angles))

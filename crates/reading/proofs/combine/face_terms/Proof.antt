@@ -1,6 +1,6 @@
 -- `face_terms` meets its contract. Assumes nothing.
 use borrow.Author.Needs.{needs}
-use Rattle.reading.specs.Steps.{faceTerms}
+use Rattle.reading.specs.Internal.{faceTerms}
 use Rattle.reading.proofs.combine.face_terms.Statement.{statement}
 use Rattle.reading.proofs.combine.face_terms.Tie as tie
 

@@ -1,6 +1,6 @@
 -- `row_terms` meets its contract. Assumes nothing.
 use borrow.Author.Needs.{needs}
-use Rattle.reading.specs.Steps.{rowTerms}
+use Rattle.reading.specs.Internal.{rowTerms}
 use Rattle.reading.proofs.combine.row_terms.Statement.{statement}
 use Rattle.reading.proofs.combine.row_terms.Tie as tie
 

@@ -4,7 +4,7 @@ use native.Mathlib.Omega.{arith}
 use mathlib.Core.Path.{_≡_}
 use Prim.Native.Nat.{_-_, _/_}
 use native.Mathlib.Nat.{zero-div}
-use Rattle.reading.specs.Steps.{itemsInside}
+use Rattle.reading.specs.Internal.{itemsInside}
 use Rattle.reading.proofs.places.items_inside.Statement.{statement}
 use Rattle.reading.proofs.places.items_inside.Tie as tie
 

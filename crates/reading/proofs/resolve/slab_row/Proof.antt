@@ -4,7 +4,7 @@ use Prim.Native.Nat.{_+_, _*_, _≤_, min}
 use native.Mathlib.Omega.{arith}
 use lib.ListN.{length}
 use mathlib.Core.Path.{_≡_, _∙_}
-use Rattle.reading.specs.Steps.{slabOf}
+use Rattle.reading.specs.Internal.{slabOf}
 use Rattle.reading.proofs.Inside.{row-at, row-none, row-fits}
 use Rattle.reading.proofs.resolve.slab_row.Statement.{statement}
 use Rattle.reading.proofs.resolve.slab_row.Tie as tie

@@ -6,7 +6,7 @@ use lib.Ieee.{ofBits, div}
 use Rattle.search.specs.Search.{Locator}
 use Rattle.reading.specs.Resolve.{Picks}
 use Rattle.reading.specs.Reading.{readPicks}
-use Rattle.reading.specs.Steps.{toward}
+use Rattle.reading.specs.Internal.{toward}
 use Rattle.reading.proofs.Inside.{row-scalar, row-repulsive, row-unknown, row-mesh}
 use Rattle.reading.proofs.Parts.{nearest-search}
 use Rattle.reading.proofs.stages.read_resolution.Statement.{statement}

@@ -1,7 +1,7 @@
 -- `read_row` meets its contract. Assumes nothing.
 use borrow.Author.Needs.{needs}
 use Rattle.search.specs.Search.{Locator}
-use Rattle.reading.specs.Steps.{toward}
+use Rattle.reading.specs.Internal.{toward}
 use Rattle.table.proofs.Items.{entryAt, entry-at}
 use Rattle.reading.proofs.Inside.{entry-by}
 use Rattle.reading.proofs.stages.read_row.Statement.{statement}

@@ -9,7 +9,7 @@ use lib.Dec.{leb, ltb}
 use borrow.Author.Needs.{needs}
 use borrow.Author.Tests.{leb-true}
 use Rattle.search.specs.Search.{notNearest}
-use Rattle.search.specs.Steps.{nearestOver}
+use Rattle.search.specs.Internal.{nearestOver}
 use Rattle.search.proofs.Laws.{nearest-turn, nearest-stop, nearest-end}
 use Rattle.search.proofs.cells.nearest_in_cell.Statement.{statement}
 use Rattle.search.proofs.cells.nearest_in_cell.Tie as tie

@@ -4,7 +4,7 @@ use mathlib.Core.List.{[]}
 use Prim.Native.Nat.{_-_, _≤_}
 use native.Mathlib.Omega.{arith}
 use borrow.Author.Needs.{needs}
-use Rattle.settling.specs.Steps.{columnGradient, firstColumns}
+use Rattle.settling.specs.Internal.{columnGradient, firstColumns}
 use Rattle.settling.proofs.Numbers.{columns-number, columns-one}
 use Rattle.settling.proofs.gradient.columns.Statement.{statement}
 use Rattle.settling.proofs.gradient.columns.Tie as tie

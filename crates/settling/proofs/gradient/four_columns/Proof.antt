@@ -1,6 +1,6 @@
 -- `four_columns` meets its contract. Assumes nothing.
 use Prim.Native.Nat.{_+_}
-use Rattle.settling.specs.Steps.{lineWeights, columnGradient, fourColumns}
+use Rattle.settling.specs.Internal.{lineWeights, columnGradient, fourColumns}
 use Rattle.settling.proofs.Lines.{length-line, head-part}
 use Rattle.settling.proofs.Numbers.{line-number}
 use borrow.Author.Needs.{needs}

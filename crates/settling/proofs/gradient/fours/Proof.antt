@@ -5,7 +5,7 @@ use Prim.Native.Nat.{_+_, _*_, _/_, _-_, _≤_}
 use native.Mathlib.Omega.{arith}
 use borrow.Author.Needs.{needs}
 use Rattle.lists.specs.Lists.{forEach}
-use Rattle.settling.specs.Steps.{firstColumns}
+use Rattle.settling.specs.Internal.{firstColumns}
 use Rattle.settling.proofs.Numbers.{columns-number, columns-four}
 use Rattle.settling.proofs.gradient.fours.Statement.{statement}
 use Rattle.settling.proofs.gradient.fours.Tie as tie

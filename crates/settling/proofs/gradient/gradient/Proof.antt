@@ -1,6 +1,6 @@
 -- `gradient` meets its contract. Assumes nothing.
 use borrow.Author.Needs.{needs}
-use Rattle.settling.specs.Steps.{byLines}
+use Rattle.settling.specs.Internal.{byLines}
 use Rattle.settling.proofs.Numbers.{columns-number, columns-are}
 use Rattle.settling.proofs.gradient.gradient.Statement.{statement}
 use Rattle.settling.proofs.gradient.gradient.Tie as tie

@@ -2,7 +2,7 @@
 use mathlib.Core.Path.{ap, _∙_}
 use mathlib.Core.List.{[]}
 use Rattle.mesh.specs.Mesh.{Mesh}
-use Rattle.settling.specs.Steps.{lineWeights, lineGradient}
+use Rattle.settling.specs.Internal.{lineWeights, lineGradient}
 use Rattle.settling.proofs.Lines.{length-line, head-part}
 use borrow.Author.Needs.{needs}
 use Rattle.settling.proofs.gradient.line.Statement.{statement}

@@ -8,7 +8,7 @@ use lib.Ieee.{Float, nan}
 use borrow.Author.Needs.{needs}
 use Rattle.lists.specs.Lists.{forEach}
 use Rattle.settling.specs.Gradient.{alongNeighbours}
-use Rattle.settling.specs.Steps.{lineGradient}
+use Rattle.settling.specs.Internal.{lineGradient}
 use Rattle.lists.proofs.Loops.{each-turn}
 use Rattle.settling.proofs.Numbers.{Number, neighbours-number}
 use Rattle.settling.proofs.gradient.line_gradient.Statement.{statement}

@@ -7,7 +7,7 @@ use native.Mathlib.Omega.{arith}
 use lib.Ieee.{Float}
 use borrow.Author.Needs.{needs}
 use Rattle.lists.specs.Lists.{forEach}
-use Rattle.settling.specs.Steps.{lineWeights, lineGradient, linesGradient}
+use Rattle.settling.specs.Internal.{lineWeights, lineGradient, linesGradient}
 use Rattle.lists.proofs.Loops.{each-turn}
 use Rattle.settling.proofs.Numbers.{Number, line-number}
 use Rattle.settling.proofs.gradient.lines.Statement.{statement}

@@ -6,7 +6,7 @@ use lib.ListN.{length, length-set}
 use borrow.Author.Needs.{needs}
 use Rattle.lists.specs.Lists.{put}
 use Rattle.lists.proofs.Written.{put-nil}
-use Rattle.settling.specs.Steps.{lineWeights}
+use Rattle.settling.specs.Internal.{lineWeights}
 use Rattle.settling.proofs.Lines.{weigh-turn}
 use Rattle.settling.proofs.gradient.weigh.Statement.{statement}
 use Rattle.settling.proofs.gradient.weigh.Tie as tie

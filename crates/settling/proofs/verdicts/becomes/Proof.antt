@@ -1,6 +1,6 @@
 -- `becomes` meets its contract. Assumes nothing.
 use mathlib.Core.Path.{sym, ap}
-use Rattle.settling.specs.Steps.{becomes}
+use Rattle.settling.specs.Internal.{becomes}
 use borrow.Author.Needs.{needs}
 use Rattle.settling.proofs.verdicts.becomes.Statement.{statement}
 use Rattle.settling.proofs.verdicts.becomes.Tie as tie

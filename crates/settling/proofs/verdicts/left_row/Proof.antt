@@ -1,5 +1,5 @@
 -- `left_row` meets its contract. Assumes nothing.
-use Rattle.settling.specs.Steps.{leftRow}
+use Rattle.settling.specs.Internal.{leftRow}
 use borrow.Author.Needs.{needs}
 use Rattle.settling.proofs.verdicts.left_row.Statement.{statement}
 use Rattle.settling.proofs.verdicts.left_row.Tie as tie

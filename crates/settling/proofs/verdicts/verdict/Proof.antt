@@ -4,7 +4,7 @@ use native.Mathlib.Omega.{arith}
 use borrow.Author.Tests.{le-leb, lt-leb}
 use Rattle.mesh.proofs.Laws.{count-le}
 use Rattle.settling.specs.Settling.{verdict}
-use Rattle.settling.specs.Steps.{byLines}
+use Rattle.settling.specs.Internal.{byLines}
 use Rattle.settling.proofs.Slopes.{by-lines}
 use borrow.Author.Needs.{needs}
 use Rattle.settling.proofs.verdicts.verdict.Statement.{statement}

@@ -4,7 +4,7 @@ use mathlib.Core.Bool.{true}
 use borrow.Author.Needs.{needs}
 use Rattle.lists.proofs.Counting.{yes, no}
 use Rattle.table.specs.Read.{layout, laidOut, tableOf}
-use Rattle.table.specs.Steps.{Placed, tableQuestion}
+use Rattle.table.specs.Internal.{SectionsInside, tableQuestion}
 use Rattle.table.proofs.Accepted.{laid, inside, read-unlaid, read-refused, read-accepted}
 use Rattle.table.proofs.reader.read.Statement.{statement}
 use Rattle.table.proofs.reader.read.Tie as tie
@@ -12,7 +12,7 @@ use Rattle.table.proofs.reader.read.Tie as tie
 answered : (c : tie.Else1) → laidOut (c .before .before .before .before .args .file .now) (layout (c .before .before .before .before .args .file .now)) ≡ true
 answered c = rw (← c .before .before .sections .ensures) (yes (c .before .laid-out .ensures) (c .if1 .left))
 
-placed : (c : tie.Else1) → Placed (c .before .before .before .before .args .file .now) (c .before .before .sections .result)
+placed : (c : tie.Else1) → SectionsInside (c .before .before .before .before .args .file .now) (c .before .before .sections .result)
 placed c = laid _ _ (c .before .before .sections .ensures) (yes (c .before .laid-out .ensures) (c .if1 .left))
 
 asked : (c : tie.After-table-question) → c .table-question .result ≡ tableQuestion (c .before .before .before .before .before .before .args .file .now) (tableOf (c .before .before .before .before .before .before .args .file .now) (layout (c .before .before .before .before .before .before .args .file .now)))

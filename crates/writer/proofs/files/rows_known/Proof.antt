@@ -10,7 +10,7 @@ use borrow.Author.Needs.{needs}
 use Rattle.lists.specs.Lists.{allUpTo}
 use Rattle.lists.proofs.Counting.{all-turn, all-fails, yes, no}
 use Rattle.rows.specs.Rows.{known}
-use Rattle.questions.specs.Lists.{rowsKnown}
+use Rattle.builder.specs.BuilderLists.{rowsKnown}
 use Rattle.writer.proofs.files.rows_known.Statement.{statement}
 use Rattle.writer.proofs.files.rows_known.Tie as tie
 

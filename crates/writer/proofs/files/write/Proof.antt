@@ -6,17 +6,17 @@ use lib.ListN.{length}
 use borrow.Author.Tests.{lt-leb, le-leb}
 use borrow.Author.Needs.{needs}
 use Rattle.mesh.specs.Mesh.{Mesh}
-use Rattle.questions.specs.Refusals.{meshedRefusal}
-use Rattle.questions.specs.Lists.{Lists, rowsKnown}
+use Rattle.builder.specs.Refusals.{meshedRefusal}
+use Rattle.builder.specs.BuilderLists.{BuilderLists, rowsKnown}
 use Rattle.writer.specs.Write.{fileFrom}
-use Rattle.writer.specs.Steps.{writeQuestion}
+use Rattle.writer.specs.Internal.{writeQuestion}
 use Rattle.writer.proofs.Whole.{file-length}
 use Rattle.writer.proofs.Outcome.{Sure, sure, ready, write-refused, write-short, write-done}
 use Rattle.writer.proofs.files.write.Statement.{statement}
 use Rattle.writer.proofs.files.write.Tie as tie
 
 -- the lists and the meshes that were lent
-abbrev lists : tie.Start → Lists
+abbrev lists : tie.Start → BuilderLists
 lists s = record { store = s .args .store .now; rows = record { kinds = s .args .kinds .now; levels = s .args .levels .now; values = s .args .values .now } }
 
 abbrev meshes : tie.Start → Mesh

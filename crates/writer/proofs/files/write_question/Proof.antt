@@ -6,8 +6,8 @@ use native.Mathlib.Omega.{arith}
 use borrow.Author.Needs.{needs}
 use Rattle.lists.specs.Questions.{ask}
 use Rattle.lists.proofs.Counting.{yes, no}
-use Rattle.questions.specs.Refusals.{builderQuestion}
-use Rattle.questions.proofs.Laws.{asked}
+use Rattle.builder.specs.Refusals.{builderQuestion}
+use Rattle.builder.proofs.Laws.{asked}
 use Rattle.writer.proofs.Outcome.{first-no, first-zero}
 use Rattle.writer.proofs.files.write_question.Statement.{statement}
 use Rattle.writer.proofs.files.write_question.Tie as tie

@@ -1,7 +1,7 @@
 -- `energy_count` meets its contract. Assumes nothing.
 use mathlib.Core.Path.{sym, ap, _∙_}
 use borrow.Author.Needs.{needs}
-use Rattle.writer.specs.Steps.{heldBy}
+use Rattle.writer.specs.Internal.{heldBy}
 use Rattle.writer.proofs.sections.energy_count.Statement.{statement}
 use Rattle.writer.proofs.sections.energy_count.Tie as tie
 

@@ -4,7 +4,7 @@ use Prim.Native.Nat.{_+_}
 use native.Mathlib.Omega.{arith}
 use borrow.Author.Needs.{needs}
 use Rattle.rows.specs.Rows.{Rows, resolutionAt}
-use Rattle.writer.specs.Steps.{heldBy, resolutions, total}
+use Rattle.writer.specs.Internal.{heldBy, resolutions, total}
 use Rattle.writer.proofs.Filed.{total-turn, total-end}
 use Rattle.writer.proofs.sections.energy_total.Statement.{statement}
 use Rattle.writer.proofs.sections.energy_total.Tie as tie

@@ -7,7 +7,7 @@ use borrow.Author.Needs.{needs}
 use Rattle.rows.specs.Rows.{Rows, resolutionAt}
 use Rattle.table.specs.Bytes.{packed}
 use Rattle.table.specs.File.{entryBytes}
-use Rattle.writer.specs.Steps.{heldBy, entryFor, resolutions, entriesFor, total}
+use Rattle.writer.specs.Internal.{heldBy, entryFor, resolutions, entriesFor, total}
 use Rattle.writer.proofs.Puts.{Left, begun, step, ended}
 use Rattle.writer.proofs.Filed.{entries-length, entries-turn, entries-end, total-turn}
 use Rattle.table.proofs.Lengths.{entry-length}

@@ -7,7 +7,7 @@ use borrow.Author.Needs.{needs}
 use Rattle.rows.specs.Rows.{Rows}
 use Rattle.table.specs.Bytes.{bytesOf, packed, section}
 use Rattle.table.specs.File.{entryBytes}
-use Rattle.writer.specs.Steps.{resolutions, entriesFor}
+use Rattle.writer.specs.Internal.{resolutions, entriesFor}
 use Rattle.writer.proofs.Puts.{puts}
 use Rattle.table.proofs.Lengths.{bytes-length}
 use Rattle.writer.proofs.Filed.{entriesFor-length, res-length}

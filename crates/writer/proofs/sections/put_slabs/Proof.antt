@@ -7,7 +7,7 @@ use lib.ListN.{length, take, drop}
 use borrow.Author.Needs.{needs}
 use Rattle.rows.specs.Rows.{Rows, resolutionAt, narrowBits}
 use Rattle.table.specs.Bytes.{bytesOf, packed}
-use Rattle.writer.specs.Steps.{heldBy, resolutions, total, energiesFor, Bounded}
+use Rattle.writer.specs.Internal.{heldBy, resolutions, total, energiesFor, Bounded}
 use Rattle.writer.proofs.Puts.{Left, begun, step, ended}
 use Rattle.writer.proofs.Filed.{res-length, Slab, slab-turn, energies-turn, energies-end, energies-bytes, taken-bytes}
 use Rattle.writer.proofs.sections.put_slabs.Statement.{statement}

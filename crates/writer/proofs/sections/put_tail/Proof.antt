@@ -6,7 +6,7 @@ use lib.ListN.{length}
 use borrow.Author.Needs.{needs}
 use Rattle.rows.specs.Rows.{Rows}
 use Rattle.table.specs.Bytes.{bytesOf, packed, section}
-use Rattle.writer.specs.Steps.{resolutions, energiesFor}
+use Rattle.writer.specs.Internal.{resolutions, energiesFor}
 use Rattle.writer.proofs.Puts.{puts}
 use Rattle.table.proofs.Lengths.{bytes-length}
 use Rattle.writer.proofs.Filed.{energies-length, res-length}
