@@ -8,7 +8,7 @@ use lib.Ieee.{Float, lt}
 use borrow.Author.Tests.{ltb-true}
 use Rattle.lists.specs.Lists.{every}
 use Rattle.rows.specs.Rows.{Row}
-use Rattle.settling.specs.Settling.{newRow, inPlaceOf, settles, someSettle, largestFrom, SliceSettled, notRepulsive}
+use Rattle.settling.specs.Settling.{newRow, inPlaceOf, settles, someSettle, largestFrom, settledRows, notRepulsive}
 use Rattle.settling.specs.Internal.{tallied}
 use Rattle.builder.specs.Internal.{tallyFrom, dropsBy}
 use Rattle.settling.specs.declared.Tally.{Tally}
@@ -25,10 +25,10 @@ module _ (f : Row Float → Verdict) (c : ℕ) where
   tally-settled t [] = sym (or-false (t .settled))
   tally-settled t (r ∷ rs) = tally-settled (tallied c t r (f r)) rs ∙ or-assoc (t .settled) (settles (f r)) (someSettle (map f rs))
 
-  pub tally-clear : (t : Tally) (rs : List (Row Float)) → tallyFrom f c t rs .clear ≡ t .clear && every notRepulsive (SliceSettled c rs (map f rs))
-  unfolding tallyFrom tallied every SliceSettled
+  pub tally-clear : (t : Tally) (rs : List (Row Float)) → tallyFrom f c t rs .clear ≡ t .clear && every notRepulsive (settledRows c rs (map f rs))
+  unfolding tallyFrom tallied every settledRows
   tally-clear t [] = sym (and-true (t .clear))
-  tally-clear t (r ∷ rs) = tally-clear (tallied c t r (f r)) rs ∙ and-assoc (t .clear) (notRepulsive (inPlaceOf r (newRow c (f r)))) (every notRepulsive (SliceSettled c rs (map f rs)))
+  tally-clear t (r ∷ rs) = tally-clear (tallied c t r (f r)) rs ∙ and-assoc (t .clear) (notRepulsive (inPlaceOf r (newRow c (f r)))) (every notRepulsive (settledRows c rs (map f rs)))
 
 -- the level drops only where it is above 0
 pub drops-above : (t : Tally) (threshold : Float) (level : ℕ) → dropsBy t threshold level ≡ true → 0 < level
