@@ -76,12 +76,12 @@ map-same : {A B : Type 0} (f g : A → B) (l : List A) → ((x : A) → f x ≡ 
 map-same f g [] h = refl
 map-same f g (x ∷ l) h = rw (h x, map-same f g l h)
 
-pub given : (b : Builder) (ms : Mesh) (l : BuilderLists) (ri : ℕ) (t : Tally) (rows : Rows)
+pub settle-is : (b : Builder) (ms : Mesh) (l : BuilderLists) (ri : ℕ) (t : Tally) (rows : Rows)
     → (let f = verdictOf (b .grid .threshold) (b .grid .beta) (partLinks (b .level) (linksOf ms)) (vertexCount (b .level)) in
     (t ≡ tallyFrom f (b .level) start (sliceAt b l ri)) × (rows ≡ settledLists (b .level) (l .rows) (slab (b .grid) ri 0) (map f (sliceAt b l ri))))
     → _≡_ {A = SettleOut} (record { answer = settledValues b (Settles (droppedBy b t) (t .gradient)); lists = record { store = l .store; rows = rows } }) (settleAccepted b ms l ri)
 unfolding settleAccepted settledSlice droppedBy dropsBy drops verdicts
-given b ms l ri t rows h =
+settle-is b ms l ri t rows h =
     let c = b .level in
     let rs = sliceAt b l ri in
     let f = verdictOf (b .grid .threshold) (b .grid .beta) (partLinks c (linksOf ms)) (vertexCount c) in

@@ -161,10 +161,10 @@ module _ (top : ℕ) (ms : Mesh) (l : Locator) (low : top ≤ 15) (held : meshLo
   answered-yes m h = not-refused m (levelPart m ms) (locatorPart m l) (omega (arith, low)) (part-held m h) (room m h) (rule m h)
 
   -- the call is accepted, and leaves what the level's locator is
-  pub ok : (m : ℕ) → m ≤ top → let p = locatorPart m l in
+  pub call-accepted : (m : ℕ) → m ≤ top → let p = locatorPart m l in
       Accepted (vertexCount m) (gridSize (vertexCount m)) (levelPart m ms) (length (p .cellOffsets)) (length (p .cellVertices)) (length (p .faceOffsets)) (length (p .faces))
   unfolding refusal locatorRefusal
-  ok m h = let p = locatorPart m l in accepted m (levelPart m ms) (length (p .cellOffsets)) (length (p .cellVertices)) (length (p .faceOffsets)) (length (p .faces)) (answered-yes m h)
+  call-accepted m h = let p = locatorPart m l in accepted m (levelPart m ms) (length (p .cellOffsets)) (length (p .cellVertices)) (length (p .faceOffsets)) (length (p .faces)) (answered-yes m h)
 
   accepted-out : (m : ℕ) → m ≤ top → locatorOut m (levelPart m ms) (locatorPart m l) ≡ record { number = 0; lists = locatorLists (vertexCount m) (gridSize (vertexCount m)) (levelPart m ms) (locatorPart m l) }
   unfolding locatorOut
@@ -173,8 +173,8 @@ module _ (top : ℕ) (ms : Mesh) (l : Locator) (low : top ≤ 15) (held : meshLo
       (record { number = locatorRefusal m (levelPart m ms) (locatorPart m l); lists = locatorPart m l }))
       (eq-eqb (locatorRefusal m (levelPart m ms) (locatorPart m l)) 0 (answered-yes m h))
 
-  pub made : (m : ℕ) → m ≤ top → madeAt ms l m ≡ locatorLists (vertexCount m) (gridSize (vertexCount m)) (levelPart m ms) (locatorPart m l)
-  made m h = ap (λ (o : LocatorOut). o .lists) (accepted-out m h)
+  pub lists-made : (m : ℕ) → m ≤ top → madeAt ms l m ≡ locatorLists (vertexCount m) (gridSize (vertexCount m)) (levelPart m ms) (locatorPart m l)
+  lists-made m h = ap (λ (o : LocatorOut). o .lists) (accepted-out m h)
 
   pub made-yes : (m : ℕ) → m ≤ top → locatorOut m (levelPart m ms) (locatorPart m l) .number ≡ 0
   made-yes m h = ap (λ (o : LocatorOut). o .number) (accepted-out m h)
@@ -186,8 +186,8 @@ module _ (top : ℕ) (ms : Mesh) (l : Locator) (low : top ≤ 15) (held : meshLo
       let n = vertexCount m in
       let p = locatorPart m l in
       let s = part-sizes m h in
-      let k = kept-sizes n (gridSize n) (levelPart m ms) p (ok m h) [] p in
-      rw (made m h) (record { cellOffsets = k .0 ∙ s .cellOffsets; cellVertices = k .1 ∙ s .cellVertices; faceOffsets = k .2 ∙ s .faceOffsets; faces = k .3 ∙ s .faces })
+      let k = kept-sizes n (gridSize n) (levelPart m ms) p (call-accepted m h) [] p in
+      rw (lists-made m h) (record { cellOffsets = k .0 ∙ s .cellOffsets; cellVertices = k .1 ∙ s .cellVertices; faceOffsets = k .2 ∙ s .faceOffsets; faces = k .3 ∙ s .faces })
 
   -- ---- from a level's first entries on
 
@@ -209,7 +209,7 @@ module _ (top : ℕ) (ms : Mesh) (l : Locator) (low : top ≤ 15) (held : meshLo
   one-list f v size rest from to h e p q =
       rw (← p, ← q)
       (from-place (λ m. f (madeAt ms l m)) (suc top) v rest size (omega arith) (λ i k. e i (omega arith))
-      ∙ ap (λ (z : Locator). f z ++ drop (sum (suc v) size) (joined (suc top) (λ m. f (madeAt ms l m)) ++ rest)) (made v h))
+      ∙ ap (λ (z : Locator). f z ++ drop (sum (suc v) size) (joined (suc top) (λ m. f (madeAt ms l m)) ++ rest)) (lists-made v h))
 
   pub at-level : (v : ℕ) → v ≤ top → locatorFrom v (locators top ms l) ≡ ahead (locatorLists (vertexCount v) (gridSize (vertexCount v)) (levelPart v ms) (locatorPart v l)) (behind v)
   unfolding locatorFrom locators ahead behind cellOffsetsBelow verticesBelow
@@ -238,11 +238,11 @@ module _ (top : ℕ) (ms : Mesh) (l : Locator) (low : top ≤ 15) (held : meshLo
       ≡ nearestOf (levelPart v ms) (vertexCount v) (gridSize (vertexCount v)) p
   nearest-at v h p =
       rw (at-level v h, vertices-at v h)
-      (nearest-in (vertexCount v) (gridSize (vertexCount v)) (levelPart v ms) (locatorPart v l) (ok v h) (drop (3 * verticesBelow (suc v)) (ms .vertices)) (behind v) p)
+      (nearest-in (vertexCount v) (gridSize (vertexCount v)) (levelPart v ms) (locatorPart v l) (call-accepted v h) (drop (3 * verticesBelow (suc v)) (ms .vertices)) (behind v) p)
 
   pub locate-at : (v : ℕ) → v ≤ top → (p : Vector3)
       → locateIn (locatorFrom v (locators top ms l)) (verticesFrom v (ms .vertices)) (vertexCount v) (gridSize (vertexCount v)) p
       ≡ locate (levelPart v ms) (vertexCount v) (gridSize (vertexCount v)) p
   locate-at v h p =
       rw (at-level v h, vertices-at v h)
-      (locate-in (vertexCount v) (gridSize (vertexCount v)) (levelPart v ms) (locatorPart v l) (ok v h) (drop (3 * verticesBelow (suc v)) (ms .vertices)) (behind v) p)
+      (locate-in (vertexCount v) (gridSize (vertexCount v)) (levelPart v ms) (locatorPart v l) (call-accepted v h) (drop (3 * verticesBelow (suc v)) (ms .vertices)) (behind v) p)

@@ -21,7 +21,7 @@ use Rattle.search.specs.declared.Vector3.{Vector3}
 use Rattle.search.specs.declared.Located.{Located}
 use Rattle.locator.specs.Several.{locatorPart, Roomy}
 use Rattle.locator.proofs.Answers.{lent, nearest-below, faces-in}
-use Rattle.locator.proofs.Laid.{ok}
+use Rattle.locator.proofs.Laid.{call-accepted}
 
 -- a face of vertices below n
 abbrev pub FaceBelow : ℕ → Face → Type 0
@@ -73,12 +73,12 @@ module _ (top : ℕ) (ms : Mesh) (l : Locator) (low : top ≤ 15) (held : meshLo
   g = gridSize (vertexCount v)
 
   pub nearest-vertex : nearestOf m n g p .number ≡ 0 → nearestOf m n g p .vertex < n
-  nearest-vertex e = nearest-below n g m (locatorPart v l) (ok top ms l low held kept roomy v h) [] (locatorPart v l) p e
+  nearest-vertex e = nearest-below n g m (locatorPart v l) (call-accepted top ms l low held kept roomy v h) [] (locatorPart v l) p e
 
   pub locatorLists-face : FaceBelow n (locate m n g p .face)
   unfolding locate bestFace
   locatorLists-face =
       chosen (λ (r : Located). FaceBelow n (r .face)) (eqb (nearestOf m n g p .number) 0) (bestFace (m .vertices) p (facesOf m n (nearestOf m n g p .vertex))) (notLocated (nearestOf m n g p .number))
       (λ e. fit-below (m .vertices) p n (facesOf m n (nearestOf m n g p .vertex)) (some-vertices v)
-      (faces-in n g m (locatorPart v l) (ok top ms l low held kept roomy v h) [] (locatorPart v l) (m .vertices) (nearestOf m n g p .vertex) (omega arith)))
+      (faces-in n g m (locatorPart v l) (call-accepted top ms l low held kept roomy v h) [] (locatorPart v l) (m .vertices) (nearestOf m n g p .vertex) (omega arith)))
       (some-vertices v, some-vertices v, some-vertices v)

@@ -4,7 +4,7 @@ use borrow.Author.Tests.{eq-eqb, ne-eqb}
 use Rattle.mesh.specs.Mesh.{Mesh}
 use Rattle.builder.specs.BuilderLists.{BuilderLists}
 use Rattle.builder.specs.Calls.{settleOut}
-use Rattle.builder.proofs.Accepted.{ready, given}
+use Rattle.builder.proofs.Accepted.{ready, settle-is}
 use borrow.Author.Needs.{needs}
 use Rattle.builder.proofs.settle.Statement.{statement}
 use Rattle.builder.proofs.settle.Tie as tie
@@ -29,7 +29,7 @@ returns-2 c =
     let l : BuilderLists = record { store = a .store .now; rows = record { kinds = a .kinds .now; levels = a .levels .now; values = a .values .now } } in
     let e = c .before .before .before .before .before .before .before .before .before .before .before in
     rw (← e .before .settle-refusal .ensures, eq-eqb _ _ (e .if1 .left), c .dropped .ensures)
-    (given (a .b) m l (a .ri) _ _ (c .before .before .before .before .before .before .before .settle-slice .ensures))
+    (settle-is (a .b) m l (a .ri) _ _ (c .before .before .before .before .before .before .before .settle-slice .ensures))
 
 pub settle-spec : {M : Type 1} → statement M
 settle-spec =
