@@ -11,7 +11,7 @@ use lib.ListN.{length}
 use lib.Ieee.{Float}
 use borrow.Author.Tests.{ltb-true}
 use Rattle.mesh.specs.Levels.{vertexCount, verticesBelow}
-use Rattle.mesh.specs.Mesh.{Mesh, levelPart}
+use Rattle.mesh.specs.Mesh.{Mesh, levelPart, meshOf}
 use Rattle.mesh.proofs.Laws.{below-le}
 use Rattle.mesh.proofs.Kept.{held}
 use Rattle.rows.specs.Rows.{Rows, Row, scalar, repulsive, mesh}
@@ -33,7 +33,7 @@ use Rattle.builder.proofs.Changes.{tally-gradient, tally-settled, tally
 -- ---- what an accepted settle may count on
 
 abbrev linksOf : Mesh → Mesh
-linksOf ms = record { vertices = []; counts = ms .counts; neighbours = ms .neighbours; angles = ms .angles }
+linksOf ms = meshOf [] (ms .counts) (ms .neighbours) (ms .angles)
 
 pub ready : (b : Builder) (ms : Mesh) (l : BuilderLists) (ri : ℕ) → settleRefusal b ms l ri ≡ 0 → SettleReadyIn b (linksOf ms) l ri
 unfolding settleRefusal meshedRefusal

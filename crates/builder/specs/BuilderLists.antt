@@ -9,13 +9,16 @@ use Rattle.lists.specs.Lists.{allUpTo}
 use Rattle.mesh.specs.Levels.{per, verticesBelow}
 use Rattle.mesh.specs.Mesh.{Mesh, meshLong}
 use Rattle.grid.specs.declared.Grid.{Grid}
-use Rattle.rows.specs.Rows.{Rows, resolutionAt, rowKnown, rowRoom, Row, rowWith}
+use Rattle.rows.specs.Rows.{Rows, rowsOf, resolutionAt, rowKnown, rowRoom, Row, rowWith}
 use Rattle.builder.specs.declared.Builder.{Builder}
 
 -- the store and the rows
 pub record BuilderLists : Type 0 where
   pub store : List Float
   pub rows : Rows
+
+abbrev pub listsOf : List Float → List ℕ → List ℕ → List ℕ → BuilderLists
+listsOf store kinds levels values = record { store = store; rows = rowsOf kinds levels values }
 
 -- "A slab is one distance bin and one dihedral bin"
 abbrev pub slabs : Grid → ℕ

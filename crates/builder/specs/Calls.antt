@@ -11,7 +11,7 @@ use Rattle.mesh.specs.Mesh.{Mesh}
 use Rattle.grid.specs.Settings.{counted}
 use Rattle.grid.specs.declared.Grid.{Grid}
 use Rattle.rows.specs.declared.SlabResolution.the-variants.{Mesh as toMesh}
-use Rattle.rows.specs.Rows.{Rows, replaced}
+use Rattle.rows.specs.Rows.{Rows, replaced, rowsOf}
 use Rattle.settling.specs.Gradient.{zero}
 use Rattle.settling.specs.Settling.{newRow, replacedBy, verdicts, settledSlice}
 use Rattle.settling.specs.declared.Verdict.{Verdict}
@@ -60,7 +60,7 @@ filled b l =
     let n = slabs (b .grid) in
     record {
       store = put (l .store) 0 (replicate (n * per (b .top)) zero);
-      rows = record { kinds = put (l .rows .kinds) 0 (replicate n 0); levels = put (l .rows .levels) 0 (replicate n 0); values = put (l .rows .values) 0 (replicate n 0) };
+      rows = rowsOf (put (l .rows .kinds) 0 (replicate n 0)) (put (l .rows .levels) 0 (replicate n 0)) (put (l .rows .values) 0 (replicate n 0));
     }
 
 -- what fresh and set leave: the answer and every list that is lent to be altered

@@ -8,7 +8,7 @@ use lib.Dec.{ltb}
 use lib.Ieee.{Float, binary64, ofBits, lt}
 use Rattle.lists.specs.Lists.{every, allUpTo}
 use Rattle.mesh.specs.Levels.{vertexCount, per, verticesBelow}
-use Rattle.mesh.specs.Mesh.{Mesh, levelPart}
+use Rattle.mesh.specs.Mesh.{Mesh, levelPart, meshOf}
 use Rattle.rows.specs.Rows.{Rows, Row, resolutionAt, rowWith}
 use Rattle.settling.specs.Settling.{verdictOf, newRow, fromLevel, replacedBy}
 use Rattle.builder.specs.BuilderLists.{BuilderLists, slab, slabs, sliceAt}
@@ -58,7 +58,7 @@ pub record SettleReady (b : Builder) (l : BuilderLists) (ri : ℕ) : Type 0 wher
 
 -- the links of level m's part of several meshes
 abbrev pub partLinks : ℕ → Mesh → Mesh
-partLinks m ms = record { vertices = []; counts = levelPart m ms .counts; neighbours = levelPart m ms .neighbours; angles = levelPart m ms .angles }
+partLinks m ms = meshOf [] (levelPart m ms .counts) (levelPart m ms .neighbours) (levelPart m ms .angles)
 
 -- the same, and the meshes of the levels from 0 to the top are there
 pub record SettleReadyIn (b : Builder) (ms : Mesh) (l : BuilderLists) (ri : ℕ) : Type 0 where

@@ -8,10 +8,10 @@ ghost use lib.Ieee.{isNan};
 ghost use Rattle.lists.specs.Questions.{ask, first};
 ghost use Rattle.lists.specs.Lists.{every};
 ghost use Rattle.mesh.specs.Levels.{verticesBelow};
-ghost use Rattle.mesh.specs.Mesh.{meshLong, meshesKeep};
-ghost use Rattle.rows.specs.Rows.{rowWith};
+ghost use Rattle.mesh.specs.Mesh.{meshLong, meshesKeep, meshOf};
+ghost use Rattle.rows.specs.Rows.{rowWith, rowsOf};
 ghost use Rattle.settling.specs.Settling.{fromLevel};
-ghost use Rattle.builder.specs.BuilderLists.{listRoom, rowsKnown};
+ghost use Rattle.builder.specs.BuilderLists.{listRoom, rowsKnown, listsOf};
 ghost use Rattle.builder.specs.Internal.{rowsFromLevel, settleQuestion};
 ghost use Rattle.builder.specs.Refusals.{builderQuestion, setQuestion, settleRefusal};
 use crate::Builder;
@@ -113,8 +113,8 @@ pub fn meshed_refusal(
     angles: &[f64],
 ) -> u64
     ensures { λ r. ⌜ r ≡ first (builderQuestion b)
-        (ask (listRoom (b .grid) (b .top) store kinds levels values && meshLong (verticesBelow (suc (b .top))) (record { vertices = now (vertices .entry); counts = now (counts .entry); neighbours = now (neighbours .entry); angles = now (angles .entry) })) 6
-        (ask (meshesKeep (b .top) (record { vertices = now (vertices .entry); counts = now (counts .entry); neighbours = now (neighbours .entry); angles = now (angles .entry) })) 7 0)) ⌝ }
+        (ask (listRoom (b .grid) (b .top) store kinds levels values && meshLong (verticesBelow (suc (b .top))) (meshOf (now (vertices .entry)) (now (counts .entry)) (now (neighbours .entry)) (now (angles .entry)))) 6
+        (ask (meshesKeep (b .top) (meshOf (now (vertices .entry)) (now (counts .entry)) (now (neighbours .entry)) (now (angles .entry)))) 7 0)) ⌝ }
 {
     let g = b.grid;
     let top = b.top;
@@ -144,7 +144,7 @@ pub fn meshed_refusal(
 // The kind and level part of question 15, of the rows of a slice.
 fn rows_known(top: u64, kinds: &[u8], levels: &[u8], s: u64, n: u64) -> bool
     requires { ⌜ (s ≤ 4294967295) × (n ≤ 65535) ⌝ }
-    ensures { λ r. ⌜ r ≡ rowsKnown top (record { kinds = now (kinds .entry); levels = now (levels .entry); values = [] }) s n ⌝ }
+    ensures { λ r. ⌜ r ≡ rowsKnown top (rowsOf (now (kinds .entry)) (now (levels .entry)) []) s n ⌝ }
 {
     let mut i: u64 = 0;
     while i < n {
@@ -170,7 +170,7 @@ fn from_level(level: u64, row: SlabResolution) -> bool
 // Question 11.
 fn rows_from_level(level: u64, kinds: &[u8], levels: &[u8], values: &[u32], s: u64, n: u64) -> bool
     requires { ⌜ (s ≤ 4294967295) × (n ≤ 65535) ⌝ }
-    ensures { λ r. ⌜ r ≡ rowsFromLevel level (record { kinds = now (kinds .entry); levels = now (levels .entry); values = now (values .entry) }) s n ⌝ }
+    ensures { λ r. ⌜ r ≡ rowsFromLevel level (rowsOf (now (kinds .entry)) (now (levels .entry)) (now (values .entry))) s n ⌝ }
 {
     let mut i: u64 = 0;
     while i < n {
@@ -185,7 +185,7 @@ fn rows_from_level(level: u64, kinds: &[u8], levels: &[u8], values: &[u32], s: u
 // Questions 8, 15 and 11 of settle.
 fn settle_question(b: Builder, kinds: &[u8], levels: &[u8], values: &[u32], ri: u64) -> u64
     requires { ⌜ (b .grid .«n_r» ≤ 65535) × (b .grid .«n_omega» ≤ 65535) ⌝ }
-    ensures { λ r. ⌜ r ≡ settleQuestion b (record { kinds = now (kinds .entry); levels = now (levels .entry); values = now (values .entry) }) ri ⌝ }
+    ensures { λ r. ⌜ r ≡ settleQuestion b (rowsOf (now (kinds .entry)) (now (levels .entry)) (now (values .entry))) ri ⌝ }
 {
     let n_r = b.grid.n_r;
     let n = b.grid.n_omega;
@@ -217,8 +217,8 @@ pub fn settle_refusal(
     angles: &[f64],
     ri: u64,
 ) -> u64
-    ensures { λ r. ⌜ r ≡ settleRefusal b (record { vertices = now (vertices .entry); counts = now (counts .entry); neighbours = now (neighbours .entry); angles = now (angles .entry) })
-        (record { store = now (store .entry); rows = record { kinds = now (kinds .entry); levels = now (levels .entry); values = now (values .entry) } }) ri ⌝ }
+    ensures { λ r. ⌜ r ≡ settleRefusal b (meshOf (now (vertices .entry)) (now (counts .entry)) (now (neighbours .entry)) (now (angles .entry)))
+        (listsOf (now (store .entry)) (now (kinds .entry)) (now (levels .entry)) (now (values .entry))) ri ⌝ }
 {
     let no = meshed_refusal(
         b,

@@ -2,6 +2,9 @@
 ghost use mathlib.Core.Path.{_≡_};
 ghost use Prim.Native.Nat.{ℕ};
 ghost use lib.ListN.{set};
+ghost use Rattle.rows.specs.Rows.{rowsOf};
+ghost use Rattle.mesh.specs.Mesh.{meshOf};
+ghost use Rattle.builder.specs.BuilderLists.{listsOf};
 ghost use Rattle.lent.specs.Calls.{LentOut, LentValues, lentValues, setLent, settleLent};
 ghost use Rattle.lent.specs.Records.{columns, recordAt, gathered, SpreadOut, spreadOut};
 use builder::Builder;
@@ -30,8 +33,8 @@ pub(crate) fn set_through(
     energies: &[f64],
 ) -> SetLeft
     ensures { λ r. ⌜ _≡_ {A = LentOut ℕ}
-        (record { answer = r .number; builder = r .builder; lists = record { store = now (store .exit); rows = record { kinds = now (kinds .exit); levels = now (levels .exit); values = now (values .exit) } } })
-        (setLent b (record { store = now (store .entry); rows = record { kinds = now (kinds .entry); levels = now (levels .entry); values = now (values .entry) } }) ri oi (now (energies .entry))) ⌝ }
+        (record { answer = r .number; builder = r .builder; lists = listsOf (now (store .exit)) (now (kinds .exit)) (now (levels .exit)) (now (values .exit)) })
+        (setLent b (listsOf (now (store .entry)) (now (kinds .entry)) (now (levels .entry)) (now (values .entry))) ri oi (now (energies .entry))) ⌝ }
 {
     let mut c = b;
     let number = lent::set_lent(&mut c, store, kinds, levels, values, ri, oi, energies);
@@ -51,9 +54,9 @@ pub(crate) fn settle_through(
     ri: u64,
 ) -> SettleLeft
     ensures { λ r. ⌜ _≡_ {A = LentOut LentValues}
-        (record { answer = lentValues (r .answer); builder = r .builder; lists = record { store = now (store .entry); rows = record { kinds = now (kinds .exit); levels = now (levels .exit); values = now (values .exit) } } })
-        (settleLent b (record { vertices = now (vertices .entry); counts = now (counts .entry); neighbours = now (neighbours .entry); angles = now (angles .entry) })
-        (record { store = now (store .entry); rows = record { kinds = now (kinds .entry); levels = now (levels .entry); values = now (values .entry) } }) ri) ⌝ }
+        (record { answer = lentValues (r .answer); builder = r .builder; lists = listsOf (now (store .entry)) (now (kinds .exit)) (now (levels .exit)) (now (values .exit)) })
+        (settleLent b (meshOf (now (vertices .entry)) (now (counts .entry)) (now (neighbours .entry)) (now (angles .entry)))
+        (listsOf (now (store .entry)) (now (kinds .entry)) (now (levels .entry)) (now (values .entry))) ri) ⌝ }
 {
     let mut c = b;
     let answer = lent::settle_lent(
@@ -91,7 +94,7 @@ pub(crate) fn gather_in(
     levels: &[u8],
     values: &[u32],
 ) -> [RowRecord; 2]
-    ensures { λ t. ⌜ t ≡ gathered (record { kinds = now (kinds .entry); levels = now (levels .entry); values = now (values .entry) }) rows ⌝ }
+    ensures { λ t. ⌜ t ≡ gathered (rowsOf (now (kinds .entry)) (now (levels .entry)) (now (values .entry))) rows ⌝ }
 {
     let mut t = rows;
     lent::gather(&mut t, kinds, levels, values);
@@ -105,8 +108,8 @@ pub(crate) fn spread_of(
     values: &mut [u32],
 ) -> usize
     ensures { λ r. ⌜ _≡_ {A = SpreadOut}
-        (record { answer = r; rows = record { kinds = now (kinds .exit); levels = now (levels .exit); values = now (values .exit) } })
-        (spreadOut rows (record { kinds = now (kinds .entry); levels = now (levels .entry); values = now (values .entry) })) ⌝ }
+        (record { answer = r; rows = rowsOf (now (kinds .exit)) (now (levels .exit)) (now (values .exit)) })
+        (spreadOut rows (rowsOf (now (kinds .entry)) (now (levels .entry)) (now (values .entry)))) ⌝ }
 {
     lent::spread(&rows, kinds, levels, values)
 }

@@ -20,7 +20,7 @@ use Rattle.mesh.proofs.Kept.{Held, held}
 use Rattle.lists.proofs.Asking.{ask-yes}
 use Rattle.lists.proofs.Written.{length-starts}
 use Rattle.search.specs.Cells.{cell, facesOf}
-use Rattle.search.specs.Search.{Locator}
+use Rattle.search.specs.Search.{Locator, locatorOf}
 use Rattle.locator.specs.Locator.{locatorRoom, locatorLong, locatorRefusal, locatorLists, LocatorOut, locatorOut}
 use Rattle.locator.specs.Internal.{Graph, CellsOut, cellsOut, FacesOut, facesOut, refusal}
 use Rattle.locator.proofs.Room as Room
@@ -91,7 +91,7 @@ scratch m n d e fs h =
 
 -- the outcome, by what was asked
 unfoldable pub made : ℕ → CellsOut → FacesOut → LocatorOut
-made number c f = record { number = number; lists = record { cellOffsets = c .offsets; cellVertices = c .entries; faceOffsets = f .offsets; faces = f .entries } }
+made number c f = record { number = number; lists = locatorOf (c .offsets) (c .entries) (f .offsets) (f .entries) }
 
 module _ (level : ℕ) (m : Mesh) (l : Locator) where
   pub refused : (r : ℕ) → r ≡ refusal level m (length (l .cellOffsets)) (length (l .cellVertices)) (length (l .faceOffsets)) (length (l .faces)) → (r ≡ 0 → ⊥)

@@ -20,7 +20,7 @@ use Rattle.mesh.proofs.Kept.{held as heldBy}
 use Rattle.lists.proofs.Sums.{sum-eq}
 use Rattle.lists.proofs.Written.{length-joined, part}
 use Rattle.search.specs.declared.Vector3.{Vector3}
-use Rattle.search.specs.Search.{Locator, locatorFrom, verticesFrom, nearestIn, nearestOf, locateIn, locate}
+use Rattle.search.specs.Search.{Locator, locatorFrom, verticesFrom, nearestIn, nearestOf, locateIn, locate, locatorOf}
 use Rattle.locator.specs.Locator.{locatorRoom, locatorLong, locatorRefusal, locatorLists, LocatorOut, locatorOut}
 use Rattle.locator.specs.Internal.{refusal}
 use Rattle.locator.proofs.Accepted.{Accepted, accepted, not-refused}
@@ -76,7 +76,7 @@ sum-ones f zero = refl
 sum-ones f (suc n) = omega (arith, sum-ones f n)
 
 four : {a b c d a′ b′ c′ d′ : List ℕ} → a ≡ a′ → b ≡ b′ → c ≡ c′ → d ≡ d′
-    → _≡_ {A = Locator} (record { cellOffsets = a; cellVertices = b; faceOffsets = c; faces = d }) (record { cellOffsets = a′; cellVertices = b′; faceOffsets = c′; faces = d′ })
+    → _≡_ {A = Locator} (locatorOf a b c d) (locatorOf a′ b′ c′ d′)
 four p q r s = rw (p, q, r, s) refl
 
 -- a list from a place on: a part, and what is behind it
@@ -187,7 +187,7 @@ module _ (top : ℕ) (ms : Mesh) (l : Locator) (low : top ≤ 15) (held : meshLo
       let p = locatorPart m l in
       let s = part-sizes m h in
       let k = kept-sizes n (gridSize n) (levelPart m ms) p (call-accepted m h) [] p in
-      rw (lists-made m h) (record { cellOffsets = k .0 ∙ s .cellOffsets; cellVertices = k .1 ∙ s .cellVertices; faceOffsets = k .2 ∙ s .faceOffsets; faces = k .3 ∙ s .faces })
+      rw (lists-made m h) (locatorOf (k .0 ∙ s .cellOffsets) (k .1 ∙ s .cellVertices) (k .2 ∙ s .faceOffsets) (k .3 ∙ s .faces))
 
   -- ---- from a level's first entries on
 

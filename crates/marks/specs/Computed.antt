@@ -25,7 +25,7 @@ use Rattle.grid.specs.declared.Grid.{Grid}
 use Rattle.rows.specs.Rows.{resolutionOf, resolutionAt, replaced, known, rowRoom}
 use Rattle.settling.specs.Gradient.{weight, repulsive, allRepulsive, steeper, alongNeighbours, pairWeight, gradientOf, gradient, sumFrom, meanNarrowed}
 use Rattle.settling.specs.Settling.{byGradient, verdict, verdicts, settledRows, largestFrom, someSettle, drops, settledSlice}
-use Rattle.builder.specs.BuilderLists.{BuilderLists, rowAt, rowsFrom, listRoom, rowsKnown}
+use Rattle.builder.specs.BuilderLists.{BuilderLists, rowAt, rowsFrom, listRoom, rowsKnown, listsOf}
 use Rattle.builder.specs.Calls.{settledLists, freshBuilder, filled, freshOut, setLists, setOut, settleAccepted, settleOut}
 use Rattle.builder.specs.Refusals.{meshedRefusal, setQuestion, setRefusal, settleRefusal}
 use Rattle.table.specs.Bytes.{bytesOf, numberOf, numberAt, packed, section, items}
@@ -64,7 +64,7 @@ plain = settings 0x3FF0_0000_0000_0000 0x4018_0000_0000_0000
 abbrev pub lent : ℕ → ℕ → BuilderLists
 lent n k =
     let nines : List ℕ = replicate (1 + k) 9 in
-    record { store = replicate (1 + n) (f64 0x4000_0000_0000_0000); rows = record { kinds = nines; levels = nines; values = nines } }
+    (listsOf (replicate (1 + n) (f64 0x4000_0000_0000_0000)) nines nines nines)
 
 -- at level 0, one slab
 abbrev pub history : List Call → History

@@ -4,7 +4,7 @@ use mathlib.Core.List.{List, [], _∷_, _++_}
 use Prim.Native.Nat.{ℕ}
 use lib.ListN.{replicate, set, take, drop}
 use lib.Ieee.{Float}
-use Rattle.builder.specs.BuilderLists.{BuilderLists}
+use Rattle.builder.specs.BuilderLists.{BuilderLists, listsOf}
 use Rattle.writer.specs.Write.{writeOut}
 use Rattle.table.specs.Read.{readOut}
 use Rattle.ledger.specs.Ledger.{set-call, settle-call, write-call}
@@ -43,7 +43,7 @@ writes-nothing = refl
 
 -- a scalar NaN that a caller put into the rows is written as 7FC00000, which the reader accepts
 abbrev nanRow : BuilderLists
-nanRow = record { store = replicate 144 (f64 0); rows = record { kinds = 0 ∷ []; levels = 7 ∷ []; values = 0xFFC0_0001 ∷ [] } }
+nanRow = listsOf (replicate 144 (f64 0)) (0 ∷ []) (7 ∷ []) (0xFFC0_0001 ∷ [])
 
 pub nan-row : computed (drop 52 (writeOut (ended (history []) .builder) icosahedron nanRow (replicate 66 0) .output)) ≡ 0 ∷ 0 ∷ 255 ∷ 255 ∷ 255 ∷ 255 ∷ 0 ∷ 0 ∷ 192 ∷ 127 ∷ 0 ∷ 0 ∷ 0 ∷ 0 ∷ []
 unfolding computed

@@ -6,9 +6,9 @@ use lib.ListN.{length, getD, replicate, set, take, drop}
 use lib.IntN.{pos}
 use lib.Ieee.{Float, nan, binary64, toBits, ofInt}
 use Rattle.lists.specs.Lists.{below}
-use Rattle.mesh.specs.Mesh.{Mesh}
+use Rattle.mesh.specs.Mesh.{Mesh, meshOf}
 use Rattle.mesh.specs.Faces.{extractFaces}
-use Rattle.search.specs.Search.{Locator}
+use Rattle.search.specs.Search.{Locator, locatorOf}
 use Rattle.locator.specs.Several.{locators}
 use Rattle.locator.specs.Locator.{locatorOut}
 use Rattle.search.specs.declared.Vector3.{Vector3}
@@ -24,7 +24,7 @@ use Rattle.marks.specs.Computed.{f64, history, computed}
 
 -- four lists of other contents, with a place more than level 0 needs
 abbrev lent : Locator
-lent = record { cellOffsets = replicate 26 9; cellVertices = replicate 325 9; faceOffsets = replicate 14 9; faces = replicate 541 9 }
+lent = locatorOf (replicate 26 9) (replicate 325 9) (replicate 14 9) (replicate 541 9)
 
 abbrev asked : ℕ → Mesh → Locator → ℕ
 asked level m l = locatorOut level m l .number
@@ -33,10 +33,10 @@ asked level m l = locatorOut level m l .number
 
 abbrev withNeighbour : ℕ → ℕ → Mesh
 withNeighbour place w =
-    record { vertices = icosahedron .vertices; counts = icosahedron .counts; neighbours = set (icosahedron .neighbours) place w; angles = icosahedron .angles }
+    (meshOf (icosahedron .vertices) (icosahedron .counts) (set (icosahedron .neighbours) place w) (icosahedron .angles))
 
 abbrev withAngle : Float → Mesh
-withAngle x = record { vertices = icosahedron .vertices; counts = icosahedron .counts; neighbours = icosahedron .neighbours; angles = set (icosahedron .angles) 0 x }
+withAngle x = meshOf (icosahedron .vertices) (icosahedron .counts) (icosahedron .neighbours) (set (icosahedron .angles) 0 x)
 
 -- a sixth place of a vertex of five neighbours is not read
 pub keeps : computed (asked 0 icosahedron lent) ≡ 0
@@ -75,7 +75,7 @@ angle-nan = refl
 
 -- "Locator, for one level: 2, 6, then 7"
 abbrev none : Locator
-none = record { cellOffsets = []; cellVertices = []; faceOffsets = []; faces = [] }
+none = locatorOf [] [] [] []
 
 pub level-first : computed (asked 16 icosahedron none) ≡ 2
 unfolding computed
@@ -177,7 +177,7 @@ no-bin = refl
 
 -- 20: cells that list no vertex
 abbrev emptied : Locator
-emptied = record { cellOffsets = replicate 25 0; cellVertices = made .cellVertices; faceOffsets = made .faceOffsets; faces = made .faces }
+emptied = locatorOf (replicate 25 0) (made .cellVertices) (made .faceOffsets) (made .faces)
 
 pub empty-cell : computed (reading nearestFile emptied (query 0 ahead down) .number) ≡ 20
 unfolding computed
@@ -185,7 +185,7 @@ empty-cell = refl
 
 -- where start and end are equal no entry is touched, also beyond what was lent: 20 for cells, and for faces the answer where none fits
 abbrev far-cells : Locator
-far-cells = record { cellOffsets = replicate 25 325; cellVertices = made .cellVertices; faceOffsets = made .faceOffsets; faces = made .faces }
+far-cells = locatorOf (replicate 25 325) (made .cellVertices) (made .faceOffsets) (made .faces)
 
 pub far-cell : computed (reading nearestFile far-cells (query 0x3FE0_0000_0000_0000 ahead down) .number) ≡ 20
 unfolding computed
@@ -196,7 +196,7 @@ unfolding computed
 far-cell-interpolated = refl
 
 abbrev far-faces : Locator
-far-faces = record { cellOffsets = made .cellOffsets; cellVertices = made .cellVertices; faceOffsets = replicate 13 1; faces = [] }
+far-faces = locatorOf (made .cellOffsets) (made .cellVertices) (replicate 13 1) []
 
 pub far-face : computed (reading (file table) far-faces (query 0x3FE0_0000_0000_0000 ahead down)) ≡ record { number = 0; energy = computed (f64 0) }
 unfolding computed
@@ -204,7 +204,7 @@ far-face = refl
 
 -- 19 of the second direction before 20 of the first: an offset beyond what was lent
 abbrev beyond : Locator
-beyond = record { cellOffsets = replicate 24 0 ++ (60000 ∷ []); cellVertices = made .cellVertices; faceOffsets = made .faceOffsets; faces = made .faces }
+beyond = locatorOf (replicate 24 0 ++ (60000 ∷ [])) (made .cellVertices) (made .faceOffsets) (made .faces)
 
 pub other-direction : computed (reading nearestFile beyond (query 0 ahead down) .number) ≡ 19
 unfolding computed
@@ -212,7 +212,7 @@ other-direction = refl
 
 -- the same of its faces, which an interpolated row alone looks at
 abbrev no-face : Locator
-no-face = record { cellOffsets = replicate 24 0 ++ (1 ∷ []); cellVertices = replicate 324 0; faceOffsets = made .faceOffsets; faces = replicate 180 12 }
+no-face = locatorOf (replicate 24 0 ++ (1 ∷ [])) (replicate 324 0) (made .faceOffsets) (replicate 180 12)
 
 pub face-number : computed (reading (file table) no-face (query 0 ahead down) .number) ≡ 19
 unfolding computed

@@ -4,9 +4,10 @@ use mathlib.Core.List.{List, [], _∷_, _++_}
 use Prim.Native.Nat.{ℕ}
 use lib.ListN.{replicate, set}
 use lib.Ieee.{Float, nan}
-use Rattle.mesh.specs.Mesh.{Mesh}
+use Rattle.rows.specs.Rows.{rowsOf}
+use Rattle.mesh.specs.Mesh.{Mesh, meshOf}
 use Rattle.grid.specs.Settings.{counted}
-use Rattle.builder.specs.BuilderLists.{BuilderLists}
+use Rattle.builder.specs.BuilderLists.{BuilderLists, listsOf}
 use Rattle.builder.specs.Calls.{freshOut, setOut, settleOut}
 use Rattle.builder.specs.declared.Builder.{Builder}
 use Rattle.writer.specs.Write.{writeOut}
@@ -42,7 +43,7 @@ after = record {
   builder = record { grid = counted (history₂ [] .grid); top = 1; level = 0 };
   lists = record {
     store = nearly ++ (nearly ++ (zeros 1764 ++ (f64 0x4000_0000_0000_0000 ∷ [])));
-    rows = record { kinds = 2 ∷ 3 ∷ 0 ∷ 9 ∷ []; levels = 1 ∷ 1 ∷ 0 ∷ 9 ∷ []; values = 0 ∷ 0 ∷ 0 ∷ 9 ∷ [] };
+    rows = rowsOf (2 ∷ 3 ∷ 0 ∷ 9 ∷ []) (1 ∷ 1 ∷ 0 ∷ 9 ∷ []) (0 ∷ 0 ∷ 0 ∷ 9 ∷ []);
   };
 }
 
@@ -55,22 +56,22 @@ abbrev by-hand : Builder
 by-hand = record { grid = counted (settings 0x3FF0_0000_0000_0000 0x4008_0000_0000_0000); top = 1; level = 0 }
 
 abbrev made : List ℕ → List ℕ → BuilderLists
-made kinds levels = record { store = zeros 3528; rows = record { kinds = kinds; levels = levels; values = 0 ∷ 0 ∷ [] } }
+made kinds levels = listsOf (zeros 3528) kinds levels (0 ∷ 0 ∷ [])
 
 abbrev settledByHand : Mesh → List ℕ → List ℕ → ℕ → ℕ
 settledByHand m kinds levels ri = settleOut by-hand m (made kinds levels) ri .answer .number
 
 -- a vertex of four neighbours
 abbrev damaged : Mesh
-damaged = record { vertices = twoLevels .vertices; counts = set (twoLevels .counts) 53 4; neighbours = twoLevels .neighbours; angles = twoLevels .angles }
+damaged = meshOf (twoLevels .vertices) (set (twoLevels .counts) 53 4) (twoLevels .neighbours) (twoLevels .angles)
 
 -- "Beta 1, threshold 0.1: 144 tens make Repulsive"; places beyond stay
-pub tens-repulsive : computed (ended (history (set-call 0 0 tens ∷ settle-call 0 ∷ [])) .lists .rows) ≡ record { kinds = 1 ∷ 9 ∷ []; levels = 0 ∷ 9 ∷ []; values = 0 ∷ 9 ∷ [] }
+pub tens-repulsive : computed (ended (history (set-call 0 0 tens ∷ settle-call 0 ∷ [])) .lists .rows) ≡ rowsOf (1 ∷ 9 ∷ []) (0 ∷ 9 ∷ []) (0 ∷ 9 ∷ [])
 unfolding computed
 tens-repulsive = refl
 
 -- "144 zeros Scalar 0"
-pub zeros-scalar : computed (ended (history (set-call 0 0 (zeros 144) ∷ settle-call 0 ∷ [])) .lists .rows) ≡ record { kinds = 0 ∷ 9 ∷ []; levels = 0 ∷ 9 ∷ []; values = 0 ∷ 9 ∷ [] }
+pub zeros-scalar : computed (ended (history (set-call 0 0 (zeros 144) ∷ settle-call 0 ∷ [])) .lists .rows) ≡ rowsOf (0 ∷ 9 ∷ []) (0 ∷ 9 ∷ []) (0 ∷ 9 ∷ [])
 unfolding computed
 zeros-scalar = refl
 

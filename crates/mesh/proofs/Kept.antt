@@ -6,11 +6,11 @@ use Prim.Native.Nat.{ℕ, _*_, _≤_}
 use lib.ListN.{length}
 use lib.Dec.{leb}
 use borrow.Author.Tests.{leb-true}
-use Rattle.mesh.specs.Mesh.{Mesh, within, lists, neighbourKept, vertexKept, meshRoom, meshLong}
+use Rattle.mesh.specs.Mesh.{Mesh, within, lists, neighbourKept, vertexKept, meshRoom, meshLong, meshOf}
 
 -- a vertex and its neighbours keep the rule whatever the coordinates are
 pub kept-links : (n : ℕ) (m : Mesh) (v : ℕ)
-    → vertexKept n (record { vertices = []; counts = m .counts; neighbours = m .neighbours; angles = m .angles }) v ≡ vertexKept n m v
+    → vertexKept n (meshOf [] (m .counts) (m .neighbours) (m .angles)) v ≡ vertexKept n m v
 unfolding vertexKept neighbourKept lists within
 kept-links n m v = refl
 
@@ -27,4 +27,4 @@ held n m e =
     let a = and-eq-true-iff (leb (3 * n) (length (m .vertices))) (leb n (length (m .counts)) && (leb (6 * n) (length (m .neighbours)) && leb (6 * n) (length (m .angles)))) .0 e in
     let b = and-eq-true-iff (leb n (length (m .counts))) (leb (6 * n) (length (m .neighbours)) && leb (6 * n) (length (m .angles))) .0 (a .1) in
     let d = and-eq-true-iff (leb (6 * n) (length (m .neighbours))) (leb (6 * n) (length (m .angles))) .0 (b .1) in
-    record { vertices = leb-true _ _ (a .0); counts = leb-true _ _ (b .0); neighbours = leb-true _ _ (d .0); angles = leb-true _ _ (d .1) }
+    (meshOf (leb-true _ _ (a .0)) (leb-true _ _ (b .0)) (leb-true _ _ (d .0)) (leb-true _ _ (d .1)))

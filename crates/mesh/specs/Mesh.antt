@@ -17,6 +17,9 @@ pub record Mesh : Type 0 where
   pub neighbours : List ℕ
   pub angles : List Float
 
+abbrev pub meshOf : List Float → List ℕ → List ℕ → List Float → Mesh
+meshOf vertices counts neighbours angles = record { vertices = vertices; counts = counts; neighbours = neighbours; angles = angles }
+
 -- how many neighbours v has, the neighbour at its place k, and the angle to it
 abbrev pub degree : Mesh → ℕ → ℕ
 degree m v = getD (m .counts) v 0

@@ -17,6 +17,9 @@ pub record Rows : Type 0 where
   pub levels : List ℕ
   pub values : List ℕ
 
+abbrev pub rowsOf : List ℕ → List ℕ → List ℕ → Rows
+rowsOf kinds levels values = record { kinds = kinds; levels = levels; values = values }
+
 -- "kind u8 (0 Scalar, 1 Repulsive, 2 Mesh nearest, 3 Mesh interpolated)"
 abbrev pub kindOf : SlabResolution → ℕ
 kindOf (Scalar x) = 0

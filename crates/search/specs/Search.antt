@@ -87,6 +87,10 @@ pub record Locator : Type 0 where
   pub faceOffsets : List ℕ
   pub faces : List ℕ
 
+abbrev pub locatorOf : List ℕ → List ℕ → List ℕ → List ℕ → Locator
+locatorOf cellOffsets cellVertices faceOffsets faces =
+    record { cellOffsets = cellOffsets; cellVertices = cellVertices; faceOffsets = faceOffsets; faces = faces }
+
 -- the lists from level m's first entries on, to the end of what was lent
 unfoldable pub locatorFrom : ℕ → Locator → Locator
 locatorFrom m l =

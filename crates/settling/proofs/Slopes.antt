@@ -16,7 +16,7 @@ use Rattle.ieee.proofs.Pack.{le-or-lt}
 use Rattle.float.specs.Order.{magnitude}
 use Rattle.float.specs.Exp.{exponential}
 use Rattle.lists.specs.Lists.{forEach}
-use Rattle.mesh.specs.Mesh.{Mesh, degree, neighbour, angleTo}
+use Rattle.mesh.specs.Mesh.{Mesh, degree, neighbour, angleTo, meshOf}
 use Rattle.float.proofs.Order.{clear, round-clear}
 use Rattle.settling.specs.Gradient.{zero, weight, steeper, alongNeighbours, pairWeight, gradientOf, gradient}
 use Rattle.settling.specs.Internal.{lineWeights, lineGradient, linesGradient}
@@ -158,6 +158,6 @@ module _ (m : Mesh) (n : ℕ) (beta : Float) (e : List Float) where
 
 -- a gradient looks at the links alone
 pub gradient-links : (m : Mesh) (n : ℕ) (beta : Float) (e : List Float)
-    → gradient (record { vertices = []; counts = m .counts; neighbours = m .neighbours; angles = m .angles }) n beta e ≡ gradient m n beta e
+    → gradient (meshOf [] (m .counts) (m .neighbours) (m .angles)) n beta e ≡ gradient m n beta e
 unfolding gradient gradientOf alongNeighbours
 gradient-links m n beta e = refl

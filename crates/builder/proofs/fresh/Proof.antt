@@ -4,6 +4,7 @@ use native.Mathlib.Omega.{arith}
 use lib.ListN.{length}
 use borrow.Author.Needs.{needs}
 use borrow.Author.Tests.{eq-eqb, ne-eqb}
+use Rattle.mesh.specs.Mesh.{meshOf}
 use Rattle.builder.specs.Calls.{freshOut, filled}
 use Rattle.builder.specs.Refusals.{meshedRefusal}
 use Rattle.builder.proofs.Laws.{Meshed, meshed}
@@ -12,7 +13,7 @@ use Rattle.builder.proofs.fresh.Tie as tie
 
 -- where no question was answered no
 facts : (c : tie.Else1) → let a = c .before .before .before .before .before .before .before .before .before .before .before .args in
-    Meshed (c .before .before .fresh-builder .result) (record { vertices = a .vertices .now; counts = a .counts .now; neighbours = a .neighbours .now; angles = a .angles .now })
+    Meshed (c .before .before .fresh-builder .result) (meshOf (a .vertices .now) (a .counts .now) (a .neighbours .now) (a .angles .now))
     (length (a .store .now)) (length (a .kinds .now)) (length (a .levels .now)) (length (a .values .now))
 facts c = meshed _ _ _ _ _ _ (sym (c .before .meshed-refusal .ensures) ∙ c .if1 .left)
 

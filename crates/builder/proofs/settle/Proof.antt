@@ -1,8 +1,8 @@
 -- `settle` meets its contract. Assumes nothing.
 use mathlib.Core.Path.{sym, _∙_}
 use borrow.Author.Tests.{eq-eqb, ne-eqb}
-use Rattle.mesh.specs.Mesh.{Mesh}
-use Rattle.builder.specs.BuilderLists.{BuilderLists}
+use Rattle.mesh.specs.Mesh.{Mesh, meshOf}
+use Rattle.builder.specs.BuilderLists.{BuilderLists, listsOf}
 use Rattle.builder.specs.Calls.{settleOut}
 use Rattle.builder.proofs.Accepted.{ready, settle-is}
 use borrow.Author.Needs.{needs}
@@ -16,8 +16,8 @@ returns c = rw (← c .before .settle-refusal .ensures, ne-eqb _ _ (c .if1 .take
 settle-slice-requires : tie.Need-settle-slice-requires
 settle-slice-requires c κs =
     let a = c .before .before .before .before .before .before .before .before .before .before .before .before .before .before .before .before .args in
-    let m : Mesh = record { vertices = a .vertices .now; counts = a .counts .now; neighbours = a .neighbours .now; angles = a .angles .now } in
-    let l : BuilderLists = record { store = a .store .now; rows = record { kinds = a .kinds .now; levels = a .levels .now; values = a .values .now } } in
+    let m : Mesh = meshOf (a .vertices .now) (a .counts .now) (a .neighbours .now) (a .angles .now) in
+    let l : BuilderLists = listsOf (a .store .now) (a .kinds .now) (a .levels .now) (a .values .now) in
     let e = c .before .before .before in
     ready (a .b) m l (a .ri) (sym (e .before .settle-refusal .ensures) ∙ e .if1 .left)
 
@@ -25,8 +25,8 @@ returns-2 : tie.Need-returns-2
 unfolding settleOut
 returns-2 c =
     let a = c .before .before .before .before .before .before .before .before .before .before .before .before .before .before .before .before .before .before .before .before .before .before .before .before .args in
-    let m : Mesh = record { vertices = a .vertices .now; counts = a .counts .now; neighbours = a .neighbours .now; angles = a .angles .now } in
-    let l : BuilderLists = record { store = a .store .now; rows = record { kinds = a .kinds .now; levels = a .levels .now; values = a .values .now } } in
+    let m : Mesh = meshOf (a .vertices .now) (a .counts .now) (a .neighbours .now) (a .angles .now) in
+    let l : BuilderLists = listsOf (a .store .now) (a .kinds .now) (a .levels .now) (a .values .now) in
     let e = c .before .before .before .before .before .before .before .before .before .before .before in
     rw (← e .before .settle-refusal .ensures, eq-eqb _ _ (e .if1 .left), c .dropped .ensures)
     (settle-is (a .b) m l (a .ri) _ _ (c .before .before .before .before .before .before .before .settle-slice .ensures))

@@ -7,14 +7,14 @@ use borrow.Author.Needs.{needs}
 use Rattle.lists.specs.Lists.{allUpTo}
 use Rattle.lists.proofs.Counting.{all-turn, all-fails, yes, no}
 use mathlib.Core.List.{[]}
-use Rattle.rows.specs.Rows.{resolutionAt, rowWith}
+use Rattle.rows.specs.Rows.{resolutionAt, rowWith, rowsOf}
 use Rattle.settling.specs.Settling.{fromLevel}
 use Rattle.builder.specs.Internal.{rowsFromLevel}
 use Rattle.builder.proofs.questions.rows_from_level.Statement.{statement}
 use Rattle.builder.proofs.questions.rows_from_level.Tie as tie
 
 abbrev Inv-loop : tie.InvT-loop
-Inv-loop level kinds levels values s n i₀ i = (i ≤ n) × (allUpTo i (λ j. fromLevel level (rowWith (resolutionAt (record { kinds = kinds; levels = levels; values = values }) (s + j)) [])) ≡ true)
+Inv-loop level kinds levels values s n i₀ i = (i ≤ n) × (allUpTo i (λ j. fromLevel level (rowWith (resolutionAt (rowsOf kinds levels values) (s + j)) [])) ≡ true)
 
 abbrev μ-loop : tie.MeasureT-loop
 μ-loop level kinds levels values s n i₀ i = n - i
@@ -31,7 +31,7 @@ unfolding rowsFromLevel
 returns c =
     let l = c .before .before .before .before in
     let a = l .before .before .before .before .args in
-    sym (all-fails (λ j. fromLevel (a .level) (rowWith (resolutionAt (record { kinds = a .kinds .now; levels = a .levels .now; values = a .values .now }) (a .s + j)) [])) (l .loop .i) (a .n) (omega arith)
+    sym (all-fails (λ j. fromLevel (a .level) (rowWith (resolutionAt (rowsOf (a .kinds .now) (a .levels .now) (a .values .now)) (a .s + j)) [])) (l .loop .i) (a .n) (omega arith)
     (rw (c .before .before .resolution-at .ensures) at (no (c .before .from-level .ensures) (c .if1 .taken))))
 
 add-i : tie.Need-add-i Inv-loop μ-loop
@@ -45,7 +45,7 @@ loop-again c =
     let l = c .before .before .before .before in
     let a = l .before .before .before .before .args in (
       omega arith,
-      all-turn (λ j. fromLevel (a .level) (rowWith (resolutionAt (record { kinds = a .kinds .now; levels = a .levels .now; values = a .values .now }) (a .s + j)) [])) (l .loop .i) (l .loop .inv .1)
+      all-turn (λ j. fromLevel (a .level) (rowWith (resolutionAt (rowsOf (a .kinds .now) (a .levels .now) (a .values .now)) (a .s + j)) [])) (l .loop .i) (l .loop .inv .1)
           (rw (c .before .before .resolution-at .ensures) at (yes (c .before .from-level .ensures) (c .if1 .left))),
     )
 

@@ -3,8 +3,8 @@ use mathlib.Core.Path.{sym, _∙_}
 use lib.ListN.{length}
 use borrow.Author.Tests.{eq-eqb, ne-eqb}
 use Rattle.lists.specs.Questions.{first}
-use Rattle.mesh.specs.Mesh.{Mesh}
-use Rattle.builder.specs.BuilderLists.{BuilderLists}
+use Rattle.mesh.specs.Mesh.{Mesh, meshOf}
+use Rattle.builder.specs.BuilderLists.{BuilderLists, listsOf}
 use Rattle.builder.specs.Refusals.{meshedRefusal}
 use Rattle.builder.proofs.Laws.{Meshed, meshed}
 use Rattle.builder.proofs.SliceRows.{asked-as}
@@ -16,13 +16,13 @@ returns : tie.Need-returns
 unfolding first meshedRefusal
 returns c =
     let a = c .before .before .before .before .before .before .before .before .before .before .args in
-    let m : Mesh = record { vertices = a .vertices .now; counts = a .counts .now; neighbours = a .neighbours .now; angles = a .angles .now } in
-    let l : BuilderLists = record { store = a .store .now; rows = record { kinds = a .kinds .now; levels = a .levels .now; values = a .values .now } } in
+    let m : Mesh = meshOf (a .vertices .now) (a .counts .now) (a .neighbours .now) (a .angles .now) in
+    let l : BuilderLists = listsOf (a .store .now) (a .kinds .now) (a .levels .now) (a .values .now) in
     rw (← asked-as (a .b) m l (a .ri), ← c .before .meshed-refusal .ensures, ne-eqb _ _ (c .if1 .taken))
 
 -- 1 to 7 were answered yes
 facts : (c : tie.Else1) → let a = c .before .before .before .before .before .before .before .before .before .before .args in
-    Meshed (a .b) (record { vertices = a .vertices .now; counts = a .counts .now; neighbours = a .neighbours .now; angles = a .angles .now })
+    Meshed (a .b) (meshOf (a .vertices .now) (a .counts .now) (a .neighbours .now) (a .angles .now))
     (length (a .store .now)) (length (a .kinds .now)) (length (a .levels .now)) (length (a .values .now))
 facts c = meshed _ _ _ _ _ _ (sym (c .before .meshed-refusal .ensures) ∙ c .if1 .left)
 
@@ -33,8 +33,8 @@ returns-2 : tie.Need-returns-2
 unfolding first meshedRefusal
 returns-2 c =
     let a = c .before .before .before .before .before .before .before .before .before .before .before .args in
-    let m : Mesh = record { vertices = a .vertices .now; counts = a .counts .now; neighbours = a .neighbours .now; angles = a .angles .now } in
-    let l : BuilderLists = record { store = a .store .now; rows = record { kinds = a .kinds .now; levels = a .levels .now; values = a .values .now } } in
+    let m : Mesh = meshOf (a .vertices .now) (a .counts .now) (a .neighbours .now) (a .angles .now) in
+    let l : BuilderLists = listsOf (a .store .now) (a .kinds .now) (a .levels .now) (a .values .now) in
     rw (← asked-as (a .b) m l (a .ri), ← c .before .before .meshed-refusal .ensures, eq-eqb _ _ (c .before .if1 .left), c .settle-question .ensures)
 
 pub settle-refusal-spec : {M : Type 1} → statement M

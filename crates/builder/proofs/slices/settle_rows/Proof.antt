@@ -7,12 +7,13 @@ use native.Mathlib.Omega.{arith}
 use lib.ListN.{length}
 use lib.Ieee.{Float, ofBits}
 use borrow.Author.Needs.{needs}
+use Rattle.mesh.specs.Mesh.{meshOf}
 use Rattle.mesh.specs.Levels.{vertexCount, per}
 use Rattle.mesh.proofs.Sizes.{per-mono}
 use Rattle.lists.proofs.Places.{place}
-use Rattle.rows.specs.Rows.{Rows, Row}
+use Rattle.rows.specs.Rows.{Rows, Row, rowsOf}
 use Rattle.settling.specs.Settling.{verdictOf, fromLevel}
-use Rattle.builder.specs.BuilderLists.{BuilderLists, slabs, rowAt}
+use Rattle.builder.specs.BuilderLists.{BuilderLists, slabs, rowAt, listsOf}
 use Rattle.builder.specs.Internal.{start}
 use Rattle.settling.specs.declared.Verdict.{Verdict}
 use Rattle.builder.proofs.Turns.{After, begin, again, end, row-passes, read-row}
@@ -22,12 +23,12 @@ use Rattle.builder.proofs.slices.settle_rows.Tie as tie
 -- what settling finds of a row
 abbrev found : Float → Float → List ℕ → List ℕ → List Float → ℕ → Row Float → Verdict
 found threshold beta counts neighbours angles level =
-    verdictOf threshold beta (record { vertices = []; counts = counts; neighbours = neighbours; angles = angles }) (vertexCount level)
+    verdictOf threshold beta (meshOf [] counts neighbours angles) (vertexCount level)
 
 abbrev Inv-loop : tie.InvT-loop
 Inv-loop ri store counts neighbours angles kinds₀ levels₀ values₀ threshold beta n level top apart base t₀ i₀ kinds levels values t i =
-    After (found threshold beta counts neighbours angles level) level top base n (record { store = store; rows = record { kinds = kinds₀; levels = levels₀; values = values₀ } }) start i t
-    (record { kinds = kinds; levels = levels; values = values })
+    After (found threshold beta counts neighbours angles level) level top base n (listsOf store kinds₀ levels₀ values₀) start i t
+    (rowsOf kinds levels values)
 
 abbrev μ-loop : tie.MeasureT-loop
 μ-loop ri store counts neighbours angles kinds₀ levels₀ values₀ threshold beta n level top apart base t₀ i₀ kinds levels values t i =
@@ -78,8 +79,8 @@ loop-again c =
     let l = c .before .before .before .before .before .before .before .before .before .before .before in
     let s = l .before .before .before .before .before .before .before .before .before .before .before in
     let a = s .args in
-    let lent : BuilderLists = record { store = a .store .now; rows = record { kinds = a .kinds .now; levels = a .levels .now; values = a .values .now } } in
-    let now : Rows = record { kinds = l .loop .kinds; levels = l .loop .levels; values = l .loop .values } in
+    let lent : BuilderLists = listsOf (a .store .now) (a .kinds .now) (a .levels .now) (a .values .now) in
+    let now : Rows = rowsOf (l .loop .kinds) (l .loop .levels) (l .loop .values) in
     let n = a .b .grid .«n_omega» in
     let base = a .ri * n in
     let i = l .loop .i in

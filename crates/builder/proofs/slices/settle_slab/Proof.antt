@@ -8,8 +8,8 @@ use lib.ListN.{take, drop}
 use lib.Ieee.{Float}
 use borrow.Author.Tests.{le-leb}
 use Rattle.mesh.specs.Levels.{vertexCount}
-use Rattle.mesh.specs.Mesh.{Mesh}
-use Rattle.rows.specs.Rows.{Rows, resolutionAt, rowWith}
+use Rattle.mesh.specs.Mesh.{Mesh, meshOf}
+use Rattle.rows.specs.Rows.{Rows, resolutionAt, rowWith, rowsOf}
 use Rattle.settling.specs.Settling.{verdictOf}
 use Rattle.settling.specs.Internal.{tallied}
 use Rattle.mesh.proofs.Laws.{count-le}
@@ -38,9 +38,9 @@ returns c =
     let a = c .before .before .before .before .before .before .before .before .before .before .before .before .before .before .before .before .before .before .before .before .before .before .before .before .before .args in
     let n = vertexCount (a .level) in
     let e : List Float = take (n * n) (drop (a .at) (a .store .now)) in
-    let rows : Rows = record { kinds = a .kinds .now; levels = a .levels .now; values = a .values .now } in
+    let rows : Rows = rowsOf (a .kinds .now) (a .levels .now) (a .values .now) in
     let x = resolutionAt rows (a .s) in
-    let m : Mesh = record { vertices = []; counts = a .counts .now; neighbours = a .neighbours .now; angles = a .angles .now } in
+    let m : Mesh = meshOf [] (a .counts .now) (a .neighbours .now) (a .angles .now) in
     let v = verdictOf (a .threshold) (a .beta) m n (rowWith x e) in
     let pre = c .before .before .before .before .before .before .before .before .before .before .before .before .before .before .before .before .before .before .before .before .before .before .before .before .before .pre in
     let found : c .before .before .before .before .before .before .before .before .before .before .before .verdict-of .result ≡ v =

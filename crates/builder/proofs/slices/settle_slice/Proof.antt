@@ -5,7 +5,7 @@ use Prim.Native.Nat.{suc, _+_, _*_, _-_, _≤_}
 use native.Mathlib.Omega.{arith}
 use lib.ListN.{take, drop}
 use Rattle.mesh.specs.Levels.{verticesBelow}
-use Rattle.mesh.specs.Mesh.{Mesh, levelPart}
+use Rattle.mesh.specs.Mesh.{Mesh, levelPart, meshOf}
 use Rattle.mesh.proofs.Laws.{below-more, below-few}
 use Rattle.lists.proofs.Written.{part}
 use Rattle.builder.specs.Internal.{partLinks}
@@ -25,8 +25,8 @@ cut : (c : tie.After-vertex-count) → let a = c .before .before .before .before
     let from = c .before .vertices-below .result in
     let to = from + c .vertex-count .result in
     _≡_ {A = Mesh}
-    (record { vertices = []; counts = take (to - from) (drop from (a .counts .now)); neighbours = take (6 * to - 6 * from) (drop (6 * from) (a .neighbours .now)); angles = take (6 * to - 6 * from) (drop (6 * from) (a .angles .now)) })
-    (partLinks (a .b .level) (record { vertices = []; counts = a .counts .now; neighbours = a .neighbours .now; angles = a .angles .now }))
+    (meshOf [] (take (to - from) (drop from (a .counts .now))) (take (6 * to - 6 * from) (drop (6 * from) (a .neighbours .now))) (take (6 * to - 6 * from) (drop (6 * from) (a .angles .now))))
+    (partLinks (a .b .level) (meshOf [] (a .counts .now) (a .neighbours .now) (a .angles .now)))
 unfolding levelPart
 cut c =
     let s = c .before .before .before .before .before .before .before .before .before .before in

@@ -43,6 +43,7 @@ use denote.Triple.Table.{entered, cited}
 use denote.Triple.Walked.{says, Stays, stay-none, stay-none-slice, walkOf, AllGo, goes-none, goes-none-slice, Walks, ends-at, walked, walk-meets}
 use denote.Exit.{yes}
 use denote.Struct.Laws as LL
+use Rattle.rows.specs.Rows.{rowsOf}
 use Rattle.lent.specs.Records.{bridged, gathered}
 use Rattle.lent.specs.declared.RowRecord.{RowRecord}
 use Rattle.lent.proofs.RowRecord as T
@@ -123,7 +124,7 @@ module _ {M : Type 1} (𝓤 : URA M) (H : Heap 𝓤) (A : Atoms 𝓤) (W : Given
 
   -- what `gather` ensures
   abbrev Said : ℕ → List RowRecord → Type 0
-  Said r zs = (r ≡ bridged (length xs) (length (kinds .now)) (length (levels .now)) (length (values .now))) × (zs ≡ gathered (record { kinds = kinds .now; levels = levels .now; values = values .now }) xs)
+  Said r zs = (r ≡ bridged (length xs) (length (kinds .now)) (length (levels .now)) (length (values .now))) × (zs ≡ gathered (rowsOf (kinds .now) (levels .now) (values .now)) xs)
 
   exits : (r : ℕ) (zs : List RowRecord) → Said r zs → Is R zs (machs zs ∷ [])
       → ent 𝓤 (⋆ 𝓤 H A (Toks ∷ ‵ Own-kinds ∷ ‵ Own-levels ∷ ‵ Own-values ∷ [])) (Post (machs zs))

@@ -42,6 +42,7 @@ use denote.Triple.Table.{entered, cited}
 use denote.Triple.Walked.{says, Stays, stay-none, stay-none-slice, gave-slice, walkOf, AllGo, goes-none, goes-none-slice, goes-gave-slice, Walks, ends-at, walked, walk-meets}
 use denote.Exit.{yes}
 use denote.Struct.Laws as LL
+use Rattle.builder.specs.BuilderLists.{listsOf}
 use Rattle.lent.specs.Calls.{LentOut, setLent}
 use Rattle.builder.specs.declared.Builder.{Builder}
 use Rattle.builder.proofs.Builder as T
@@ -141,7 +142,7 @@ module _ {M : Type 1} (𝓤 : URA M) (H : Heap 𝓤) (A : Atoms 𝓤) (W : Given
 
   -- what `set_lent` ensures
   abbrev Said : ℕ → Builder → List Float → List ℕ → List ℕ → List ℕ → Type 0
-  Said r b′ z-store z-kinds z-levels z-values = _≡_ {A = LentOut ℕ} (record { answer = r; builder = b′; lists = record { store = z-store; rows = record { kinds = z-kinds; levels = z-levels; values = z-values } } }) (setLent h (record { store = store .now; rows = record { kinds = kinds .now; levels = levels .now; values = values .now } }) ri oi (energies .now))
+  Said r b′ z-store z-kinds z-levels z-values = _≡_ {A = LentOut ℕ} (record { answer = r; builder = b′; lists = listsOf z-store z-kinds z-levels z-values }) (setLent h (listsOf (store .now) (kinds .now) (levels .now) (values .now)) ri oi (energies .now))
 
   -- the answer, of its two parts
   abbrev made : ℕ → Builder → SetLeft

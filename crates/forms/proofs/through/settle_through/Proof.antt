@@ -43,6 +43,8 @@ use denote.Triple.Walked.{says, Stays, stay-none, stay-none-slice, gave-slice, w
 use denote.Exit.{yes}
 use denote.Struct.Laws as LL
 use denote.Enum.Laws as LE
+use Rattle.mesh.specs.Mesh.{meshOf}
+use Rattle.builder.specs.BuilderLists.{listsOf}
 use Rattle.lent.specs.Calls.{LentOut, LentValues, lentValues, settleLent}
 use Rattle.builder.specs.declared.Builder.{Builder}
 use Rattle.builder.proofs.Builder as T
@@ -167,7 +169,7 @@ module _ {M : Type 1} (𝓤 : URA M) (H : Heap 𝓤) (A : Atoms 𝓤) (W : Given
 
   -- what `settle_lent` ensures
   abbrev Said : LentSettled → Builder → List ℕ → List ℕ → List ℕ → Type 0
-  Said r b′ z-kinds z-levels z-values = _≡_ {A = LentOut LentValues} (record { answer = lentValues r; builder = b′; lists = record { store = store .now; rows = record { kinds = z-kinds; levels = z-levels; values = z-values } } }) (settleLent h (record { vertices = vertices .now; counts = counts .now; neighbours = neighbours .now; angles = angles .now }) (record { store = store .now; rows = record { kinds = kinds .now; levels = levels .now; values = values .now } }) ri)
+  Said r b′ z-kinds z-levels z-values = _≡_ {A = LentOut LentValues} (record { answer = lentValues r; builder = b′; lists = listsOf (store .now) z-kinds z-levels z-values }) (settleLent h (meshOf (vertices .now) (counts .now) (neighbours .now) (angles .now)) (listsOf (store .now) (kinds .now) (levels .now) (values .now)) ri)
 
   -- the answer, of its two parts
   abbrev made : LentSettled → Builder → SettleLeft

@@ -43,6 +43,7 @@ use denote.Triple.Table.{entered, cited}
 use denote.Triple.Walked.{says, Stays, stay-none, gave-slice, walkOf, AllGo, goes-none, goes-gave-slice, Walks, ends-at, walked, walk-meets}
 use denote.Exit.{yes}
 use denote.Struct.Laws as LL
+use Rattle.rows.specs.Rows.{rowsOf}
 use Rattle.lent.specs.Records.{SpreadOut, spreadOut}
 use Rattle.lent.specs.declared.RowRecord.{RowRecord}
 use Rattle.lent.proofs.RowRecord as T
@@ -123,7 +124,7 @@ module _ {M : Type 1} (𝓤 : URA M) (H : Heap 𝓤) (A : Atoms 𝓤) (W : Given
 
   -- what `spread` ensures
   abbrev Said : ℕ → List ℕ → List ℕ → List ℕ → Type 0
-  Said r z-kinds z-levels z-values = _≡_ {A = SpreadOut} (record { answer = r; rows = record { kinds = z-kinds; levels = z-levels; values = z-values } }) (spreadOut xs (record { kinds = kinds .now; levels = levels .now; values = values .now }))
+  Said r z-kinds z-levels z-values = _≡_ {A = SpreadOut} (record { answer = r; rows = rowsOf z-kinds z-levels z-values }) (spreadOut xs (rowsOf (kinds .now) (levels .now) (values .now)))
 
   exits : (r : ℕ) (z-kinds : List ℕ) (z-levels : List ℕ) (z-values : List ℕ) → Said r z-kinds z-levels z-values → length z-kinds ≡ length (kinds .now) → length z-levels ≡ length (levels .now) → length z-values ≡ length (values .now) → r < 2 ^ 64
       → ent 𝓤 (⋆ 𝓤 H A (Toks ∷ ‵ (finally u8 (kinds .name) z-kinds) ∷ ‵ (finally u8 (levels .name) z-levels) ∷ ‵ (finally u32 (values .name) z-values) ∷ [])) (Post (vint w64 r))

@@ -42,6 +42,7 @@ use denote.Triple.Clauses.{ensured, lasts}
 use denote.Triple.Table.{entered, cited}
 use denote.Triple.Walked.{says, Stays, stay-ref, stay-none, stay-none-slice, gave-slice, walkOf, AllGo, goes-ref, goes-none, goes-none-slice, goes-gave-slice, Walks, ends-at, walked, walk-meets}
 use denote.Exit.{yes}
+use Rattle.builder.specs.BuilderLists.{listsOf}
 use Rattle.lent.specs.Calls.{LentOut, setLent}
 use Rattle.builder.specs.declared.Builder.{Builder}
 use Rattle.lent.specs.declared.calls.SetDone.{SetDone}
@@ -142,7 +143,7 @@ module _ {M : Type 1} (𝓤 : URA M) (H : Heap 𝓤) (A : Atoms 𝓤) (W : Given
 
   -- what `set_kept` ensures
   abbrev Said : SetDone → List Float → List ℕ → List ℕ → List ℕ → Type 0
-  Said r z-store z-kinds z-levels z-values = _≡_ {A = LentOut ℕ} (record { answer = r .number; builder = r .builder; lists = record { store = z-store; rows = record { kinds = z-kinds; levels = z-levels; values = z-values } } }) (setLent h (record { store = store .now; rows = record { kinds = kinds .now; levels = levels .now; values = values .now } }) ri oi (energies .now))
+  Said r z-store z-kinds z-levels z-values = _≡_ {A = LentOut ℕ} (record { answer = r .number; builder = r .builder; lists = listsOf z-store z-kinds z-levels z-values }) (setLent h (listsOf (store .now) (kinds .now) (levels .now) (values .now)) ri oi (energies .now))
 
   exits : (r : SetDone) (z-store : List Float) (z-kinds : List ℕ) (z-levels : List ℕ) (z-values : List ℕ) → Said r z-store z-kinds z-levels z-values → length z-store ≡ length (store .now) → length z-kinds ≡ length (kinds .now) → length z-levels ≡ length (levels .now) → length z-values ≡ length (values .now) → r .number < 2 ^ 64
       → ent 𝓤 (⋆ 𝓤 H A (‵ (fobs γ (T.the-row .coded .code (r .builder))) ∷ ‵ (fbor κ (Body (mem T.the-row) b o γ)) ∷ ‵ (flft κ q) ∷ Toks ∷ ‵ (finally f64 (store .name) z-store) ∷ ‵ (finally u8 (kinds .name) z-kinds) ∷ ‵ (finally u8 (levels .name) z-levels) ∷ ‵ (finally u32 (values .name) z-values) ∷ ‵ Own-energies ∷ [])) (Post (vint w64 (r .number)))

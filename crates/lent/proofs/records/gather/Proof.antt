@@ -48,7 +48,7 @@ use denote.Triple.Clauses.{ensured, lasts}
 use denote.Triple.Table.{entered, cited}
 use denote.Triple.Walked.{says, Stays, stay-none-slice, stay-slice, walkOf, AllGo, goes-none-slice, goes-slice, Walks, ends-at, walked, walk-meets}
 use denote.Exit.{yes}
-use Rattle.rows.specs.Rows.{Rows}
+use Rattle.rows.specs.Rows.{Rows, rowsOf}
 use Rattle.lists.proofs.Loops.{each-turn}
 use Rattle.lent.specs.declared.RowRecord.{RowRecord}
 use Rattle.lent.specs.Records.{recordAt, bridgedOf, copied}
@@ -91,7 +91,7 @@ rowsTy = sliceTy (tyRef (named 0) mut (pointee (T.the-row .written)))
 module _ {M : Type 1} (𝓤 : URA M) (H : Heap 𝓤) (A : Atoms 𝓤) (W : Given 𝓤 H A) (at-mem : Memory → SProp 𝓤) (run : Routine → Fun 𝓤) (κ κ₁ κ₂ κ₃ : Lft) (q q₁ q₂ q₃ : Share) (b o : ℕ) (γ : GName) (xs : List RowRecord)
     (kk ll vv : RefT (List ℕ)) (room : Room T.the-row (length xs)) (room₁ : Room u8 (length (kk .now))) (room₂ : Room u8 (length (ll .now))) (room₃ : Room u32 (length (vv .now))) where
   abbrev lists : Rows
-  lists = record { kinds = kk .now; levels = ll .now; values = vv .now }
+  lists = rowsOf (kk .now) (ll .now) (vv .now)
 
   -- how many records are taken over
   abbrev m : ℕ

@@ -48,7 +48,7 @@ use denote.Triple.Clauses.{ensured, lasts}
 use denote.Triple.Table.{entered, cited}
 use denote.Triple.Walked.{says, Stays, stay-none-slice, stay-slice, walkOf, AllGo, goes-none-slice, goes-slice, Walks, ends-at, walked, walk-meets}
 use denote.Exit.{yes}
-use Rattle.rows.specs.Rows.{Rows}
+use Rattle.rows.specs.Rows.{Rows, rowsOf}
 use Rattle.lists.proofs.Loops.{each-turn}
 use Rattle.lent.specs.declared.RowRecord.{RowRecord}
 use Rattle.lent.specs.Records.{columns, recordAt, bridgedOf, copied, SpreadOut}
@@ -88,7 +88,7 @@ module _ {M : Type 1} (𝓤 : URA M) (H : Heap 𝓤) (A : Atoms 𝓤) (W : Given
     (b₁ o₁ : ℕ) (γ₁ : GName) (ks : List ℕ) (b₂ o₂ : ℕ) (γ₂ : GName) (ls : List ℕ) (b₃ o₃ : ℕ) (γ₃ : GName) (vs : List ℕ)
     (room : Room T.the-row (length xs)) (room₁ : Room u8 (length ks)) (room₂ : Room u8 (length ls)) (room₃ : Room u32 (length vs)) where
   abbrev lists : Rows
-  lists = record { kinds = ks; levels = ls; values = vs }
+  lists = rowsOf ks ls vs
 
   -- how many records are taken over
   abbrev m : ℕ
@@ -164,7 +164,7 @@ module _ {M : Type 1} (𝓤 : URA M) (H : Heap 𝓤) (A : Atoms 𝓤) (W : Given
 
   -- what is said of the lists after i turns
   abbrev upto : ℕ → SpreadOut
-  upto i = record { answer = m; rows = record { kinds = copied i kindAt ks; levels = copied i levelAt ls; values = copied i valueAt vs } }
+  upto i = record { answer = m; rows = rowsOf (copied i kindAt ks) (copied i levelAt ls) (copied i valueAt vs) }
 
   exits : (i : ℕ) → i ≡ m → ent 𝓤 (⋆ 𝓤 H A (‵ (fobs γ₁ (codedHoleys u8 .code (heres u8 (copied i kindAt ks)))) ∷ ‵ (fbor κ₁ (Held u8 (length (copied i kindAt ks)) b₁ o₁ γ₁)) ∷ ‵ (flft κ₁ q₁) ∷ ‵ (fobs γ₂ (codedHoleys u8 .code (heres u8 (copied i levelAt ls)))) ∷ ‵ (fbor κ₂ (Held u8 (length (copied i levelAt ls)) b₂ o₂ γ₂)) ∷ ‵ (flft κ₂ q₂) ∷ ‵ (fobs γ₃ (codedHoleys u32 .code (heres u32 (copied i valueAt vs)))) ∷ ‵ (fbor κ₃ (Held u32 (length (copied i valueAt vs)) b₃ o₃ γ₃)) ∷ ‵ (flft κ₃ q₃) ∷ ‵ (flft κ q) ∷ ‵ OwnR ∷ [])) (Post (vint w64 m))
   exits i p =

@@ -7,13 +7,13 @@ use native.Mathlib.Omega.{arith}
 use borrow.Author.Tests.{le-leb, lt-leb}
 use borrow.Author.Needs.{needs}
 use Rattle.lists.specs.Lists.{allUpTo}
-use Rattle.mesh.specs.Mesh.{Mesh, neighbourKept, vertexKept}
+use Rattle.mesh.specs.Mesh.{Mesh, neighbourKept, vertexKept, meshOf}
 use Rattle.lists.proofs.Counting.{all-turn, all-fails, yes, no}
 use Rattle.mesh.proofs.rule.vertex_kept.Statement.{statement}
 use Rattle.mesh.proofs.rule.vertex_kept.Tie as tie
 
 abbrev Inv-loop : tie.InvT-loop
-Inv-loop n counts neighbours angles v d k₀ k = (k ≤ d) × (allUpTo k (neighbourKept n (record { vertices = []; counts = counts; neighbours = neighbours; angles = angles }) v) ≡ true)
+Inv-loop n counts neighbours angles v d k₀ k = (k ≤ d) × (allUpTo k (neighbourKept n (meshOf [] counts neighbours angles) v) ≡ true)
 
 abbrev μ-loop : tie.MeasureT-loop
 μ-loop n counts neighbours angles v d k₀ k = d - k
@@ -33,13 +33,13 @@ loop-holds c = (omega arith, refl)
 returns-3 : tie.Need-returns-3 Inv-loop μ-loop
 unfolding vertexKept
 returns-3 c = let l = c .before .before .before in let a = l .before .before .before .before .before .before .before .args in
-    let m : Mesh = record { vertices = []; counts = a .counts .now; neighbours = a .neighbours .now; angles = a .angles .now } in
+    let m : Mesh = meshOf [] (a .counts .now) (a .neighbours .now) (a .angles .now) in
     rw (← l .before .before .before .degree .ensures, le-leb _ _ (l .before .before .if1 .left), le-leb _ _ (l .before .if2 .left))
     (sym (all-fails (neighbourKept (a .n) m (a .v)) (l .loop .k) (l .before .before .before .degree .result) (omega arith) (no (c .before .neighbour-kept .ensures) (c .if3 .taken))))
 
 loop-again : tie.Need-loop-again Inv-loop μ-loop
 loop-again c = let l = c .before .before .before in let a = l .before .before .before .before .before .before .before .args in
-    let m : Mesh = record { vertices = []; counts = a .counts .now; neighbours = a .neighbours .now; angles = a .angles .now } in
+    let m : Mesh = meshOf [] (a .counts .now) (a .neighbours .now) (a .angles .now) in
     (omega arith, all-turn (neighbourKept (a .n) m (a .v)) (l .loop .k) (l .loop .inv .1) (yes (c .before .neighbour-kept .ensures) (c .if3 .left)))
 
 returns-4 : tie.Need-returns-4 Inv-loop μ-loop

@@ -4,13 +4,13 @@ use Prim.Native.Nat.{ℕ, _<_}
 use native.Mathlib.Omega.{arith}
 use Rattle.mesh.specs.Levels.{vertexCount, gridSize}
 use Rattle.mesh.proofs.Laws.{count-le}
-use Rattle.search.specs.Search.{Locator}
+use Rattle.search.specs.Search.{Locator, locatorOf}
 use Rattle.search.proofs.Below.{located-below}
 use Rattle.reading.proofs.gather.interpolated_in.Statement.{statement}
 use Rattle.reading.proofs.gather.interpolated_in.Tie as tie
 
 abbrev lists : tie.Start → Locator
-lists s = record { cellOffsets = s .args .cell-offsets .now; cellVertices = s .args .cell-vertices .now; faceOffsets = s .args .face-offsets .now; faces = s .args .faces .now }
+lists s = locatorOf (s .args .cell-offsets .now) (s .args .cell-vertices .now) (s .args .face-offsets .now) (s .args .faces .now)
 
 some : (m : ℕ) → 0 < vertexCount m
 unfolding vertexCount

@@ -1,14 +1,14 @@
 -- `lookup` meets its contract. Assumes nothing.
 use borrow.Author.Needs.{needs}
 use mathlib.Core.Path.{sym, ap, _∙_}
-use Rattle.search.specs.Search.{Locator}
+use Rattle.search.specs.Search.{Locator, locatorOf}
 use Rattle.reading.specs.Resolve.{readingValues, Query, resolve}
 use Rattle.reading.proofs.Inside.{placed-fits, reading-by, entry-toward}
 use Rattle.reading.proofs.stages.lookup.Statement.{statement}
 use Rattle.reading.proofs.stages.lookup.Tie as tie
 
 abbrev lists : tie.Start → Locator
-lists s = record { cellOffsets = s .args .cell-offsets .now; cellVertices = s .args .cell-vertices .now; faceOffsets = s .args .face-offsets .now; faces = s .args .faces .now }
+lists s = locatorOf (s .args .cell-offsets .now) (s .args .cell-vertices .now) (s .args .face-offsets .now) (s .args .faces .now)
 
 abbrev query : tie.Start → Query
 query s = record { r = s .args .r; omega = s .args .omega; a = s .args .a; b = s .args .b }

@@ -3,7 +3,7 @@ use borrow.Author.Needs.{needs}
 use mathlib.Core.Path.{ap, _∙_}
 use mathlib.Core.Bool.{true, false}
 use lib.Ieee.{ofBits, div}
-use Rattle.search.specs.Search.{Locator}
+use Rattle.search.specs.Search.{Locator, locatorOf}
 use Rattle.reading.specs.Resolve.{Picks}
 use Rattle.reading.specs.Reading.{readPicks}
 use Rattle.reading.specs.Internal.{toward}
@@ -13,7 +13,7 @@ use Rattle.reading.proofs.stages.read_resolution.Statement.{statement}
 use Rattle.reading.proofs.stages.read_resolution.Tie as tie
 
 abbrev lists : tie.Start → Locator
-lists s = record { cellOffsets = s .args .cell-offsets .now; cellVertices = s .args .cell-vertices .now; faceOffsets = s .args .face-offsets .now; faces = s .args .faces .now }
+lists s = locatorOf (s .args .cell-offsets .now) (s .args .cell-vertices .now) (s .args .face-offsets .now) (s .args .faces .now)
 
 returns : tie.Need-returns
 returns c = let s = c .before .before .before .before .before .before .before .before .before .before in rw (c .widen .ensures) (row-scalar (s .args .file .now) (s .args .t) (s .args .vertices .now) (lists s) (toward (s .args .a) (s .args .b)) (s .args .kind) (s .args .offset) (s .args .row) _ (c .before .before .row .given .1))

@@ -1,6 +1,6 @@
 -- `read_row` meets its contract. Assumes nothing.
 use borrow.Author.Needs.{needs}
-use Rattle.search.specs.Search.{Locator}
+use Rattle.search.specs.Search.{Locator, locatorOf}
 use Rattle.reading.specs.Internal.{toward}
 use Rattle.table.proofs.Items.{entryAt, entry-at}
 use Rattle.reading.proofs.Inside.{entry-by}
@@ -8,7 +8,7 @@ use Rattle.reading.proofs.stages.read_row.Statement.{statement}
 use Rattle.reading.proofs.stages.read_row.Tie as tie
 
 abbrev lists : tie.Start → Locator
-lists s = record { cellOffsets = s .args .cell-offsets .now; cellVertices = s .args .cell-vertices .now; faceOffsets = s .args .face-offsets .now; faces = s .args .faces .now }
+lists s = locatorOf (s .args .cell-offsets .now) (s .args .cell-vertices .now) (s .args .face-offsets .now) (s .args .faces .now)
 
 returns : tie.Need-returns
 returns c =

@@ -4,14 +4,14 @@ use native.Mathlib.Omega.{arith}
 use lib.ListN.{length-take, length-drop}
 use borrow.Author.Tests.{not-true, not-false}
 use Rattle.mesh.specs.Levels.{vertexCount, gridSize}
-use Rattle.search.specs.Search.{Locator}
+use Rattle.search.specs.Search.{Locator, locatorOf}
 use Rattle.search.proofs.Laws.{Held, held, none-near, faces-not-held, faces-held}
 use borrow.Author.Needs.{needs}
 use Rattle.search.proofs.faces.locate.Statement.{statement}
 use Rattle.search.proofs.faces.locate.Tie as tie
 
 abbrev lists : tie.Start → Locator
-lists c = record { cellOffsets = c .args .cell-offsets .now; cellVertices = c .args .cell-vertices .now; faceOffsets = c .args .face-offsets .now; faces = c .args .faces .now }
+lists c = locatorOf (c .args .cell-offsets .now) (c .args .cell-vertices .now) (c .args .face-offsets .now) (c .args .faces .now)
 
 -- the places of the vertex's faces are held
 kept : (c : tie.After-vertex-count)

@@ -4,6 +4,7 @@ use mathlib.Core.List.{[]}
 use Prim.Native.Nat.{_-_, _≤_}
 use native.Mathlib.Omega.{arith}
 use borrow.Author.Needs.{needs}
+use Rattle.mesh.specs.Mesh.{meshOf}
 use Rattle.settling.specs.Internal.{columnGradient, firstColumns}
 use Rattle.settling.proofs.Numbers.{columns-number, columns-one}
 use Rattle.settling.proofs.gradient.columns.Statement.{statement}
@@ -11,7 +12,7 @@ use Rattle.settling.proofs.gradient.columns.Tie as tie
 
 abbrev Inv-loop : tie.InvT-loop
 Inv-loop counts neighbours angles energies beta n m h₀ t₀ h t =
-    (t ≤ n) × (h ≡ firstColumns (record { vertices = []; counts = counts; neighbours = neighbours; angles = angles }) n beta energies t)
+    (t ≤ n) × (h ≡ firstColumns (meshOf [] counts neighbours angles) n beta energies t)
 
 abbrev μ-loop : tie.MeasureT-loop
 μ-loop counts neighbours angles energies beta n m h₀ t₀ h t = n - t

@@ -4,6 +4,7 @@ use mathlib.Core.List.{[]}
 use Prim.Native.Nat.{_+_, _*_, _/_, _-_, _≤_}
 use native.Mathlib.Omega.{arith}
 use borrow.Author.Needs.{needs}
+use Rattle.mesh.specs.Mesh.{meshOf}
 use Rattle.lists.specs.Lists.{forEach}
 use Rattle.settling.specs.Internal.{firstColumns}
 use Rattle.settling.proofs.Numbers.{columns-number, columns-four}
@@ -12,7 +13,7 @@ use Rattle.settling.proofs.gradient.fours.Tie as tie
 
 abbrev Inv-loop : tie.InvT-loop
 Inv-loop counts neighbours angles energies beta n h₀ i₀ h i =
-    (i ≤ n / 4) × (h ≡ firstColumns (record { vertices = []; counts = counts; neighbours = neighbours; angles = angles }) n beta energies (i * 4))
+    (i ≤ n / 4) × (h ≡ firstColumns (meshOf [] counts neighbours angles) n beta energies (i * 4))
 
 abbrev μ-loop : tie.MeasureT-loop
 μ-loop counts neighbours angles energies beta n h₀ i₀ h i = n / 4 - i

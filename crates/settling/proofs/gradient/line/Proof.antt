@@ -1,7 +1,7 @@
 -- `line` meets its contract. Assumes nothing.
 use mathlib.Core.Path.{ap, _∙_}
 use mathlib.Core.List.{[]}
-use Rattle.mesh.specs.Mesh.{Mesh}
+use Rattle.mesh.specs.Mesh.{Mesh, meshOf}
 use Rattle.settling.specs.Internal.{lineWeights, lineGradient}
 use Rattle.settling.proofs.Lines.{length-line, head-part}
 use borrow.Author.Needs.{needs}
@@ -11,7 +11,7 @@ use Rattle.settling.proofs.gradient.line.Tie as tie
 returns : tie.Need-returns
 returns c =
     let a = c .before .before .before .before .before .before .before .before .before .before .args in
-    let m : Mesh = record { vertices = []; counts = a .counts .now; neighbours = a .neighbours .now; angles = a .angles .now } in
+    let m : Mesh = meshOf [] (a .counts .now) (a .neighbours .now) (a .angles .now) in
     let l = lineWeights (a .beta) (a .energies .now) (a .from) (a .step) (a .n) in
     c .line-gradient .ensures
     ∙ ap (λ w. lineGradient m (a .n) w (a .g)) (head-part _ _ l (a .n) (c .before .before .before .before .weigh .ensures) (length-line (a .beta) (a .energies .now) (a .from) (a .step) (a .n)))

@@ -6,6 +6,7 @@ use native.Mathlib.Omega.{arith}
 use lib.ListN.{getD}
 use lib.Ieee.{Float, nan}
 use borrow.Author.Needs.{needs}
+use Rattle.mesh.specs.Mesh.{meshOf}
 use Rattle.lists.specs.Lists.{forEach}
 use Rattle.settling.specs.Gradient.{alongNeighbours}
 use Rattle.settling.specs.Internal.{lineGradient}
@@ -17,7 +18,7 @@ use Rattle.settling.proofs.gradient.line_gradient.Tie as tie
 -- what a turn of the loop makes of the gradient so far
 abbrev turn : List ℕ → List ℕ → List Float → List Float → ℕ → Float → Float
 turn counts neighbours angles weights v =
-    alongNeighbours (record { vertices = []; counts = counts; neighbours = neighbours; angles = angles }) v (λ k. getD weights k nan) (getD weights v nan)
+    alongNeighbours (meshOf [] counts neighbours angles) v (λ k. getD weights k nan) (getD weights v nan)
 
 abbrev Inv-loop : tie.InvT-loop
 Inv-loop counts neighbours angles weights n g h₀ v₀ h v = (v ≤ n) × (h ≡ forEach v (turn counts neighbours angles weights) g) × Number h

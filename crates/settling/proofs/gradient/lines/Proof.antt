@@ -6,6 +6,7 @@ use native.Mathlib.Nat.{mul-le-mul}
 use native.Mathlib.Omega.{arith}
 use lib.Ieee.{Float}
 use borrow.Author.Needs.{needs}
+use Rattle.mesh.specs.Mesh.{meshOf}
 use Rattle.lists.specs.Lists.{forEach}
 use Rattle.settling.specs.Internal.{lineWeights, lineGradient, linesGradient}
 use Rattle.lists.proofs.Loops.{each-turn}
@@ -16,7 +17,7 @@ use Rattle.settling.proofs.gradient.lines.Tie as tie
 -- what a turn of the loop makes of the gradient so far
 abbrev turn : List ℕ → List ℕ → List Float → List Float → Float → ℕ → ℕ → ℕ → ℕ → Float → Float
 turn counts neighbours angles energies beta apart step n t =
-    lineGradient (record { vertices = []; counts = counts; neighbours = neighbours; angles = angles }) n (lineWeights beta energies (apart * t) step n)
+    lineGradient (meshOf [] counts neighbours angles) n (lineWeights beta energies (apart * t) step n)
 
 abbrev Inv-loop : tie.InvT-loop
 Inv-loop counts neighbours angles energies beta apart step n g h₀ t₀ h t = (t ≤ n) × (h ≡ forEach t (turn counts neighbours angles energies beta apart step n) g) × Number h

@@ -2,6 +2,7 @@
 use native.Mathlib.Nat.{mul-le-mul}
 use native.Mathlib.Omega.{arith}
 use borrow.Author.Needs.{needs}
+use Rattle.builder.specs.BuilderLists.{listsOf}
 use Rattle.writer.proofs.Whole.{file-put}
 use Rattle.writer.proofs.files.put_file.Statement.{statement}
 use Rattle.writer.proofs.files.put_file.Tie as tie
@@ -21,7 +22,7 @@ returns c =
     let s = c .before .before .before .before .before .before .before .before .before .before .before .before .before .before .before .before .before .before .before in
     let a = s .args in
     rw (c .before .before .put-tail .ensures, c .before .before .before .before .before .before .put-rows .ensures, c .before .before .before .before .before .before .before .before .before .before .put-head .ensures, c .before .before .before .before .before .before .before .before .before .before .before .before .per-level .ensures)
-    (file-put (a .b) (record { store = a .store .now; rows = record { kinds = a .kinds .now; levels = a .levels .now; values = a .values .now } }) (a .out .now) (a .e) (s .pre))
+    (file-put (a .b) (listsOf (a .store .now) (a .kinds .now) (a .levels .now) (a .values .now)) (a .out .now) (a .e) (s .pre))
 
 pub put-file-spec : {M : Type 1} → statement M
 put-file-spec =

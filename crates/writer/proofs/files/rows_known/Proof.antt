@@ -9,13 +9,13 @@ use lib.ListN.{getD}
 use borrow.Author.Needs.{needs}
 use Rattle.lists.specs.Lists.{allUpTo}
 use Rattle.lists.proofs.Counting.{all-turn, all-fails, yes, no}
-use Rattle.rows.specs.Rows.{known}
+use Rattle.rows.specs.Rows.{known, rowsOf}
 use Rattle.builder.specs.BuilderLists.{rowsKnown}
 use Rattle.writer.proofs.files.rows_known.Statement.{statement}
 use Rattle.writer.proofs.files.rows_known.Tie as tie
 
 abbrev Inv-loop : tie.InvT-loop
-Inv-loop top kinds levels n s₀ s = (s ≤ n) × (rowsKnown top (record { kinds = kinds; levels = levels; values = [] }) 0 s ≡ true)
+Inv-loop top kinds levels n s₀ s = (s ≤ n) × (rowsKnown top (rowsOf kinds levels []) 0 s ≡ true)
 
 abbrev μ-loop : tie.MeasureT-loop
 μ-loop top kinds levels n s₀ s = n - s

@@ -5,9 +5,9 @@ use native.Mathlib.Omega.{arith}
 use lib.ListN.{length}
 use borrow.Author.Tests.{lt-leb, le-leb}
 use borrow.Author.Needs.{needs}
-use Rattle.mesh.specs.Mesh.{Mesh}
+use Rattle.mesh.specs.Mesh.{Mesh, meshOf}
 use Rattle.builder.specs.Refusals.{meshedRefusal}
-use Rattle.builder.specs.BuilderLists.{BuilderLists, rowsKnown}
+use Rattle.builder.specs.BuilderLists.{BuilderLists, rowsKnown, listsOf}
 use Rattle.writer.specs.Write.{fileFrom}
 use Rattle.writer.specs.Internal.{writeQuestion}
 use Rattle.writer.proofs.Whole.{file-length}
@@ -17,10 +17,10 @@ use Rattle.writer.proofs.files.write.Tie as tie
 
 -- the lists and the meshes that were lent
 abbrev lists : tie.Start → BuilderLists
-lists s = record { store = s .args .store .now; rows = record { kinds = s .args .kinds .now; levels = s .args .levels .now; values = s .args .values .now } }
+lists s = listsOf (s .args .store .now) (s .args .kinds .now) (s .args .levels .now) (s .args .values .now)
 
 abbrev meshes : tie.Start → Mesh
-meshes s = record { vertices = s .args .vertices .now; counts = s .args .counts .now; neighbours = s .args .neighbours .now; angles = s .args .angles .now }
+meshes s = meshOf (s .args .vertices .now) (s .args .counts .now) (s .args .neighbours .now) (s .args .angles .now)
 
 -- the first questions' answer; and what it says where it is 0
 answer : (c : tie.After-write-question) → let s = c .before .before .before .before .before .before .before .before .before .before in

@@ -4,7 +4,7 @@ use Prim.Native.Nat.{_+_}
 use native.Mathlib.Omega.{arith}
 use lib.ListN.{length}
 use borrow.Author.Needs.{needs}
-use Rattle.rows.specs.Rows.{Rows}
+use Rattle.rows.specs.Rows.{Rows, rowsOf}
 use Rattle.table.specs.Bytes.{bytesOf, packed, section}
 use Rattle.table.specs.File.{entryBytes}
 use Rattle.writer.specs.Internal.{resolutions, entriesFor}
@@ -19,7 +19,7 @@ unfolding section
 returns c =
     let s = c .before .before .before .before .before .before .before .before .before .before .before .before in
     let a = s .args in
-    let r : Rows = record { kinds = a .kinds .now; levels = a .levels .now; values = a .values .now } in
+    let r : Rows = rowsOf (a .kinds .now) (a .levels .now) (a .values .now) in
     let xs = resolutions r 0 (a .n) in
     let len : length (entriesFor 0 xs) ≡ a .n = entriesFor-length 0 xs ∙ res-length r 0 (a .n) in
     rw (c .before .before .put-entries .ensures, c .before .before .before .before .before .before .put-u32 .ensures, len)

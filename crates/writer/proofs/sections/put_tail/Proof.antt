@@ -4,7 +4,7 @@ use Prim.Native.Nat.{_+_}
 use native.Mathlib.Omega.{arith}
 use lib.ListN.{length}
 use borrow.Author.Needs.{needs}
-use Rattle.rows.specs.Rows.{Rows}
+use Rattle.rows.specs.Rows.{Rows, rowsOf}
 use Rattle.table.specs.Bytes.{bytesOf, packed, section}
 use Rattle.writer.specs.Internal.{resolutions, energiesFor}
 use Rattle.writer.proofs.Puts.{puts}
@@ -18,7 +18,7 @@ unfolding section
 returns c =
     let s = c .before .before .before .before .before .before .before .before .before .before .before .before .before in
     let a = s .args in
-    let r : Rows = record { kinds = a .kinds .now; levels = a .levels .now; values = a .values .now } in
+    let r : Rows = rowsOf (a .kinds .now) (a .levels .now) (a .values .now) in
     let xs = resolutions r 0 (a .n) in
     let len : length (energiesFor (a .z) (a .store .now) 0 xs) ≡ a .e =
     energies-length (a .z) (a .store .now) 0 xs (s .pre .4) (rw (res-length r 0 (a .n)) (omega (arith, s .pre .3))) ∙ sym (s .pre .2) in
