@@ -75,7 +75,7 @@ fn set_question(g: Grid, level: u64, ri: u64, oi: u64, energies: &[f64]) -> u64
 }
 
 // Questions 1 to 6 and 8 to 10, of set.
-pub fn set_refusal(
+pub(crate) fn set_refusal(
     b: Builder,
     store: u64,
     kinds: u64,
@@ -205,7 +205,7 @@ fn settle_question(b: Builder, kinds: &[u8], levels: &[u8], values: &[u32], ri: 
 }
 
 // Questions 1 to 8, 15 and 11, of settle.
-pub fn settle_refusal(
+pub(crate) fn settle_refusal(
     b: Builder,
     store: &[f64],
     kinds: &[u8],
