@@ -7,7 +7,7 @@ use questions::Builder;
 use writer::Written;
 
 mod accident;
-mod icospheres;
+mod meshes;
 
 pub(crate) fn say(what: &[u8], got: u64, wanted: u64) {
     io::write_all(STDOUT_FILENO, what);
@@ -69,10 +69,10 @@ pub(crate) fn begun(
         kinds,
         levels,
         values,
-        &icospheres::vertices(),
-        &icospheres::counts(),
-        &icospheres::neighbours(),
-        &icospheres::angles(),
+        &meshes::vertices(),
+        &meshes::counts(),
+        &meshes::neighbours(),
+        &meshes::angles(),
     ) {
         Built::Accepted(b) => b,
         Built::Refused(_) => none(),
@@ -94,10 +94,10 @@ pub(crate) fn written(
         kinds,
         levels,
         values,
-        &icospheres::vertices(),
-        &icospheres::counts(),
-        &icospheres::neighbours(),
-        &icospheres::angles(),
+        &meshes::vertices(),
+        &meshes::counts(),
+        &meshes::neighbours(),
+        &meshes::angles(),
         output,
     ) {
         Written::Accepted(n) => n,
@@ -128,10 +128,10 @@ pub(crate) fn settled(
         kinds,
         levels,
         values,
-        &icospheres::vertices(),
-        &icospheres::counts(),
-        &icospheres::neighbours(),
-        &icospheres::angles(),
+        &meshes::vertices(),
+        &meshes::counts(),
+        &meshes::neighbours(),
+        &meshes::angles(),
         ri,
     )
 }
