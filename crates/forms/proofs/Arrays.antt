@@ -79,18 +79,7 @@ module _ {M : Type 1} (𝓤 : URA M) (H : Heap 𝓤) (A : Atoms 𝓤) (W : Given
         qed W (‵ (partAt R fullShare xs l 0) ∷ []) ∵ fpick ! (λ us. fsplit ! $ spelt ! R (Is R) (shows 𝓤 H A R) vals (array-tells T.the-row (LL.vals T.the-type T′.the-laws) (LL.tells T.the-type T′.the-laws) two) fullShare xs us l 0 $
         use1 W (‵ (fat fullShare arrTy l 0 (machs xs))) (W .laws .raw-at fullShare arrTy l 0 (machs xs)) $ done !)
 
-    -- taken apart to be lent as `&[RowRecord]`, and put together again
-    pub apart-shr : ent 𝓤 (⋆ 𝓤 H A (‵ (fat fullShare arrTy l 0 (machs xs)) ∷ ‵ (R .own xs (machs xs ∷ [])) ∷ [])) (sem 𝓤 H A (arr-parts (shares T.the-row) (length xs) .part fullShare xs l 0))
-    apart-shr =
-        qed W (‵ (fat fullShare arrTy l 0 (machs xs)) ∷ ‵ (R .own xs (machs xs ∷ [])) ∷ []) ∵ use2 W (‵ (partAt R fullShare xs l 0)) lies-in $
-        use1 W (‵ (arr-parts (shares T.the-row) two .part fullShare xs l 0)) (array-apart 𝓤 H A W T.the-row fullShare tt two xs l 0) $ fsplit ! $ drop ! $ feqI ! ℕ (length xs) (length xs) refl $ done !
-
-    pub together-shr : length xs ≡ two → ent 𝓤 (sem 𝓤 H A (arr-parts (shares T.the-row) (length xs) .part fullShare xs l 0)) (sep 𝓤 (H .at fullShare arrTy l 0 (machs xs)) (sem 𝓤 H A (R .own xs (machs xs ∷ []))))
-    together-shr e =
-        qed W (‵ (arr-parts (shares T.the-row) (length xs) .part fullShare xs l 0) ∷ []) ∵ fsplit ! $ drop ! $ feqI ! ℕ (length xs) two e $ fjoin ! $
-        use1 W (‵ (partAt R fullShare xs l 0)) (array-whole 𝓤 H A W T.the-row fullShare two xs l 0) $ by ! lies-out
-
-    -- likewise as `&mut [RowRecord]`
+    -- taken apart to be lent as `&mut [RowRecord]`, and put together again
     pub apart : ent 𝓤 (⋆ 𝓤 H A (‵ (fat fullShare arrTy l 0 (machs xs)) ∷ ‵ (R .own xs (machs xs ∷ [])) ∷ [])) (sem 𝓤 H A (cells (mem T.the-row) xs l 0))
     apart =
         qed W (‵ (fat fullShare arrTy l 0 (machs xs)) ∷ ‵ (R .own xs (machs xs ∷ [])) ∷ []) ∵ use2 W (‵ (partAt R fullShare xs l 0)) lies-in $
