@@ -1,4 +1,4 @@
-// Writes the blocks that the program `searches` replays: meshes of levels 0 to 3, the lists and answers that the Rust gives for them, and
+// Writes the blocks that tests/replay has as searches: meshes of levels 0 to 3, the lists and answers that the Rust gives for them, and
 // 100 directions each. Numbers are in upper-case hexadecimal of fixed widths, one letter apart; every NaN has one pattern. How often the
 // cases that are easy to miss occur is written to standard error, and none may be missing.
 #[allow(dead_code)]

@@ -69,7 +69,7 @@ pub struct Damage {
     pub table: Table,
 }
 
-// Where the readings go: to a file for a program of the gate, or to the static library.
+// Where the readings go: to a file of tests/replay, or to the static library.
 pub trait Sink {
     // Meshes of levels 0 and 1, and the lists with their locators.
     fn lend(&mut self, meshes: [&Mesh; 2], lists: &Lists);
@@ -96,7 +96,7 @@ pub struct Reader<'a> {
     pub counts: BTreeMap<&'static str, usize>,
 }
 
-// What the program counts, in the order in which it writes them.
+// What the replay counts, in the order in which it prints them.
 pub const COUNTED: [&str; 11] = [
     "meshes and their locators",
     "files read",
