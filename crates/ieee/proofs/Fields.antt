@@ -14,7 +14,7 @@ use lib.Ieee.Exact.{HasValue, odd-sign}
 use lib.Ieee.Scale.{round-same, finite}
 use borrow.Author.Tests.{ne-eqb}
 use Rattle.ieee.specs.Narrow.{narrowed}
-use Rattle.ieee.specs.Pattern.{pattern}
+use Rattle.ieee.specs.Internal.{pattern}
 use Rattle.ieee.proofs.Steps.{float-law}
 
 -- ---- the test for a NaN

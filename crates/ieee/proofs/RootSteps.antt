@@ -14,7 +14,7 @@ use lib.Ieee.Scale.{finite}
 use lib.Ieee.Fits.{round-fits, up-pos, down-pos}
 use lib.Ieee.Exact.{HasValue}
 use Rattle.ieee.specs.Root.{isqrt, rootOf, root}
-use Rattle.ieee.specs.Words.{NearestRoot}
+use Rattle.ieee.specs.Internal.{NearestRoot}
 use Rattle.ieee.proofs.Pack.{pattern-units, before-next}
 use Rattle.ieee.proofs.Squares.{nearest-root, next-sq}
 

@@ -1,13 +1,13 @@
 -- A reading of the file of rows is what the reading rule gives from these rows. Assumes nothing.
 use mathlib.Core.Path.{_≡_, refl, ap}
 use Rattle.lists.proofs.Counting.{chosen}
-use mathlib.Core.Bool.{Bool, true, false, cond, _&&_, _||_}
+use mathlib.Core.Bool.{Bool, true, false, cond, _&&_}
 use mathlib.Core.List.{List, [], _∷_, map}
 use Prim.Native.Nat.{ℕ, suc, _+_, _*_, _≤_, _<_}
 use native.Mathlib.Omega.{arith}
 use lib.ListN.{length, getD}
 use lib.Dec.{ltb, eqb}
-use borrow.Author.Tests.{eqb-true, eqb-false, lt-ltb, le-leb}
+use borrow.Author.Tests.{eqb-true, lt-ltb, le-leb}
 use Rattle.lists.specs.Lists.{every}
 use Rattle.mesh.specs.Levels.{vertexCount, per, verticesBelow}
 use Rattle.mesh.specs.Mesh.{Mesh, meshLong, meshesKeep}
@@ -32,6 +32,7 @@ use Rattle.table.proofs.OfRows.{before}
 use Rattle.table.proofs.OfFile.{Filable, gridIn, tableIn, file-length, entry-of, energy-of}
 use Rattle.reading.specs.Resolve.{readingValues, Query, queryValid, outside, Resolved, unresolved, beyond, slabAt, resolve, Picks, unpicked, picked, joint, pairPlace, nearestPick, facePick}
 use Rattle.reading.specs.Reading.{rowInside, energyInside, entryAt, energyAt, searchIn, readPicks, readEntry, readSlab, readingOut}
+use Rattle.reading.proofs.Picked.{both-found}
 use Rattle.reading.specs.Rule.{search, rulePicks, ruleRow, ruleSlab, ruled}
 use Rattle.ledger.proofs.Store.{all-at}
 
@@ -66,20 +67,11 @@ PicksBelow n (picked ks a b) = All (λ k. k < n) ks
 pair-below : (n a b : ℕ) → a < n → b < n → pairPlace n a b < n * n
 pair-below n a b h k = omega (arith, place a n (b + 1) n h (omega arith))
 
-joint-none : (a b : ℕ) → joint a b ≡ 0 → (a ≡ 0) × (b ≡ 0)
-unfolding joint
-joint-none a b e = by (eqb a 19 || eqb b 19) (eqb a 0) refl e
-  where
-    by : (t u : Bool) → eqb a 0 ≡ u → cond t 19 (cond u b a) ≡ 0 → (a ≡ 0) × (b ≡ 0)
-    by true u d e = absurd (omega arith)
-    by false true d e = (eqb-true a 0 d, e)
-    by false false d e = absurd (eqb-false a 0 d e)
-
 nearest-picks : (n : ℕ) (a b : Nearest) → (a .number ≡ 0 → a .vertex < n) → (b .number ≡ 0 → b .vertex < n) → PicksBelow (n * n) (nearestPick n a b)
 unfolding nearestPick
 nearest-picks n a b h k =
     chosen (PicksBelow (n * n)) (eqb (joint (a .number) (b .number)) 0) _ _
-    (λ e. let z = joint-none (a .number) (b .number) (eqb-true (joint (a .number) (b .number)) 0 e) in (pair-below n (a .vertex) (b .vertex) (h (z .0)) (k (z .1)), tt)) tt
+    (λ e. let z = both-found (a .number) (b .number) (eqb-true (joint (a .number) (b .number)) 0 e) in (pair-below n (a .vertex) (b .vertex) (h (z .0)) (k (z .1)), tt)) tt
 
 face-picks : (n : ℕ) (a b : Located) → FaceBelow n (a .face) → FaceBelow n (b .face) → PicksBelow (n * n) (facePick n a b)
 unfolding facePick

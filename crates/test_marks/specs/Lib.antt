@@ -1,3 +1,4 @@
+-- Checks by computation: `Starred` has document 01's starred marks. Nothing here is cited by a contract.
 pub mod Icospheres
 pub mod Computed
 pub mod Starred

@@ -7,7 +7,7 @@ use native.Mathlib.Omega.{arith}
 use lib.Dec.{lit<}
 use lib.Pow.{pow-add}
 use lib.Ieee.{binary64}
-use Rattle.ieee.specs.Words.{wide}
+use Rattle.ieee.specs.Internal.{wide}
 use Rattle.ieee.proofs.Terms.{sum-exact}
 use borrow.Author.Needs.{needs}
 use Rattle.ieee.proofs.fused.aligned.Statement.{statement}

@@ -6,7 +6,7 @@ use native.Mathlib.Nat.{zero-mul, zero-add, mul-one}
 use native.Mathlib.Omega.{arith}
 use lib.Dec.{lit<}
 use lib.Ieee.{binary64, sum}
-use Rattle.ieee.specs.Words.{wide}
+use Rattle.ieee.specs.Internal.{wide}
 use Rattle.ieee.proofs.Terms.{factors-zero, factors-some, sum-exact, sum-swap}
 use borrow.Author.Needs.{needs}
 use Rattle.ieee.proofs.fused.aligned_far.Statement.{statement}

@@ -4,7 +4,7 @@ use Prim.Native.Nat.{ℕ, _-_, _*_, _^_, _<_}
 use native.Mathlib.Omega.{arith}
 use lib.Pow.{pow-pos}
 use lib.Ieee.{binary64}
-use Rattle.ieee.specs.Words.{wide, Addable}
+use Rattle.ieee.specs.Internal.{wide, Addable}
 use Rattle.ieee.proofs.Sums.{addable, high-word}
 use Rattle.ieee.proofs.Terms.{joined}
 use borrow.Author.Needs.{needs}

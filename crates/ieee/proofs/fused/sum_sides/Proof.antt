@@ -4,7 +4,7 @@ use Prim.Native.Nat.{ℕ, _+_, _-_, _*_, _^_}
 use mathlib.Core.Bool.{Bool, cond, not, _&&_, Bool·beq}
 use lib.Dec.{eqb}
 use lib.Ieee.{binary64, round}
-use Rattle.ieee.specs.Words.{wide, sumSize, sumSign}
+use Rattle.ieee.specs.Internal.{wide, sumSize, sumSign}
 use Rattle.ieee.proofs.Sums.{summed, sign-is}
 use borrow.Author.Needs.{needs}
 use Rattle.ieee.proofs.fused.sum_sides.Statement.{statement}

@@ -4,7 +4,7 @@ use native.Mathlib.Omega.{arith}
 use lib.Dec.{ltb, leb}
 use mir.Val.{boolByte}
 use Rattle.ieee.proofs.Steps.{flag-le}
-use Rattle.ieee.specs.Words.{NearestRoot}
+use Rattle.ieee.specs.Internal.{NearestRoot}
 use Rattle.ieee.proofs.RootSteps.{scaled-fits, high-le, shortfall, beside}
 use borrow.Author.Needs.{needs}
 use Rattle.ieee.proofs.roots.near.Statement.{statement}

@@ -3,7 +3,7 @@ use mathlib.Core.Path.{_≡_, sym, ap, _∙_, subst}
 use Prim.Native.Nat.{ℕ, _+_, _-_, _*_, _/_, _%_, _^_, _<_, _≤_}
 use native.Mathlib.Omega.{arith}
 use lib.Pow.{pow-pos}
-use Rattle.ieee.specs.Words.{stuck}
+use Rattle.ieee.specs.Internal.{stuck}
 use Rattle.ieee.proofs.Words.{jam-none, jam-all, jam-high, jam-low, joined-lt, one-shifted}
 use borrow.Author.Needs.{needs}
 use Rattle.ieee.proofs.wide.jam.Statement.{statement}

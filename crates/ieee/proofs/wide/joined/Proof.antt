@@ -2,7 +2,7 @@
 use mathlib.Core.Path.{_≡_, sym, ap, _∙_, subst}
 use Prim.Native.Nat.{ℕ, _+_, _-_, _^_, _≤_}
 use mathlib.Core.Bool.{cond}
-use Rattle.ieee.specs.Words.{wide}
+use Rattle.ieee.specs.Internal.{wide}
 use Rattle.ieee.proofs.Words.{picked-wide, picked-lt, picked-le, picked-size}
 use borrow.Author.Needs.{needs}
 use Rattle.ieee.proofs.wide.joined.Statement.{statement}

@@ -8,7 +8,7 @@ use lib.Dec.{eqb, lit<, lit≤}
 use mir.Val.{boolByte}
 use lib.Count.{leadingZeros, leading-le}
 use lib.Ieee.{binary64, round}
-use Rattle.ieee.specs.Words.{wide}
+use Rattle.ieee.specs.Internal.{wide}
 use Rattle.ieee.proofs.Steps.{float-law}
 use Rattle.ieee.proofs.Words.{lead-room, lead-fits, lead-top, wide-round}
 use borrow.Author.Needs.{needs}
