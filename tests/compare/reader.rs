@@ -5,6 +5,7 @@ use crate::lines::bits;
 use crate::meshes::Mesh;
 use crate::oracle::{FaceGrid, Vector3};
 use crate::reading::{cell_offsets_below, reading, vertices_below, Answer};
+use crate::report::differ;
 use crate::rust::Table6DAdaptive;
 use std::collections::BTreeMap;
 
@@ -94,6 +95,14 @@ pub struct Reader<'a> {
     pub rust: Option<Table6DAdaptive<f32>>,
     pub cases: BTreeMap<String, usize>,
     pub counts: BTreeMap<&'static str, usize>,
+}
+
+// Where 01 admits a reading of the file as it was written, the Rust has to answer the same.
+pub fn same_as_rust(rust: &Table6DAdaptive<f32>, t: &Table, q: &Query, energy: f64) {
+    let theirs = rust.lookup(q.r, q.omega, &Vector3::from(q.a), &Vector3::from(q.b));
+    if bits(theirs) != bits(energy) {
+        differ("the Rust's lookup and document 01's text", format!("{q:?} of {t:?}"), format!("{energy:e}"), format!("{theirs:e}"));
+    }
 }
 
 // What the program counts, in the order in which it writes them.
@@ -223,9 +232,7 @@ impl<'a> Reader<'a> {
         let d = self.undamaged();
         let a = self.answer(&d, q);
         if a.number == 0 {
-            let (x, y) = (Vector3::from(q.a), Vector3::from(q.b));
-            let energy = self.rust.as_ref().unwrap().lookup(q.r, q.omega, &x, &y);
-            assert_eq!(bits(energy), bits(a.energy), "{}: {q:?}", a.words);
+            same_as_rust(self.rust.as_ref().unwrap(), &d.table, q, a.energy);
         }
         self.hold(d.table);
         self.hand(&d.lent, q, &a, true);

@@ -1,5 +1,6 @@
 // Compares the search and the locator call of the static library with those of the Rust, on one input after another, and
-// ends at the first difference with its input. Any NaN is equal to any other. The Rust panics where a cell is empty; there the answer is to be 20.
+// ends at the first difference with its input: searches SEED short|long. Any NaN is equal to any other. The Rust panics where a cell is empty; there the answer is to be 20.
+mod arguments;
 #[allow(dead_code)]
 mod lines;
 #[allow(dead_code)]
@@ -9,12 +10,13 @@ mod oracle {
     include!(concat!(env!("COMPARE"), "/oracle.rs"));
 }
 mod ours;
+mod report;
 
+use arguments::arguments;
 use lines::bits;
 use meshes::{icosphere, scaled, sevens, strange_points, vertex_count, without_faces, Lent, Mesh, Random, STRANGE};
 use oracle::{FaceGrid, Vector3};
 use ours::{Lists, Located, Nearest};
-use std::process::exit;
 
 #[derive(Default)]
 struct Tally {
@@ -50,15 +52,14 @@ fn located_words(a: &Located) -> String {
     format!("number {}, face {:?}, weights {}", a.number, a.face, words(&a.weights))
 }
 
-fn differ(mesh: &Mesh, what: &str, input: &str, ours: &str, theirs: &str) -> ! {
-    println!("DIFFERENCE in {what}, on {}", mesh.name);
-    println!("  input  {input}\n  ours   {ours}\n  Rust's {theirs}");
+fn differ(mesh: &Mesh, what: &str, input: &str, ours: &str, wanted: &str) -> ! {
+    let mut input = format!("{input}, on {}", mesh.name);
     if mesh.vertices.len() <= 42 {
         for (v, list) in mesh.vertices.iter().zip(&mesh.neighbours) {
-            println!("  vertex {} neighbours {list:?}", words(v));
+            input.push_str(&format!("\n    vertex {} neighbours {list:?}", words(v)));
         }
     }
-    exit(1)
+    report::differ(what, input, ours.into(), wanted.into())
 }
 
 fn grid_size(level: usize) -> usize {
@@ -92,6 +93,7 @@ fn locators(mesh: &Mesh, lent: &Lent, grid: &FaceGrid, random: &mut Random, tall
     let more = random.below(4);
     let before = canaries(mesh.level, more, random);
     let mut lists = before.clone();
+    report::input();
     let number = ours::locator(mesh.level as u64, lent, &mut lists);
     if number != 0 {
         differ(mesh, "the locator call", "the mesh", &format!("refused with {number}"), "accepted");
@@ -133,6 +135,7 @@ fn search(mesh: &Mesh, lent: &Lent, lists: &Lists, grid: &FaceGrid, kind: &'stat
     } else {
         tally.empty += 1;
     }
+    report::input();
     let got = ours::find_nearest_vertex(mesh.level, lists, &lent.vertices, d);
     if (got.number, got.vertex, bits(got.distance)) != (nearest.number, nearest.vertex, bits(nearest.distance)) {
         differ(mesh, "find_nearest_vertex", &words(&d), &nearest_words(&got), &nearest_words(&nearest));
@@ -222,6 +225,7 @@ fn compare(mesh: &Mesh, many: usize, random: &mut Random, tally: &mut Tally) {
 fn refused(mesh: &Mesh, random: &mut Random, tally: &mut Tally) {
     let mut expect = |what: &str, number: u64, level: u64, lent: &Lent, lists: &Lists| {
         let mut after = lists.clone();
+        report::input();
         let got = ours::locator(level, lent, &mut after);
         if got != number || &after != lists {
             let stayed = if &after == lists { "lists as they were" } else { "lists changed" };
@@ -304,8 +308,8 @@ fn signatures() {
 }
 
 fn main() {
-    let rounds: usize = std::env::args().nth(1).map_or(1, |n| n.parse().expect("a number of rounds"));
-    let mut random = Random(0x9e3779b97f4a7c15);
+    let (mut random, length) = arguments();
+    let rounds = length.choose(1, 6);
     let mut tally = Tally::default();
     signatures();
     let spheres: Vec<Mesh> = (0..16).map(icosphere).collect();

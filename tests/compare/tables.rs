@@ -1,5 +1,5 @@
-// Compares the static library libicotable.a with the Rust over whole tables: tables LISTS READINGS ROUNDS. LISTS lists of calls of fresh, set and settle, refused ones among them, on meshes of many
-// kinds; after each list write, read, damaged copies of the file, and READINGS readings; then ROUNDS rounds of readings over damaged lists and tables made by a host. Every answer and every entry of
+// Compares the static library libicotable.a with the Rust over whole tables: tables SEED short|long. Lists of calls of fresh, set and settle, refused ones among them, on meshes of many
+// kinds; after each list write, read, damaged copies of the file, and readings; then rounds of readings over damaged lists and tables made by a host. Every answer and every entry of
 // every lent list is compared: with the Rust where document 01 admits a call, with independent readings of 01's text (refusals.rs, plain.rs, reading.rs) where not.
 #[allow(dead_code, clippy::all)]
 mod builder {
@@ -13,6 +13,8 @@ mod oracle {
 mod rust {
     include!(concat!(env!("COMPARE"), "/lookup.rs"));
 }
+mod arguments;
+mod bounds;
 #[allow(dead_code)]
 mod caller;
 #[path = "../../hosts/rust/src/sys.rs"]
@@ -30,21 +32,26 @@ mod queries;
 mod reader;
 mod reading;
 mod refusals;
+mod report;
 #[allow(dead_code)]
 mod samples;
+mod search;
 mod worlds;
 
+use arguments::arguments;
+use bounds::drawn;
 use caller::Caller;
 use icotable::{Grid, Table};
-use library::{builder_of, differ, lists_of, same_reading, same_table, Library, Readings};
+use library::{builder_of, lists_of, same_reading, same_table, Library, Readings};
 use lines::bits;
-use lists::{list, needed_lengths, wrong, wrong_mesh, WRONG, WRONG_MESH};
+use lists::{needed_lengths, wrong, wrong_mesh, WRONG, WRONG_MESH};
 use meshes::Random;
-use oracle::{FaceGrid, Vector3};
+use oracle::FaceGrid;
 use pack::packed;
 use queries::{asked, query, query_at};
-use reader::Reader;
+use reader::{same_as_rust, Reader};
 use refusals::{Held, Lists};
+use report::differ;
 use std::collections::BTreeMap;
 use worlds::World;
 
@@ -65,6 +72,7 @@ fn written(held: &Held, lists: &Lists, file: &[u8], random: &mut Random) {
     let before: Vec<u8> = (0..file.len() + random.below(20)).map(|_| random.bits() as u8).collect();
     let (mut output, mut lent) = (before.clone(), lists.clone());
     let (l, m) = lists_of(&mut lent, &lists.lengths());
+    report::input();
     let a = icotable::write(builder_of(held), l.held(), m, &mut output);
     if (a.number, a.length) != (0, file.len() as u64) {
         differ("write", format!("{held:?}"), format!("{}, {} bytes", a.number, a.length), format!("0, {} bytes", file.len()));
@@ -130,6 +138,7 @@ fn refused_write(caller: &Caller, random: &mut Random, tally: &mut Tally) {
     let before: Vec<u8> = (0..room).map(|_| random.bits() as u8).collect();
     let (mut output, was) = (before.clone(), lists.clone());
     let (l, m) = lists_of(&mut lists, &lent);
+    report::input();
     let a = icotable::write(builder_of(&held), l.held(), m, &mut output);
     if (a.number, a.length) != (number, 0) || output != before || !library::same_lists(&lists, &was) {
         differ("write", format!("{held:?}, lent {lent:?}, output {room}"), format!("{}, {} bytes", a.number, a.length), format!("{number}, nothing altered"));
@@ -246,10 +255,7 @@ fn readings(world: &World, t: &Table, table: &rust::Table6DAdaptive<f32>, file: 
         let q = if random.below(3) == 0 { query(t, ends, random) } else { query_at(t, random.below(t.rows as usize) as u64, ends, random) };
         let a = reading::reading(t, lent, &q);
         if a.number == 0 {
-            let energy = table.lookup(q.r, q.omega, &Vector3::from(q.a), &Vector3::from(q.b));
-            if bits(energy) != bits(a.energy) {
-                differ("the Rust's lookup and document 01's text", format!("{q:?} of {t:?}"), format!("{:e}", a.energy), format!("{energy:e}"));
-            }
+            same_as_rust(table, t, &q, a.energy);
         }
         same_reading(t, lent, &q, a.number, a.energy);
         found[a.number as usize] += 1;
@@ -276,15 +282,14 @@ fn table(caller: &Caller, world: &mut World, many: usize, random: &mut Random, t
 }
 
 // Lists of calls on one set of meshes.
-fn lists(count: u64, many: usize, random: &mut Random, tally: &mut Tally) {
-    let mut world = World::new(random);
+fn lists(mut world: World, count: u64, many: usize, random: &mut Random, tally: &mut Tally) {
     tally.add("locator, lists", 4 * world.meshes.len() as u64);
     tally.add("locator, entries", world.entries);
     let mut library = Library::new();
     let mut caller = Caller::new(world.canaries(random), &mut library);
     world.lend(&mut caller, random);
     for _ in 0..count {
-        list(&mut caller, random, world.top as u64);
+        drawn(&mut caller, random, world.top as u64);
         table(&caller, &mut world, many, random, tally);
     }
     for (words, n) in std::mem::take(&mut caller.cases) {
@@ -328,15 +333,20 @@ fn needed() -> Vec<String> {
 }
 
 fn main() {
-    let [all, many, rounds]: [u64; 3] = std::env::args().skip(1).map(|n| n.parse().expect("a number")).collect::<Vec<_>>().try_into().expect("three numbers");
-    let mut random = Random(0x9e3779b97f4a7c15);
+    let (mut random, length) = arguments();
+    // lists of calls at low levels, the highest level at which a list is made, rounds of readings; readings after each list
+    let (all, highest, rounds) = length.choose((3000, 8, 20), (100_000, 15, 100));
+    let many = 100;
     let mut tally = Tally::default();
     signatures(&mut random);
     let mut left = all;
     while left > 0 {
         let count = left.min(1 + random.below(25) as u64);
-        lists(count, many as usize, &mut random, &mut tally);
+        lists(World::low(&mut random), count, many, &mut random, &mut tally);
         left -= count;
+    }
+    for top in 6..=highest {
+        lists(World::new(top, &mut random), 1, many, &mut random, &mut tally);
     }
     let mut sink = Readings { answered: 0, refused: 0, files: 0 };
     for _ in 0..rounds {
