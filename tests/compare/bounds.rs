@@ -7,13 +7,21 @@ use crate::refusals::{distance_count, vertices_of, Settings};
 use crate::samples::{narrow_tie, step};
 use std::f64::consts::TAU;
 
-// A list of one kind or another.
+// What the lists of this page are counted as.
+pub const CASES: [&str; 3] = [
+    "a list whose rmax is another where it is not fused",
+    "a list whose threshold is at a gradient, at ten times one, or beside it",
+    "a list of means at ties, of sums that cancel, or beside Repulsive's bound",
+];
+
+// A list of one kind or another; at high levels, where there are few, a bound more often.
 pub fn drawn(caller: &mut Caller, random: &mut Random, top: u64) {
     let most = room(caller, top);
-    match random.below(8) {
+    match random.below(if top > 5 { 4 } else { 8 }) {
         0 if most > 6 => {
             let s = unfused_elsewhere(random, most);
             list_of(caller, random, top, s);
+            caller.case(CASES[0]);
         }
         1 => at_thresholds(caller, random, top),
         2 => means(caller, random, top),
@@ -66,12 +74,18 @@ fn at_thresholds(caller: &mut Caller, random: &mut Random, top: u64) {
     }
     if let Some(threshold) = gradients.iter().find_map(|&g| threshold_at(g, random)) {
         assert_eq!(caller.fresh(Settings { threshold, ..s }, top, [0, 0], all), 0);
-        caller.case("a threshold at a gradient, at ten times one, or beside it");
+        caller.case(CASES[1]);
     }
     for (oi, r) in rules.into_iter().enumerate() {
         caller.set(0, oi as u64, r, all);
     }
     caller.settle(0, all);
+    if random.below(2) == 0 {
+        // settled again with another threshold: where it is lower, what is nearest stays so
+        let by = [0.0, 0.01, 20.0, random.unit().abs()][random.below(4)];
+        caller.hold_threshold((caller.held.settings.threshold * by).min(f64::MAX));
+        caller.settle(0, all);
+    }
     for ri in 1..caller.held.n_r {
         let r = rule(caller, random, true);
         caller.set(ri, 0, r, all);
@@ -79,17 +93,34 @@ fn at_thresholds(caller: &mut Caller, random: &mut Random, top: u64) {
     }
 }
 
-// Equal energies half way between two f32 or beside it; small ones between which a large one comes and goes; equal ones beside the first that is repulsive.
+// An energy half way between two f32 or beside it, and one that differs from it by some last places of the sum: their mean, the second being one of `count`, narrows otherwise where the sum is
+// multiplied by 1 / count. The last that was drawn, where none of them does.
+fn tied_mean(count: f64, random: &mut Random) -> (f64, f64) {
+    let mut drawn = (0.0, 0.0);
+    for _ in 0..300 {
+        let tie = narrow_tie(random);
+        let sum = (tie * count).abs();
+        let one = tie + random.whole(2) * (sum.next_up() - sum);
+        let sum = (count - 1.0) * tie + one;
+        if sum.is_finite() {
+            drawn = (tie, one);
+            if (sum / count) as f32 != (sum * (1.0 / count)) as f32 {
+                break;
+            }
+        }
+    }
+    drawn
+}
+
+// Energies as above; small ones between which a large one comes and goes; equal ones beside the first that is repulsive.
 fn mean_rule(caller: &Caller, random: &mut Random) -> Rule {
     let count = vertices_of(caller.held.level).pow(2);
     let flat = |base: f64| Rule { count, modulus: 1, seed: 1, base, step: 0.0, places: [(NOWHERE, 0.0); 2] };
     match random.below(3) {
-        0 => loop {
-            let tie = narrow_tie(random);
-            if tie.is_finite() {
-                return flat(tie);
-            }
-        },
+        0 => {
+            let (tie, one) = tied_mean(count as f64, random);
+            Rule { places: [(random.below(count), one), (NOWHERE, 0.0)], ..flat(tie) }
+        }
         1 => {
             let (modulus, seed) = (1 + random.below(1000) as u64, 1 + random.below(PRIME as usize - 1) as u64);
             let large = random.unit() * 2f64.powi(50 + random.below(800) as i32);
@@ -112,5 +143,5 @@ fn means(caller: &mut Caller, random: &mut Random, top: u64) {
         }
         caller.settle(ri, all);
     }
-    caller.case("means at ties, of sums that cancel, or beside Repulsive's bound");
+    caller.case(CASES[2]);
 }

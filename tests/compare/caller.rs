@@ -108,6 +108,13 @@ impl<'a> Caller<'a> {
         self.held = b;
     }
 
+    // A builder whose threshold is altered by hand to another that question 1 lets through.
+    pub fn hold_threshold(&mut self, threshold: f64) {
+        let settings = Settings { threshold, ..self.held.settings };
+        self.hold(Held { settings, ..self.held });
+        self.rust.as_mut().unwrap().gradient_threshold = threshold;
+    }
+
     // Hands a call on, once it is answered.
     fn finish(&mut self, what: What, held: Held, lent: [usize; 8], number: u64, gradient: f64) {
         let name = match what {

@@ -188,11 +188,16 @@ pub fn same_reading(table: &Table, lent: icotable::Lent, q: &Query, number: u64,
     }
 }
 
+// A file in words: the first bytes of it, where it is long.
+pub fn file_words(file: &[u8]) -> String {
+    format!("{} bytes, the first of them {:02X?}", file.len(), &file[..file.len().min(1000)])
+}
+
 pub fn same_table(file: &[u8], table: &Table) {
     report::input();
     let got = icotable::read(file);
     if table_words(&got) != table_words(table) {
-        differ("read", format!("{file:02X?}"), format!("{got:?}"), format!("{table:?}"));
+        differ("read", file_words(file), format!("{got:?}"), format!("{table:?}"));
     }
 }
 

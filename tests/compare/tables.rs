@@ -39,16 +39,16 @@ mod search;
 mod worlds;
 
 use arguments::arguments;
-use bounds::drawn;
+use bounds::{drawn, CASES};
 use caller::Caller;
 use icotable::{Grid, Table};
-use library::{builder_of, lists_of, same_reading, same_table, Library, Readings};
+use library::{builder_of, file_words, lists_of, same_reading, same_table, Library, Readings};
 use lines::bits;
 use lists::{needed_lengths, wrong, wrong_mesh, WRONG, WRONG_MESH};
 use meshes::Random;
 use oracle::FaceGrid;
 use pack::packed;
-use queries::{asked, query, query_at};
+use queries::{asked, queries_at_ends, query, query_at};
 use reader::{same_as_rust, Reader};
 use refusals::{Held, Lists};
 use report::differ;
@@ -77,8 +77,12 @@ fn written(held: &Held, lists: &Lists, file: &[u8], random: &mut Random) {
     if (a.number, a.length) != (0, file.len() as u64) {
         differ("write", format!("{held:?}"), format!("{}, {} bytes", a.number, a.length), format!("0, {} bytes", file.len()));
     }
-    if output[..file.len()] != *file || output[file.len()..] != before[file.len()..] || !library::same_lists(&lent, lists) {
-        differ("write", format!("{held:?}"), format!("{output:02X?}"), format!("{file:02X?}"));
+    let wanted = file.iter().chain(&before[file.len()..]);
+    if let Some((at, (byte, want))) = output.iter().zip(wanted).enumerate().find(|(_, (byte, want))| byte != want) {
+        differ("write", format!("{held:?}, byte {at} of {}", file.len()), format!("{byte:02X}"), format!("{want:02X}"));
+    }
+    if !library::same_lists(&lent, lists) {
+        differ("write", format!("{held:?}"), "other entries in a lent list".into(), "lists as they were".into());
     }
 }
 
@@ -223,7 +227,7 @@ fn checked(file: &[u8], t: &Table) {
         metadata: None,
     };
     if let Err(words) = table.check_grid().and(table.check_slabs()) {
-        differ("read", format!("{file:02X?}"), "accepted".into(), format!("the Rust's check: {words}"));
+        differ("read", file_words(file), "accepted".into(), format!("the Rust's check: {words}"));
     }
 }
 
@@ -251,8 +255,11 @@ fn readings(world: &World, t: &Table, table: &rust::Table6DAdaptive<f32>, file: 
     let ends = [&world.meshes[0], world.meshes.last().unwrap()];
     let lent = icotable::Lent { file, ..world.lists.lent(&world.lists.lengths()) };
     let mut found = [0; 21];
+    let mut queries = queries_at_ends(t, ends, random);
     for _ in 0..many {
-        let q = if random.below(3) == 0 { query(t, ends, random) } else { query_at(t, random.below(t.rows as usize) as u64, ends, random) };
+        queries.push(if random.below(3) == 0 { query(t, ends, random) } else { query_at(t, random.below(t.rows as usize) as u64, ends, random) });
+    }
+    for q in queries {
         let a = reading::reading(t, lent, &q);
         if a.number == 0 {
             same_as_rust(table, t, &q, a.energy);
@@ -329,13 +336,15 @@ fn needed() -> Vec<String> {
     words.extend([1, 2, 3, 4, 5, 6, 7, 12, 15].map(|n| format!("write, refused with {n}")));
     words.extend([0, 13, 14, 15, 16, 17].map(|n| format!("read, damaged copies answered {n}")));
     words.extend([0, 18, 20].map(|n| format!("reading, as written, answered {n}")));
+    words.extend(CASES.map(String::from));
     words
 }
 
 fn main() {
     let (mut random, length) = arguments();
-    // lists of calls at low levels, the highest level at which a list is made, rounds of readings; readings after each list
-    let (all, highest, rounds) = length.choose((3000, 8, 20), (100_000, 15, 100));
+    // lists of calls at low levels; levels from 6 on, and lists at each; rounds of readings
+    let (all, high, each, rounds) = length.choose((5000, 6..=8, 4, 20), (100_000, 6..=15, 12, 100));
+    // readings after a list
     let many = 100;
     let mut tally = Tally::default();
     signatures(&mut random);
@@ -345,8 +354,8 @@ fn main() {
         lists(World::low(&mut random), count, many, &mut random, &mut tally);
         left -= count;
     }
-    for top in 6..=highest {
-        lists(World::new(top, &mut random), 1, many, &mut random, &mut tally);
+    for top in high {
+        (0..each).for_each(|_| lists(World::new(top, &mut random), 1, many, &mut random, &mut tally));
     }
     let mut sink = Readings { answered: 0, refused: 0, files: 0 };
     for _ in 0..rounds {
