@@ -320,7 +320,7 @@ fn damages(reader: &mut Reader, random: &mut Random, meshes: [&Mesh; 2], most: u
         // a damage that shows is worth more than one that does not
         if *n < if altered || a.number > 0 { most } else { 1 } {
             *n += 1;
-            reader.damaged(&d, &[q]);
+            reader.damaged(&d, &q);
         }
     }
 }
@@ -350,7 +350,7 @@ fn hosts(reader: &mut Reader, random: &mut Random, meshes: [&Mesh; 2]) {
             q.omega += 0.01;
             let mut d = reader.undamaged();
             d.table = h;
-            reader.damaged(&d, &[q]);
+            reader.damaged(&d, &q);
         }
     }
 }
@@ -384,7 +384,7 @@ fn edges(reader: &mut Reader, random: &mut Random, meshes: [&Mesh; 2]) {
             if enough > 0 {
                 for n in [enough - 1, enough] {
                     let d = with(n, reader);
-                    reader.damaged(&d, &[q]);
+                    reader.damaged(&d, &q);
                 }
             }
         }
@@ -398,7 +398,7 @@ fn near_tau(reader: &mut Reader, random: &mut Random, meshes: [&Mesh; 2]) {
         let mut d = reader.undamaged();
         (d.table.grid.omega_step, d.table.grid.n_omega) = (omega_step, n_omega);
         let q = Query { omega, ..query_at(&t, 0, meshes, random) };
-        reader.damaged(&d, &[q]);
+        reader.damaged(&d, &q);
     }
 }
 
@@ -423,7 +423,7 @@ fn empty_cells(reader: &mut Reader, random: &mut Random, meshes: [&Mesh; 2]) {
         }
         let wanted = if done >= 8 { 19 } else { 20 };
         if empty + 1 != other && empty != other + 1 && empty != other && reader.answer(&d, &q).number == wanted {
-            reader.damaged(&d, &[q]);
+            reader.damaged(&d, &q);
             done += 1;
         }
     }
@@ -464,7 +464,7 @@ fn empty_spans(reader: &mut Reader, random: &mut Random, meshes: [&Mesh; 2], cou
         if random.below(4) == 0 {
             d.entries.push(damaged_list(reader, random));
         }
-        reader.damaged(&d, &[q]);
+        reader.damaged(&d, &q);
     }
 }
 
@@ -478,7 +478,7 @@ fn offsets_beyond(reader: &mut Reader, random: &mut Random, meshes: [&Mesh; 2]) 
         d.entries = (0..d.lent[list]).map(|at| (list, at, e)).collect();
         let a = reader.answer(&d, &q);
         assert_eq!((a.number, a.energy), wanted);
-        reader.damaged(&d, &[q]);
+        reader.damaged(&d, &q);
     };
     asked(NEAREST[0], 2, 325, 540, (20, 0.0));
     asked(INTERPOLATED[0], 2, 325, 540, (20, 0.0));

@@ -238,19 +238,19 @@ impl<'a> Reader<'a> {
         self.hand(&d.lent, q, &a, true);
     }
 
-    // Damages, reads, and puts it right again.
-    pub fn damaged(&mut self, d: &Damage, queries: &[Query]) {
-        let before: Vec<(usize, usize, u64)> = d.entries.iter().map(|&(list, at, _)| (list, at, self.lists.word(list, at))).collect();
-        let answers: Vec<Answer> = queries.iter().map(|q| self.answer(d, q)).collect();
-        for &(list, at, n) in &d.entries {
-            self.entries(list, at, &[n]);
+    // Damages, reads, and puts it right again; entries that follow each other in a list go together.
+    pub fn damaged(&mut self, d: &Damage, q: &Query) {
+        let runs: Vec<&[(usize, usize, u64)]> = d.entries.chunk_by(|a, b| (a.0, a.1 + 1) == (b.0, b.1)).collect();
+        let words = |lists: &Lists, run: &[(usize, usize, u64)]| run.iter().map(|&(list, at, _)| lists.word(list, at)).collect();
+        let before: Vec<Vec<u64>> = runs.iter().map(|run| words(&self.lists, run)).collect();
+        let answer = self.answer(d, q);
+        for run in &runs {
+            self.entries(run[0].0, run[0].1, &run.iter().map(|e| e.2).collect::<Vec<_>>());
         }
         self.hold(d.table);
-        for (q, a) in queries.iter().zip(&answers) {
-            self.hand(&d.lent, q, a, false);
-        }
-        for (list, at, n) in before.into_iter().rev() {
-            self.entries(list, at, &[n]);
+        self.hand(&d.lent, q, &answer, false);
+        for (run, words) in runs.iter().zip(&before).rev() {
+            self.entries(run[0].0, run[0].1, words);
         }
     }
 }
