@@ -14,7 +14,7 @@ use Rattle.lists.specs.Lists.{every}
 use Rattle.mesh.specs.Levels.{vertexCount, per}
 use Rattle.rows.specs.declared.SlabResolution.{SlabResolution}
 use Rattle.rows.specs.declared.SlabResolution.the-variants.{Scalar, Mesh, Repulsive}
-use Rattle.rows.specs.Rows.{Rows, kindOf, levelOf, valueOf, resolutionOf, resolutionAt, replaced, Row, rowWith, rowsOf}
+use Rattle.rows.specs.Rows.{Rows, kindOf, levelOf, valueOf, resolutionOf, resolutionAt, replaced, Row, rowWith}
 use Rattle.settling.specs.Settling.{newRow, fromLevel, replacedBy}
 use Rattle.builder.specs.BuilderLists.{BuilderLists, storePlace, rowAt, rowsFrom}
 use Rattle.builder.specs.Calls.{settledLists}
@@ -59,7 +59,7 @@ read-row top c s apart l now e h g = rw (e, same-row now (l .rows) s h) (sym (ro
 
 past : (r : Rows) (at s : ℕ) (x : Option SlabResolution) → at < s → Same (replacedBy r at x) r s
 unfolding replaced
-past r at s none h = rowsOf refl refl refl
+past r at s none h = record { kinds = refl; levels = refl; values = refl }
 past r at s (some x) h =
     let n : (s ≡ at → ⊥) = λ e. absurd (omega (arith, e, h)) in
     record {
@@ -110,7 +110,7 @@ module _ (f : Row Float → Verdict) (c top base n : ℕ) (l : BuilderLists) (st
         in-slice = omega arith;
         tally = rw (b, m) refl;
         rows = rw (b, m) refl;
-        same = λ s h. (rowsOf refl refl refl);
+        same = λ s h. (record { kinds = refl; levels = refl; values = refl });
         kinds-size = refl;
         levels-size = refl;
         values-size = refl;
@@ -142,7 +142,7 @@ module _ (f : Row Float → Verdict) (c top base n : ℕ) (l : BuilderLists) (st
         same = λ s g.
             let x = past now (base + i) s w (omega (arith, g)) in
             let y = a .same s (omega (arith, g)) in
-            rw q (rowsOf (x .kinds ∙ y .kinds) (x .levels ∙ y .levels) (x .values ∙ y .values));
+            rw q (record { kinds = x .kinds ∙ y .kinds; levels = x .levels ∙ y .levels; values = x .values ∙ y .values });
         kinds-size = rw q (k .0 ∙ a .kinds-size);
         levels-size = rw q (k .1 ∙ a .levels-size);
         values-size = rw q (k .2 ∙ a .values-size);

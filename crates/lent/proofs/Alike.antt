@@ -14,7 +14,7 @@ use Rattle.mesh.specs.Mesh.{Mesh}
 use Rattle.lists.proofs.Written.{length-put}
 use Rattle.grid.specs.declared.Grid.{Grid}
 use Rattle.rows.specs.declared.SlabResolution.{SlabResolution}
-use Rattle.rows.specs.Rows.{Rows, kindOf, levelOf, valueOf, replaced, rowsOf}
+use Rattle.rows.specs.Rows.{Rows, kindOf, levelOf, valueOf, replaced}
 use Rattle.settling.specs.Settling.{newRow, replacedBy}
 use Rattle.settling.specs.declared.Verdict.{Verdict}
 use Rattle.builder.specs.BuilderLists.{BuilderLists, slabs}
@@ -37,12 +37,12 @@ use Rattle.lent.proofs.Columns.{spread-columns, gather-columns, long-ga
 
 module _ (rs : List RowRecord) where
   columns-long : Long rs (columns rs)
-  columns-long = rowsOf (length-map rs (λ (r : RowRecord). r .kind)) (length-map rs (λ (r : RowRecord). r .level)) (length-map rs (λ (r : RowRecord). r .value))
+  columns-long = record { kinds = length-map rs (λ (r : RowRecord). r .kind); levels = length-map rs (λ (r : RowRecord). r .level); values = length-map rs (λ (r : RowRecord). r .value) }
 
   replaced-long : (l : Rows) (s : ℕ) (x : SlabResolution) → Long rs l → Long rs (replaced l s x)
   unfolding replaced
   replaced-long l s x h =
-      (rowsOf (length-set (l .kinds) s (kindOf x) ∙ h .kinds) (length-set (l .levels) s (levelOf x) ∙ h .levels) (length-set (l .values) s (valueOf x) ∙ h .values))
+      record { kinds = length-set (l .kinds) s (kindOf x) ∙ h .kinds; levels = length-set (l .levels) s (levelOf x) ∙ h .levels; values = length-set (l .values) s (valueOf x) ∙ h .values }
 
   set-long : (b : Builder) (l : BuilderLists) (ri oi : ℕ) (e : List Float) → Long rs (l .rows) → Long rs (setOut b l ri oi e .lists .rows)
   unfolding setOut setLists
@@ -73,7 +73,7 @@ module _ (rs : List RowRecord) where
       let wide : (d : List ℕ) → n ≤ length d → length (put d 0 (replicate n 0)) ≡ length d = λ d k. length-put d 0 (replicate n 0) (omega (arith, length-replicate {A = ℕ} n 0, k)) in
       chosen (λ (o : BuiltOut). Long rs (o .lists .rows)) (eqb (meshedRefusal b m l) 0) _ _
       (λ e. let r = meshed b m (length (l .store)) (length (l .rows .kinds)) (length (l .rows .levels)) (length (l .rows .values)) (eqb-true _ 0 e) .room in
-      (rowsOf (wide (l .rows .kinds) (r .kinds-le) ∙ h .kinds) (wide (l .rows .levels) (r .levels-le) ∙ h .levels) (wide (l .rows .values) (r .values-le) ∙ h .values))) h
+      record { kinds = wide (l .rows .kinds) (r .kinds-le) ∙ h .kinds; levels = wide (l .rows .levels) (r .levels-le) ∙ h .levels; values = wide (l .rows .values) (r .values-le) ∙ h .values }) h
 
 -- ---- a state of records as one of number lists
 
@@ -84,7 +84,7 @@ left-as : (st : LentState) (b : Builder) (l : BuilderLists) → Long (st .rows) 
 left-as st b l h = ap (λ (r : Rows). record { builder = b; lists = record { store = l .store; rows = r } }) (gather-columns (st .rows) (l .rows) h)
 
 left-long : (rs : List RowRecord) (l : Rows) → Long rs l → Long (gathered l rs) l
-left-long rs l h = let e = sym (long-gathered rs l) in rowsOf (h .kinds ∙ e) (h .levels ∙ e) (h .values ∙ e)
+left-long rs l h = let e = sym (long-gathered rs l) in record { kinds = h .kinds ∙ e; levels = h .levels ∙ e; values = h .values ∙ e }
 
 -- ---- one call, and a list of them
 

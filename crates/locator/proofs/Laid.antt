@@ -187,7 +187,7 @@ module _ (top : ℕ) (ms : Mesh) (l : Locator) (low : top ≤ 15) (held : meshLo
       let p = locatorPart m l in
       let s = part-sizes m h in
       let k = kept-sizes n (gridSize n) (levelPart m ms) p (call-accepted m h) [] p in
-      rw (lists-made m h) (locatorOf (k .0 ∙ s .cellOffsets) (k .1 ∙ s .cellVertices) (k .2 ∙ s .faceOffsets) (k .3 ∙ s .faces))
+      rw (lists-made m h) (record { cellOffsets = k .0 ∙ s .cellOffsets; cellVertices = k .1 ∙ s .cellVertices; faceOffsets = k .2 ∙ s .faceOffsets; faces = k .3 ∙ s .faces })
 
   -- ---- from a level's first entries on
 

@@ -27,4 +27,4 @@ held n m e =
     let a = and-eq-true-iff (leb (3 * n) (length (m .vertices))) (leb n (length (m .counts)) && (leb (6 * n) (length (m .neighbours)) && leb (6 * n) (length (m .angles)))) .0 e in
     let b = and-eq-true-iff (leb n (length (m .counts))) (leb (6 * n) (length (m .neighbours)) && leb (6 * n) (length (m .angles))) .0 (a .1) in
     let d = and-eq-true-iff (leb (6 * n) (length (m .neighbours))) (leb (6 * n) (length (m .angles))) .0 (b .1) in
-    (meshOf (leb-true _ _ (a .0)) (leb-true _ _ (b .0)) (leb-true _ _ (d .0)) (leb-true _ _ (d .1)))
+    record { vertices = leb-true _ _ (a .0); counts = leb-true _ _ (b .0); neighbours = leb-true _ _ (d .0); angles = leb-true _ _ (d .1) }
