@@ -17,9 +17,6 @@ returns-3 : tie.Need-returns-3
 unfolding digit
 returns-3 c = (rw (le-ltb _ _ (c .before .before .if1 .left), lt-leb _ _ (c .before .if2 .left), lt-ltb _ _ (c .if3 .taken)), search needs)
 
-add-result : tie.Need-add-result
-add-result c = search needs
-
 returns-4 : tie.Need-returns-4
 unfolding digit
 returns-4 c =
@@ -33,4 +30,6 @@ returns-5 c =
     (rw (le-ltb _ _ (a .before .before .if1 .left), lt-leb _ _ (a .before .if2 .left), le-ltb _ _ (a .if3 .left), lt-leb _ _ (c .if4 .left)), search needs)
 
 pub digit-spec : {M : Type 1} → statement M
-digit-spec = tie.close (tie.spec returns returns-2 returns-3 add-result returns-4 returns-5)
+digit-spec =
+    tie.close
+    (tie.spec returns returns-2 returns-3 (λ c. search needs) returns-4 returns-5)

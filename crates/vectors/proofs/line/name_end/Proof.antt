@@ -4,11 +4,10 @@ use borrow.Author.Needs.{needs}
 use Rattle.vectors.proofs.line.name_end.Statement.{statement}
 use Rattle.vectors.proofs.line.name_end.Tie as tie
 
-place-of-requires : tie.Need-place-of-requires
-place-of-requires c κs = search needs
-
 returns : tie.Need-returns
 returns c = counts _ _ (c .place-of .ensures .1)
 
 pub name-end-spec : {M : Type 1} → statement M
-name-end-spec = tie.close (tie.spec place-of-requires returns)
+name-end-spec =
+    tie.close
+    (tie.spec (λ c κs. search needs) returns)
