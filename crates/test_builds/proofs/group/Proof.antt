@@ -5,13 +5,8 @@ use borrow.Author.Needs.{needs}
 use Rattle.test_builds.proofs.group.Statement.{statement}
 use Rattle.test_builds.proofs.group.Tie as tie
 
-abbrev Inv-loop : tie.InvT-loop
-Inv-loop bytes i₀ t3 i = i ≤ length bytes
-
-abbrev μ-loop : tie.MeasureT-loop
-μ-loop bytes i₀ t3 i = length bytes - i
-
 pub group-spec : {M : Type 1} → statement M
 group-spec =
     tie.close
-    (tie.spec Inv-loop μ-loop (λ c. search needs) (λ c. search needs) (λ c κs. search needs) (λ c κs. search needs) (λ c. search needs) (λ c. search needs) (λ c. search needs) (λ c. search needs) (λ c κs. search needs) (λ c. search needs))
+    (tie.spec (λ bytes i₀ t3 i. i ≤ length bytes) (λ bytes i₀ t3 i. length bytes - i) (λ c. search needs) (λ c. search needs) (λ c κs. search needs)
+    (λ c κs. search needs) (λ c. search needs) (λ c. search needs) (λ c. search needs) (λ c. search needs) (λ c κs. search needs) (λ c. search needs))

@@ -4,13 +4,8 @@ use borrow.Author.Needs.{needs}
 use Rattle.test_builds.proofs.accident.other_bytes.Statement.{statement}
 use Rattle.test_builds.proofs.accident.other_bytes.Tie as tie
 
-abbrev Inv-loop : tie.InvT-loop
-Inv-loop a b n₀ i₀ n i = i ≤ 84900
-
-abbrev μ-loop : tie.MeasureT-loop
-μ-loop a b n₀ i₀ n i = 84900 - i
-
 pub other-bytes-spec : {M : Type 1} → statement M
 other-bytes-spec =
     tie.close
-    (tie.spec Inv-loop μ-loop (λ c. search needs) (λ c. search needs) (λ c. search needs) (λ c κs. search needs) (λ c. search needs) (λ c. search needs) (λ c. search needs) (λ c. search needs))
+    (tie.spec (λ a b n₀ i₀ n i. i ≤ 84900) (λ a b n₀ i₀ n i. 84900 - i) (λ c. search needs) (λ c. search needs) (λ c. search needs) (λ c κs. search needs)
+    (λ c. search needs) (λ c. search needs) (λ c. search needs) (λ c. search needs))

@@ -4,13 +4,9 @@ use borrow.Author.Needs.{needs}
 use Rattle.test_builds.proofs.accident.other_energies.Statement.{statement}
 use Rattle.test_builds.proofs.accident.other_energies.Tie as tie
 
-abbrev Inv-loop : tie.InvT-loop
-Inv-loop store e n₀ i₀ n i = i ≤ 21168
-
-abbrev μ-loop : tie.MeasureT-loop
-μ-loop store e n₀ i₀ n i = 21168 - i
-
 pub other-energies-spec : {M : Type 1} → statement M
 other-energies-spec =
     tie.close
-    (tie.spec Inv-loop μ-loop (λ c κs. search needs) (λ c. search needs) (λ c. search needs) (λ c. search needs) (λ c. search needs) (λ c. search needs) (λ c κs. search needs) (λ c. search needs) (λ c. search needs) (λ c. search needs) (λ c. search needs))
+    (tie.spec (λ store e n₀ i₀ n i. i ≤ 21168) (λ store e n₀ i₀ n i. 21168 - i) (λ c κs. search needs) (λ c. search needs) (λ c. search needs)
+    (λ c. search needs) (λ c. search needs) (λ c. search needs) (λ c κs. search needs) (λ c. search needs) (λ c. search needs) (λ c. search needs)
+    (λ c. search needs))

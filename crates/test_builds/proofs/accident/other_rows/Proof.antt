@@ -4,13 +4,9 @@ use borrow.Author.Needs.{needs}
 use Rattle.test_builds.proofs.accident.other_rows.Statement.{statement}
 use Rattle.test_builds.proofs.accident.other_rows.Tie as tie
 
-abbrev Inv-loop : tie.InvT-loop
-Inv-loop a b n₀ i₀ n i = i ≤ 12
-
-abbrev μ-loop : tie.MeasureT-loop
-μ-loop a b n₀ i₀ n i = 12 - i
-
 pub other-rows-spec : {M : Type 1} → statement M
 other-rows-spec =
     tie.close
-    (tie.spec Inv-loop μ-loop (λ c. search needs) (λ c. search needs) (λ c. search needs) (λ c. search needs) (λ c. search needs) (λ c. search needs) (λ c. search needs) (λ c. search needs) (λ c. search needs) (λ c κs. search needs) (λ c. search needs) (λ c. search needs) (λ c. search needs) (λ c. search needs))
+    (tie.spec (λ a b n₀ i₀ n i. i ≤ 12) (λ a b n₀ i₀ n i. 12 - i) (λ c. search needs) (λ c. search needs) (λ c. search needs) (λ c. search needs)
+    (λ c. search needs) (λ c. search needs) (λ c. search needs) (λ c. search needs) (λ c. search needs) (λ c κs. search needs) (λ c. search needs)
+    (λ c. search needs) (λ c. search needs) (λ c. search needs))

@@ -4,13 +4,8 @@ use borrow.Author.Needs.{needs}
 use Rattle.test_forms.proofs.meshes.neighbours.Statement.{statement}
 use Rattle.test_forms.proofs.meshes.neighbours.Tie as tie
 
-abbrev Inv-loop : tie.InvT-loop
-Inv-loop list₀ i₀ list i = i ≤ 324
-
-abbrev μ-loop : tie.MeasureT-loop
-μ-loop list₀ i₀ list i = 324 - i
-
 pub neighbours-spec : {M : Type 1} → statement M
 neighbours-spec =
     tie.close
-    (tie.spec Inv-loop μ-loop (λ c. search needs) (λ c κs. search needs) (λ c. search needs) (λ c. search needs) (λ c. search needs) (λ c. search needs) (λ c. search needs) (λ c. search needs))
+    (tie.spec (λ list₀ i₀ list i. i ≤ 324) (λ list₀ i₀ list i. 324 - i) (λ c. search needs) (λ c κs. search needs) (λ c. search needs) (λ c. search needs)
+    (λ c. search needs) (λ c. search needs) (λ c. search needs) (λ c. search needs))

@@ -30,4 +30,5 @@ returns-2 c = kept (c .before .args .n) (c .before .fits .n) (c .if1 .left) .2
 
 pub bits-signed-spec : {M : Type 1} → statement M
 bits-signed-spec =
-    tie.close (tie.spec sub-result cast-result sub-result-2 cast-result-2 returns returns-2)
+    tie.close
+    (tie.spec sub-result cast-result sub-result-2 cast-result-2 returns returns-2)
