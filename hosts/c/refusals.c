@@ -216,7 +216,7 @@ int main(void) {
         return 1;
     puts("# Refusals\n\nA call that is refused answers the number of the first question that was answered no, and alters "
          "nothing: no list, no\nbuilder, no file. `include/icotable.h` has the table (`ICOTABLE_REFUSALS`, "
-         "`icotable_words`), `hosts/rust` the same as an\nenum (`Refusal`); docs/SPEC.md has each question, S5.1 to S5.20, "
+         "`icotable_words`), `hosts/rust` the same as\nan enum (`Refusal`); docs/SPEC.md has each question, S5.1 to S5.20, "
          "and their order. Each example below is run by\n`hosts/c/refusals.c`, which writes this page; the gate compares "
          "the page with what it writes.\n\n"
          "| number | name | what was answered no | an example |\n|---|---|---|---|");
