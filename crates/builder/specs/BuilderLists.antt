@@ -20,11 +20,10 @@ pub record BuilderLists : Type 0 where
 abbrev pub listsOf : List Float → List ℕ → List ℕ → List ℕ → BuilderLists
 listsOf store kinds levels values = record { store = store; rows = rowsOf kinds levels values }
 
--- "A slab is one distance bin and one dihedral bin" (S3.1)
+-- "A slab is one distance bin and one dihedral bin"
 abbrev pub slabs : Grid → ℕ
 slabs g = g .«n_r» * g .«n_omega»
 
--- S3.1
 abbrev pub slab : Grid → ℕ → ℕ → ℕ
 slab g ri oi = ri * g .«n_omega» + oi
 
@@ -45,11 +44,10 @@ rowsFrom top l s (suc n) = rowAt top l s ∷ rowsFrom top l (suc s) n
 abbrev pub sliceAt : Builder → BuilderLists → ℕ → List (Row Float)
 sliceAt b l ri = rowsFrom (b .top) l (slab (b .grid) ri 0) (b .grid .«n_omega»)
 
--- 6, of store and rows (S5.6)
+-- 6, of store and rows
 unfoldable pub listRoom : Grid → ℕ → ℕ → ℕ → ℕ → ℕ → Bool
 listRoom g top store kinds levels values = leb (slabs g * per top) store && rowRoom (slabs g) kinds levels values
 
--- S5.6
 abbrev pub listsLong : Builder → BuilderLists → Bool
 listsLong b l = listRoom (b .grid) (b .top) (length (l .store)) (length (l .rows .kinds)) (length (l .rows .levels)) (length (l .rows .values))
 
@@ -57,6 +55,6 @@ listsLong b l = listRoom (b .grid) (b .top) (length (l .store)) (length (l .rows
 abbrev pub meshesLong : Builder → Mesh → Bool
 meshesLong b m = meshLong (verticesBelow (suc (b .top))) m
 
--- the kind and level part of 15, of n rows from slab s on (S4.13, S5.15)
+-- the kind and level part of 15, of n rows from slab s on
 unfoldable pub rowsKnown : ℕ → Rows → ℕ → ℕ → Bool
 rowsKnown top r s n = allUpTo n (λ i. rowKnown top r (s + i))

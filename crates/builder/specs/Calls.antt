@@ -54,7 +54,7 @@ noBuilder =
 unfoldable pub freshBuilder : Grid → ℕ → Builder
 freshBuilder g top = record { grid = counted g; top = top; level = top }
 
--- "fresh fills rows with Scalar 0.0 and the store with 0.0" (S6.2)
+-- "fresh fills rows with Scalar 0.0 and the store with 0.0"
 unfoldable pub filled : Builder → BuilderLists → BuilderLists
 filled b l =
     let n = slabs (b .grid) in
@@ -68,7 +68,6 @@ pub record BuiltOut : Type 0 where
   pub answer : BuiltValues
   pub lists : BuilderLists
 
--- S6.2
 unfoldable pub freshOut : Grid → ℕ → Mesh → BuilderLists → BuiltOut
 freshOut g top m l =
     let b = freshBuilder g top in
@@ -77,11 +76,10 @@ freshOut g top m l =
 
 -- ---- set
 
--- "Set writes the first n·n places of its slab in the store and the slab's others stay"; "the row becomes Mesh, current level, flag true" (S6.4, S7.9)
+-- "Set writes the first n·n places of its slab in the store and the slab's others stay"; "the row becomes Mesh, current level, flag true"
 unfoldable pub setLists : Builder → BuilderLists → ℕ → List Float → BuilderLists
 setLists b l s e = record { store = put (l .store) (storePlace (b .top) s) e; rows = replaced (l .rows) s (toMesh (b .level) true) }
 
--- S10.6
 unfoldable pub setOut : Builder → BuilderLists → ℕ → ℕ → List Float → BuiltOut
 setOut b l ri oi e =
     let r = setRefusal b l ri oi e in
@@ -99,7 +97,6 @@ pub record SettleOut : Type 0 where
   pub answer : SettledValues
   pub lists : BuilderLists
 
--- S6.4, S7.9
 unfoldable pub settleAccepted : Builder → Mesh → BuilderLists → ℕ → SettleOut
 settleAccepted b m l ri =
     let rs = sliceAt b l ri in

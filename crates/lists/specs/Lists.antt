@@ -47,6 +47,6 @@ module _ {A : Type 0} where
   starts zero f = []
   starts (suc n) f = starts n f ++ (length (joined n f) ∷ [])
 
-  -- d with l written from place at on (S1.5, S10.5)
+  -- d with l written from place at on
   unfoldable pub put : List A → ℕ → List A → List A
   put d at l = take at d ++ l ++ drop (at + length l) d

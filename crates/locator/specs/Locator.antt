@@ -10,7 +10,7 @@ use Rattle.lists.specs.Questions.{ask}
 use Rattle.search.specs.Cells.{cell, facesOf, flat}
 use Rattle.search.specs.Search.{Locator}
 
--- 6, of the four lists: "6·g·g+1 u32 and 27n u16 for cells, n+1 u32 and 45n u16 for faces by vertex" (S5.6, S3.8, S10.1, S10.5)
+-- 6, of the four lists: "6·g·g+1 u32 and 27n u16 for cells, n+1 u32 and 45n u16 for faces by vertex"
 unfoldable pub locatorRoom : ℕ → ℕ → ℕ → ℕ → ℕ → ℕ → Bool
 locatorRoom n g cellOffsets cellVertices faceOffsets faces =
     leb (cellCount g + 1) cellOffsets && (leb (27 * n) cellVertices && (leb (n + 1) faceOffsets && leb (45 * n) faces))
@@ -18,7 +18,7 @@ locatorRoom n g cellOffsets cellVertices faceOffsets faces =
 abbrev pub locatorLong : ℕ → ℕ → Locator → Bool
 locatorLong n g l = locatorRoom n g (length (l .cellOffsets)) (length (l .cellVertices)) (length (l .faceOffsets)) (length (l .faces))
 
--- "Locator, for one level: 2, 6, then 7" (S5.22)
+-- "Locator, for one level: 2, 6, then 7"
 unfoldable pub locatorRefusal : ℕ → Mesh → Locator → ℕ
 locatorRefusal level m l =
     let n = vertexCount level in
@@ -27,7 +27,7 @@ locatorRefusal level m l =
     (ask (keepsRule n m) 7 0))
 
 -- `FaceGrid::new`: offsets and contents of the cells, and of the faces by vertex, "these offsets counting faces".
--- "Entries beyond the needed lengths stay, as do a locator's places that no offset covers." (S3.8, S10.1, S10.5)
+-- "Entries beyond the needed lengths stay, as do a locator's places that no offset covers."
 unfoldable pub locatorLists : ℕ → ℕ → Mesh → Locator → Locator
 locatorLists n g m l =
     record {
@@ -41,7 +41,7 @@ pub record LocatorOut : Type 0 where
   pub number : ℕ
   pub lists : Locator
 
--- the mesh lists begin with the level's first entries, and so do the four (S12.7)
+-- the mesh lists begin with the level's first entries, and so do the four
 unfoldable pub locatorOut : ℕ → Mesh → Locator → LocatorOut
 locatorOut level m l =
     let n = vertexCount level in

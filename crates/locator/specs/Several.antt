@@ -9,7 +9,7 @@ use Rattle.mesh.specs.Mesh.{Mesh, levelPart}
 use Rattle.search.specs.Search.{Locator}
 use Rattle.locator.specs.Locator.{locatorOut}
 
--- level m's part of the four lists (S3.6, S10.7)
+-- level m's part of the four lists
 unfoldable pub locatorPart : ℕ → Locator → Locator
 locatorPart m l =
     let a = verticesBelow m in
@@ -25,7 +25,7 @@ locatorPart m l =
 abbrev pub madeAt : Mesh → Locator → ℕ → Locator
 madeAt ms l m = locatorOut m (levelPart m ms) (locatorPart m l) .lists
 
--- "the locators that the locator call made of them, for each level from 0 to the top", one after another; what is behind them stays (S3.6, S10.7, S14.6)
+-- "the locators that the locator call made of them, for each level from 0 to the top", one after another; what is behind them stays
 unfoldable pub locators : ℕ → Mesh → Locator → Locator
 locators top ms l =
     let k = suc top in

@@ -16,11 +16,10 @@ use Rattle.reading.specs.Resolve.{ReadingValues, readingValues, Query, R
 use Rattle.reading.specs.declared.Reading.{Reading}
 use Rattle.reading.specs.declared.Reading.the-variants.{Energy, Refused}
 
--- 19: "every row, energy .. entry touched inside what was lent": below its count, and its bytes inside the file (S5.19, S11.7, S12.4, S12.6)
+-- 19: "every row, energy .. entry touched inside what was lent": below its count, and its bytes inside the file
 unfoldable pub rowInside : List ℕ → Table → ℕ → Bool
 rowInside file t s = ltb s (t .rows) && leb (t .«rows_start» + s * 10 + 10) (length file)
 
--- S5.19, S11.7, S12.4, S12.6
 unfoldable pub energyInside : List ℕ → Table → ℕ → Bool
 energyInside file t k = ltb k (t .energies) && leb (t .«energies_start» + k * 4 + 4) (length file)
 
@@ -49,7 +48,7 @@ readPicks file t interpolate o (picked ks a b) =
     (Energy (combined interpolate a b (map (λ k. energyAt file t (o + k)) ks)))
     (Refused 19)
 
--- "the row's kind known, a Mesh row's level held"; "then the row: Scalar as f64, Repulsive infinity, nearest or the nine-term sum" (S5.19, S11.7, S12.4, S12.6, S12.5)
+-- "the row's kind known, a Mesh row's level held"; "then the row: Scalar as f64, Repulsive infinity, nearest or the nine-term sum"
 unfoldable pub readEntry : List ℕ → Table → List Float → Locator → Query → Entry → Reading
 readEntry file t vertices l q e =
     cond (eqb (e .kind) 0) (Energy (widened (e .scalar)))
@@ -63,6 +62,5 @@ readSlab file t vertices l q (unresolved n) = Refused n
 readSlab file t vertices l q beyond = Energy (ofBits binary64 0)
 readSlab file t vertices l q (slabAt s) = cond (rowInside file t s) (readEntry file t vertices l q (entryAt file t s)) (Refused 19)
 
--- S6.4, S12.4
 unfoldable pub readingOut : List ℕ → Table → List Float → Locator → Query → ReadingValues
 readingOut file t vertices l q = readingValues (readSlab file t vertices l q (resolve (t .grid) q))

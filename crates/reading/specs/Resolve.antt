@@ -19,7 +19,7 @@ use Rattle.search.specs.declared.Located.{Located}
 use Rattle.reading.specs.declared.Reading.{Reading}
 use Rattle.reading.specs.declared.Reading.the-variants.{Energy, Refused}
 
--- 01's number and value for each case of the answer: "reading returns the energy"; beside a number that refuses stands 0 (S12.10)
+-- 01's number and value for each case of the answer: "reading returns the energy"; beside a number that refuses stands 0
 pub record ReadingValues : Type 0 where
   pub number : ℕ
   pub energy : Float
@@ -35,11 +35,11 @@ pub record Query : Type 0 where
   pub a : Vector3
   pub b : Vector3
 
--- 18: "is r not a NaN, omega finite, and the length of each direction finite and above 0?" (S5.18)
+-- 18: "is r not a NaN, omega finite, and the length of each direction finite and above 0?"
 unfoldable pub queryValid : Query → Bool
 queryValid q = not (isNan (q .r)) && (finite (q .omega) && (above (norm (q .a)) && above (norm (q .b))))
 
--- "A distance below rmin or above rmax"; "a reading's rmax is this one, not the settings'" (S12.2)
+-- "A distance below rmin or above rmax"; "a reading's rmax is this one, not the settings'"
 unfoldable pub outside : Grid → Float → Bool
 outside g r = lt r (g .rmin) || lt (tableRmax (g .«n_r») (g .dr) (g .rmin)) r
 
@@ -48,7 +48,7 @@ pub data Resolved : Type 0 where
   beyond : Resolved
   slabAt : ℕ → Resolved
 
--- `resolve_slab_idx`, after 18; of 19: "Are bin counts above 0" (S12.2, S5.19, S11.7, S12.4, S12.6, S4.5, S4.6, S12.3)
+-- `resolve_slab_idx`, after 18; of 19: "Are bin counts above 0"
 unfoldable pub resolve : Grid → Query → Resolved
 resolve g q =
     cond (queryValid q)
@@ -65,7 +65,7 @@ pub data Picks : Type 0 where
   unpicked : ℕ → Picks
   picked : List ℕ → Weights → Weights → Picks
 
--- 19 for either direction before 20 for either (S12.5)
+-- 19 for either direction before 20 for either
 unfoldable pub joint : ℕ → ℕ → ℕ
 joint a b = cond (eqb a 19 || eqb b 19) 19 (cond (eqb a 0) b a)
 
@@ -96,20 +96,20 @@ facePick n a b =
 
 -- ---- the energies, by their bits
 
--- "energies narrowed to f32 and widened again" (S12.7 to S12.9)
+-- "energies narrowed to f32 and widened again"
 abbrev pub widened : ℕ → Float
 widened x = ofBits binary32 x
 
 weightAt : Weights → ℕ → Float
 weightAt w i = cond (eqb i 0) (w .a) (cond (eqb i 1) (w .b) (w .c))
 
--- "nine-term sum as `lookup` has them": bary_a[i] * vals[i * 3 + j] * bary_b[j], from +0.0 (S2.15, S12.7 to S12.9)
+-- "nine-term sum as `lookup` has them": bary_a[i] * vals[i * 3 + j] * bary_b[j], from +0.0
 unfoldable pub nineTerms : Weights → Weights → List ℕ → Float
 unfolding weightAt
 nineTerms a b es =
     forEach 3 (λ i. forEach 3 (λ j x. add binary64 x (mul binary64 (mul binary64 (weightAt a i) (widened (getD es (i * 3 + j) 0))) (weightAt b j)))) (ofBits binary64 0)
 
--- nearest: the one energy; interpolated: the sum (S12.7 to S12.9)
+-- nearest: the one energy; interpolated: the sum
 unfoldable pub combined : Bool → Weights → Weights → List ℕ → Float
 combined true a b es = nineTerms a b es
 combined false a b es = widened (getD es 0 0)

@@ -40,6 +40,5 @@ ruleSlab rows ms q (unresolved n) = Refused n
 ruleSlab rows ms q beyond = Energy (ofBits binary64 0)
 ruleSlab rows ms q (slabAt s) = ruleRow ms q (getD rows s repulsive)
 
--- S12.4
 unfoldable pub ruled : Grid → List (Row ℕ) → Mesh → Query → ReadingValues
 ruled g rows ms q = readingValues (ruleSlab rows ms q (resolve g q))

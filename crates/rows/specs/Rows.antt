@@ -31,7 +31,7 @@ levelOf (Scalar x) = 0
 levelOf (Mesh v b) = v
 levelOf Repulsive = 0
 
--- the scalar's bits, those of a NaN being 7FC00000 (S7.5, S7.6)
+-- the scalar's bits, those of a NaN being 7FC00000
 abbrev pub valueOf : SlabResolution → ℕ
 valueOf (Scalar x) = toBits binary32 x
 valueOf (Mesh v b) = 0
@@ -48,20 +48,20 @@ resolutionAt r s = resolutionOf (getD (r .kinds) s 0) (getD (r .levels) s 0) (ge
 unfoldable pub replaced : Rows → ℕ → SlabResolution → Rows
 replaced r s x = record { kinds = set (r .kinds) s (kindOf x); levels = set (r .levels) s (levelOf x); values = set (r .values) s (valueOf x) }
 
--- the kind and level part of 15: "Has each row a known kind, a held level if it is Mesh", levels being held up to the top (S4.13, S5.15)
+-- the kind and level part of 15: "Has each row a known kind, a held level if it is Mesh", levels being held up to the top
 unfoldable pub known : ℕ → ℕ → ℕ → Bool
 known top k v = leb k 1 || (leb k 3 && leb v top)
 
 abbrev pub rowKnown : ℕ → Rows → ℕ → Bool
 rowKnown top r s = known top (getD (r .kinds) s 0) (getD (r .levels) s 0)
 
--- 6, of the three lists (S5.6)
+-- 6, of the three lists
 unfoldable pub rowRoom : ℕ → ℕ → ℕ → ℕ → Bool
 rowRoom n kinds levels values = leb n kinds && (leb n levels && leb n values)
 
 -- ---- with its energies
 
--- "a row per slab: Scalar with an f32, Repulsive, or Mesh with level, interpolate flag and n·n energies"; in numbers of type A (S13.2)
+-- "a row per slab: Scalar with an f32, Repulsive, or Mesh with level, interpolate flag and n·n energies"; in numbers of type A
 pub data Row (A : Type 0) : Type 0 where
   scalar : A → Row A
   repulsive : Row A
@@ -76,7 +76,7 @@ rowWith Repulsive e = repulsive
 abbrev pub narrowBits : Float → ℕ
 narrowBits e = toBits binary32 (narrowed e)
 
--- "Rows compare by kind, level, flag, scalar bits and each energy's bits after narrowing to f32": what is compared (S4.15)
+-- "Rows compare by kind, level, flag, scalar bits and each energy's bits after narrowing to f32": what is compared
 abbrev pub compared : Row Float → Row ℕ
 compared (scalar x) = scalar (toBits binary32 x)
 compared repulsive = repulsive

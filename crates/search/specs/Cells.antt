@@ -13,16 +13,16 @@ use Rattle.search.specs.Geometry.{over, zero, vertexAt, cubeFaceProject,
 use Rattle.search.specs.declared.Seen.{Seen}
 
 -- a cell number is i, or next to it: "each vertex with its margin of one cell". Over whole numbers, so that
--- "where a cell number saturates, its neighbour beyond the end is outside the grid" (S10.3, S10.4)
+-- "where a cell number saturates, its neighbour beyond the end is outside the grid"
 unfoldable pub near : ℤ → ℕ → Bool
 near (pos c) i = leb c (i + 1) && leb i (c + 1)
 near (negsuc c) i = eqb (c + i) 0
 
--- the cell number of a coordinate that a face sees at u, d in front of it: "as isize" (S10.3, S10.4)
+-- the cell number of a coordinate that a face sees at u, d in front of it: "as isize"
 unfoldable pub cellNumber : ℕ → Float → Float → ℤ
 cellNumber g u d = toSigned 63 (inCells g (over u d))
 
--- the point is in front of the face (`d <= 0.0` passes over it) and its cell is i, j or next to it (S10.3, S10.4)
+-- the point is in front of the face (`d <= 0.0` passes over it) and its cell is i, j or next to it
 unfoldable pub nearCell : ℕ → ℕ → ℕ → Seen → Bool
 nearCell g i j s = not (le (s .d) zero) && (near (cellNumber g (s .u) (s .d)) i && near (cellNumber g (s .w) (s .d)) j)
 
@@ -30,11 +30,11 @@ nearCell g i j s = not (le (s .d) zero) && (near (cellNumber g (s .u) (s .d)) i 
 unfoldable pub inCell : List Float → ℕ → ℕ → ℕ → Bool
 inCell vs g c v = let k = c % (g * g) in nearCell g (k / g) (k % g) (cubeFaceProject (c / (g * g)) (vertexAt vs v))
 
--- the vertices of cell c, ascending (S10.3, S10.4)
+-- the vertices of cell c, ascending
 unfoldable pub cell : List Float → ℕ → ℕ → ℕ → List ℕ
 cell vs n g c = filter (inCell vs g c) (below n)
 
--- the faces that vertex v is of, in the order of `extract_faces` (S3.8, S10.1, S10.5)
+-- the faces that vertex v is of, in the order of `extract_faces`
 unfoldable pub facesOf : Mesh → ℕ → ℕ → List Face
 facesOf m n v = filter (has v) (extractFaces m n)
 

@@ -22,7 +22,7 @@ use Rattle.search.specs.declared.faces.Fit.{Fit}
 
 -- ---- the nearest vertex (`nearest_in_cell`)
 
--- the square of the distance: "`powi(2)` is one product" (S2.14)
+-- the square of the distance: "`powi(2)` is one product"
 unfoldable pub squared : Vector3 → Vector3 → Float
 squared p v = let d = difference p v in dot d d
 
@@ -39,7 +39,7 @@ unfoldable pub nearestFrom : List Float → Vector3 → Nearest → List ℕ →
 nearestFrom vs p best [] = best
 nearestFrom vs p best (v ∷ l) = nearestFrom vs p (nearer vs p best v) l
 
--- 20: "Does the chosen cell list a vertex?" (S5.20)
+-- 20: "Does the chosen cell list a vertex?"
 unfoldable pub nearestAmong : List Float → Vector3 → List ℕ → Nearest
 nearestAmong vs p l = nearestFrom vs p (notNearest 20) l
 
@@ -70,11 +70,9 @@ bestFace vs p l = let b = fitFrom vs p noFit l in record { number = 0; face = b 
 
 -- ---- over the mesh of a level, of n vertices and g cells to an edge of the cube; p is a direction divided by its length
 
--- S11.4, S11.7, S11.8
 unfoldable pub nearestOf : Mesh → ℕ → ℕ → Vector3 → Nearest
 nearestOf m n g p = nearestAmong (m .vertices) p (cell (m .vertices) n g (cellIndex g p))
 
--- S11.6 to S11.8
 unfoldable pub locate : Mesh → ℕ → ℕ → Vector3 → Located
 locate m n g p =
     let v = nearestOf m n g p in
@@ -93,7 +91,7 @@ abbrev pub locatorOf : List ℕ → List ℕ → List ℕ → List ℕ → Locat
 locatorOf cellOffsets cellVertices faceOffsets faces =
     record { cellOffsets = cellOffsets; cellVertices = cellVertices; faceOffsets = faceOffsets; faces = faces }
 
--- the lists from level m's first entries on, to the end of what was lent (S3.6, S10.7)
+-- the lists from level m's first entries on, to the end of what was lent
 unfoldable pub locatorFrom : ℕ → Locator → Locator
 locatorFrom m l =
     let b = verticesBelow m in
@@ -104,11 +102,10 @@ locatorFrom m l =
       faces = drop (45 * b) (l .faces);
     }
 
--- S3.6, S10.7
 unfoldable pub verticesFrom : ℕ → List Float → List Float
 verticesFrom m vs = drop (3 * verticesBelow m) vs
 
--- 19: a vertex number below n whose coordinates are inside what was lent (S5.19, S11.7, S12.4, S12.6)
+-- 19: a vertex number below n whose coordinates are inside what was lent
 unfoldable pub vertexInside : List Float → ℕ → ℕ → Bool
 vertexInside vs n v = ltb v n && leb (3 * v + 3) (length vs)
 
@@ -117,7 +114,7 @@ unfoldable pub entriesAt : ℕ → List ℕ → List ℕ → ℕ → List ℕ
 entriesAt w offsets entries i = slice (w * getD offsets i 0) (w * getD offsets (i + 1) 0) entries
 
 -- 19: "every .. cell and mesh entry touched inside what was lent, no end offset below its start, and vertex numbers below n"; where the
--- start equals the end no entry is touched, wherever they lie (S5.19, S11.7, S12.4, S12.6)
+-- start equals the end no entry is touched, wherever they lie
 unfoldable pub entriesInside : List Float → ℕ → ℕ → List ℕ → List ℕ → ℕ → Bool
 entriesInside vs n w offsets entries i =
     let start = getD offsets i 0 in
@@ -133,12 +130,10 @@ nearestInCells offsets entries vs n g p =
     let c = cellIndex g p in
     cond (entriesInside vs n 1 offsets entries c) (nearestAmong vs p (entriesAt 1 offsets entries c)) (notNearest 19)
 
--- S11.4, S11.7, S11.8
 unfoldable pub nearestIn : Locator → List Float → ℕ → ℕ → Vector3 → Nearest
 unfolding nearestInCells
 nearestIn l = nearestInCells (l .cellOffsets) (l .cellVertices)
 
--- S11.6 to S11.8
 unfoldable pub locateIn : Locator → List Float → ℕ → ℕ → Vector3 → Located
 locateIn l vs n g p =
     let v = nearestIn l vs n g p in

@@ -17,26 +17,26 @@ use Rattle.settling.specs.declared.Verdict.{Verdict}
 use Rattle.settling.specs.declared.Verdict.the-variants.{Empty as empty, Blocked as blocked, Isotropic as isotropic, Smooth as smooth, Rough as rough}
 use Rattle.settling.specs.Gradient.{zero, allRepulsive, gradient, meanNarrowed}
 
--- "Gradient below threshold/10: Scalar of the mean narrowed to f32 .. Below threshold: flag false." (S7.5, S7.6)
+-- "Gradient below threshold/10: Scalar of the mean narrowed to f32 .. Below threshold: flag false."
 unfoldable pub byGradient : Float → List Float → Float → Verdict
 byGradient threshold e x =
     cond (lt x (div binary64 threshold (ofBits binary64 0x4024_0000_0000_0000))) (isotropic (meanNarrowed e)) (cond (lt x threshold) (smooth x) (rough x))
 
--- of n·n energies at the level of a mesh of n vertices (S7.3)
+-- of n·n energies at the level of a mesh of n vertices
 unfoldable pub verdict : Float → Float → Mesh → ℕ → List Float → Verdict
 verdict threshold beta m n e = cond (allRepulsive beta e) blocked (byGradient threshold e (gradient m n beta e))
 
--- "A slab holds energies exactly while its row is Mesh." (S4.10)
+-- "A slab holds energies exactly while its row is Mesh."
 abbrev pub verdictOf : Float → Float → Mesh → ℕ → Row Float → Verdict
 verdictOf threshold beta m n (scalar x) = empty
 verdictOf threshold beta m n repulsive = empty
 verdictOf threshold beta m n (mesh v b e) = verdict threshold beta m n e
 
--- of the rows of a slice at the current level c, over the lent meshes (S13.4)
+-- of the rows of a slice at the current level c, over the lent meshes
 unfoldable pub verdicts : Grid → Mesh → ℕ → List (Row Float) → List Verdict
 verdicts g ms c rs = map (verdictOf (g .threshold) (g .beta) (levelPart c ms) (vertexCount c)) rs
 
--- the row that takes the place of the slab's, or none where the row stays as it is, flag and all (S7.5, S7.6)
+-- the row that takes the place of the slab's, or none where the row stays as it is, flag and all
 abbrev pub newRow : ℕ → Verdict → Option SlabResolution
 newRow c empty = none
 newRow c blocked = some toRepulsive
@@ -71,7 +71,6 @@ steeperOf x (isotropic y) = x
 steeperOf x (smooth y) = larger x y
 steeperOf x (rough y) = larger x y
 
--- S7.7
 unfoldable pub largestFrom : Float → List Verdict → Float
 largestFrom x [] = x
 largestFrom x (v ∷ vs) = largestFrom (steeperOf x v) vs
@@ -94,7 +93,7 @@ notRepulsive repulsive = false
 notRepulsive (mesh v b e) = true
 
 -- "The level drops by one exactly when some slab of the slice had energies and was not made Repulsive in this call, no row of the slice is Repulsive,
--- the largest gradient .. is below the threshold and the level is above 0." (S7.8)
+-- the largest gradient .. is below the threshold and the level is above 0."
 unfoldable pub drops : Float → ℕ → List Verdict → List (Row Float) → Bool
 drops threshold c vs rows = someSettle vs && (every notRepulsive rows && (lt (largestFrom zero vs) threshold && ltb 0 c))
 
@@ -104,13 +103,12 @@ pub record Slice : Type 0 where
   pub gradient : Float
   pub level : ℕ
 
--- S13.4
 unfoldable pub settledSlice : Grid → ℕ → List (Row Float) → List Verdict → Slice
 settledSlice g c rs vs =
     let rows = settledRows c rs vs in
     record { rows = rows; gradient = largestFrom zero vs; level = cond (drops (g .threshold) c vs rows) (c - 1) c }
 
--- 11, of a row: the energies that it holds are from the current level (S5.8, S5.11)
+-- 11, of a row: the energies that it holds are from the current level
 abbrev pub fromLevel : ℕ → Row Float → Bool
 fromLevel c (scalar x) = true
 fromLevel c repulsive = true

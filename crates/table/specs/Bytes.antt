@@ -3,7 +3,7 @@ use mathlib.Core.List.{List, [], _∷_, _++_}
 use Prim.Native.Nat.{ℕ, zero, suc, _+_, _*_, _/_, _%_}
 use lib.ListN.{length, take, drop}
 
--- "Little-endian": a number in w bytes, and the number that bytes are (S8.1, S9.1)
+-- "Little-endian": a number in w bytes, and the number that bytes are
 unfoldable pub bytesOf : ℕ → ℕ → List ℕ
 bytesOf zero x = []
 bytesOf (suc w) x = x % 256 ∷ bytesOf w (x / 256)
@@ -21,7 +21,7 @@ module _ {A : Type 0} where
   packed enc [] = []
   packed enc (x ∷ xs) = enc x ++ packed enc xs
 
-  -- "sections, each after a u32 count" (S8.1, S9.1)
+  -- "sections, each after a u32 count"
   unfoldable pub section : (A → List ℕ) → List A → List ℕ
   section enc xs = bytesOf 4 (length xs) ++ packed enc xs
 

@@ -24,7 +24,7 @@ unfoldable pub entryOf : List ℕ → Entry
 entryOf bs =
     record { kind = numberOf (take 1 bs); level = numberOf (take 1 (drop 1 bs)); offset = numberOf (take 4 (drop 2 bs)); scalar = numberOf (take 4 (drop 6 bs)) }
 
--- "Unused: level 0, offset FFFFFFFF (hexadecimal), scalar 0." The energies of a Mesh row start at place o. (S8.2)
+-- "Unused: level 0, offset FFFFFFFF (hexadecimal), scalar 0." The energies of a Mesh row start at place o.
 abbrev pub entry : ℕ → Row ℕ → Entry
 entry o (scalar x) = record { kind = 0; level = 0; offset = 0xFFFF_FFFF; scalar = x }
 entry o repulsive = record { kind = 1; level = 0; offset = 0xFFFF_FFFF; scalar = 0 }
@@ -36,7 +36,7 @@ energyCount (scalar x) = 0
 energyCount repulsive = 0
 energyCount (mesh v b e) = per v
 
--- "Packing is that of `build`": the offset of a Mesh row is the number of energies of the rows before it (S8.3)
+-- "Packing is that of `build`": the offset of a Mesh row is the number of energies of the rows before it
 unfoldable pub entries : ℕ → List (Row ℕ) → List Entry
 entries o [] = []
 entries o (r ∷ rs) = entry o r ∷ entries (o + energyCount r) rs
@@ -46,12 +46,11 @@ energiesIn (scalar x) = []
 energiesIn repulsive = []
 energiesIn (mesh v b e) = e
 
--- S8.3
 unfoldable pub packedEnergies : List (Row ℕ) → List ℕ
 packedEnergies [] = []
 packedEnergies (r ∷ rs) = energiesIn r ++ packedEnergies rs
 
--- "(1) count 3: rmin, dr, omega step, f64; (2) count 2: distance and dihedral bins, u32; (3) levels: each n, u32, from level 0; (4) rows ..; (5) energies, f32" (S8.1)
+-- "(1) count 3: rmin, dr, omega step, f64; (2) count 2: distance and dihedral bins, u32; (3) levels: each n, u32, from level 0; (4) rows ..; (5) energies, f32"
 unfoldable pub fileOf : Grid → ℕ → List (Row ℕ) → List ℕ
 fileOf g levels rows =
     section (bytesOf 8) (toBits binary64 (g .rmin) ∷ toBits binary64 (g .dr) ∷ toBits binary64 (g .«omega_step») ∷ [])

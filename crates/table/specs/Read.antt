@@ -44,7 +44,6 @@ countAt file at = numberAt 4 file at
 abbrev pub past : List ℕ → ℕ → ℕ → ℕ
 past file at w = at + 4 + countAt file at * w
 
--- S5.13, S9.1
 unfoldable pub layout : List ℕ → Layout
 layout file =
     let bins = past file 0 8 in
@@ -53,7 +52,7 @@ layout file =
     let energies = past file rows 10 in
     record { bins = bins; levels = levels; rows = rows; energies = energies; end = past file energies 4 }
 
--- "do the sections follow their counts and end with the last byte? 13. The counts of sections 1 and 2 belong to 13." (S5.13, S9.1)
+-- "do the sections follow their counts and end with the last byte? 13. The counts of sections 1 and 2 belong to 13."
 unfoldable pub laidOut : List ℕ → Layout → Bool
 laidOut file p = eqb (countAt file 0) 3 && (eqb (countAt file (p .bins)) 2 && eqb (p .end) (length file))
 
@@ -79,7 +78,6 @@ gridOf file p =
       «n_omega» = numberAt 4 file (p .bins + 8);
     }
 
--- S9.2
 unfoldable pub tableOf : List ℕ → Layout → Table
 tableOf file p =
     record {
@@ -102,7 +100,7 @@ energyItems file t = items numberOf 4 file (t .«energies_start») (t .energies)
 
 -- ---- 14, grid and levels
 
--- "the row count the product of the bin counts, and each vertex count its level's" (S5.14)
+-- "the row count the product of the bin counts, and each vertex count its level's"
 unfoldable pub tableValid : List ℕ → Table → Bool
 tableValid file t =
     gridValid (t .grid) (t .levels)
@@ -111,11 +109,11 @@ tableValid file t =
 
 -- ---- 15, rows
 
--- "no scalar NaN but 0x7FC00000" (S5.15)
+-- "no scalar NaN but 0x7FC00000"
 unfoldable pub scalarValid : ℕ → Bool
 scalarValid x = cond (nanBits binary32 x) (eqb x 0x7FC0_0000) true
 
--- "Has each row a known kind, a held level if it is Mesh, its unused fields as below": of n levels (S5.15)
+-- "Has each row a known kind, a held level if it is Mesh, its unused fields as below": of n levels
 unfoldable pub entryValid : ℕ → Entry → Bool
 entryValid n r =
     cond (eqb (r .kind) 0) (eqb (r .level) 0 && (eqb (r .offset) 0xFFFF_FFFF && scalarValid (r .scalar)))
@@ -124,14 +122,14 @@ entryValid n r =
 
 -- ---- 16, tiling
 
--- "Do offsets tile the energies in row order?": from place o on, ending at n (S5.16)
+-- "Do offsets tile the energies in row order?": from place o on, ending at n
 unfoldable pub tiled : ℕ → ℕ → List Entry → Bool
 tiled o n [] = eqb o n
 tiled o n (r ∷ rs) = cond (leb (r .kind) 1) (tiled o n rs) (eqb (r .offset) o && tiled (o + per (r .level)) n rs)
 
 -- ---- 17, energies, and the whole
 
--- "Read": 13 to 17, each put to the whole file before the next (S5.17)
+-- "Read": 13 to 17, each put to the whole file before the next
 unfoldable pub readRefusal : List ℕ → Layout → Table → ℕ
 readRefusal file p t =
     ask (laidOut file p) 13

@@ -24,11 +24,11 @@ abbrev pub writtenValues : Written → WrittenValues
 writtenValues (Writes n) = record { number = 0; length = n }
 writtenValues (NotWritten n) = record { number = n; length = 0 }
 
--- the file of a builder and the lists that it holds. "The level count is the top level plus one." (S8.4)
+-- the file of a builder and the lists that it holds. "The level count is the top level plus one."
 unfoldable pub fileFrom : Builder → BuilderLists → List ℕ
 fileFrom b l = fileOf (b .grid) (suc (b .top)) (map compared (rowsFrom (b .top) l 0 (slabs (b .grid))))
 
--- "write before 12, put the kind and level part of 15 to each row touched"; "is the output at least as long as the file? 12" (S5.12, S8.6)
+-- "write before 12, put the kind and level part of 15 to each row touched"; "is the output at least as long as the file? 12"
 unfoldable pub writeRefusal : Builder → Mesh → BuilderLists → ℕ → ℕ
 writeRefusal b m l room =
     first (meshedRefusal b m l)
@@ -42,7 +42,7 @@ pub record WriteOut : Type 0 where
   pub lists : BuilderLists
   pub output : List ℕ
 
--- "Bytes beyond the file stay." (S5.12, S8.6)
+-- "Bytes beyond the file stay."
 unfoldable pub writeOut : Builder → Mesh → BuilderLists → List ℕ → WriteOut
 writeOut b m l out =
     let r = writeRefusal b m l (length out) in
