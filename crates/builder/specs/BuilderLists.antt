@@ -44,10 +44,11 @@ rowsFrom top l s (suc n) = rowAt top l s ∷ rowsFrom top l (suc s) n
 abbrev pub sliceAt : Builder → BuilderLists → ℕ → List (Row Float)
 sliceAt b l ri = rowsFrom (b .top) l (slab (b .grid) ri 0) (b .grid .«n_omega»)
 
--- 6, of store and rows
+-- 6, of store and rows (S5.6)
 unfoldable pub listRoom : Grid → ℕ → ℕ → ℕ → ℕ → ℕ → Bool
 listRoom g top store kinds levels values = leb (slabs g * per top) store && rowRoom (slabs g) kinds levels values
 
+-- S5.6
 abbrev pub listsLong : Builder → BuilderLists → Bool
 listsLong b l = listRoom (b .grid) (b .top) (length (l .store)) (length (l .rows .kinds)) (length (l .rows .levels)) (length (l .rows .values))
 

@@ -54,7 +54,7 @@ noBuilder =
 unfoldable pub freshBuilder : Grid → ℕ → Builder
 freshBuilder g top = record { grid = counted g; top = top; level = top }
 
--- "fresh fills rows with Scalar 0.0 and the store with 0.0"
+-- "fresh fills rows with Scalar 0.0 and the store with 0.0" (S6.2)
 unfoldable pub filled : Builder → BuilderLists → BuilderLists
 filled b l =
     let n = slabs (b .grid) in
@@ -68,6 +68,7 @@ pub record BuiltOut : Type 0 where
   pub answer : BuiltValues
   pub lists : BuilderLists
 
+-- S6.2
 unfoldable pub freshOut : Grid → ℕ → Mesh → BuilderLists → BuiltOut
 freshOut g top m l =
     let b = freshBuilder g top in

@@ -15,21 +15,22 @@ use Rattle.settling.specs.Settling.{fromLevel}
 use Rattle.builder.specs.BuilderLists.{BuilderLists, slab, sliceAt, listsLong, meshesLong, rowsKnown}
 use Rattle.builder.specs.declared.Builder.{Builder}
 
--- "Set, settle and write first put 1 to 5 to the builder's settings, counts and levels"
+-- "Set, settle and write first put 1 to 5 to the builder's settings, counts and levels" (S5.22)
 abbrev pub builderQuestion : Builder → ℕ
 builderQuestion b = question (b .grid) (b .top) (b .level)
 
--- ".. then 6; settle and write then put 7": 1 to 7, of a call that the meshes are lent to
+-- ".. then 6; settle and write then put 7": 1 to 7, of a call that the meshes are lent to (S5.22)
 unfoldable pub meshedRefusal : Builder → Mesh → BuilderLists → ℕ
 meshedRefusal b m l = first (builderQuestion b) (ask (listsLong b l && meshesLong b m) 6 (ask (meshesKeep (b .top) m) 7 0))
 
--- "are both bin numbers below their counts? 8. Are there exactly n·n energies, n of the current level? 9. Is none a NaN? 10."
+-- "are both bin numbers below their counts? 8. Are there exactly n·n energies, n of the current level? 9. Is none a NaN? 10." (S5.8 to S5.10)
 unfoldable pub setQuestion : Grid → ℕ → ℕ → ℕ → List Float → ℕ
 setQuestion g level ri oi e =
     ask (ltb ri (g .«n_r») && ltb oi (g .«n_omega»)) 8
     (ask (eqb (length e) (per level)) 9
     (ask (every (λ x. not (isNan x)) e) 10 0))
 
+-- S5.22
 unfoldable pub setRefusal : Builder → BuilderLists → ℕ → ℕ → List Float → ℕ
 setRefusal b l ri oi e = first (builderQuestion b) (ask (listsLong b l) 6 (setQuestion (b .grid) (b .level) ri oi e))
 

@@ -10,7 +10,7 @@ use Rattle.lists.specs.Questions.{ask}
 use Rattle.search.specs.Cells.{cell, facesOf, flat}
 use Rattle.search.specs.Search.{Locator}
 
--- 6, of the four lists: "6·g·g+1 u32 and 27n u16 for cells, n+1 u32 and 45n u16 for faces by vertex"
+-- 6, of the four lists: "6·g·g+1 u32 and 27n u16 for cells, n+1 u32 and 45n u16 for faces by vertex" (S5.6)
 unfoldable pub locatorRoom : ℕ → ℕ → ℕ → ℕ → ℕ → ℕ → Bool
 locatorRoom n g cellOffsets cellVertices faceOffsets faces =
     leb (cellCount g + 1) cellOffsets && (leb (27 * n) cellVertices && (leb (n + 1) faceOffsets && leb (45 * n) faces))
@@ -18,7 +18,7 @@ locatorRoom n g cellOffsets cellVertices faceOffsets faces =
 abbrev pub locatorLong : ℕ → ℕ → Locator → Bool
 locatorLong n g l = locatorRoom n g (length (l .cellOffsets)) (length (l .cellVertices)) (length (l .faceOffsets)) (length (l .faces))
 
--- "Locator, for one level: 2, 6, then 7"
+-- "Locator, for one level: 2, 6, then 7" (S5.22)
 unfoldable pub locatorRefusal : ℕ → Mesh → Locator → ℕ
 locatorRefusal level m l =
     let n = vertexCount level in

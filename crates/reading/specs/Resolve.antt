@@ -19,7 +19,7 @@ use Rattle.search.specs.declared.Located.{Located}
 use Rattle.reading.specs.declared.Reading.{Reading}
 use Rattle.reading.specs.declared.Reading.the-variants.{Energy, Refused}
 
--- 01's number and value for each case of the answer: "reading returns the energy"; beside a number that refuses stands 0
+-- 01's number and value for each case of the answer: "reading returns the energy"; beside a number that refuses stands 0 (S12.10)
 pub record ReadingValues : Type 0 where
   pub number : ℕ
   pub energy : Float
@@ -35,11 +35,11 @@ pub record Query : Type 0 where
   pub a : Vector3
   pub b : Vector3
 
--- 18: "is r not a NaN, omega finite, and the length of each direction finite and above 0?"
+-- 18: "is r not a NaN, omega finite, and the length of each direction finite and above 0?" (S5.18)
 unfoldable pub queryValid : Query → Bool
 queryValid q = not (isNan (q .r)) && (finite (q .omega) && (above (norm (q .a)) && above (norm (q .b))))
 
--- "A distance below rmin or above rmax"; "a reading's rmax is this one, not the settings'"
+-- "A distance below rmin or above rmax"; "a reading's rmax is this one, not the settings'" (S12.2)
 unfoldable pub outside : Grid → Float → Bool
 outside g r = lt r (g .rmin) || lt (tableRmax (g .«n_r») (g .dr) (g .rmin)) r
 
@@ -48,7 +48,7 @@ pub data Resolved : Type 0 where
   beyond : Resolved
   slabAt : ℕ → Resolved
 
--- `resolve_slab_idx`, after 18; of 19: "Are bin counts above 0"
+-- `resolve_slab_idx`, after 18; of 19: "Are bin counts above 0" (S12.2)
 unfoldable pub resolve : Grid → Query → Resolved
 resolve g q =
     cond (queryValid q)
@@ -103,7 +103,7 @@ widened x = ofBits binary32 x
 weightAt : Weights → ℕ → Float
 weightAt w i = cond (eqb i 0) (w .a) (cond (eqb i 1) (w .b) (w .c))
 
--- "nine-term sum as `lookup` has them": bary_a[i] * vals[i * 3 + j] * bary_b[j], from +0.0
+-- "nine-term sum as `lookup` has them": bary_a[i] * vals[i * 3 + j] * bary_b[j], from +0.0 (S2.15)
 unfoldable pub nineTerms : Weights → Weights → List ℕ → Float
 unfolding weightAt
 nineTerms a b es =

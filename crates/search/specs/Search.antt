@@ -22,7 +22,7 @@ use Rattle.search.specs.declared.faces.Fit.{Fit}
 
 -- ---- the nearest vertex (`nearest_in_cell`)
 
--- the square of the distance: "`powi(2)` is one product"
+-- the square of the distance: "`powi(2)` is one product" (S2.14)
 unfoldable pub squared : Vector3 → Vector3 → Float
 squared p v = let d = difference p v in dot d d
 
@@ -73,6 +73,7 @@ bestFace vs p l = let b = fitFrom vs p noFit l in record { number = 0; face = b 
 unfoldable pub nearestOf : Mesh → ℕ → ℕ → Vector3 → Nearest
 nearestOf m n g p = nearestAmong (m .vertices) p (cell (m .vertices) n g (cellIndex g p))
 
+-- S11.6 to S11.8
 unfoldable pub locate : Mesh → ℕ → ℕ → Vector3 → Located
 locate m n g p =
     let v = nearestOf m n g p in
@@ -134,6 +135,7 @@ unfoldable pub nearestIn : Locator → List Float → ℕ → ℕ → Vector3 �
 unfolding nearestInCells
 nearestIn l = nearestInCells (l .cellOffsets) (l .cellVertices)
 
+-- S11.6 to S11.8
 unfoldable pub locateIn : Locator → List Float → ℕ → ℕ → Vector3 → Located
 locateIn l vs n g p =
     let v = nearestIn l vs n g p in

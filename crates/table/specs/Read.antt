@@ -78,6 +78,7 @@ gridOf file p =
       «n_omega» = numberAt 4 file (p .bins + 8);
     }
 
+-- S9.2
 unfoldable pub tableOf : List ℕ → Layout → Table
 tableOf file p =
     record {
@@ -100,7 +101,7 @@ energyItems file t = items numberOf 4 file (t .«energies_start») (t .energies)
 
 -- ---- 14, grid and levels
 
--- "the row count the product of the bin counts, and each vertex count its level's"
+-- "the row count the product of the bin counts, and each vertex count its level's" (S5.14)
 unfoldable pub tableValid : List ℕ → Table → Bool
 tableValid file t =
     gridValid (t .grid) (t .levels)
@@ -109,11 +110,11 @@ tableValid file t =
 
 -- ---- 15, rows
 
--- "no scalar NaN but 0x7FC00000"
+-- "no scalar NaN but 0x7FC00000" (S5.15)
 unfoldable pub scalarValid : ℕ → Bool
 scalarValid x = cond (nanBits binary32 x) (eqb x 0x7FC0_0000) true
 
--- "Has each row a known kind, a held level if it is Mesh, its unused fields as below": of n levels
+-- "Has each row a known kind, a held level if it is Mesh, its unused fields as below": of n levels (S5.15)
 unfoldable pub entryValid : ℕ → Entry → Bool
 entryValid n r =
     cond (eqb (r .kind) 0) (eqb (r .level) 0 && (eqb (r .offset) 0xFFFF_FFFF && scalarValid (r .scalar)))
@@ -122,14 +123,14 @@ entryValid n r =
 
 -- ---- 16, tiling
 
--- "Do offsets tile the energies in row order?": from place o on, ending at n
+-- "Do offsets tile the energies in row order?": from place o on, ending at n (S5.16)
 unfoldable pub tiled : ℕ → ℕ → List Entry → Bool
 tiled o n [] = eqb o n
 tiled o n (r ∷ rs) = cond (leb (r .kind) 1) (tiled o n rs) (eqb (r .offset) o && tiled (o + per (r .level)) n rs)
 
 -- ---- 17, energies, and the whole
 
--- "Read": 13 to 17, each put to the whole file before the next
+-- "Read": 13 to 17, each put to the whole file before the next (S5.17)
 unfoldable pub readRefusal : List ℕ → Layout → Table → ℕ
 readRefusal file p t =
     ask (laidOut file p) 13

@@ -56,6 +56,7 @@ pub record Starred : Type 0 where
   pub mesh-kept : computed (meshesKeep 0 icosahedron) ≡ true
   pub fresh-accepted : computed (fresh (history []) .answer .number) ≡ 0
   pub write-answer : computed (lastWrite (history []) .answer) ≡ record { number = 0; length = 66 }
+  -- S17.1
   pub bytes : computed (file (history [])) ≡ sixtySix
   -- with rmin 0, dr 1, four bins: r 0.5 in bin 1
   pub distance-half : distanceBin (f64 0x3FE0_0000_0000_0000) (f64 0) (f64 0x3FF0_0000_0000_0000) 4 ≡ 1
