@@ -1,4 +1,5 @@
-// A settle with the builder lent, and a record replaced in a lent list of rows, each beside the by-value call over the three lists of numbers. `either-form` of `lent` has the rest by proof.
+// A settle with the builder lent, and a record replaced in a lent list of rows, each beside the by-value call over the
+// three lists of numbers. `either-form` of `lent` has the rest by proof.
 use builder::Built;
 use builder::Settled;
 use grid::Grid;
@@ -198,7 +199,8 @@ fn accepted(a: Built) -> Builder {
     }
 }
 
-// A slice with one slab set; a settle of a bin beyond, which is refused; one that is accepted, and drops the level.
+// A slice with one slab set; a settle of a bin beyond, which is refused; one that is accepted, and drops the level; a
+// record replaced.
 fn main() {
     let mut store = [1.0; 3528];
     let mut kinds: [u8; 2] = [9; 2];
