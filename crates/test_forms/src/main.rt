@@ -198,7 +198,8 @@ fn accepted(a: Built) -> Builder {
     }
 }
 
-// A slice with one slab set; a settle of a bin beyond, which is refused; one that is accepted, and drops the level.
+// A slice with one slab set; a settle of a bin beyond, which is refused; one that is accepted, and drops the level; a
+// record replaced.
 fn main() {
     let mut store = [1.0; 3528];
     let mut kinds: [u8; 2] = [9; 2];
