@@ -75,9 +75,9 @@ module _ (top : ℕ) (ms : Mesh) (l : Locator) (low : top ≤ 15) (held : meshLo
   pub nearest-vertex : nearestOf m n g p .number ≡ 0 → nearestOf m n g p .vertex < n
   nearest-vertex e = nearest-below n g m (locatorPart v l) (call-accepted top ms l low held kept roomy v h) [] (locatorPart v l) p e
 
-  pub locatorLists-face : FaceBelow n (locate m n g p .face)
+  pub located-face : FaceBelow n (locate m n g p .face)
   unfolding locate bestFace
-  locatorLists-face =
+  located-face =
       chosen (λ (r : Located). FaceBelow n (r .face)) (eqb (nearestOf m n g p .number) 0) (bestFace (m .vertices) p (facesOf m n (nearestOf m n g p .vertex))) (notLocated (nearestOf m n g p .number))
       (λ e. fit-below (m .vertices) p n (facesOf m n (nearestOf m n g p .vertex)) (some-vertices v)
       (faces-in n g m (locatorPart v l) (call-accepted top ms l low held kept roomy v h) [] (locatorPart v l) (m .vertices) (nearestOf m n g p .vertex) (omega arith)))

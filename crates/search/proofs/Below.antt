@@ -95,9 +95,9 @@ module _ (vs : List Float) (n : ℕ) (p : Vector3) where
   none : (k : ℕ) → (k ≡ 0 → ⊥) → Located0 (notLocated k)
   none k h e = absurd (h e)
 
-  pub locatedFit-below : 0 < n → (l : Locator) (g : ℕ) → Located0 (locateIn l vs n g p)
+  pub located-below : 0 < n → (l : Locator) (g : ℕ) → Located0 (locateIn l vs n g p)
   unfolding locateIn bestFace
-  locatedFit-below N l g = by (nearestIn l vs n g p .number) (nearestIn l vs n g p .vertex) (eqb (nearestIn l vs n g p .number) 0) refl
+  located-below N l g = by (nearestIn l vs n g p .number) (nearestIn l vs n g p .vertex) (eqb (nearestIn l vs n g p .number) 0) refl
     where
       face-by : (v : ℕ) (t : Bool) → (t ≡ true → every (vertexInside vs n) (entriesAt 3 (l .faceOffsets) (l .faces) v) ≡ true)
           → Located0 (cond t (bestFace vs p (triples (entriesAt 3 (l .faceOffsets) (l .faces) v))) (notLocated 19))

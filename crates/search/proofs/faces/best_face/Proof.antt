@@ -70,7 +70,7 @@ returns c =
     let x = y .before .before in
     let l = x .before .before .before in
     let a = l .before .before .before .before .args in
-    c .not-locatedFit .ensures
+    c .not-located .ensures
     ∙ sym (fit-stop (a .vertices .now) (a .n) (a .p) (a .faces .now) (l .loop .best) (l .loop .i) (x .wide16 .result) (y .wide162 .result) (z .wide163 .result) (omega arith) (x .wide16 .ensures) (y .wide162 .ensures) (z .wide163 .ensures) (no (tests i) (c .before .if1 .taken)))
     ∙ l .loop .inv .2 ∙ start l
 

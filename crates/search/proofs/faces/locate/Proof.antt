@@ -27,7 +27,7 @@ returns : tie.Need-returns
 returns c =
     let v = c .before .before in
     let b = v .before .before .before .before .before .before in
-    c .not-locatedFit .ensures
+    c .not-located .ensures
     ∙ sym (none-near (lists b) (b .args .vertices .now) (vertexCount (b .args .level)) (gridSize (vertexCount (b .args .level))) (b .args .p) (v .find-nearest-vertex .result) (v .find-nearest-vertex .ensures) (c .before .if1 .taken))
 
 returns-2 : tie.Need-returns-2
