@@ -1,9 +1,15 @@
 """The walks of this repository."""
+from entry import Read, Replace
 from lend import Lend
+
+RECORDS = (('specs', 'Records'), ('proofs', 'Entries'))
 
 
 def walks():
     return [
         Lend('lent', 'calls', 'set_lent'),
         Lend('lent', 'calls', 'settle_lent'),
+        Read('lent', 'records', 'row_at', RECORDS, 'none', 'read (rows .now) s', 'read-beyond (rows .now) s h'),
+        Replace('lent', 'records', 'replace_row', RECORDS, 'none', '(inside (ltb s (length (rows .now))) h, refl)',
+                '(outside (ltb s (length (rows .now))) h, kept (rows .now) s r h)'),
     ]
