@@ -7,10 +7,11 @@ statement by statement. Its steps name what they use by places in a list of what
 
 To change a walk, change the function or its contract in crates/CRATE/src, run this program, then `rt dev CRATE`:
 parameters, types and contracts are read from the source. To add one, give the function the body of a shape (lend.py,
-entry.py, bridge.py, each of which shows it at its head) and add a line to walks.py. What has to be written there are
-the names of laws: why the contract holds. A new shape is a class like those, of the steps that context.py, elements.py
-and calls.py have; `rt mir CRATE` prints the statements that it has to walk."""
+entry.py, bridge.py, through.py, each of which shows it at its head) and add a line to walks.py. What has to be written
+there are the names of laws: why the contract holds. A new shape is a class like those, of the steps that context.py,
+elements.py and calls.py have; `rt mir CRATE` prints the statements that it has to walk."""
 import argparse
+import glob
 import itertools
 import os
 import sys
@@ -19,6 +20,8 @@ sys.dont_write_bytecode = True
 
 from source import ROOT, Wrong, content  # noqa: E402
 from walks import walks  # noqa: E402
+
+MARK = 'a walk of its MIR'
 
 
 def difference(wanted, found):
@@ -35,12 +38,16 @@ def self_test(text):
 
 
 def check(texts):
-    """Each file is as it is written here."""
+    """Each file is as it is written here, and no walk stands elsewhere."""
     for file, text in texts.items():
         self_test(text)
         line = difference(text, content(file))
         if line:
             raise Wrong('%s: line %d is not as tools/walks writes it' % (file, line))
+    for path in sorted(glob.glob(os.path.join(ROOT, 'crates', '*', 'proofs', '**', 'Proof.antt'), recursive=True)):
+        file = os.path.relpath(path, ROOT)
+        if file not in texts and MARK in content(file).split('\n')[0]:
+            raise Wrong('%s: a walk that tools/walks does not write' % file)
     print('tools/walks: %d walks are as they are written' % len(texts))
 
 

@@ -2,6 +2,7 @@
 from bridge import Gather, Spread
 from entry import Read, Replace
 from lend import Lend
+from through import Through
 
 RECORDS = (('specs', 'Records'), ('proofs', 'Entries'))
 
@@ -16,4 +17,6 @@ def walks():
         Gather('lent', 'records', 'gather', RECORDS, 'none', 'bridged-le'),
         Spread('lent', 'records', 'spread', RECORDS, 'none', 'bridged-le', 'recordAt (columns (rows .now)) %s',
                'read (rows .now) %s'),
+        Through('test_forms', 'through', 'settle_through'),
+        Through('test_forms', 'through', 'with_row', 'e .1'),
     ]
