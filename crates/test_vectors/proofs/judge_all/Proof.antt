@@ -5,13 +5,7 @@ use lib.ListN.{length}
 use Rattle.test_vectors.proofs.judge_all.Statement.{statement}
 use Rattle.test_vectors.proofs.judge_all.Tie as tie
 
-abbrev Inv-loop : tie.InvT-loop
-Inv-loop text t₀ at₀ t at = at ≤ length text + 1
-
-abbrev μ-loop : tie.MeasureT-loop
-μ-loop text t₀ at₀ t at = length text + 1 - at
-
 pub judge-all-spec : {M : Type 1} → statement M
 judge-all-spec =
     tie.close
-    (tie.spec Inv-loop μ-loop (λ c. search needs) (λ c κs. search needs) (λ c. search needs) (λ c. search needs) (λ c. search needs) (λ c κs. search needs) (λ c. search needs) (λ c. search needs) (λ c. search needs) (λ c. search needs))
+    (tie.spec (λ text t₀ at₀ t at. at ≤ length text + 1) (λ text t₀ at₀ t at. length text + 1 - at) (λ c. search needs) (λ c κs. search needs) (λ c. search needs) (λ c. search needs) (λ c. search needs) (λ c κs. search needs) (λ c. search needs) (λ c. search needs) (λ c. search needs) (λ c. search needs))

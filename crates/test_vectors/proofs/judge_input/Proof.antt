@@ -6,13 +6,7 @@ use lib.ListN.{length}
 use Rattle.test_vectors.proofs.judge_input.Statement.{statement}
 use Rattle.test_vectors.proofs.judge_input.Tie as tie
 
-abbrev Inv-loop : tie.InvT-loop
-Inv-loop piece₀ t₀ have₀ turns₀ piece t have turns = (have ≤ length piece) × (length piece ≡ length piece₀)
-
-abbrev μ-loop : tie.MeasureT-loop
-μ-loop piece₀ t₀ have₀ turns₀ piece t have turns = turns
-
 pub judge-input-spec : {M : Type 1} → statement M
 judge-input-spec =
     tie.close
-    (tie.spec Inv-loop μ-loop (λ c κs. search needs) (λ c. search needs) (λ c. search needs) (λ c. search needs) (λ c. search needs) (λ c. search needs) (λ c κs. search needs) (λ c. search needs) (λ c κs. search needs) (λ c. search needs) (λ c. search needs) (λ c κs. search needs) (λ c κs. search needs) (λ c. search needs) (λ c. search needs) (λ c. search needs) (λ c. search needs) (λ c. search needs) (λ c. search needs))
+    (tie.spec (λ piece₀ t₀ have₀ turns₀ piece t have turns. (have ≤ length piece) × (length piece ≡ length piece₀)) (λ piece₀ t₀ have₀ turns₀ piece t have turns. turns) (λ c κs. search needs) (λ c. search needs) (λ c. search needs) (λ c. search needs) (λ c. search needs) (λ c. search needs) (λ c κs. search needs) (λ c. search needs) (λ c κs. search needs) (λ c. search needs) (λ c. search needs) (λ c κs. search needs) (λ c κs. search needs) (λ c. search needs) (λ c. search needs) (λ c. search needs) (λ c. search needs) (λ c. search needs) (λ c. search needs))

@@ -6,13 +6,7 @@ use lib.ListN.{length}
 use Rattle.test_vectors.proofs.keep.Statement.{statement}
 use Rattle.test_vectors.proofs.keep.Tie as tie
 
-abbrev Inv-loop : tie.InvT-loop
-Inv-loop piece₀ from have i₀ piece i = (i ≤ have - from) × (length piece ≡ length piece₀)
-
-abbrev μ-loop : tie.MeasureT-loop
-μ-loop piece₀ from have i₀ piece i = have - from - i
-
 pub keep-spec : {M : Type 1} → statement M
 keep-spec =
     tie.close
-    (tie.spec Inv-loop μ-loop (λ c. search needs) (λ c. search needs) (λ c. search needs) (λ c. search needs) (λ c. search needs) (λ c. search needs) (λ c. search needs) (λ c. search needs) (λ c. search needs) (λ c. search needs))
+    (tie.spec (λ piece₀ from have i₀ piece i. (i ≤ have - from) × (length piece ≡ length piece₀)) (λ piece₀ from have i₀ piece i. have - from - i) (λ c. search needs) (λ c. search needs) (λ c. search needs) (λ c. search needs) (λ c. search needs) (λ c. search needs) (λ c. search needs) (λ c. search needs) (λ c. search needs) (λ c. search needs))

@@ -5,13 +5,7 @@ use lib.ListN.{length}
 use Rattle.test_vectors.proofs.line.place_of.Statement.{statement}
 use Rattle.test_vectors.proofs.line.place_of.Tie as tie
 
-abbrev Inv-loop : tie.InvT-loop
-Inv-loop byte text at end₀ end = (at ≤ end) × (end ≤ length text)
-
-abbrev μ-loop : tie.MeasureT-loop
-μ-loop byte text at end₀ end = length text - end
-
 pub place-of-spec : {M : Type 1} → statement M
 place-of-spec =
     tie.close
-    (tie.spec Inv-loop μ-loop (λ c. search needs) (λ c. search needs) (λ c. search needs) (λ c. search needs) (λ c. search needs) (λ c. search needs) (λ c. search needs))
+    (tie.spec (λ byte text at end₀ end. (at ≤ end) × (end ≤ length text)) (λ byte text at end₀ end. length text - end) (λ c. search needs) (λ c. search needs) (λ c. search needs) (λ c. search needs) (λ c. search needs) (λ c. search needs) (λ c. search needs))

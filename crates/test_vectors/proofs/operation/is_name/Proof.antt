@@ -5,13 +5,7 @@ use lib.ListN.{length}
 use Rattle.test_vectors.proofs.operation.is_name.Statement.{statement}
 use Rattle.test_vectors.proofs.operation.is_name.Tie as tie
 
-abbrev Inv-loop : tie.InvT-loop
-Inv-loop text op letters i₀ i = i ≤ length text
-
-abbrev μ-loop : tie.MeasureT-loop
-μ-loop text op letters i₀ i = length text - i
-
 pub is-name-spec : {M : Type 1} → statement M
 is-name-spec =
     tie.close
-    (tie.spec Inv-loop μ-loop (λ c κs. search needs) (λ c. search needs) (λ c. search needs) (λ c. search needs) (λ c. search needs) (λ c. search needs) (λ c. search needs) (λ c. search needs) (λ c. search needs) (λ c. search needs) (λ c. search needs))
+    (tie.spec (λ text op letters i₀ i. i ≤ length text) (λ text op letters i₀ i. length text - i) (λ c κs. search needs) (λ c. search needs) (λ c. search needs) (λ c. search needs) (λ c. search needs) (λ c. search needs) (λ c. search needs) (λ c. search needs) (λ c. search needs) (λ c. search needs) (λ c. search needs))

@@ -4,13 +4,7 @@ use Prim.Native.Nat.{_≤_, _-_}
 use Rattle.test_vectors.proofs.operation.number.Statement.{statement}
 use Rattle.test_vectors.proofs.operation.number.Tie as tie
 
-abbrev Inv-loop : tie.InvT-loop
-Inv-loop text op₀ op = op ≤ 16
-
-abbrev μ-loop : tie.MeasureT-loop
-μ-loop text op₀ op = 16 - op
-
 pub number-spec : {M : Type 1} → statement M
 number-spec =
     tie.close
-    (tie.spec Inv-loop μ-loop (λ c. search needs) (λ c κs. search needs) (λ c. search needs) (λ c. search needs) (λ c. search needs) (λ c. search needs) (λ c. search needs))
+    (tie.spec (λ text op₀ op. op ≤ 16) (λ text op₀ op. 16 - op) (λ c. search needs) (λ c κs. search needs) (λ c. search needs) (λ c. search needs) (λ c. search needs) (λ c. search needs) (λ c. search needs))

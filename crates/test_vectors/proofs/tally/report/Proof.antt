@@ -4,13 +4,7 @@ use Prim.Native.Nat.{_≤_, _-_}
 use Rattle.test_vectors.proofs.tally.report.Statement.{statement}
 use Rattle.test_vectors.proofs.tally.report.Tie as tie
 
-abbrev Inv-loop : tie.InvT-loop
-Inv-loop t agree₀ lines₀ op₀ t8 t9 t10 t11 agree lines op = op ≤ 16
-
-abbrev μ-loop : tie.MeasureT-loop
-μ-loop t agree₀ lines₀ op₀ t8 t9 t10 t11 agree lines op = 16 - op
-
 pub report-spec : {M : Type 1} → statement M
 report-spec =
     tie.close
-    (tie.spec Inv-loop μ-loop (λ c. search needs) (λ c κs. search needs) (λ c. search needs) (λ c κs. search needs) (λ c. search needs) (λ c. search needs) (λ c. search needs) (λ c. search needs) (λ c κs. search needs) (λ c κs. search needs) (λ c κs. search needs) (λ c. search needs) (λ c. search needs) (λ c. search needs) (λ c. search needs) (λ c κs. search needs) (λ c κs. search needs) (λ c. search needs) (λ c κs. search needs) (λ c κs. search needs) (λ c. search needs) (λ c κs. search needs) (λ c. search needs) (λ c. search needs))
+    (tie.spec (λ t agree₀ lines₀ op₀ t8 t9 t10 t11 agree lines op. op ≤ 16) (λ t agree₀ lines₀ op₀ t8 t9 t10 t11 agree lines op. 16 - op) (λ c. search needs) (λ c κs. search needs) (λ c. search needs) (λ c κs. search needs) (λ c. search needs) (λ c. search needs) (λ c. search needs) (λ c. search needs) (λ c κs. search needs) (λ c κs. search needs) (λ c κs. search needs) (λ c. search needs) (λ c. search needs) (λ c. search needs) (λ c. search needs) (λ c κs. search needs) (λ c κs. search needs) (λ c. search needs) (λ c κs. search needs) (λ c κs. search needs) (λ c. search needs) (λ c κs. search needs) (λ c. search needs) (λ c. search needs))
