@@ -42,6 +42,11 @@ mod reading;
 #[path = "../tests/compare/refusals.rs"]
 #[allow(dead_code)]
 mod refusals;
+#[path = "../tests/compare/report.rs"]
+mod report;
+#[path = "../tests/compare/search.rs"]
+#[allow(dead_code)]
+mod search;
 mod builds;
 mod readings;
 mod searches;

@@ -1,24 +1,36 @@
 /* Pair-energy tables over distance, dihedral angle and two orientations: build, write, read, look up.
  *
- * Link with libicotable.a (`rt staticlib icotable` writes it to target/staticlib) and the C library's mathematics (-lm).
+ * Link with libicotable.a (`make -C hosts/c lib` writes it to target/staticlib) and the C library's mathematics (-lm).
  * Nothing checks these declarations against the library's source: they are written by hand and tried by hosts/c.
+ * Helpers that are not proved are in libicotable_host.a: meshes (mesh.h) and a test of the floating-point environment
+ * (environment.h).
  *
  * Answers. Every function returns a number, or a struct whose first field is `number`: 0 where the call was accepted,
- * else the number of the first question that was answered no. A refused call changes nothing. All other
- * fields of a refused answer are 0, except that a refused set or settle hands the builder back as it came, so that
+ * else the number of the first question that was answered no. A refused call changes nothing. All other fields of a
+ * refused answer are 0, except that a refused set or settle hands the builder back as it came, so that
  * `b = icotable_set(b, ..).builder` never loses it.
  *
  * Lists. A list is a pointer and the count of its entries. It may be longer than needed: entries beyond what is needed
  * stay as they are. A pointer may be null where its count is 0. Lists must not overlap. The library keeps no state and
  * allocates nothing, so calls on different lists may run in different threads.
  *
- * Sizes. Level m has n = 10*(m+1)*(m+1)+2 vertices, m from 0 to 15. A slab is one distance bin and one dihedral bin, slab
- * (ri, oi) is number ri*n_omega+oi, and a slab at a level holds n*n energies. A builder with S slabs and top level T
- * needs: store, S times n*n of level T; kinds, levels and values, S each. A level's mesh is 3n vertices (x, y, z), n
- * neighbour_counts (5 or 6), 6n neighbours and 6n angles, six places a vertex, of which a sixth is not read where the count
- * is 5. fresh, settle and write take the meshes of all levels from 0 to the top, one after another in each list; locator
- * takes one level's parts; set takes no mesh. locator needs, with g = max(2, ceiling(sqrt(n/6)*1.2)): 6*g*g+1
+ * Sizes. Level m has n = 10*(m+1)*(m+1)+2 vertices, m from 0 to 15. A slab is one distance bin and one dihedral bin,
+ * slab (ri, oi) is number ri*n_omega+oi, and a slab at a level holds n*n energies. A builder with S slabs and top level
+ * T needs: store, S times n*n of level T; kinds, levels and values, S each. A level's mesh is 3n vertices (x, y, z), n
+ * neighbour_counts (5 or 6), 6n neighbours and 6n angles, six places a vertex, of which a sixth is not read where the
+ * count is 5. fresh, settle and write take the meshes of all levels from 0 to the top, one after another in each list;
+ * locator takes one level's parts; set takes no mesh. locator needs, with g = max(2, ceiling(sqrt(n/6)*1.2)): 6*g*g+1
  * cell_offsets, 27n cell_vertices, n+1 face_offsets and 45n faces.
+ *
+ * Units. omega and omega_step are in radians, threshold is per radian. Distances and energies have the caller's units,
+ * and beta is one over the unit of energies.
+ *
+ * Floating point. What is proved of these functions holds where results are rounded to nearest, ties to even, and where
+ * no small number is flushed to zero: not in a program that is linked with -ffast-math, nor after fesetround. There an
+ * answer can be another one. icotable_float_environment() of environment.h answers 0 where it is as it should be.
+ *
+ * Stack. No theorem bounds it. As measured on x86-64 and rounded up, settle takes 88 kB, locator 4 kB and every other
+ * function 2 kB, whatever the level.
  *
  * Numbers. ICOTABLE_REFUSALS below has each one in words, and docs/REFUSALS.md an example of each.
  */
@@ -74,8 +86,8 @@ static inline const char *icotable_words(uint64_t number) {
 extern "C" {
 #endif
 
-/* The settings and the bin counts that they give. fresh takes no notice of the two counts handed in; read fills rmax with
- * the table's own, and threshold and beta with 0. */
+/* The settings and the bin counts that they give. fresh takes no notice of the two counts handed in; read fills rmax
+ * with the table's own, and threshold and beta with 0. */
 typedef struct icotable_grid {
     double rmin, rmax, dr, omega_step, threshold, beta;
     uint64_t n_r, n_omega;
@@ -104,7 +116,8 @@ typedef struct icotable_written {
     uint64_t number, length;
 } icotable_written;
 
-/* What a file holds. start: for each of the five sections, grid, bins, levels, rows and energies, the byte after its count. */
+/* What a file holds. start: for each of the five sections, grid, bins, levels, rows and energies, the byte after its
+ * count. */
 typedef struct icotable_table {
     uint64_t number;
     icotable_grid grid;
@@ -183,10 +196,11 @@ uint64_t icotable_locator(
     uint32_t *face_offsets, size_t face_offsets_count,
     uint16_t *faces, size_t faces_count);
 
-/* The energy at distance r, dihedral angle omega and two directions of any length, from a file, what read answered for it, the
- * vertices of all its levels and their locators, each level's at its needed lengths, one after another. Takes no notice of the
- * table's number, nor of its rmax, threshold and beta. Question 18; then 0 for a distance outside the table; then 19, 20. What
- * concerns meshes and locators is asked only where a Mesh row is read, and of what is touched alone. */
+/* The energy at distance r, dihedral angle omega and two directions of any length, from a file, what read answered for
+ * it, the vertices of all its levels and their locators, each level's at its needed lengths, one after another. Takes
+ * no notice of the table's number, nor of its rmax, threshold and beta. Question 18; then 0 for a distance outside the
+ * table; then 19, 20. What concerns meshes and locators is asked only where a Mesh row is read, and of what is touched
+ * alone. */
 icotable_value icotable_reading(
     icotable_table table,
     const uint8_t *file, size_t file_count,
@@ -204,7 +218,8 @@ icotable_value icotable_reading(
 uint64_t icotable_vertices(uint64_t level);
 uint64_t icotable_cells(uint64_t level);
 
-/* The square root, a*b+c rounded once and the nearest float, as IEEE 754 has them; and the exponential that settling uses. */
+/* The square root, a*b+c rounded once and the nearest float, as IEEE 754 has them; and the exponential that settling
+ * uses. */
 double icotable_root(double x);
 double icotable_exp(double y);
 double icotable_mul_add(double a, double b, double c);

@@ -1,5 +1,6 @@
 /* The demonstration: builds the table of two small molecules from their energies, slice by slice, writes it, reads it
  * back and looks up energies. demo FILE writes the table there; the status is 1 where something is not as it should be. */
+#include "environment.h"
 #include "mesh.h"
 #include "molecules.h"
 
@@ -17,7 +18,7 @@ static const icotable_grid settings = {
 
 /* What a host holds while it builds. */
 typedef struct work {
-    meshes meshes;
+    icotable_meshes meshes;
     icotable_builder builder;
     double *store, *energies;
     size_t store_count, per;
@@ -43,7 +44,7 @@ static void *memory(size_t count, size_t size) {
 }
 
 static void start(work *w) {
-    uint64_t number = make_meshes(&w->meshes, TOP);
+    uint64_t number = icotable_make_meshes(&w->meshes, TOP);
     if (number != 0)
         stop("a mesh", number);
     size_t n = icotable_vertices(TOP);
@@ -53,7 +54,7 @@ static void start(work *w) {
     w->energies = memory(w->per, sizeof *w->energies);
     w->first = memory(n, sizeof *w->first);
     w->second = memory(n, sizeof *w->second);
-    icotable_built b = icotable_fresh(settings, TOP, w->store, w->store_count, ROWS(w), MESHES(&w->meshes));
+    icotable_built b = icotable_fresh(settings, TOP, w->store, w->store_count, ROWS(w), ICOTABLE_MESHES(&w->meshes));
     if (b.number != 0)
         stop("fresh", b.number);
     w->builder = b.builder;
@@ -64,7 +65,7 @@ static void start(work *w) {
 /* A slab's energies: the first molecule at each vertex of the current level, the second at each. */
 static void set_slab(work *w, uint64_t ri, uint64_t oi) {
     size_t n = icotable_vertices(w->builder.level);
-    const double *v = level_vertices(&w->meshes, w->builder.level);
+    const double *v = icotable_level_vertices(&w->meshes, w->builder.level);
     double r = settings.rmin + (double)ri * settings.dr, omega = (double)oi * settings.omega_step;
     for (size_t i = 0; i < n; i++) {
         w->first[i] = first_pose(v + 3 * i);
@@ -80,7 +81,7 @@ static void set_slab(work *w, uint64_t ri, uint64_t oi) {
 }
 
 static icotable_settled settle(work *w, uint64_t ri) {
-    return icotable_settle(w->builder, w->store, w->store_count, ROWS(w), MESHES(&w->meshes), ri);
+    return icotable_settle(w->builder, w->store, w->store_count, ROWS(w), ICOTABLE_MESHES(&w->meshes), ri);
 }
 
 /* A slice's rows, one letter a slab: # Repulsive, . Scalar, a digit for the level of a Mesh row. */
@@ -113,7 +114,7 @@ static void build(work *w) {
 static uint8_t *written(work *w, size_t *length) {
     size_t room = 52 + 4 * (TOP + 1) + 10 * SLABS + 4 * w->store_count;
     uint8_t *file = memory(room, 1);
-    icotable_written f = icotable_write(w->builder, w->store, w->store_count, ROWS(w), MESHES(&w->meshes), file, room);
+    icotable_written f = icotable_write(w->builder, w->store, w->store_count, ROWS(w), ICOTABLE_MESHES(&w->meshes), file, room);
     if (f.number != 0)
         stop("write", f.number);
     *length = f.length;
@@ -190,7 +191,7 @@ static int look_up(const work *w, const char *name, size_t length) {
         double r = settings.rmin + (double)ri * settings.dr, omega = (double)oi * settings.omega_step;
         direction(&state, a);
         direction(&state, b);
-        icotable_value v = icotable_reading(t, file, length, LOCATORS(&w->meshes), r, omega, a[0], a[1], a[2], b[0], b[1], b[2]);
+        icotable_value v = icotable_reading(t, file, length, ICOTABLE_LOCATORS(&w->meshes), r, omega, a[0], a[1], a[2], b[0], b[1], b[2]);
         pose first = first_pose(a), second = second_pose(b, omega);
         double direct = pair_energy(&first, &second, r);
         refused += v.number != 0;
@@ -209,6 +210,11 @@ int main(int count, char **names) {
         fprintf(stderr, "usage: demo FILE\n");
         return 2;
     }
+    unsigned environment = icotable_float_environment();
+    if (environment != 0) {
+        fprintf(stderr, "demo: the floating-point environment: %s\n", icotable_float_environment_words(environment));
+        return 1;
+    }
     work *w = memory(1, sizeof *w);
     start(w);
     build(w);
@@ -218,7 +224,7 @@ int main(int count, char **names) {
     save(names[1], file, length);
     int good = look_up(w, names[1], length);
     free(file);
-    free_meshes(&w->meshes);
+    icotable_free_meshes(&w->meshes);
     free(w->store);
     free(w->energies);
     free(w->first);

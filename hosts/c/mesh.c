@@ -1,9 +1,41 @@
 #include "mesh.h"
 
+#include <float.h>
 #include <math.h>
 #include <stdlib.h>
 
+/* In wider registers a result is rounded twice. clang says -1 under -ffast-math, and still computes in doubles. */
+#if FLT_EVAL_METHOD > 0 || (FLT_EVAL_METHOD < 0 && !defined __clang__)
+#error "mesh.c needs a double to be computed as a double (on x86: -mfpmath=sse)"
+#endif
+
 enum { CORNERS = 12, EDGES = 30 };
+
+/* One operation on doubles, rounded once. Operands and result are volatile, so that no flag lets the compiler fuse two
+ * operations, reorder them or replace one: the bits of the vertices are part of what a table means. */
+static double plus(double x, double y) {
+    volatile double a = x, b = y, result = a + b;
+    return result;
+}
+
+static double minus(double x, double y) {
+    volatile double a = x, b = y, result = a - b;
+    return result;
+}
+
+static double times(double x, double y) {
+    volatile double a = x, b = y, result = a * b;
+    return result;
+}
+
+static double over(double x, double y) {
+    volatile double a = x, b = y, result = a / b;
+    return result;
+}
+
+static double dot(const double p[3], const double q[3]) {
+    return plus(plus(times(p[0], q[0]), times(p[1], q[1])), times(p[2], q[2]));
+}
 
 /* The corners of an icosahedron of edge 2, and its edges as pairs of corners. */
 typedef struct icosahedron {
@@ -13,7 +45,7 @@ typedef struct icosahedron {
 
 static icosahedron make_icosahedron(void) {
     icosahedron s;
-    double golden = (1 + sqrt(5)) / 2;
+    double golden = over(plus(1, icotable_root(5)), 2);
     for (int i = 0; i < CORNERS; i++) {
         int k = i / 4;
         s.corner[i][k] = 0;
@@ -24,10 +56,10 @@ static icosahedron make_icosahedron(void) {
     for (int a = 0; a < CORNERS; a++) {
         s.edge[a][a] = -1;
         for (int b = a + 1; b < CORNERS; b++) {
-            double d = 0;
+            double apart[3];
             for (int k = 0; k < 3; k++)
-                d += (s.corner[a][k] - s.corner[b][k]) * (s.corner[a][k] - s.corner[b][k]);
-            s.edge[a][b] = s.edge[b][a] = d < 5 ? edges++ : -1;
+                apart[k] = minus(s.corner[a][k], s.corner[b][k]);
+            s.edge[a][b] = s.edge[b][a] = dot(apart, apart) < 5 ? edges++ : -1;
         }
     }
     return s;
@@ -60,19 +92,21 @@ static int point(const level_part *l, int face, const int corner[3], int i, int 
 }
 
 static void place(const level_part *l, int at, const int corner[3], int i, int j) {
-    double v[3], length = 0;
-    for (int k = 0; k < 3; k++) {
-        const double *a = l->solid->corner[corner[0]], *b = l->solid->corner[corner[1]], *c = l->solid->corner[corner[2]];
-        v[k] = a[k] * i + b[k] * j + c[k] * (l->parts - i - j);
-        length += v[k] * v[k];
-    }
+    const double *a = l->solid->corner[corner[0]], *b = l->solid->corner[corner[1]], *c = l->solid->corner[corner[2]];
+    double v[3];
     for (int k = 0; k < 3; k++)
-        l->vertices[3 * at + k] = v[k] / sqrt(length);
+        v[k] = plus(plus(times(a[k], i), times(b[k], j)), times(c[k], l->parts - i - j));
+    double length = icotable_root(dot(v, v));
+    for (int k = 0; k < 3; k++)
+        l->vertices[3 * at + k] = over(v[k], length);
 }
 
+/* The one function of the C library that is used; volatile, so that it is called and not replaced by a vector of them. */
 static double angle(const double *p, const double *q) {
-    double dot = p[0] * q[0] + p[1] * q[1] + p[2] * q[2];
-    return acos(dot > 1 ? 1 : dot < -1 ? -1 : dot);
+    double cosine = dot(p, q);
+    volatile double clamped = cosine > 1 ? 1 : cosine < -1 ? -1 : cosine;
+    volatile double result = acos(clamped);
+    return result;
 }
 
 /* Enters q as a neighbour of p, once. */
@@ -122,7 +156,7 @@ static void make_level(const level_part *l) {
     }
 }
 
-static int allocate(meshes *m) {
+static int allocate(icotable_meshes *m) {
     size_t n = 0, cells = 0;
     for (uint64_t level = 0; level <= m->top; level++) {
         n += icotable_vertices(level);
@@ -146,12 +180,12 @@ static int allocate(meshes *m) {
     return m->vertices && m->neighbour_counts && m->neighbours && m->angles && m->cell_offsets && m->cell_vertices && m->face_offsets && m->faces;
 }
 
-uint64_t make_meshes(meshes *m, uint64_t top) {
-    *m = (meshes){.top = top};
+uint64_t icotable_make_meshes(icotable_meshes *m, uint64_t top) {
+    *m = (icotable_meshes){.top = top};
     if (top > 15)
         return ICOTABLE_LEVEL;
     if (!allocate(m))
-        return NO_MEMORY;
+        return ICOTABLE_NO_MEMORY;
     icosahedron solid = make_icosahedron();
     size_t at = 0, cells = 0;
     for (uint64_t level = 0; level <= top; level++) {
@@ -169,7 +203,7 @@ uint64_t make_meshes(meshes *m, uint64_t top) {
     return 0;
 }
 
-void free_meshes(meshes *m) {
+void icotable_free_meshes(icotable_meshes *m) {
     free(m->vertices);
     free(m->neighbour_counts);
     free(m->neighbours);
@@ -178,10 +212,10 @@ void free_meshes(meshes *m) {
     free(m->cell_vertices);
     free(m->face_offsets);
     free(m->faces);
-    *m = (meshes){0};
+    *m = (icotable_meshes){0};
 }
 
-const double *level_vertices(const meshes *m, uint64_t level) {
+const double *icotable_level_vertices(const icotable_meshes *m, uint64_t level) {
     size_t at = 0;
     for (uint64_t below = 0; below < level; below++)
         at += icotable_vertices(below);

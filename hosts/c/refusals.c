@@ -11,13 +11,13 @@ enum { TOP_LEVEL = 1, PER = 42 * 42, SLABS = 4, ROOM = 30000, STORE = SLABS * PE
 
 static const icotable_grid settings = {.rmin = 0, .rmax = 2, .dr = 1, .omega_step = 3, .threshold = 0.1, .beta = 1};
 
-static meshes held;
+static icotable_meshes held;
 static double store[STORE], energies[PER];
 static uint8_t kinds[SLABS], levels[SLABS], file[ROOM];
 static uint32_t values[SLABS];
 
 static icotable_built fresh(icotable_grid grid, uint64_t top, size_t store_count) {
-    return icotable_fresh(grid, top, store, store_count, kinds, SLABS, levels, SLABS, values, SLABS, MESHES(&held));
+    return icotable_fresh(grid, top, store, store_count, kinds, SLABS, levels, SLABS, values, SLABS, ICOTABLE_MESHES(&held));
 }
 
 static uint64_t fresh_with(icotable_grid grid, uint64_t top) {
@@ -29,11 +29,11 @@ static icotable_built set(icotable_builder b, uint64_t ri, uint64_t oi, size_t c
 }
 
 static icotable_settled settle(icotable_builder b, uint64_t ri) {
-    return icotable_settle(b, store, STORE, kinds, SLABS, levels, SLABS, values, SLABS, MESHES(&held), ri);
+    return icotable_settle(b, store, STORE, kinds, SLABS, levels, SLABS, values, SLABS, ICOTABLE_MESHES(&held), ri);
 }
 
 static icotable_written write_to(icotable_builder b, size_t room) {
-    return icotable_write(b, store, STORE, kinds, SLABS, levels, SLABS, values, SLABS, MESHES(&held), file, room);
+    return icotable_write(b, store, STORE, kinds, SLABS, levels, SLABS, values, SLABS, ICOTABLE_MESHES(&held), file, room);
 }
 
 /* A builder whose first slab holds energies: zeros but for one of 0.05. */
@@ -54,8 +54,8 @@ static uint64_t read_with(size_t at, uint8_t byte) {
     return icotable_read(file, length).number;
 }
 
-static uint64_t reading(icotable_table t, const meshes *m, double x) {
-    return icotable_reading(t, file, ROOM, LOCATORS(m), 0, 0, x, 0, 0, 0, 0, 1).number;
+static uint64_t reading(icotable_table t, const icotable_meshes *m, double x) {
+    return icotable_reading(t, file, ROOM, ICOTABLE_LOCATORS(m), 0, 0, x, 0, 0, 0, 0, 1).number;
 }
 
 static uint64_t settings_wrong(void) {
@@ -157,8 +157,8 @@ static uint64_t no_rows(void) {
 
 /* Vertices that are all 0 keep the mesh rule, and lie in no cell of a direction but one. */
 static uint64_t empty_cell(void) {
-    meshes flat;
-    uint64_t number = make_meshes(&flat, TOP_LEVEL);
+    icotable_meshes flat;
+    uint64_t number = icotable_make_meshes(&flat, TOP_LEVEL);
     memset(flat.vertices, 0, flat.vertices_count * sizeof *flat.vertices);
     size_t at = 3 * 12, n = 42, cells = icotable_cells(0);
     if (number == 0)
@@ -167,7 +167,7 @@ static uint64_t empty_cell(void) {
                                   flat.faces + 45 * 12, 45 * n);
     if (number == 0)
         number = reading(icotable_read(file, whole_file()), &flat, 1);
-    free_meshes(&flat);
+    icotable_free_meshes(&flat);
     return number;
 }
 
@@ -212,7 +212,7 @@ _Static_assert(NUMBERS == EXAMPLES, "an example for each number");
 
 int main(void) {
     int differing = 0;
-    if (make_meshes(&held, TOP_LEVEL) != 0)
+    if (icotable_make_meshes(&held, TOP_LEVEL) != 0)
         return 1;
     puts("# Refusals\n\nA call that is refused answers the number of the first question that was answered no, and alters nothing: no list, no builder, no file.\n"
          "`include/icotable.h` has the table (`ICOTABLE_REFUSALS`, `icotable_words`), `hosts/rust` the same as an enum (`Refusal`). Each example below is run by\n"
@@ -226,6 +226,6 @@ int main(void) {
             differing++;
         }
     }
-    free_meshes(&held);
+    icotable_free_meshes(&held);
     return differing != 0;
 }

@@ -1,5 +1,6 @@
-/* A host in C: an empty table of level 0 from its settings, written, printed and read back; a slab set and settled; calls that are
- * refused; the locator of the icosahedron; readings; sizes and numbers. Every answer is compared with what document 01 says, and the status is 1 where one differs. */
+/* A host in C: an empty table of level 0 from its settings, written, printed and read back; a slab set and settled; calls
+ * that are refused; the locator of the icosahedron; readings, also with locator lists that were altered; sizes and numbers.
+ * Every answer is compared with what document 01 says, and the status is 1 where one differs. */
 #include "icotable.h"
 
 #include <stdio.h>
@@ -163,51 +164,83 @@ static void refused(void) {
     expect("read of no bytes", icotable_read(NULL, 0).number, 13);
 }
 
-static void locator(void) {
-    enum { CELLS = 25 };
-    uint32_t cell_offsets[CELLS], face_offsets[N + 1];
-    uint16_t cell_vertices[27 * N], faces[45 * N];
-    uint64_t number = icotable_locator(0, vertices, 3 * N, neighbour_counts, N, neighbours, 6 * N, angles, 6 * N, cell_offsets, CELLS, cell_vertices, 27 * N, face_offsets, N + 1, faces, 45 * N);
-    expect("locator", number, 0);
-    expect("faces by vertex", face_offsets[N], 60);
-    number = icotable_locator(0, vertices, 3 * N, neighbour_counts, N, neighbours, 6 * N, angles, 6 * N, cell_offsets, CELLS, cell_vertices, 27 * N, face_offsets, N, faces, 45 * N);
-    expect("locator with a list too short", number, 6);
+enum { CELLS = 25 };
+static uint32_t cell_offsets[CELLS], face_offsets[N + 1];
+static uint16_t cell_vertices[27 * N], faces[45 * N];
+
+static uint64_t locate(size_t face_offsets_count) {
+    return icotable_locator(0, vertices, 3 * N, neighbour_counts, N, neighbours, 6 * N, angles, 6 * N, cell_offsets, CELLS,
+                            cell_vertices, 27 * N, face_offsets, face_offsets_count, faces, 45 * N);
 }
 
-/* A table whose one slab holds the energy 100 i + j of vertices i and j, read at its vertices, between them and outside. */
-static void readings(void) {
-    enum { CELLS = 25 };
-    uint32_t cell_offsets[CELLS], face_offsets[N + 1];
-    uint16_t cell_vertices[27 * N], faces[45 * N];
+static void locator(void) {
+    expect("locator", locate(N + 1), 0);
+    expect("faces by vertex", face_offsets[N], 60);
+    expect("locator with a list too short", locate(N), 6);
+}
+
+/* A table whose one slab holds the energy 100 i + j of vertices i and j, as a reading is lent it. */
+enum { FILE_ROOM = 700, ROW = 52 };
+static uint8_t file[FILE_ROOM];
+static icotable_table table;
+static size_t file_count, faces_count;
+
+static void small_table(void) {
     double energies[PER];
-    uint8_t output[700];
     for (int i = 0; i < PER; i++)
         energies[i] = 100 * (i / N) + i % N;
     icotable_builder b = fresh(settings, 0).builder;
     expect("set", icotable_set(b, store, PER, kinds, 1, levels, 1, values, 1, 0, 0, energies, PER).number, 0);
-    icotable_written w = written(b, output, sizeof output);
-    icotable_table t = icotable_read(output, w.length);
-    expect("read", t.number, 0);
-    icotable_locator(0, vertices, 3 * N, neighbour_counts, N, neighbours, 6 * N, angles, 6 * N, cell_offsets, CELLS, cell_vertices, 27 * N, face_offsets, N + 1, faces, 45 * N);
-#define READING(r, p, q) \
-    icotable_reading(t, output, w.length, vertices, 3 * N, cell_offsets, CELLS, cell_vertices, 27 * N, face_offsets, N + 1, faces, 45 * N, (r), 0.1, (p)[0], (p)[1], (p)[2], (q)[0], (q)[1], (q)[2])
+    file_count = written(b, file, sizeof file).length;
+    faces_count = 45 * N;
+    table = icotable_read(file, file_count);
+    expect("read", table.number, 0);
+    expect("locator", locate(N + 1), 0);
+}
+
+static icotable_value reading(double r, const double *p, const double *q) {
+    return icotable_reading(table, file, file_count, vertices, 3 * N, cell_offsets, CELLS, cell_vertices, 27 * N, face_offsets,
+                            N + 1, faces, faces_count, r, 0.1, p[0], p[1], p[2], q[0], q[1], q[2]);
+}
+
+/* Readings at its vertices, outside, and of what is not there. */
+static void readings(void) {
+    small_table();
     int far = 0;
     for (int i = 0; i < N; i++)
         for (int j = 0; j < N; j++) {
-            icotable_value v = READING(0.5, vertices + 3 * i, vertices + 3 * j);
+            icotable_value v = reading(0.5, vertices + 3 * i, vertices + 3 * j);
             double d = v.energy - (100 * i + j);
             if (v.number != 0 || d * d > 1e-12)
                 far++;
         }
     expect("readings at vertices that are not the energy there", far, 0);
     static const double none[3] = {0, 0, 0};
-    icotable_value v = READING(1.5, vertices, vertices);
+    icotable_value v = reading(1.5, vertices, vertices);
     expect("reading beyond rmax", v.number, 0);
     expect("its energy is 0", v.energy == 0, 1);
-    expect("reading of no direction", READING(0.5, none, vertices).number, 18);
-    t.rows = 0;
-    expect("reading of a table that says it has no rows", READING(0.5, vertices, vertices).number, 19);
-#undef READING
+    expect("reading of no direction", reading(0.5, none, vertices).number, 18);
+    table.rows = 0;
+    expect("reading of a table that says it has no rows", reading(0.5, vertices, vertices).number, 19);
+}
+
+/* A span whose start is its end touches no entry, wherever its end lies: an empty cell is 20, an empty span of faces
+ * leaves face 0 0 0 with weights 0. */
+static void empty_spans(void) {
+    const double *a = vertices + 9, *b = vertices + 15;
+    small_table();
+    faces_count = 0;
+    for (int v = 0; v <= N; v++)
+        face_offsets[v] = 1;
+    icotable_value v = reading(0.5, a, b);
+    expect("reading with face offsets that are all 1 and no faces", v.number, 0);
+    expect("its energy is 0", v.number == 0 && v.energy == 0, 1);
+    small_table();
+    for (int c = 0; c < CELLS; c++)
+        cell_offsets[c] = 27 * N + 1;
+    expect("reading with cell offsets that are all 325 and 324 vertices", reading(0.5, a, b).number, 20);
+    file[ROW] = 2;
+    expect("the same where the row is read at the nearest vertices", reading(0.5, a, b).number, 20);
 }
 
 static void sizes_and_numbers(void) {
@@ -235,6 +268,7 @@ int main(void) {
     refused();
     locator();
     readings();
+    empty_spans();
     sizes_and_numbers();
     printf("%d answers differ\n", differing);
     return differing != 0;

@@ -5,7 +5,7 @@ use std::collections::BTreeMap;
 
 pub const PRIME: u64 = 2_147_483_647;
 // a place that no energy has
-pub const NOWHERE: usize = 0xffff;
+pub const NOWHERE: usize = usize::MAX;
 
 #[derive(Clone, Copy)]
 pub struct Rule {
@@ -92,7 +92,7 @@ impl<'a> Caller<'a> {
         }
     }
 
-    fn case(&mut self, words: &str) {
+    pub fn case(&mut self, words: &str) {
         *self.cases.entry(words.to_string()).or_default() += 1;
     }
 
@@ -106,6 +106,13 @@ impl<'a> Caller<'a> {
     pub fn hold(&mut self, b: Held) {
         self.sink.hold(&b);
         self.held = b;
+    }
+
+    // A builder whose threshold is altered by hand to another that question 1 lets through.
+    pub fn hold_threshold(&mut self, threshold: f64) {
+        let settings = Settings { threshold, ..self.held.settings };
+        self.hold(Held { settings, ..self.held });
+        self.rust.as_mut().unwrap().gradient_threshold = threshold;
     }
 
     // Hands a call on, once it is answered.
@@ -129,6 +136,15 @@ impl<'a> Caller<'a> {
             angles: (0..n).map(|v| self.lists.angles[part(v)].to_vec()).collect(),
             neighbors: (0..n).map(|v| self.lists.neighbours[part(v)].to_vec()).collect(),
         }
+    }
+
+    // The gradient of a slab at the current level, 0 where it is repulsive: of a builder apart, with a threshold that no gradient is below.
+    pub fn gradient(&self, energies: &[f64]) -> f64 {
+        let level = self.held.level;
+        let levels = (0..=level).map(|m| self.mesh(m)).collect();
+        let mut b = AdaptiveBuilder::with_subdivision(levels, 0.0, 1.0, 1.0, 6.0, level as usize, 0.0, self.held.settings.beta);
+        b.set_slab(0, 0, energies);
+        b.finish_r_slice(0)
     }
 
     // The row of a slab as the Rust has it.

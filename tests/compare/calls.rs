@@ -49,7 +49,7 @@ impl Fixed<LINE> {
         self.put(496, 16, bits(r.base));
         self.put(513, 16, bits(r.step));
         for (k, (place, e)) in r.places.into_iter().enumerate() {
-            self.put(530 + 22 * k, 4, place as u64);
+            self.put(530 + 22 * k, 4, place.min(0xffff) as u64);
             self.put(535 + 22 * k, 16, bits(e));
         }
     }

@@ -38,6 +38,9 @@ mod reader;
 mod reading;
 #[allow(dead_code)]
 mod refusals;
+mod report;
+#[allow(dead_code)]
+mod search;
 #[allow(dead_code)]
 mod worlds;
 

@@ -1,6 +1,7 @@
-// Compares each operation on numbers of the static library libfloat_c.a with the machine's or Rust's own, bit for bit (any NaN is equal to any other): leaves COUNT [all].
-// COUNT inputs each, edges first; `all` has widen go through every f32. Max, min, the total order and the remainder are written out here as document 01 has them; E is
+// Compares each operation on numbers of the static library libfloat_c.a with the machine's or Rust's own, bit for bit (any NaN is equal to any other): leaves SEED short|long.
+// Edges first, then inputs at random; the long run has widen go through every f32. Max, min, the total order and the remainder are written out here as document 01 has them; E is
 // the oracle's. Prints a line for each operation, and ends with status 1 where one of them differs.
+mod arguments;
 #[allow(dead_code)]
 mod lines;
 #[allow(dead_code)]
@@ -11,6 +12,7 @@ mod builder {
 }
 mod samples;
 
+use arguments::arguments;
 use lines::bits;
 use meshes::Random;
 use samples::{cancelling, edge, near_multiple, near_root, narrow_tie, number, sample, step, EDGES};
@@ -203,10 +205,11 @@ fn widen(count: u64, all: bool, random: &mut Random) -> u64 {
 }
 
 fn main() {
-    let mut arguments = std::env::args().skip(1);
-    let n: u64 = arguments.next().expect("how many inputs").parse().expect("a number");
-    let all = arguments.next().is_some();
-    let r = &mut Random(0x9e3779b97f4a7c15);
+    let (mut random, length) = arguments();
+    // inputs of each operation
+    let n = length.choose(2_000_000, 100_000_000);
+    let all = length.choose(false, true);
+    let r = &mut random;
     let some = |r: &mut Random| sample(r);
     let mut wrong = 0;
     unsafe {

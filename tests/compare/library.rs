@@ -7,11 +7,7 @@ use crate::oracle::FaceGrid;
 use crate::reader;
 use crate::reading;
 use crate::refusals::{Held, Lists};
-
-pub fn differ(what: &str, input: String, ours: String, theirs: String) -> ! {
-    println!("DIFFERENCE in {what}\n  input {input}\n  ours  {ours}\n  wanted {theirs}");
-    std::process::exit(1)
-}
+use crate::report::{self, differ};
 
 pub fn grid_words(g: &Grid) -> [u64; 8] {
     let [a, b, c, d, e, f] = [g.rmin, g.rmax, g.dr, g.omega_step, g.threshold, g.beta].map(bits);
@@ -84,6 +80,7 @@ impl caller::Sink for Library {
     fn hold(&mut self, _: &Held) {}
 
     fn call(&mut self, call: &Call, answer: &Answer, lists: &Lists) {
+        report::input();
         let given = builder_of(&call.held);
         let (mut l, m) = lists_of(&mut self.lists, &call.lent);
         let (name, number, gradient, builder) = match call.what {
@@ -147,6 +144,7 @@ fn same_list<T: PartialEq + Copy + std::fmt::Debug>(name: &str, mesh: &Mesh, the
 
 // The locator call of one mesh against `FaceGrid::new`, in lists that hold something before; how many entries were compared.
 pub fn locator(mesh: &Mesh, grid: &FaceGrid, lists: &mut reader::Lists) -> u64 {
+    report::input();
     let before = lists.clone();
     let lent = mesh.lent();
     let m = Meshes { vertices: &lent.vertices, counts: &lent.counts, neighbours: &lent.neighbours, angles: &lent.angles };
@@ -181,6 +179,7 @@ pub fn add_level(mesh: &Mesh, grid: &FaceGrid, more: usize, entry: impl FnMut() 
 
 // A reading, and the file that it is of.
 pub fn same_reading(table: &Table, lent: icotable::Lent, q: &Query, number: u64, energy: f64) {
+    report::input();
     let got = icotable::reading(table, lent, q);
     if (got.number, bits(got.energy)) != (number, bits(energy)) {
         let lengths = [lent.file.len(), lent.vertices.len(), lent.cell_offsets.len(), lent.cell_vertices.len(), lent.face_offsets.len(), lent.faces.len()];
@@ -189,10 +188,16 @@ pub fn same_reading(table: &Table, lent: icotable::Lent, q: &Query, number: u64,
     }
 }
 
+// A file in words: the first bytes of it, where it is long.
+pub fn file_words(file: &[u8]) -> String {
+    format!("{} bytes, the first of them {:02X?}", file.len(), &file[..file.len().min(1000)])
+}
+
 pub fn same_table(file: &[u8], table: &Table) {
+    report::input();
     let got = icotable::read(file);
     if table_words(&got) != table_words(table) {
-        differ("read", format!("{file:02X?}"), format!("{got:?}"), format!("{table:?}"));
+        differ("read", file_words(file), format!("{got:?}"), format!("{table:?}"));
     }
 }
 

@@ -259,11 +259,18 @@ fn unread(caller: &Caller, u: &(usize, usize, u64, u64)) -> bool {
     v >= vertices_below(caller.held.top + 1) || u.0 > 4 && u.1 % 6 >= caller.lists.counts[v] as usize
 }
 
+// How many slabs of a level the lent lists have room for.
+pub fn room(caller: &Caller, top: u64) -> u64 {
+    (caller.lists.store.len() / vertices_of(top).pow(2)).min(caller.lists.kinds.len()) as u64
+}
+
 // A list of calls: fresh, then slice after slice set and settled, with other calls in between.
 pub fn list(caller: &mut Caller, random: &mut Random, top: u64) {
-    let n = vertices_of(top);
-    let most = (caller.lists.store.len() / (n * n)).min(caller.lists.kinds.len()) as u64;
-    let s = settings(random, most);
+    let s = settings(random, room(caller, top));
+    list_of(caller, random, top, s);
+}
+
+pub fn list_of(caller: &mut Caller, random: &mut Random, top: u64, s: Settings) {
     let all = caller.lists.lengths();
     assert_eq!(caller.fresh(s, top, [0, 9], all), 0);
     for ri in 0..caller.held.n_r {

@@ -1,5 +1,7 @@
 // Writes the blocks that the program `searches` replays: meshes of levels 0 to 3, the lists and answers that the Rust gives for them, and
-// 100 directions each. Numbers are in upper-case hexadecimal of fixed widths, one letter apart; every NaN has one pattern. How often the
+// 100 directions each. The Rust has no answer to a locator call that is refused, to searches in the lists that such a call leaves, and to
+// a search whose cell is empty: there the answers are document 01's, from the search read apart (search.rs), which is compared with the Rust
+// on the others. Numbers are in upper-case hexadecimal of fixed widths, one letter apart; every NaN has one pattern. How often the
 // cases that are easy to miss occur is written to standard error, and none may be missing.
 #[allow(dead_code)]
 mod lines;
@@ -9,14 +11,18 @@ mod meshes;
 mod oracle {
     include!(concat!(env!("COMPARE"), "/oracle.rs"));
 }
+#[allow(dead_code)]
+mod search;
 
 use lines::bits;
 use meshes::{icosphere, scaled, sevens, without_faces, Mesh, Random};
 use oracle::{FaceGrid, Vector3};
+use search::Search;
+use std::fmt::UpperHex;
 
 const DIRECTIONS: usize = 100;
-// what the lists hold before the call
-const CANARY: u64 = 0xabab_abab;
+// what the lists hold before the call; in the u16 lists the lower half of it
+const CANARY: u32 = 0xabab_abab;
 
 // How often the cases that are easy to miss occur.
 #[derive(Debug, Default)]
@@ -42,29 +48,79 @@ impl Seen {
     }
 }
 
-// A list in `count` places of a width, `across` to a line; what is beyond the list is filled up.
-fn put(list: &[u64], width: usize, count: usize, filler: u64, across: usize, out: &mut String) {
-    for i in 0..count {
-        let x = list.get(i).unwrap_or(&filler);
+// A list in places of a width, `across` to a line.
+fn put<T: UpperHex>(list: &[T], width: usize, across: usize, out: &mut String) {
+    for (i, x) in list.iter().enumerate() {
         out.push_str(&format!("{x:0width$X}"));
-        out.push(if (i + 1) % across == 0 || i + 1 == count { '\n' } else { ' ' });
+        out.push(if (i + 1) % across == 0 || i + 1 == list.len() { '\n' } else { ' ' });
     }
 }
 
-// The answers to one direction: number, vertex and distance; number, face and weights.
-fn answers(grid: &FaceGrid, mesh: &Mesh, d: [f64; 3]) -> [u64; 10] {
+// A list in as many places as level 3 needs.
+fn filled<T: Copy>(list: &[T], count: usize, filler: T) -> Vec<T> {
+    list.iter().copied().chain(std::iter::repeat(filler)).take(count).collect()
+}
+
+// The lists that a locator call leaves; one that is refused, and has no grid, leaves what they held.
+struct Locator {
+    cell_offsets: Vec<u32>,
+    cell_vertices: Vec<u16>,
+    face_offsets: Vec<u32>,
+    faces: Vec<u16>,
+}
+
+impl Locator {
+    fn left(grid: Option<&FaceGrid>) -> Locator {
+        let faces: Vec<u16> = grid.iter().flat_map(|g| &g.adj_faces).flat_map(|f| f.face.map(|v| v as u16)).collect();
+        Locator {
+            cell_offsets: filled(grid.map_or(&[], |g| &g.vtx_offsets), 295, CANARY),
+            cell_vertices: filled(grid.map_or(&[], |g| &g.vertex_ids), 4374, CANARY as u16),
+            face_offsets: filled(grid.map_or(&[], |g| &g.adj_offsets), 163, CANARY),
+            faces: filled(&faces, 7290, CANARY as u16),
+        }
+    }
+
+    fn put(&self, out: &mut String) {
+        put(&self.cell_offsets, 8, 16, out);
+        put(&self.cell_vertices, 4, 32, out);
+        put(&self.face_offsets, 8, 16, out);
+        put(&self.faces, 4, 30, out);
+    }
+}
+
+// The answers to one direction: number, vertex and distance; number, face and weights. Those of the Rust, which has none where the cell is empty:
+fn answers_of_rust(grid: &FaceGrid, mesh: &Mesh, d: [f64; 3]) -> Option<[u64; 10]> {
     let dir = Vector3::from(d);
     let p = dir.normalize();
     let cell = grid.cell_index(&p);
     if grid.vtx_offsets[cell] == grid.vtx_offsets[cell + 1] {
-        return [20, 0, 0, 20, 0, 0, 0, 0, 0, 0];
+        return None;
     }
     let v = grid.find_nearest_vertex(&dir);
     let e = &p - &Vector3::from(mesh.vertices[v]);
     let (face, weights) = grid.locate(&dir);
     let [a, b, c] = face.map(|v| v as u64);
     let [x, y, z] = weights.map(bits);
-    [0, v as u64, bits(e.dot(&e)), 0, a, b, c, x, y, z]
+    Some([0, v as u64, bits(e.dot(&e)), 0, a, b, c, x, y, z])
+}
+
+// Those of document 01's text, over the lists as they are lent:
+fn answers_of_01(lists: &Locator, vertices: &[f64], level: usize, d: [f64; 3]) -> [u64; 10] {
+    let Locator { cell_offsets, cell_vertices, face_offsets, faces } = lists;
+    let search = Search::new(search::Lent { vertices, cell_offsets, cell_vertices, face_offsets, faces }, level as u64, d);
+    let mut answers = [0; 10];
+    match search.nearest() {
+        Ok((v, distance)) => answers[1..3].copy_from_slice(&[v as u64, bits(distance)]),
+        Err(refusal) => answers[0] = refusal.0,
+    }
+    match search.face() {
+        Ok((face, weights)) => {
+            answers[4..7].copy_from_slice(&face.map(|v| v as u64));
+            answers[7..].copy_from_slice(&weights.map(bits));
+        }
+        Err(refusal) => answers[3] = refusal.0,
+    }
+    answers
 }
 
 fn directions(mesh: &Mesh, random: &mut Random) -> Vec<[f64; 3]> {
@@ -101,31 +157,25 @@ fn directions(mesh: &Mesh, random: &mut Random) -> Vec<[f64; 3]> {
 // A block; a mesh that keeps the mesh rule is accepted, and one whose number is given is refused with it.
 fn block(mesh: &Mesh, refused: u64, random: &mut Random, seen: &mut Seen, out: &mut String) {
     let lent = mesh.lent();
-    let grid = FaceGrid::new(&mesh.vertices, &mesh.neighbours);
+    let grid = (refused == 0).then(|| FaceGrid::new(&mesh.vertices, &mesh.neighbours));
+    let lists = Locator::left(grid.as_ref());
+    let vertices = filled(&lent.vertices, 486, 0.0);
     seen.mesh(mesh);
     let start = out.len();
-    put(&[mesh.level as u64], 16, 1, 0, 1, out);
-    let vertices: Vec<u64> = lent.vertices.iter().map(|&x| bits(x)).collect();
-    put(&vertices, 16, 486, 0, 3, out);
-    let counts: Vec<u64> = lent.counts.iter().map(|&x| x as u64).collect();
-    put(&counts, 2, 162, 0, 54, out);
-    let neighbours: Vec<u64> = lent.neighbours.iter().map(|&x| x as u64).collect();
-    put(&neighbours, 4, 972, 0xffff, 6, out);
-    put(&[refused], 16, 1, 0, 1, out);
-    let accepted = |list: Vec<u64>| if refused == 0 { list } else { Vec::new() };
-    let wide = |list: &[u32]| accepted(list.iter().map(|&x| x as u64).collect());
-    put(&wide(&grid.vtx_offsets), 8, 295, CANARY, 16, out);
-    put(&accepted(grid.vertex_ids.iter().map(|&x| x as u64).collect()), 4, 4374, CANARY & 0xffff, 32, out);
-    put(&wide(&grid.adj_offsets), 8, 163, CANARY, 16, out);
-    let faces = grid.adj_faces.iter().flat_map(|f| f.face.map(|v| v as u64)).collect();
-    put(&accepted(faces), 4, 7290, CANARY & 0xffff, 30, out);
+    put(&[mesh.level as u64], 16, 1, out);
+    put(&vertices.iter().map(|&x| bits(x)).collect::<Vec<_>>(), 16, 3, out);
+    put(&filled(&lent.counts, 162, 0), 2, 54, out);
+    put(&filled(&lent.neighbours, 972, 0xffff), 4, 6, out);
+    put(&[refused], 16, 1, out);
+    lists.put(out);
     for d in directions(mesh, random) {
-        let mut line = d.map(bits).to_vec();
-        // in lists that hold canaries every offset is beyond what was lent
-        let answer = if refused == 0 { answers(&grid, mesh, d) } else { [19, 0, 0, 19, 0, 0, 0, 0, 0, 0] };
+        let of_01 = answers_of_01(&lists, &vertices, mesh.level, d);
+        let answer = grid.as_ref().and_then(|g| answers_of_rust(g, mesh, d)).unwrap_or(of_01);
+        assert_eq!(answer, of_01, "{}: {d:?}", mesh.name);
         seen.direction(answer);
+        let mut line = d.map(bits).to_vec();
         line.extend(answer);
-        put(&line, 16, 13, 0, 13, out);
+        put(&line, 16, 13, out);
     }
     assert_eq!(out.len() - start, 98184);
 }

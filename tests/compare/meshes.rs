@@ -1,10 +1,19 @@
-// Meshes and directions to search with. Every sequence is fixed, so two runs see the same ones.
+// Meshes and directions to search with. A sequence is fixed by its seed, so two runs with one seed see the same ones.
 use std::collections::HashMap;
 
 // Marsaglia's xorshift of 64 bits.
 pub struct Random(pub u64);
 
 impl Random {
+    // The sequence of a seed, which may be any number; seeds that are near each other give sequences that are not.
+    pub fn of(seed: u64) -> Random {
+        let x = seed.wrapping_add(0x9e3779b97f4a7c15);
+        let x = (x ^ x >> 30).wrapping_mul(0xbf58476d1ce4e5b9);
+        let x = (x ^ x >> 27).wrapping_mul(0x94d049bb133111eb);
+        // a sequence from 0 on would stay there
+        Random((x ^ x >> 31).max(1))
+    }
+
     pub fn bits(&mut self) -> u64 {
         self.0 ^= self.0 << 13;
         self.0 ^= self.0 >> 7;

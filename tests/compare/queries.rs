@@ -5,7 +5,7 @@ use crate::meshes::{icosphere, scaled, sevens, without_faces, Mesh, Random};
 use crate::oracle::FaceGrid;
 use crate::pack::packed;
 use crate::reader::{Damage, Reader, FILE};
-use crate::reading::cell_offset;
+use crate::reading::{cell_offset, search_in, vertices_below};
 use crate::rust::{AdaptiveBuilder, MeshLevel, SlabResolution};
 use std::f64::consts::TAU;
 
@@ -127,6 +127,12 @@ pub fn query_at(t: &Table, s: u64, meshes: [&Mesh; 2], random: &mut Random) -> Q
     let (ri, oi) = (s / t.grid.n_omega, s % t.grid.n_omega);
     let (r, omega) = (t.grid.rmin + ri as f64 * t.grid.dr, oi as f64 * t.grid.omega_step);
     Query { r, omega, a: direction(m, random), b: direction(m, random) }
+}
+
+// Queries at both ends of the distances and beside them, by the last places.
+pub fn queries_at_ends(t: &Table, meshes: [&Mesh; 2], random: &mut Random) -> Vec<Query> {
+    let ends = [t.grid.rmin, t.grid.rmax].into_iter().flat_map(|end| [end.next_down(), end, end.next_up()]);
+    ends.map(|r| Query { r, ..query(t, meshes, random) }).collect()
 }
 
 fn readings(reader: &mut Reader, random: &mut Random, meshes: [&Mesh; 2], how_many: usize) {
@@ -314,7 +320,7 @@ fn damages(reader: &mut Reader, random: &mut Random, meshes: [&Mesh; 2], most: u
         // a damage that shows is worth more than one that does not
         if *n < if altered || a.number > 0 { most } else { 1 } {
             *n += 1;
-            reader.damaged(&d, &[q]);
+            reader.damaged(&d, &q);
         }
     }
 }
@@ -344,7 +350,7 @@ fn hosts(reader: &mut Reader, random: &mut Random, meshes: [&Mesh; 2]) {
             q.omega += 0.01;
             let mut d = reader.undamaged();
             d.table = h;
-            reader.damaged(&d, &[q]);
+            reader.damaged(&d, &q);
         }
     }
 }
@@ -378,7 +384,7 @@ fn edges(reader: &mut Reader, random: &mut Random, meshes: [&Mesh; 2]) {
             if enough > 0 {
                 for n in [enough - 1, enough] {
                     let d = with(n, reader);
-                    reader.damaged(&d, &[q]);
+                    reader.damaged(&d, &q);
                 }
             }
         }
@@ -392,7 +398,7 @@ fn near_tau(reader: &mut Reader, random: &mut Random, meshes: [&Mesh; 2]) {
         let mut d = reader.undamaged();
         (d.table.grid.omega_step, d.table.grid.n_omega) = (omega_step, n_omega);
         let q = Query { omega, ..query_at(&t, 0, meshes, random) };
-        reader.damaged(&d, &[q]);
+        reader.damaged(&d, &q);
     }
 }
 
@@ -417,13 +423,69 @@ fn empty_cells(reader: &mut Reader, random: &mut Random, meshes: [&Mesh; 2]) {
         }
         let wanted = if done >= 8 { 19 } else { 20 };
         if empty + 1 != other && empty != other + 1 && empty != other && reader.answer(&d, &q).number == wanted {
-            reader.damaged(&d, &[q]);
+            reader.damaged(&d, &q);
             done += 1;
         }
     }
 }
 
-// Five tables and what is asked of them; `many` times as much of what is not damaged, and at most `most` of each case that is.
+// A slab that is Mesh, and its level.
+fn mesh_slab(reader: &Reader, random: &mut Random) -> (u64, u64) {
+    let row = |s: u64| &reader.lists.file[(reader.table.start[3] + 10 * s) as usize..][..2];
+    let slabs: Vec<u64> = (0..reader.table.rows).filter(|&s| row(s)[0] >= 2).collect();
+    let s = slabs[random.below(slabs.len())];
+    (s, row(s)[1] as u64)
+}
+
+// An empty span for a direction, inside what is lent or beyond: of its cell, of the faces of its nearest vertex, or of all cells or faces.
+fn empty_span(reader: &Reader, d: &mut Damage, level: u64, direction: [f64; 3], random: &mut Random) {
+    let cell = cell_offset(level, direction) as usize;
+    let nearest = search_in(&reader.lists.lent(&reader.lengths()), level, direction).nearest().map_or(0, |n| n.0 as usize);
+    let face = (vertices_below(level) + level as u128) as usize + nearest;
+    let (list, at, entries) = [(2, cell, 3), (4, face, 5)][random.below(2)];
+    let lent = d.lent[entries] as u64;
+    let e = [reader.lists.word(list, at), lent, lent + 1, lent / 3 + 1, 0xffff_ffff, 1 << 31, random.bits() >> 32][random.below(7)];
+    let places = if random.below(4) == 0 { 0..d.lent[list] } else { at..at + 2 };
+    d.entries.extend(places.map(|place| (list, place, e)));
+}
+
+// Spans whose start equals their end touch no entry, wherever they lie; beside good ones, and beside other damage.
+fn empty_spans(reader: &mut Reader, random: &mut Random, meshes: [&Mesh; 2], count: usize) {
+    for _ in 0..count {
+        let (s, level) = mesh_slab(reader, random);
+        let q = query_at(&reader.table, s, meshes, random);
+        let mut d = reader.undamaged();
+        if random.below(4) == 0 {
+            d.lent = less(reader, random);
+        }
+        for direction in [[q.a].as_slice(), &[q.b], &[q.a, q.b]][random.below(3)] {
+            empty_span(reader, &mut d, level, *direction, random);
+        }
+        if random.below(4) == 0 {
+            d.entries.push(damaged_list(reader, random));
+        }
+        reader.damaged(&d, &q);
+    }
+}
+
+// One slab of level 0, and its mesh and locator alone: all offsets of cells one beyond the 324 places that are lent, and all offsets of faces 1 where no face is.
+fn offsets_beyond(reader: &mut Reader, random: &mut Random, meshes: [&Mesh; 2]) {
+    let q = Query { r: 0.5, omega: 0.0, a: [1.0, 0.0, 0.0], b: [0.0, 0.0, 1.0] };
+    let mut asked = |row: Row, list: usize, e: u64, faces: usize, wanted: (u64, f64)| {
+        table(reader, random, meshes, 0, [0.0, 1.0, 1.0, 6.0], &[row]);
+        let mut d = reader.undamaged();
+        d.lent = [d.lent[0], 36, 25, 324, 13, faces];
+        d.entries = (0..d.lent[list]).map(|at| (list, at, e)).collect();
+        let a = reader.answer(&d, &q);
+        assert_eq!((a.number, a.energy), wanted);
+        reader.damaged(&d, &q);
+    };
+    asked(NEAREST[0], 2, 325, 540, (20, 0.0));
+    asked(INTERPOLATED[0], 2, 325, 540, (20, 0.0));
+    asked(INTERPOLATED[0], 4, 1, 0, (0, 0.0));
+}
+
+// Tables and what is asked of them; `many` times as much of what is not damaged, and at most `most` of each case that is.
 pub fn asked(reader: &mut Reader, random: &mut Random, many: usize, most: usize) {
     let spheres = [icosphere(0), icosphere(1)];
     let [n0, n1] = NEAREST;
@@ -462,4 +524,9 @@ pub fn asked(reader: &mut Reader, random: &mut Random, many: usize, most: usize)
     table(reader, random, lent, 1, [1e-3, 1.0, 1.0 / 3.0, 6.0], &[i0, i1, n0]);
     readings(reader, random, lent, 60 * many);
     damages(reader, random, lent, most.div_ceil(6));
+
+    let lent = [&spheres[0], &spheres[1]];
+    table(reader, random, lent, 1, [0.5, 4.5, 1.0, 6.0], &[n0, i0, n1, i1]);
+    empty_spans(reader, random, lent, 12 * many);
+    offsets_beyond(reader, random, lent);
 }

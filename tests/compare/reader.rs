@@ -5,6 +5,7 @@ use crate::lines::bits;
 use crate::meshes::Mesh;
 use crate::oracle::{FaceGrid, Vector3};
 use crate::reading::{cell_offsets_below, reading, vertices_below, Answer};
+use crate::report::differ;
 use crate::rust::Table6DAdaptive;
 use std::collections::BTreeMap;
 
@@ -94,6 +95,14 @@ pub struct Reader<'a> {
     pub rust: Option<Table6DAdaptive<f32>>,
     pub cases: BTreeMap<String, usize>,
     pub counts: BTreeMap<&'static str, usize>,
+}
+
+// Where 01 admits a reading of the file as it was written, the Rust has to answer the same.
+pub fn same_as_rust(rust: &Table6DAdaptive<f32>, t: &Table, q: &Query, energy: f64) {
+    let theirs = rust.lookup(q.r, q.omega, &Vector3::from(q.a), &Vector3::from(q.b));
+    if bits(theirs) != bits(energy) {
+        differ("the Rust's lookup and document 01's text", format!("{q:?} of {t:?}"), format!("{energy:e}"), format!("{theirs:e}"));
+    }
 }
 
 // What the program counts, in the order in which it writes them.
@@ -223,27 +232,25 @@ impl<'a> Reader<'a> {
         let d = self.undamaged();
         let a = self.answer(&d, q);
         if a.number == 0 {
-            let (x, y) = (Vector3::from(q.a), Vector3::from(q.b));
-            let energy = self.rust.as_ref().unwrap().lookup(q.r, q.omega, &x, &y);
-            assert_eq!(bits(energy), bits(a.energy), "{}: {q:?}", a.words);
+            same_as_rust(self.rust.as_ref().unwrap(), &d.table, q, a.energy);
         }
         self.hold(d.table);
         self.hand(&d.lent, q, &a, true);
     }
 
-    // Damages, reads, and puts it right again.
-    pub fn damaged(&mut self, d: &Damage, queries: &[Query]) {
-        let before: Vec<(usize, usize, u64)> = d.entries.iter().map(|&(list, at, _)| (list, at, self.lists.word(list, at))).collect();
-        let answers: Vec<Answer> = queries.iter().map(|q| self.answer(d, q)).collect();
-        for &(list, at, n) in &d.entries {
-            self.entries(list, at, &[n]);
+    // Damages, reads, and puts it right again; entries that follow each other in a list go together.
+    pub fn damaged(&mut self, d: &Damage, q: &Query) {
+        let runs: Vec<&[(usize, usize, u64)]> = d.entries.chunk_by(|a, b| (a.0, a.1 + 1) == (b.0, b.1)).collect();
+        let words = |lists: &Lists, run: &[(usize, usize, u64)]| run.iter().map(|&(list, at, _)| lists.word(list, at)).collect();
+        let before: Vec<Vec<u64>> = runs.iter().map(|run| words(&self.lists, run)).collect();
+        let answer = self.answer(d, q);
+        for run in &runs {
+            self.entries(run[0].0, run[0].1, &run.iter().map(|e| e.2).collect::<Vec<_>>());
         }
         self.hold(d.table);
-        for (q, a) in queries.iter().zip(&answers) {
-            self.hand(&d.lent, q, a, false);
-        }
-        for (list, at, n) in before.into_iter().rev() {
-            self.entries(list, at, &[n]);
+        self.hand(&d.lent, q, &answer, false);
+        for (run, words) in runs.iter().zip(&before).rev() {
+            self.entries(run[0].0, run[0].1, words);
         }
     }
 }

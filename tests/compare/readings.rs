@@ -19,6 +19,9 @@ mod pack;
 mod queries;
 mod reader;
 mod reading;
+#[allow(dead_code)]
+mod report;
+mod search;
 
 use icotable::{Query, Table};
 use lines::{bits, Fixed};

@@ -1,5 +1,7 @@
 // Compares the search and the locator call of the static library with those of the Rust, on one input after another, and
-// ends at the first difference with its input. Any NaN is equal to any other. The Rust panics where a cell is empty; there the answer is to be 20.
+// ends at the first difference with its input: searches SEED short|long. Any NaN is equal to any other. The Rust panics where a cell is empty; there the answer is to be 20. Over lists that are
+// damaged by hand the answers are those of the search read apart from document 01 (search.rs).
+mod arguments;
 #[allow(dead_code)]
 mod lines;
 #[allow(dead_code)]
@@ -9,12 +11,16 @@ mod oracle {
     include!(concat!(env!("COMPARE"), "/oracle.rs"));
 }
 mod ours;
+mod report;
+mod search;
 
+use arguments::arguments;
 use lines::bits;
 use meshes::{icosphere, scaled, sevens, strange_points, vertex_count, without_faces, Lent, Mesh, Random, STRANGE};
 use oracle::{FaceGrid, Vector3};
 use ours::{Lists, Located, Nearest};
-use std::process::exit;
+use search::{Refusal, Search};
+use std::collections::BTreeMap;
 
 #[derive(Default)]
 struct Tally {
@@ -23,6 +29,7 @@ struct Tally {
     refusals: usize,
     saturated: usize,
     directions: Vec<(&'static str, usize)>,
+    damaged: BTreeMap<(u64, &'static str), usize>,
     empty: usize,
     unfit: usize,
     strange: usize,
@@ -50,15 +57,14 @@ fn located_words(a: &Located) -> String {
     format!("number {}, face {:?}, weights {}", a.number, a.face, words(&a.weights))
 }
 
-fn differ(mesh: &Mesh, what: &str, input: &str, ours: &str, theirs: &str) -> ! {
-    println!("DIFFERENCE in {what}, on {}", mesh.name);
-    println!("  input  {input}\n  ours   {ours}\n  Rust's {theirs}");
+fn differ(mesh: &Mesh, what: &str, input: &str, ours: &str, wanted: &str) -> ! {
+    let mut input = format!("{input}, on {}", mesh.name);
     if mesh.vertices.len() <= 42 {
         for (v, list) in mesh.vertices.iter().zip(&mesh.neighbours) {
-            println!("  vertex {} neighbours {list:?}", words(v));
+            input.push_str(&format!("\n    vertex {} neighbours {list:?}", words(v)));
         }
     }
-    exit(1)
+    report::differ(what, input, ours.into(), wanted.into())
 }
 
 fn grid_size(level: usize) -> usize {
@@ -92,6 +98,7 @@ fn locators(mesh: &Mesh, lent: &Lent, grid: &FaceGrid, random: &mut Random, tall
     let more = random.below(4);
     let before = canaries(mesh.level, more, random);
     let mut lists = before.clone();
+    report::input();
     let number = ours::locator(mesh.level as u64, lent, &mut lists);
     if number != 0 {
         differ(mesh, "the locator call", "the mesh", &format!("refused with {number}"), "accepted");
@@ -108,7 +115,24 @@ fn locators(mesh: &Mesh, lent: &Lent, grid: &FaceGrid, random: &mut Random, tall
     lists
 }
 
-// Both searches of one direction.
+// Both searches of one direction, as they are to be answered.
+fn same(mesh: &Mesh, vertices: &[f64], lists: &Lists, d: [f64; 3], nearest: Nearest, located: Located) {
+    report::input();
+    let input = || match mesh.level {
+        0 | 1 => format!("{}, offsets of cells {:?} and of faces {:?}", words(&d), lists.cell_offsets, lists.face_offsets),
+        _ => words(&d),
+    };
+    let got = ours::find_nearest_vertex(mesh.level, lists, vertices, d);
+    if (got.number, got.vertex, bits(got.distance)) != (nearest.number, nearest.vertex, bits(nearest.distance)) {
+        differ(mesh, "find_nearest_vertex", &input(), &nearest_words(&got), &nearest_words(&nearest));
+    }
+    let got = ours::locate(mesh.level, lists, vertices, d);
+    if (got.number, got.face, got.weights.map(bits)) != (located.number, located.face, located.weights.map(bits)) {
+        differ(mesh, "locate", &input(), &located_words(&got), &located_words(&located));
+    }
+}
+
+// A direction, as the Rust answers it.
 fn search(mesh: &Mesh, lent: &Lent, lists: &Lists, grid: &FaceGrid, kind: &'static str, d: [f64; 3], tally: &mut Tally) {
     let dir = Vector3::from(d);
     let p = dir.normalize();
@@ -133,14 +157,7 @@ fn search(mesh: &Mesh, lent: &Lent, lists: &Lists, grid: &FaceGrid, kind: &'stat
     } else {
         tally.empty += 1;
     }
-    let got = ours::find_nearest_vertex(mesh.level, lists, &lent.vertices, d);
-    if (got.number, got.vertex, bits(got.distance)) != (nearest.number, nearest.vertex, bits(nearest.distance)) {
-        differ(mesh, "find_nearest_vertex", &words(&d), &nearest_words(&got), &nearest_words(&nearest));
-    }
-    let got = ours::locate(mesh.level, lists, &lent.vertices, d);
-    if (got.number, got.face, got.weights.map(bits)) != (located.number, located.face, located.weights.map(bits)) {
-        differ(mesh, "locate", &words(&d), &located_words(&got), &located_words(&located));
-    }
+    same(mesh, &lent.vertices, lists, d, nearest, located);
     let l = p.dot(&p);
     tally.direction(if l.is_finite() && l > 0.0 { kind } else { "with no length, or an infinite one, or a NaN" });
 }
@@ -211,10 +228,83 @@ fn directions(mesh: &Mesh, g: usize, many: usize, random: &mut Random) -> Vec<(&
 fn compare(mesh: &Mesh, many: usize, random: &mut Random, tally: &mut Tally) {
     let lent = mesh.lent();
     let grid = FaceGrid::new(&mesh.vertices, &mesh.neighbours);
-    assert_eq!(grid.grid_size, grid_size(mesh.level));
+    if grid.grid_size != grid_size(mesh.level) {
+        differ(mesh, "the grid size", "the mesh", &grid_size(mesh.level).to_string(), &grid.grid_size.to_string());
+    }
     let lists = locators(mesh, &lent, &grid, random, tally);
     for (kind, d) in directions(mesh, grid.grid_size, many, random) {
         search(mesh, &lent, &lists, &grid, kind, d, tally);
+    }
+}
+
+// ---- damaged lists
+
+// One thing damaged about the lists that a direction is searched in: a span that is empty, wherever it lies; an offset, wherever it points; a vertex number.
+fn damage(lists: &mut Lists, level: usize, cell: usize, nearest: usize, random: &mut Random) {
+    let (cells, faces, n) = (lists.cell_vertices.len(), lists.faces.len(), vertex_count(level));
+    let e = [cells, faces / 3, cells + 1, u32::MAX as usize, 1 << 31, 0, random.below(1 << 32)][random.below(7)] as u32;
+    let v = [65535, n, random.below(n)][random.below(3)] as u16;
+    match random.below(10) {
+        0 | 1 => lists.cell_offsets[cell..cell + 2].fill(e),
+        2 | 3 => lists.face_offsets[nearest..nearest + 2].fill(e),
+        4 => lists.cell_offsets.fill(e),
+        5 => lists.face_offsets.fill(e),
+        6 => lists.cell_offsets[cell + random.below(2)] = e,
+        7 => lists.face_offsets[nearest + random.below(2)] = e,
+        8 => lists.cell_vertices[random.below(cells)] = v,
+        _ => lists.faces[random.below(faces)] = v,
+    }
+}
+
+// One list that is shorter.
+fn cut(lists: &mut Lists, vertices: &mut Vec<f64>, cell: usize, nearest: usize, random: &mut Random) {
+    match random.below(6) {
+        0 => vertices.truncate(random.below(vertices.len())),
+        1 => lists.cell_vertices.truncate(random.below(lists.cell_vertices.len())),
+        2 => lists.faces.truncate(random.below(lists.faces.len())),
+        3 => lists.faces.clear(),
+        4 => lists.cell_offsets.truncate(cell + random.below(2)),
+        _ => lists.face_offsets.truncate(nearest + random.below(2)),
+    }
+}
+
+// A search over damaged lists, as it is read apart.
+fn search_damaged(mesh: &Mesh, vertices: &[f64], lists: &Lists, d: [f64; 3], tally: &mut Tally) {
+    let Lists { cell_offsets, cell_vertices, face_offsets, faces } = lists;
+    let search = Search::new(search::Lent { vertices, cell_offsets, cell_vertices, face_offsets, faces }, mesh.level as u64, d);
+    let (nearest, face) = (search.nearest(), search.face());
+    let empty = face.is_ok_and(|f| f == ([0; 3], [0.0; 3]));
+    let case: Refusal = face.err().unwrap_or((0, if empty { "no face fits" } else { "a face" }));
+    *tally.damaged.entry(case).or_default() += 1;
+    let nearest = match nearest {
+        Ok((v, distance)) => Nearest { number: 0, vertex: v as u64, distance },
+        Err((number, _)) => Nearest { number, vertex: 0, distance: 0.0 },
+    };
+    let located = match face {
+        Ok((face, weights)) => Located { number: 0, face: face.map(|v| v as u64), weights },
+        Err((number, _)) => Located { number, face: [0; 3], weights: [0.0; 3] },
+    };
+    same(mesh, vertices, lists, d, nearest, located);
+}
+
+fn damaged(mesh: &Mesh, many: usize, random: &mut Random, tally: &mut Tally) {
+    let lent = mesh.lent();
+    let grid = FaceGrid::new(&mesh.vertices, &mesh.neighbours);
+    let good = locators(mesh, &lent, &grid, random, tally);
+    for _ in 0..many {
+        let d = random.direction();
+        let p = Vector3::from(d).normalize();
+        let cell = grid.cell_index(&p);
+        let listed = grid.vtx_offsets[cell] < grid.vtx_offsets[cell + 1];
+        let nearest = if listed { grid.find_nearest_vertex(&p) } else { 0 };
+        let (mut lists, mut vertices) = (good.clone(), lent.vertices.clone());
+        for _ in 0..random.below(3) {
+            damage(&mut lists, mesh.level, cell, nearest, random);
+        }
+        if random.below(3) == 0 {
+            cut(&mut lists, &mut vertices, cell, nearest, random);
+        }
+        search_damaged(mesh, &vertices, &lists, d, tally);
     }
 }
 
@@ -222,6 +312,7 @@ fn compare(mesh: &Mesh, many: usize, random: &mut Random, tally: &mut Tally) {
 fn refused(mesh: &Mesh, random: &mut Random, tally: &mut Tally) {
     let mut expect = |what: &str, number: u64, level: u64, lent: &Lent, lists: &Lists| {
         let mut after = lists.clone();
+        report::input();
         let got = ours::locator(level, lent, &mut after);
         if got != number || &after != lists {
             let stayed = if &after == lists { "lists as they were" } else { "lists changed" };
@@ -303,9 +394,25 @@ fn signatures() {
     println!("signatures: find_nearest_vertex, locate and locator answer as worked out by hand");
 }
 
+// What has to have occurred over damaged lists.
+const DAMAGED: [&str; 12] = [
+    "a face",
+    "no face fits",
+    "a cell offset beyond what was lent",
+    "a cell's end below its start",
+    "a cell entry beyond what was lent",
+    "a cell's vertex number beyond n",
+    "a vertex beyond what was lent",
+    "a face offset beyond what was lent",
+    "a face's end below its start",
+    "a face entry beyond what was lent",
+    "a face's vertex number beyond n",
+    "an empty cell",
+];
+
 fn main() {
-    let rounds: usize = std::env::args().nth(1).map_or(1, |n| n.parse().expect("a number of rounds"));
-    let mut random = Random(0x9e3779b97f4a7c15);
+    let (mut random, length) = arguments();
+    let rounds = length.choose(1, 6);
     let mut tally = Tally::default();
     signatures();
     let spheres: Vec<Mesh> = (0..16).map(icosphere).collect();
@@ -321,6 +428,7 @@ fn main() {
         compare(mesh, 1000, &mut random, &mut tally);
         compare(&zeros(mesh), 50, &mut random, &mut tally);
         refused(mesh, &mut random, &mut tally);
+        damaged(mesh, 5000 * rounds, &mut random, &mut tally);
         for _ in 0..60 * rounds {
             for kind in 0..STRANGE {
                 let base = mesh.shuffled(&mut random);
@@ -330,6 +438,7 @@ fn main() {
     }
     for mesh in [&spheres[2], &spheres[3], &spheres[5], &spheres[15]] {
         refused(mesh, &mut random, &mut tally);
+        damaged(mesh, 200 * rounds, &mut random, &mut tally);
         for kind in 0..STRANGE {
             let base = mesh.shuffled(&mut random);
             compare(&strange_points(&base, kind, &mut random), 200, &mut random, &mut tally);
@@ -344,5 +453,12 @@ fn main() {
     }
     println!("  of these {} with an empty cell (20), {} with several nearest vertices,", tally.empty, tally.tied);
     println!("  {} where no face fits, {} with a weight that is infinite or a NaN", tally.unfit, tally.strange);
+    println!("find_nearest_vertex and locate over damaged lists: {} directions", tally.damaged.values().sum::<usize>());
+    for ((number, words), count) in &tally.damaged {
+        println!("  {count} answered {number}: {words}");
+    }
+    for words in DAMAGED {
+        assert!(tally.damaged.keys().any(|case| case.1 == words), "nothing was compared of this case: {words}");
+    }
     println!("compare: all equal");
 }

@@ -1,5 +1,5 @@
-// Compares the static library libicotable.a with the Rust over whole tables: tables LISTS READINGS ROUNDS. LISTS lists of calls of fresh, set and settle, refused ones among them, on meshes of many
-// kinds; after each list write, read, damaged copies of the file, and READINGS readings; then ROUNDS rounds of readings over damaged lists and tables made by a host. Every answer and every entry of
+// Compares the static library libicotable.a with the Rust over whole tables: tables SEED short|long. Lists of calls of fresh, set and settle, refused ones among them, on meshes of many
+// kinds; after each list write, read, damaged copies of the file, and readings; then rounds of readings over damaged lists and tables made by a host. Every answer and every entry of
 // every lent list is compared: with the Rust where document 01 admits a call, with independent readings of 01's text (refusals.rs, plain.rs, reading.rs) where not.
 #[allow(dead_code, clippy::all)]
 mod builder {
@@ -13,6 +13,8 @@ mod oracle {
 mod rust {
     include!(concat!(env!("COMPARE"), "/lookup.rs"));
 }
+mod arguments;
+mod bounds;
 #[allow(dead_code)]
 mod caller;
 #[path = "../../hosts/rust/src/sys.rs"]
@@ -30,21 +32,26 @@ mod queries;
 mod reader;
 mod reading;
 mod refusals;
+mod report;
 #[allow(dead_code)]
 mod samples;
+mod search;
 mod worlds;
 
+use arguments::arguments;
+use bounds::{drawn, CASES};
 use caller::Caller;
 use icotable::{Grid, Table};
-use library::{builder_of, differ, lists_of, same_reading, same_table, Library, Readings};
+use library::{builder_of, file_words, lists_of, same_reading, same_table, Library, Readings};
 use lines::bits;
-use lists::{list, needed_lengths, wrong, wrong_mesh, WRONG, WRONG_MESH};
+use lists::{needed_lengths, wrong, wrong_mesh, WRONG, WRONG_MESH};
 use meshes::Random;
-use oracle::{FaceGrid, Vector3};
+use oracle::FaceGrid;
 use pack::packed;
-use queries::{asked, query, query_at};
-use reader::Reader;
+use queries::{asked, queries_at_ends, query, query_at};
+use reader::{same_as_rust, Reader};
 use refusals::{Held, Lists};
+use report::differ;
 use std::collections::BTreeMap;
 use worlds::World;
 
@@ -65,12 +72,17 @@ fn written(held: &Held, lists: &Lists, file: &[u8], random: &mut Random) {
     let before: Vec<u8> = (0..file.len() + random.below(20)).map(|_| random.bits() as u8).collect();
     let (mut output, mut lent) = (before.clone(), lists.clone());
     let (l, m) = lists_of(&mut lent, &lists.lengths());
+    report::input();
     let a = icotable::write(builder_of(held), l.held(), m, &mut output);
     if (a.number, a.length) != (0, file.len() as u64) {
         differ("write", format!("{held:?}"), format!("{}, {} bytes", a.number, a.length), format!("0, {} bytes", file.len()));
     }
-    if output[..file.len()] != *file || output[file.len()..] != before[file.len()..] || !library::same_lists(&lent, lists) {
-        differ("write", format!("{held:?}"), format!("{output:02X?}"), format!("{file:02X?}"));
+    let wanted = file.iter().chain(&before[file.len()..]);
+    if let Some((at, (byte, want))) = output.iter().zip(wanted).enumerate().find(|(_, (byte, want))| byte != want) {
+        differ("write", format!("{held:?}, byte {at} of {}", file.len()), format!("{byte:02X}"), format!("{want:02X}"));
+    }
+    if !library::same_lists(&lent, lists) {
+        differ("write", format!("{held:?}"), "other entries in a lent list".into(), "lists as they were".into());
     }
 }
 
@@ -130,6 +142,7 @@ fn refused_write(caller: &Caller, random: &mut Random, tally: &mut Tally) {
     let before: Vec<u8> = (0..room).map(|_| random.bits() as u8).collect();
     let (mut output, was) = (before.clone(), lists.clone());
     let (l, m) = lists_of(&mut lists, &lent);
+    report::input();
     let a = icotable::write(builder_of(&held), l.held(), m, &mut output);
     if (a.number, a.length) != (number, 0) || output != before || !library::same_lists(&lists, &was) {
         differ("write", format!("{held:?}, lent {lent:?}, output {room}"), format!("{}, {} bytes", a.number, a.length), format!("{number}, nothing altered"));
@@ -214,7 +227,7 @@ fn checked(file: &[u8], t: &Table) {
         metadata: None,
     };
     if let Err(words) = table.check_grid().and(table.check_slabs()) {
-        differ("read", format!("{file:02X?}"), "accepted".into(), format!("the Rust's check: {words}"));
+        differ("read", file_words(file), "accepted".into(), format!("the Rust's check: {words}"));
     }
 }
 
@@ -242,14 +255,14 @@ fn readings(world: &World, t: &Table, table: &rust::Table6DAdaptive<f32>, file: 
     let ends = [&world.meshes[0], world.meshes.last().unwrap()];
     let lent = icotable::Lent { file, ..world.lists.lent(&world.lists.lengths()) };
     let mut found = [0; 21];
+    let mut queries = queries_at_ends(t, ends, random);
     for _ in 0..many {
-        let q = if random.below(3) == 0 { query(t, ends, random) } else { query_at(t, random.below(t.rows as usize) as u64, ends, random) };
+        queries.push(if random.below(3) == 0 { query(t, ends, random) } else { query_at(t, random.below(t.rows as usize) as u64, ends, random) });
+    }
+    for q in queries {
         let a = reading::reading(t, lent, &q);
         if a.number == 0 {
-            let energy = table.lookup(q.r, q.omega, &Vector3::from(q.a), &Vector3::from(q.b));
-            if bits(energy) != bits(a.energy) {
-                differ("the Rust's lookup and document 01's text", format!("{q:?} of {t:?}"), format!("{:e}", a.energy), format!("{energy:e}"));
-            }
+            same_as_rust(table, t, &q, a.energy);
         }
         same_reading(t, lent, &q, a.number, a.energy);
         found[a.number as usize] += 1;
@@ -276,15 +289,14 @@ fn table(caller: &Caller, world: &mut World, many: usize, random: &mut Random, t
 }
 
 // Lists of calls on one set of meshes.
-fn lists(count: u64, many: usize, random: &mut Random, tally: &mut Tally) {
-    let mut world = World::new(random);
+fn lists(mut world: World, count: u64, many: usize, random: &mut Random, tally: &mut Tally) {
     tally.add("locator, lists", 4 * world.meshes.len() as u64);
     tally.add("locator, entries", world.entries);
     let mut library = Library::new();
     let mut caller = Caller::new(world.canaries(random), &mut library);
     world.lend(&mut caller, random);
     for _ in 0..count {
-        list(&mut caller, random, world.top as u64);
+        drawn(&mut caller, random, world.top as u64);
         table(&caller, &mut world, many, random, tally);
     }
     for (words, n) in std::mem::take(&mut caller.cases) {
@@ -324,19 +336,26 @@ fn needed() -> Vec<String> {
     words.extend([1, 2, 3, 4, 5, 6, 7, 12, 15].map(|n| format!("write, refused with {n}")));
     words.extend([0, 13, 14, 15, 16, 17].map(|n| format!("read, damaged copies answered {n}")));
     words.extend([0, 18, 20].map(|n| format!("reading, as written, answered {n}")));
+    words.extend(CASES.map(String::from));
     words
 }
 
 fn main() {
-    let [all, many, rounds]: [u64; 3] = std::env::args().skip(1).map(|n| n.parse().expect("a number")).collect::<Vec<_>>().try_into().expect("three numbers");
-    let mut random = Random(0x9e3779b97f4a7c15);
+    let (mut random, length) = arguments();
+    // lists of calls at low levels; levels from 6 on, and lists at each; rounds of readings
+    let (all, high, each, rounds) = length.choose((5000, 6..=8, 4, 20), (100_000, 6..=15, 12, 100));
+    // readings after a list
+    let many = 100;
     let mut tally = Tally::default();
     signatures(&mut random);
     let mut left = all;
     while left > 0 {
         let count = left.min(1 + random.below(25) as u64);
-        lists(count, many as usize, &mut random, &mut tally);
+        lists(World::low(&mut random), count, many, &mut random, &mut tally);
         left -= count;
+    }
+    for top in high {
+        (0..each).for_each(|_| lists(World::new(top, &mut random), 1, many, &mut random, &mut tally));
     }
     let mut sink = Readings { answered: 0, refused: 0, files: 0 };
     for _ in 0..rounds {

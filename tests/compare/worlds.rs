@@ -54,7 +54,7 @@ pub fn table_of(s: Settings, levels: Vec<MeshLevel>, rust: &builder::AdaptiveBui
 
 impl World {
     // Low levels more often, since a slab of level 5 has 131,044 energies.
-    pub fn new(random: &mut Random) -> World {
+    pub fn low(random: &mut Random) -> World {
         let top = match random.below(200) {
             0 => 5,
             1 => 4,
@@ -63,6 +63,10 @@ impl World {
             36..=99 => 1,
             _ => 0,
         };
+        World::new(top, random)
+    }
+
+    pub fn new(top: usize, random: &mut Random) -> World {
         let mut world = World { top, meshes: Vec::new(), lists: reader::Lists::default(), entries: 0, levels: Vec::new() };
         for level in 0..=top {
             let mesh = mesh(level, random);
@@ -77,7 +81,7 @@ impl World {
 
     // A builder's lists, each entry a canary, with a few beyond the longest that a call needs.
     pub fn canaries(&self, random: &mut Random) -> Lists {
-        let slabs = [12, 12, 4, 3, 2, 2][self.top];
+        let slabs = [60, 12, 4, 3].get(self.top).copied().unwrap_or(2);
         let n = vertices_of(self.top as u64);
         let all = vertices_below(self.top as u64 + 1) + random.below(3);
         let more = random.below(5);

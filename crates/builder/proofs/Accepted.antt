@@ -1,8 +1,8 @@
 -- What an accepted settle may count on, and what it gives. Assumes nothing.
-use mathlib.Core.Path.{_≡_, refl, ap, _∙_}
-use mathlib.Core.Bool.{true, cond}
+use mathlib.Core.Path.{_≡_, refl, ap}
+use mathlib.Core.Bool.{cond}
 use mathlib.Core.List.{List, [], _∷_, map}
-use Prim.Native.Nat.{ℕ, suc, _≤_}
+use Prim.Native.Nat.{ℕ, suc}
 use native.Mathlib.Nat.{mul-le-mul}
 use native.Mathlib.Omega.{arith}
 use lib.Dec.{lit<}
@@ -10,18 +10,15 @@ use lib.ListN.{length}
 use lib.Ieee.{Float}
 use borrow.Author.Tests.{ltb-true}
 use Rattle.mesh.specs.Levels.{vertexCount, verticesBelow}
-use Rattle.mesh.specs.Mesh.{Mesh, keepsRule, levelPart, meshesKeep}
+use Rattle.mesh.specs.Mesh.{Mesh, levelPart}
 use Rattle.mesh.proofs.Laws.{below-le}
-use Rattle.mesh.proofs.Counting.{all-at}
 use Rattle.mesh.proofs.Kept.{held}
 use Rattle.rows.specs.Rows.{Rows, Row, scalar, repulsive, mesh}
 use Rattle.settling.specs.Gradient.{allRepulsive, gradient}
 use Rattle.settling.specs.Settling.{byGradient, verdict, verdictOf, verdicts, drops, settledSlice}
 use Rattle.questions.specs.Lists.{Lists, slab, sliceAt}
-use Rattle.builder.specs.Calls.{settledLists, SettleOut, settleAccepted}
-use Rattle.settling.specs.Steps.{Below}
+use Rattle.builder.specs.Calls.{settledValues, settledLists, SettleOut, settleAccepted}
 use Rattle.builder.specs.Steps.{ReadyIn, partLinks, tallyFrom, start, dropsBy, droppedBy}
-use Rattle.questions.specs.Steps.{settleQuestion}
 use Rattle.questions.specs.declared.Builder.{Builder}
 use Rattle.builder.specs.declared.Settled.the-variants.{Accepted as Settles}
 use Rattle.settling.specs.declared.Tally.{Tally}
@@ -29,18 +26,13 @@ use Rattle.settling.specs.declared.Verdict.the-variants.{Blocked}
 use Rattle.mesh.proofs.Sizes.{place}
 use Rattle.questions.proofs.Laws.{ask-yes, first-yes, meshed}
 use Rattle.questions.specs.Refusals.{meshedRefusal, settleRefusal}
-use Rattle.settling.proofs.Slopes.{kept-below, gradient-links}
+use Rattle.settling.proofs.Slopes.{gradient-links}
 use Rattle.builder.proofs.Changes.{tally-gradient, tally-settled, tally-clear}
 
 -- ---- what an accepted settle may count on
 
 abbrev linksOf : Mesh → Mesh
 linksOf ms = record { vertices = []; counts = ms .counts; neighbours = ms .neighbours; angles = ms .angles }
-
-level-below : (top level : ℕ) (ms : Mesh) → level ≤ top → meshesKeep top ms ≡ true → Below (vertexCount level) (partLinks level (linksOf ms))
-unfolding meshesKeep levelPart
-level-below top level ms h e =
-    kept-below (vertexCount level) (levelPart level ms) (all-at (λ m. keepsRule (vertexCount m) (levelPart m ms)) level (suc top) (omega arith) e)
 
 pub ready : (b : Builder) (ms : Mesh) (l : Lists) (ri : ℕ) → settleRefusal b ms l ri ≡ 0 → ReadyIn b (linksOf ms) l ri
 unfolding settleRefusal meshedRefusal
@@ -62,7 +54,6 @@ ready b ms l ri e =
         slice-le = omega (arith, place ri (g .«n_r») (g .«n_omega») (g .«n_omega») in-bins (omega arith));
         few = omega (arith, mul-le-mul (a .rs) (a .omegas));
         store-le = f .room .store-le;
-        below = level-below (b .top) (b .level) ms (a .level-le) (f .kept);
         same-level = q11 .0;
       };
       counts-le = omega (arith, h .counts, up);
@@ -87,7 +78,7 @@ map-same f g (x ∷ l) h = rw (h x, map-same f g l h)
 pub given : (b : Builder) (ms : Mesh) (l : Lists) (ri : ℕ) (t : Tally) (rows : Rows)
     → (let f = verdictOf (b .grid .threshold) (b .grid .beta) (partLinks (b .level) (linksOf ms)) (vertexCount (b .level)) in
     (t ≡ tallyFrom f (b .level) start (sliceAt b l ri)) × (rows ≡ settledLists (b .level) (l .rows) (slab (b .grid) ri 0) (map f (sliceAt b l ri))))
-    → _≡_ {A = SettleOut} (record { answer = Settles (droppedBy b t) (t .gradient); lists = record { store = l .store; rows = rows } }) (settleAccepted b ms l ri)
+    → _≡_ {A = SettleOut} (record { answer = settledValues b (Settles (droppedBy b t) (t .gradient)); lists = record { store = l .store; rows = rows } }) (settleAccepted b ms l ri)
 unfolding settleAccepted settledSlice droppedBy dropsBy drops verdicts
 given b ms l ri t rows h =
     let c = b .level in

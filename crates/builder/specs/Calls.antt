@@ -23,29 +23,30 @@ use Rattle.builder.specs.declared.Built.the-variants.{Accepted as Builds
 use Rattle.builder.specs.declared.Settled.{Settled}
 use Rattle.builder.specs.declared.Settled.the-variants.{Accepted as Settles, Refused as NotSettled}
 
--- ---- 01's number and values for each case of an answer
+-- ---- 01's number and values for each case of an answer. A refused call hands no builder back: the caller keeps the one that it handed in
 
-abbrev pub builtNumber : Built → ℕ
-builtNumber (Builds b) = 0
-builtNumber (NotBuilt n) = n
+pub record BuiltValues : Type 0 where
+  pub number : ℕ
+  pub builder : Builder
 
--- the builder after the call: a refused one hands back none, and the caller keeps its own
-abbrev pub builderAfter : Builder → Built → Builder
-builderAfter b (Builds c) = c
-builderAfter b (NotBuilt n) = b
+abbrev pub builtValues : Builder → Built → BuiltValues
+builtValues kept (Builds b) = record { number = 0; builder = b }
+builtValues kept (NotBuilt n) = record { number = n; builder = kept }
 
-abbrev pub settledNumber : Settled → ℕ
-settledNumber (Settles b x) = 0
-settledNumber (NotSettled n) = n
+-- "settle returns the largest gradient"; beside a number that refuses stands 0
+pub record SettledValues : Type 0 where
+  pub number : ℕ
+  pub gradient : Float
+  pub builder : Builder
 
-abbrev pub settledBuilder : Builder → Settled → Builder
-settledBuilder b (Settles c x) = c
-settledBuilder b (NotSettled n) = b
+abbrev pub settledValues : Builder → Settled → SettledValues
+settledValues kept (Settles b x) = record { number = 0; gradient = x; builder = b }
+settledValues kept (NotSettled n) = record { number = n; gradient = zero; builder = kept }
 
--- "settle returns the largest gradient"
-abbrev pub settledGradient : Settled → Float
-settledGradient (Settles b x) = x
-settledGradient (NotSettled n) = zero
+-- what stands for a builder where fresh is refused
+abbrev pub noBuilder : Builder
+noBuilder =
+    record { grid = record { rmin = zero; rmax = zero; dr = zero; «omega_step» = zero; threshold = zero; beta = zero; «n_r» = 0; «n_omega» = 0 }; top = 0; level = 0 }
 
 -- ---- fresh
 
@@ -64,14 +65,14 @@ filled b l =
 
 -- what fresh and set leave: the answer and every list that is lent to be altered
 pub record BuiltOut : Type 0 where
-  pub answer : Built
+  pub answer : BuiltValues
   pub lists : Lists
 
 unfoldable pub freshOut : Grid → ℕ → Mesh → Lists → BuiltOut
 freshOut g top m l =
     let b = freshBuilder g top in
     let r = meshedRefusal b m l in
-    cond (eqb r 0) (record { answer = Builds b; lists = filled b l }) (record { answer = NotBuilt r; lists = l })
+    cond (eqb r 0) (record { answer = builtValues noBuilder (Builds b); lists = filled b l }) (record { answer = builtValues noBuilder (NotBuilt r); lists = l })
 
 -- ---- set
 
@@ -82,7 +83,7 @@ setLists b l s e = record { store = put (l .store) (storePlace (b .top) s) e; ro
 unfoldable pub setOut : Builder → Lists → ℕ → ℕ → List Float → BuiltOut
 setOut b l ri oi e =
     let r = setRefusal b l ri oi e in
-    cond (eqb r 0) (record { answer = Builds b; lists = setLists b l (slab (b .grid) ri oi) e }) (record { answer = NotBuilt r; lists = l })
+    cond (eqb r 0) (record { answer = builtValues b (Builds b); lists = setLists b l (slab (b .grid) ri oi) e }) (record { answer = builtValues b (NotBuilt r); lists = l })
 
 -- ---- settle
 
@@ -93,7 +94,7 @@ settledLists c r s (v ∷ vs) = settledLists c (replacedBy r s (newRow c v)) (su
 
 -- what settle leaves; "settle leaves the store"
 pub record SettleOut : Type 0 where
-  pub answer : Settled
+  pub answer : SettledValues
   pub lists : Lists
 
 unfoldable pub settleAccepted : Builder → Mesh → Lists → ℕ → SettleOut
@@ -102,11 +103,11 @@ settleAccepted b m l ri =
     let vs = verdicts (b .grid) m (b .level) rs in
     let s = settledSlice (b .grid) (b .level) rs vs in
     record {
-      answer = Settles (record { grid = b .grid; top = b .top; level = s .level }) (s .gradient);
+      answer = settledValues b (Settles (record { grid = b .grid; top = b .top; level = s .level }) (s .gradient));
       lists = record { store = l .store; rows = settledLists (b .level) (l .rows) (slab (b .grid) ri 0) vs };
     }
 
 unfoldable pub settleOut : Builder → Mesh → Lists → ℕ → SettleOut
 settleOut b m l ri =
     let r = settleRefusal b m l ri in
-    cond (eqb r 0) (settleAccepted b m l ri) (record { answer = NotSettled r; lists = l })
+    cond (eqb r 0) (settleAccepted b m l ri) (record { answer = settledValues b (NotSettled r); lists = l })

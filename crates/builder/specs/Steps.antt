@@ -14,7 +14,7 @@ use Rattle.settling.specs.Settling.{verdictOf, newRow, fromLevel, replacedBy}
 use Rattle.questions.specs.Lists.{Lists, slab, slabs, sliceAt}
 use Rattle.builder.specs.Calls.{settledLists}
 use Rattle.questions.specs.declared.Builder.{Builder}
-use Rattle.settling.specs.Steps.{Below, tallied}
+use Rattle.settling.specs.Steps.{tallied}
 use Rattle.settling.specs.declared.Tally.{Tally}
 use Rattle.settling.specs.declared.Verdict.{Verdict}
 
@@ -29,23 +29,22 @@ unfoldable pub tallyFrom : (Row Float → Verdict) → ℕ → Tally → List (R
 tallyFrom f c t [] = t
 tallyFrom f c t (r ∷ rs) = tallyFrom f c (tallied c t r (f r)) rs
 
--- what an accepted settle may count on, over the mesh of the current level
-pub record Ready (b : Builder) (m : Mesh) (l : Lists) (ri : ℕ) : Type 0 where
+-- what an accepted settle may count on
+pub record Ready (b : Builder) (l : Lists) (ri : ℕ) : Type 0 where
   pub top-le : b .top ≤ 15
   pub level-le : b .level ≤ b .top
   pub slice-le : slab (b .grid) ri 0 + b .grid .«n_omega» ≤ slabs (b .grid)
   pub few : slabs (b .grid) ≤ 4294967295
   pub store-le : slabs (b .grid) * per (b .top) ≤ length (l .store)
-  pub below : Below (vertexCount (b .level)) m
   pub same-level : every (fromLevel (b .level)) (sliceAt b l ri) ≡ true
 
 -- the links of level m's part of several meshes
 abbrev pub partLinks : ℕ → Mesh → Mesh
 partLinks m ms = record { vertices = []; counts = levelPart m ms .counts; neighbours = levelPart m ms .neighbours; angles = levelPart m ms .angles }
 
--- the same over the meshes of the levels from 0 to the top
+-- the same, and the meshes of the levels from 0 to the top are there
 pub record ReadyIn (b : Builder) (ms : Mesh) (l : Lists) (ri : ℕ) : Type 0 where
-  pub ready : Ready b (partLinks (b .level) ms) l ri
+  pub ready : Ready b l ri
   pub counts-le : verticesBelow (suc (b .level)) ≤ length (ms .counts)
   pub neighbours-le : 6 * verticesBelow (suc (b .level)) ≤ length (ms .neighbours)
   pub angles-le : 6 * verticesBelow (suc (b .level)) ≤ length (ms .angles)

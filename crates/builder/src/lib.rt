@@ -1,6 +1,6 @@
 // The builder of a table, by value; its store, rows and meshes are lent.
 ghost use mathlib.Core.Path.{_≡_};
-ghost use Rattle.builder.specs.Calls.{BuiltOut, SettleOut, freshBuilder, freshOut, setOut, settleOut};
+ghost use Rattle.builder.specs.Calls.{BuiltOut, SettleOut, builtValues, settledValues, noBuilder, freshBuilder, freshOut, setOut, settleOut};
 use grid::Grid;
 use questions::Builder;
 use rows::SlabResolution;
@@ -44,7 +44,7 @@ pub fn fresh(
     angles: &[f64],
 ) -> Built
     ensures { λ r. ⌜ _≡_ {A = BuiltOut}
-        (record { answer = r; lists = record { store = now (store .exit); rows = record { kinds = now (kinds .exit); levels = now (levels .exit); values = now (values .exit) } } })
+        (record { answer = builtValues noBuilder r; lists = record { store = now (store .exit); rows = record { kinds = now (kinds .exit); levels = now (levels .exit); values = now (values .exit) } } })
         (freshOut g top (record { vertices = now (vertices .entry); counts = now (counts .entry); neighbours = now (neighbours .entry); angles = now (angles .entry) })
         (record { store = now (store .entry); rows = record { kinds = now (kinds .entry); levels = now (levels .entry); values = now (values .entry) } })) ⌝ }
 {
@@ -84,7 +84,7 @@ pub fn set(
     energies: &[f64],
 ) -> Built
     ensures { λ r. ⌜ _≡_ {A = BuiltOut}
-        (record { answer = r; lists = record { store = now (store .exit); rows = record { kinds = now (kinds .exit); levels = now (levels .exit); values = now (values .exit) } } })
+        (record { answer = builtValues b r; lists = record { store = now (store .exit); rows = record { kinds = now (kinds .exit); levels = now (levels .exit); values = now (values .exit) } } })
         (setOut b (record { store = now (store .entry); rows = record { kinds = now (kinds .entry); levels = now (levels .entry); values = now (values .entry) } }) ri oi (now (energies .entry))) ⌝ }
 {
     let no = questions::set_refusal(
@@ -129,7 +129,7 @@ pub fn settle(
     ri: u64,
 ) -> Settled
     ensures { λ r. ⌜ _≡_ {A = SettleOut}
-        (record { answer = r; lists = record { store = now (store .entry); rows = record { kinds = now (kinds .exit); levels = now (levels .exit); values = now (values .exit) } } })
+        (record { answer = settledValues b r; lists = record { store = now (store .entry); rows = record { kinds = now (kinds .exit); levels = now (levels .exit); values = now (values .exit) } } })
         (settleOut b (record { vertices = now (vertices .entry); counts = now (counts .entry); neighbours = now (neighbours .entry); angles = now (angles .entry) })
         (record { store = now (store .entry); rows = record { kinds = now (kinds .entry); levels = now (levels .entry); values = now (values .entry) } }) ri) ⌝ }
 {

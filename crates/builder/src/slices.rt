@@ -5,7 +5,6 @@ ghost use Prim.Native.Nat.{_+_, _*_, _≤_};
 ghost use lib.ListN.{length, take, drop};
 ghost use Rattle.mesh.specs.Levels.{vertexCount};
 ghost use Rattle.rows.specs.Rows.{resolutionAt, rowWith};
-ghost use Rattle.settling.specs.Steps.{Below};
 ghost use Rattle.builder.specs.Steps.{Ready, ReadyIn, partLinks, settledSlab, settledRows, dropsBy, droppedBy};
 use questions::Builder;
 use settling::Tally;
@@ -26,8 +25,7 @@ fn settle_slab(
     s: u64,
     t: Tally,
 ) -> Tally
-    requires { ⌜ (level ≤ 15) × (at + vertexCount level * vertexCount level ≤ length (now store))
-        × Below (vertexCount level) (record { vertices = []; counts = now counts; neighbours = now neighbours; angles = now angles }) ⌝ }
+    requires { ⌜ (level ≤ 15) × (at + vertexCount level * vertexCount level ≤ length (now store)) ⌝ }
     ensures { λ r. ⌜ settledSlab threshold beta (record { vertices = []; counts = now (counts .entry); neighbours = now (neighbours .entry); angles = now (angles .entry) }) level t
         (rowWith (resolutionAt (record { kinds = now (kinds .entry); levels = now (levels .entry); values = now (values .entry) }) s) (take (vertexCount level * vertexCount level) (drop at (now (store .entry))))) s
         (record { kinds = now (kinds .entry); levels = now (levels .entry); values = now (values .entry) })
@@ -62,8 +60,7 @@ pub(crate) fn settle_rows(
     levels: &mut [u8],
     values: &mut [u32],
 ) -> Tally
-    requires { ⌜ Ready b (record { vertices = []; counts = now counts; neighbours = now neighbours; angles = now angles })
-        (record { store = now store; rows = record { kinds = now kinds; levels = now levels; values = now values } }) ri ⌝ }
+    requires { ⌜ Ready b (record { store = now store; rows = record { kinds = now kinds; levels = now levels; values = now values } }) ri ⌝ }
     ensures { λ r. ⌜ settledRows b (record { vertices = []; counts = now (counts .entry); neighbours = now (neighbours .entry); angles = now (angles .entry) })
         (record { store = now (store .entry); rows = record { kinds = now (kinds .entry); levels = now (levels .entry); values = now (values .entry) } }) ri
         r (record { kinds = now (kinds .exit); levels = now (levels .exit); values = now (values .exit) }) ⌝ }

@@ -2,8 +2,7 @@
 ghost use mathlib.Core.Path.{_≡_};
 ghost use Prim.Native.Nat.{ℕ};
 ghost use lib.ListN.{set};
-ghost use Rattle.lent.specs.declared.LentSettled.{LentSettled};
-ghost use Rattle.lent.specs.Calls.{LentOut, setLent, settleLent};
+ghost use Rattle.lent.specs.Calls.{LentOut, LentValues, lentValues, setLent, settleLent};
 ghost use Rattle.lent.specs.Records.{columns, recordAt, gathered, SpreadOut, spreadOut};
 use lent::LentSettled;
 use lent::RowRecord;
@@ -51,8 +50,8 @@ pub(crate) fn settle_through(
     angles: &[f64],
     ri: u64,
 ) -> SettleLeft
-    ensures { λ r. ⌜ _≡_ {A = LentOut LentSettled}
-        (record { answer = r .answer; builder = r .builder; lists = record { store = now (store .entry); rows = record { kinds = now (kinds .exit); levels = now (levels .exit); values = now (values .exit) } } })
+    ensures { λ r. ⌜ _≡_ {A = LentOut LentValues}
+        (record { answer = lentValues (r .answer); builder = r .builder; lists = record { store = now (store .entry); rows = record { kinds = now (kinds .exit); levels = now (levels .exit); values = now (values .exit) } } })
         (settleLent b (record { vertices = now (vertices .entry); counts = now (counts .entry); neighbours = now (neighbours .entry); angles = now (angles .entry) })
         (record { store = now (store .entry); rows = record { kinds = now (kinds .entry); levels = now (levels .entry); values = now (values .entry) } }) ri) ⌝ }
 {

@@ -1,72 +1,32 @@
--- What a caller in C is answered: document 01's number and values for each case of an answer. All other fields of a refused answer are 0, but a refused set or settle hands the builder back as it came.
+-- What a caller in C is answered: document 01's number and values, in structs. Where a call is refused all other fields are 0, but a refused set or settle hands the builder back as it came.
 -- Definitions only.
-use mathlib.Core.List.{List, [], _∷_}
+use mathlib.Core.List.{[], _∷_}
 use Prim.Native.Nat.{ℕ}
 use lib.ListN.{getD}
-use lib.Ieee.{binary64, ofBits}
-use Rattle.questions.specs.declared.Builder.{Builder}
-use Rattle.builder.specs.declared.Built.{Built}
-use Rattle.builder.specs.declared.Settled.{Settled}
-use Rattle.questions.specs.Lists.{Lists}
-use Rattle.builder.specs.Calls.{BuiltOut, SettleOut, builtNumber, builderAfter, settledNumber, settledBuilder, settledGradient}
-use Rattle.writer.specs.declared.Written.{Written}
+use Rattle.builder.specs.Calls.{BuiltValues, SettledValues}
+use Rattle.writer.specs.Write.{WrittenValues}
 use Rattle.table.specs.declared.Table.{Table}
-use Rattle.table.specs.declared.ReadAnswer.{ReadAnswer}
-use Rattle.writer.specs.Write.{WriteOut, writtenNumber, writtenLength}
-use Rattle.table.specs.Read.{readNumber, readTable}
+use Rattle.table.specs.Read.{ReadValues}
+use Rattle.reading.specs.Resolve.{ReadingValues}
 use Rattle.icotable.specs.declared.BuildAnswer.{BuildAnswer}
 use Rattle.icotable.specs.declared.SettleAnswer.{SettleAnswer}
 use Rattle.icotable.specs.declared.WriteAnswer.{WriteAnswer}
-use Rattle.reading.specs.declared.Reading.{Reading}
-use Rattle.reading.specs.Resolve.{readingNumber, readingEnergy}
 use Rattle.icotable.specs.declared.TableAnswer.{TableAnswer}
 use Rattle.icotable.specs.declared.ValueAnswer.{ValueAnswer}
 
--- ---- fresh and set
+-- ---- the number and values that a struct holds: of fresh and set, of settle, of write, of a reading
 
--- the builder of a refused fresh
-abbrev pub noBuilder : Builder
-noBuilder =
-    let x = ofBits binary64 0 in
-    record { grid = record { rmin = x; rmax = x; dr = x; «omega_step» = x; threshold = x; beta = x; «n_r» = 0; «n_omega» = 0 }; top = 0; level = 0 }
+unfoldable pub builtIn : BuildAnswer → BuiltValues
+builtIn a = record { number = a .number; builder = a .builder }
 
--- kept: the builder that a refused call answers
-unfoldable pub builtAnswer : Builder → Built → BuildAnswer
-builtAnswer kept a = record { number = builtNumber a; builder = builderAfter kept a }
+unfoldable pub settledIn : SettleAnswer → SettledValues
+settledIn a = record { number = a .number; gradient = a .gradient; builder = a .builder }
 
--- the answer and every list that is lent to be altered
-pub record BuildOut : Type 0 where
-  pub answer : BuildAnswer
-  pub lists : Lists
+unfoldable pub writtenIn : WriteAnswer → WrittenValues
+writtenIn a = record { number = a .number; length = a .length }
 
-abbrev pub buildOut : Builder → BuiltOut → BuildOut
-buildOut kept o = record { answer = builtAnswer kept (o .answer); lists = o .lists }
-
--- ---- settle
-
-unfoldable pub settleAnswer : Builder → Settled → SettleAnswer
-settleAnswer kept a = record { number = settledNumber a; gradient = settledGradient a; builder = settledBuilder kept a }
-
-pub record SettledOut : Type 0 where
-  pub answer : SettleAnswer
-  pub lists : Lists
-
-abbrev pub settledOut : Builder → SettleOut → SettledOut
-settledOut kept o = record { answer = settleAnswer kept (o .answer); lists = o .lists }
-
--- ---- write
-
-unfoldable pub writeAnswer : Written → WriteAnswer
-writeAnswer a = record { number = writtenNumber a; length = writtenLength a }
-
-pub record WrittenOut : Type 0 where
-  pub answer : WriteAnswer
-  pub builder : Builder
-  pub lists : Lists
-  pub output : List ℕ
-
-abbrev pub writtenOut : WriteOut → WrittenOut
-writtenOut o = record { answer = writeAnswer (o .answer); builder = o .builder; lists = o .lists; output = o .output }
+unfoldable pub valueIn : ValueAnswer → ReadingValues
+valueIn a = record { number = a .number; energy = a .energy }
 
 -- ---- read
 
@@ -81,8 +41,8 @@ tableWith n t =
       start = t .«grid_start» ∷ (t .«bins_start» ∷ (t .«levels_start» ∷ (t .«rows_start» ∷ (t .«energies_start» ∷ []))));
     }
 
-unfoldable pub tableAnswer : ReadAnswer → TableAnswer
-tableAnswer a = tableWith (readNumber a) (readTable a)
+unfoldable pub tableAnswer : ReadValues → TableAnswer
+tableAnswer v = tableWith (v .number) (v .table)
 
 -- ---- reading
 
@@ -100,6 +60,3 @@ tableFrom t =
       «rows_start» = getD (t .start) 3 0;
       «energies_start» = getD (t .start) 4 0;
     }
-
-unfoldable pub valueAnswer : Reading → ValueAnswer
-valueAnswer a = record { number = readingNumber a; energy = readingEnergy a }

@@ -4,13 +4,14 @@ ghost use Rattle.ieee.specs.Root.{root};
 ghost use Rattle.ieee.specs.Fused.{fused};
 ghost use Rattle.ieee.specs.Narrow.{narrowed};
 ghost use Rattle.float.specs.Exp.{exponential};
-ghost use Rattle.builder.specs.Calls.{freshOut, setOut, settleOut};
-ghost use Rattle.writer.specs.Write.{writeOut};
-ghost use Rattle.table.specs.Read.{readOut};
+ghost use Rattle.builder.specs.Calls.{BuiltOut, SettleOut, builtValues, settledValues, noBuilder, freshOut, setOut, settleOut};
+ghost use Rattle.writer.specs.Write.{WriteOut, writtenValues, writeOut};
+ghost use Rattle.table.specs.Read.{readValues, readOut};
 ghost use Rattle.locator.specs.Locator.{LocatorOut, locatorOut};
+ghost use Rattle.reading.specs.Resolve.{readingValues};
 ghost use Rattle.reading.specs.Reading.{readingOut};
 ghost use Rattle.icotable.specs.Sizes.{heldVertices, heldCells};
-ghost use Rattle.icotable.specs.Answers.{BuildOut, SettledOut, WrittenOut, noBuilder, builtAnswer, buildOut, settleAnswer, settledOut, writeAnswer, writtenOut, tableWith, tableAnswer, tableFrom, valueAnswer};
+ghost use Rattle.icotable.specs.Answers.{builtIn, settledIn, writtenIn, valueIn, tableWith, tableAnswer, tableFrom};
 use builder::Built;
 use builder::Settled;
 use grid::Grid;
@@ -84,7 +85,7 @@ fn no_builder() -> Builder
 }
 
 fn built_answer(kept: Builder, a: Built) -> BuildAnswer
-    ensures { λ r. ⌜ r ≡ builtAnswer kept a ⌝ }
+    ensures { λ r. ⌜ builtIn r ≡ builtValues kept a ⌝ }
 {
     match a {
         Built::Accepted(builder) => BuildAnswer { number: 0, builder },
@@ -96,7 +97,7 @@ fn built_answer(kept: Builder, a: Built) -> BuildAnswer
 }
 
 fn settle_answer(kept: Builder, a: Settled) -> SettleAnswer
-    ensures { λ r. ⌜ r ≡ settleAnswer kept a ⌝ }
+    ensures { λ r. ⌜ settledIn r ≡ settledValues kept a ⌝ }
 {
     match a {
         Settled::Accepted(builder, gradient) => SettleAnswer {
@@ -113,7 +114,7 @@ fn settle_answer(kept: Builder, a: Settled) -> SettleAnswer
 }
 
 fn write_answer(a: Written) -> WriteAnswer
-    ensures { λ r. ⌜ r ≡ writeAnswer a ⌝ }
+    ensures { λ r. ⌜ writtenIn r ≡ writtenValues a ⌝ }
 {
     match a {
         Written::Accepted(length) => WriteAnswer { number: 0, length },
@@ -146,7 +147,7 @@ fn table_with(number: u64, t: Table) -> TableAnswer
 }
 
 fn table_answer(a: ReadAnswer) -> TableAnswer
-    ensures { λ r. ⌜ r ≡ tableAnswer a ⌝ }
+    ensures { λ r. ⌜ r ≡ tableAnswer (readValues a) ⌝ }
 {
     match a {
         ReadAnswer::Accepted(t) => table_with(0, t),
@@ -184,7 +185,7 @@ fn table_from(t: TableAnswer) -> Table
 }
 
 fn value_answer(a: Reading) -> ValueAnswer
-    ensures { λ r. ⌜ r ≡ valueAnswer a ⌝ }
+    ensures { λ r. ⌜ valueIn r ≡ readingValues a ⌝ }
 {
     match a {
         Reading::Energy(energy) => ValueAnswer { number: 0, energy },
@@ -208,10 +209,10 @@ pub extern "C" fn icotable_fresh(
     neighbours: &[u16],
     angles: &[f64],
 ) -> BuildAnswer
-    ensures { λ r. ⌜ _≡_ {A = BuildOut}
-        (record { answer = r; lists = record { store = now (store .exit); rows = record { kinds = now (kinds .exit); levels = now (levels .exit); values = now (values .exit) } } })
-        (buildOut noBuilder (freshOut grid top (record { vertices = now (vertices .entry); counts = now («neighbour_counts» .entry); neighbours = now (neighbours .entry); angles = now (angles .entry) })
-        (record { store = now (store .entry); rows = record { kinds = now (kinds .entry); levels = now (levels .entry); values = now (values .entry) } }))) ⌝ }
+    ensures { λ r. ⌜ _≡_ {A = BuiltOut}
+        (record { answer = builtIn r; lists = record { store = now (store .exit); rows = record { kinds = now (kinds .exit); levels = now (levels .exit); values = now (values .exit) } } })
+        (freshOut grid top (record { vertices = now (vertices .entry); counts = now («neighbour_counts» .entry); neighbours = now (neighbours .entry); angles = now (angles .entry) })
+        (record { store = now (store .entry); rows = record { kinds = now (kinds .entry); levels = now (levels .entry); values = now (values .entry) } })) ⌝ }
 {
     let none = no_builder();
     let a = builder::fresh(
@@ -240,9 +241,9 @@ pub extern "C" fn icotable_set(
     oi: u64,
     energies: &[f64],
 ) -> BuildAnswer
-    ensures { λ r. ⌜ _≡_ {A = BuildOut}
-        (record { answer = r; lists = record { store = now (store .exit); rows = record { kinds = now (kinds .exit); levels = now (levels .exit); values = now (values .exit) } } })
-        (buildOut builder (setOut builder (record { store = now (store .entry); rows = record { kinds = now (kinds .entry); levels = now (levels .entry); values = now (values .entry) } }) ri oi (now (energies .entry)))) ⌝ }
+    ensures { λ r. ⌜ _≡_ {A = BuiltOut}
+        (record { answer = builtIn r; lists = record { store = now (store .exit); rows = record { kinds = now (kinds .exit); levels = now (levels .exit); values = now (values .exit) } } })
+        (setOut builder (record { store = now (store .entry); rows = record { kinds = now (kinds .entry); levels = now (levels .entry); values = now (values .entry) } }) ri oi (now (energies .entry))) ⌝ }
 {
     let a = builder::set(builder, store, kinds, levels, values, ri, oi, energies);
     built_answer(builder, a)
@@ -261,10 +262,10 @@ pub extern "C" fn icotable_settle(
     angles: &[f64],
     ri: u64,
 ) -> SettleAnswer
-    ensures { λ r. ⌜ _≡_ {A = SettledOut}
-        (record { answer = r; lists = record { store = now (store .entry); rows = record { kinds = now (kinds .exit); levels = now (levels .exit); values = now (values .exit) } } })
-        (settledOut builder (settleOut builder (record { vertices = now (vertices .entry); counts = now («neighbour_counts» .entry); neighbours = now (neighbours .entry); angles = now (angles .entry) })
-        (record { store = now (store .entry); rows = record { kinds = now (kinds .entry); levels = now (levels .entry); values = now (values .entry) } }) ri)) ⌝ }
+    ensures { λ r. ⌜ _≡_ {A = SettleOut}
+        (record { answer = settledIn r; lists = record { store = now (store .entry); rows = record { kinds = now (kinds .exit); levels = now (levels .exit); values = now (values .exit) } } })
+        (settleOut builder (record { vertices = now (vertices .entry); counts = now («neighbour_counts» .entry); neighbours = now (neighbours .entry); angles = now (angles .entry) })
+        (record { store = now (store .entry); rows = record { kinds = now (kinds .entry); levels = now (levels .entry); values = now (values .entry) } }) ri) ⌝ }
 {
     let a = builder::settle(
         builder,
@@ -294,10 +295,10 @@ pub extern "C" fn icotable_write(
     angles: &[f64],
     output: &mut [u8],
 ) -> WriteAnswer
-    ensures { λ r. ⌜ _≡_ {A = WrittenOut}
-        (record { answer = r; builder = builder; lists = record { store = now (store .entry); rows = record { kinds = now (kinds .entry); levels = now (levels .entry); values = now (values .entry) } }; output = now (output .exit) })
-        (writtenOut (writeOut builder (record { vertices = now (vertices .entry); counts = now («neighbour_counts» .entry); neighbours = now (neighbours .entry); angles = now (angles .entry) })
-        (record { store = now (store .entry); rows = record { kinds = now (kinds .entry); levels = now (levels .entry); values = now (values .entry) } }) (now (output .entry)))) ⌝ }
+    ensures { λ r. ⌜ _≡_ {A = WriteOut}
+        (record { answer = writtenIn r; builder = builder; lists = record { store = now (store .entry); rows = record { kinds = now (kinds .entry); levels = now (levels .entry); values = now (values .entry) } }; output = now (output .exit) })
+        (writeOut builder (record { vertices = now (vertices .entry); counts = now («neighbour_counts» .entry); neighbours = now (neighbours .entry); angles = now (angles .entry) })
+        (record { store = now (store .entry); rows = record { kinds = now (kinds .entry); levels = now (levels .entry); values = now (values .entry) } }) (now (output .entry))) ⌝ }
 {
     let a = writer::write(
         builder,
@@ -370,9 +371,9 @@ pub extern "C" fn icotable_reading(
     by: f64,
     bz: f64,
 ) -> ValueAnswer
-    ensures { λ z. ⌜ z ≡ valueAnswer (readingOut (now (file .entry)) (tableFrom table) (now (vertices .entry))
+    ensures { λ z. ⌜ valueIn z ≡ readingOut (now (file .entry)) (tableFrom table) (now (vertices .entry))
         (record { cellOffsets = now («cell_offsets» .entry); cellVertices = now («cell_vertices» .entry); faceOffsets = now («face_offsets» .entry); faces = now (faces .entry) })
-        (record { r = r; omega = omega; a = record { x = ax; y = ay; z = az }; b = record { x = bx; y = by; z = bz } })) ⌝ }
+        (record { r = r; omega = omega; a = record { x = ax; y = ay; z = az }; b = record { x = bx; y = by; z = bz } }) ⌝ }
 {
     let t = table_from(table);
     let a = Vector3 {

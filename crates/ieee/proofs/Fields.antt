@@ -1,14 +1,12 @@
 -- A float's bits as its parts, once for both formats, and `narrowed` at a value. Assumes nothing.
 use mathlib.Core.Path.{_≡_, refl, sym, ap, _∙_, subst}
-use mathlib.Core.Logic.{inl, inr}
-use Prim.Native.Nat.{ℕ, zero, suc, _+_, _-_, _*_, _/_, _%_, _^_, _≤_, _<_, min, compare, Ordering, Ordering·lt, Ordering·eq, Ordering·gt}
-use native.Mathlib.Nat.{eq-or-lt-of-le, add-comm, add-mul-div-right, mul-add-mod-self-right, mul-assoc, mul-comm, suc-ne-zero, not-le-of-lt}
+use Prim.Native.Nat.{ℕ, zero, suc, _+_, _-_, _*_, _/_, _%_, _^_, _<_, min}
+use native.Mathlib.Nat.{mul-assoc, mul-comm, suc-ne-zero}
 use native.Mathlib.Omega.{arith}
 use mathlib.Core.Bool.{Bool, true, false, not, _&&_, Bool·beq, cond, true≢false, false≢true}
-use lib.Dec.{T, leb, eqb, lit<, lit≤}
-use lib.Ieee.Nearest.{closest, closest-same}
+use lib.Dec.{T, leb, eqb}
 use lib.Pow.{pow-add, pow-pos}
-use lib.Ieee.{Float, nan, inf, fin, Format, binary32, binary64, unlike, add, mul, prec, emax, low, up, down, odd, round, hid, ones, top, nearest, ofFields, ofBits, toBits, fits, isNan, ne, lt}
+use lib.Ieee.{Float, nan, inf, fin, Format, binary32, binary64, unlike, add, mul, prec, emax, low, up, down, odd, round, hid, ones, top, ofFields, ofBits, toBits, fits, isNan, ne, lt}
 use lib.Ieee.Fits.{eq→eqb, down-pos}
 use lib.Ieee.Bits.{ofBits-toBits}
 use lib.Ieee.Compare.{nan-differs}
@@ -17,9 +15,7 @@ use lib.Ieee.Scale.{round-same, finite}
 use borrow.Author.Tests.{ne-eqb}
 use Rattle.ieee.specs.Narrow.{narrowed}
 use Rattle.ieee.specs.Pattern.{pattern}
-use Rattle.ieee.proofs.Pack.{le-or-lt}
-use Rattle.ieee.proofs.Sticky.{closest-lt, closest-eq, closest-gt}
-use Rattle.ieee.proofs.Steps.{float-law, doubled, top-high, pattern-lead}
+use Rattle.ieee.proofs.Steps.{float-law}
 
 -- ---- the test for a NaN
 pub no-nan-of-same : (x : Float) → ne x x ≡ false → T (not (isNan x))
@@ -150,100 +146,11 @@ narrowed-pattern x s m e b h q =
     rescaled : (m e k l : ℕ) → m * 2 ^ (e + k) * 2 ^ l ≡ m * 2 ^ e * 2 ^ (l + k)
     rescaled m e k l = simp (pow-add, mul-assoc, mul-comm)
 
--- ---- the normal range of `narrow`
--- a multiple of twice the divisor goes through
-closest-lift : (A x u : ℕ) → 0 < u → A % 2 ≡ 0 → closest (A * u + x) u ≡ A + closest x u
-closest-lift A x u U ev = ap (λ (q : ℕ). nearest q (compare ((A * u + x) % u * 2) u)) quo ∙ ap (λ (r : ℕ). nearest (A + x / u) (compare (r * 2) u)) rem ∙ lift (x / u) (compare (x % u * 2) u)
-  where
-    quo : (A * u + x) / u ≡ A + x / u
-    quo = ap (λ (y : ℕ). y / u) (add-comm (A * u) x) ∙ add-mul-div-right x A U ∙ add-comm (x / u) A
-
-    rem : (A * u + x) % u ≡ x % u
-    rem = mul-add-mod-self-right A u x
-
-    lift : (q : ℕ) (o : Ordering) → nearest (A + q) o ≡ A + nearest q o
-    lift q Ordering·lt = refl
-    lift q Ordering·eq = even A q ev
-      where
-        even : (A q : ℕ) → A % 2 ≡ 0 → A + q + (A + q) % 2 ≡ A + (q + q % 2)
-        even A q e = omega arith
-    lift q Ordering·gt = next A q
-      where
-        next : (A q : ℕ) → suc (A + q) ≡ A + suc q
-        next A q = omega arith
-
--- the half less one, and one more where the quotient is odd, carry into the quotient just where it is rounded up
-pub half-even : (v : ℕ) → (v + 0xfff_ffff + v / 2 ^ 29 % 2) / 2 ^ 29 ≡ closest (2 * v + 0) (4 * 2 ^ 28)
-half-even v =
-    (elim (le-or-lt (v % 2 ^ 29 * 2) (2 ^ 29)) [
-      | inr g ↦ up v g ∙ sym (closest-gt v (2 ^ 29) g)
-      | inl g ↦ elim (eq-or-lt-of-le g) [ inl t ↦ tie v t ∙ sym (closest-eq v (2 ^ 29) t) | inr t ↦ down v t ∙ sym (closest-lt v (2 ^ 29) t) ]
-    ])
-    ∙ closest-same v (2 ^ 29) (2 * v + 0) (4 * 2 ^ 28) (lit< tt) (lit< tt) (twice v)
-  where
-    up : (v : ℕ) → 2 ^ 29 < v % 2 ^ 29 * 2 → (v + 0xfff_ffff + v / 2 ^ 29 % 2) / 2 ^ 29 ≡ suc (v / 2 ^ 29)
-    up v g = omega arith
-
-    tie : (v : ℕ) → v % 2 ^ 29 * 2 ≡ 2 ^ 29 → (v + 0xfff_ffff + v / 2 ^ 29 % 2) / 2 ^ 29 ≡ v / 2 ^ 29 + v / 2 ^ 29 % 2
-    tie v g = omega arith
-
-    down : (v : ℕ) → v % 2 ^ 29 * 2 < 2 ^ 29 → (v + 0xfff_ffff + v / 2 ^ 29 % 2) / 2 ^ 29 ≡ v / 2 ^ 29
-    down v g = omega arith
-
-    twice : (v : ℕ) → v * (4 * 2 ^ 28) ≡ (2 * v + 0) * 2 ^ 29
-    twice v = omega arith
-
--- the pattern of (2 ^ 52 + t) * 2 ^ (k + 896) / 2 ^ 1074, of which the pattern is (k + 897) * 2 ^ 52 + t
-normal-pattern : (k t : ℕ) → k ≤ 1200 → t < 2 ^ 52 → closest (2 * (k * 2 ^ 52 + (2 ^ 52 + t)) + 0) (4 * 2 ^ 28) ≡ pattern 24 ((2 ^ 52 + t) * 2 ^ (k + 896 + 3171)) (2 ^ 4096)
-normal-pattern k t K l =
-    let m = 2 ^ 52 + t in
-    let n = m * 2048 in
-    let e : 2 * (k * 2 ^ 52 + m) + 0 ≡ k * 2 ^ 23 * (4 * 2 ^ 28) + 2 * m = omega arith in
-    let ev : k * 2 ^ 23 % 2 ≡ 0 = omega arith in
-    let T : k + 896 + 3171 + 64 - 11 ≡ k + 4120 = omega arith in
-    let s = doubled n false (omega arith) (omega arith) in
-    ap (λ (x : ℕ). closest x (4 * 2 ^ 28)) e
-    ∙ closest-lift (k * 2 ^ 23) (2 * m) (4 * 2 ^ 28) (lit< tt) ev
-    ∙ ap (λ (x : ℕ). k * 2 ^ 23 + x) (closest-same (2 * m) (4 * 2 ^ 28) (2 * n + 0) (4 * 2 ^ 39) (lit< tt) (lit< tt) (omega arith))
-    ∙ ap (λ (x : ℕ). x + closest (2 * n + 0) (4 * 2 ^ 39)) (sym (field k K))
-    ∙ top-high 24 (2 * n + 0) (k + 4120) (s .0) (s .1) (omega arith) (omega arith) (closest (2 * n + 0) (4 * 2 ^ 39)) (omega arith) (omega arith) refl
-    ∙ ap (λ (x : ℕ). pattern 24 ((2 * n + 0) * 2 ^ x) (2 ^ 4161)) (sym T)
-    ∙ pattern-lead 24 m (k + 896 + 3171) 11 n (omega arith) refl
-  where
-    field : (k : ℕ) → k ≤ 1200 → (k + 4120 - 24 - 4096) * 2 ^ 23 % 2 ^ 64 ≡ k * 2 ^ 23
-    field k h = omega arith
-
-narrow-finite : (x : Float) → T (fits binary64 x) → finite x ≡ true → 0x3810_0000_0000_0000 ≤ toBits binary64 x % 2 ^ 63
-    → ofBits binary32 (cond (leb (2 ^ 63) (toBits binary64 x)) (top binary32) 0 + min (closest (2 * (toBits binary64 x % 2 ^ 63 - 0x3800_0000_0000_0000) + 0) (4 * 2 ^ 28)) (ones binary32 * hid binary32)) ≡ narrowed x
-narrow-finite x F N h =
-    let b = toBits binary64 x in
-    let f = b % 2 ^ 63 / 2 ^ 52 in
-    let t = b % 2 ^ 52 in
-    let k = f - 897 in
-    let p = parts b h in
-    let E : f - 1 ≡ k + 896 = omega arith in
-    let val : HasValue x (leb (2 ^ 63) b) ((2 ^ 52 + t) * 2 ^ (k + 896)) (2 ^ 1074) =
-    subst (λ (y : ℕ). HasValue x (leb (2 ^ 63) b) ((2 ^ 52 + t) * 2 ^ y) (2 ^ 1074)) E
-    (subst (λ (y : Float). HasValue y (leb (2 ^ 63) b) ((2 ^ 52 + t) * 2 ^ (f - 1)) (2 ^ 1074)) (sym (as-fields binary64 x F)) (at-mid binary64 (leb (2 ^ 63) b) f t (p .1) (finite-field binary64 x F N))) in
-    ap (λ (y : ℕ). ofBits binary32 (cond (leb (2 ^ 63) b) (top binary32) 0 + min (closest (2 * y + 0) (4 * 2 ^ 28)) (ones binary32 * hid binary32))) (p .0)
-    ∙ narrowed-pattern x (leb (2 ^ 63) b) (2 ^ 52 + t) (k + 896) (closest (2 * (k * 2 ^ 52 + (2 ^ 52 + t)) + 0) (4 * 2 ^ 28)) val (normal-pattern k t (p .2) (p .3))
-  where
-    parts : (b : ℕ) → 0x3810_0000_0000_0000 ≤ b % 2 ^ 63 → (let f = b % 2 ^ 63 / 2 ^ 52 in let t = b % 2 ^ 52 in
-        (b % 2 ^ 63 - 0x3800_0000_0000_0000 ≡ (f - 897) * 2 ^ 52 + (2 ^ 52 + t)) × (f ≡ 0 → ⊥) × (f - 897 ≤ 1200) × (t < 2 ^ 52) × (897 ≤ f))
-    parts b h = (omega arith, λ e. omega arith, omega arith, omega arith, omega arith)
-
--- below the pattern of an infinity
-pub low-finite : (x : Float) → T (not (isNan x)) → toBits binary64 x % 2 ^ 63 < 0x3810_0000_0000_0000 → finite x ≡ true
-unfolding isNan toBits
-low-finite nan N h = absurd N
-low-finite (inf true) N h = absurd (not-le-of-lt h (lit≤ tt))
-low-finite (inf false) N h = absurd (not-le-of-lt h (lit≤ tt))
-low-finite (fin s m e) N h = refl
-
-pub narrow-normal : (x : Float) → T (fits binary64 x) → T (not (isNan x)) → 0x3810_0000_0000_0000 ≤ toBits binary64 x % 2 ^ 63
-    → ofBits binary32 (cond (leb (2 ^ 63) (toBits binary64 x)) (top binary32) 0 + min (closest (2 * (toBits binary64 x % 2 ^ 63 - 0x3800_0000_0000_0000) + 0) (4 * 2 ^ 28)) (ones binary32 * hid binary32)) ≡ narrowed x
-unfolding isNan toBits ofBits narrowed
-narrow-normal nan F N h = absurd N
-narrow-normal (inf true) F N h = refl
-narrow-normal (inf false) F N h = refl
-narrow-normal (fin s m e) F N h = narrow-finite (fin s m e) F refl h
+-- what is not finite and is no NaN narrows to an infinity of its sign
+pub narrow-infinite : (x : Float) → finite x ≡ false → T (not (isNan x))
+    → ofBits binary32 (cond (lt x (ofBits binary64 0)) (top binary32) 0 + min 0x7f80_0000 (ones binary32 * hid binary32)) ≡ narrowed x
+unfolding isNan ofBits narrowed lt
+narrow-infinite nan F N = absurd N
+narrow-infinite (inf true) F N = refl
+narrow-infinite (inf false) F N = refl
+narrow-infinite (fin s m e) F N = absurd (true≢false F)

@@ -259,9 +259,6 @@ root-positive (fin false (suc m) e) a h A =
     split x i j = ap (λ (y : ℕ). x * y) (pow-add 2 i j) ∙ sym (mul-assoc x (2 ^ i) (2 ^ j))
 
 -- ---- a significand moved up to 53 digits
-pub plain-scale : (m e : ℕ) → m * 2 ^ (e + 1022 + 54) ≡ m * 2 ^ e * 2 ^ 1076
-plain-scale m e = ap (λ (x : ℕ). m * x) (ap (λ (x : ℕ). 2 ^ x) (add-assoc e 1022 54) ∙ pow-add 2 e 1076) ∙ sym (mul-assoc m (2 ^ e) (2 ^ 1076))
-
 pub raised-scale : (m e z : ℕ) → z ≤ 63 → m * 2 ^ z * 2 ^ (e + 1022 - z + 54) ≡ m * 2 ^ e * 2 ^ 1076
 raised-scale m e z h =
     mul-assoc m (2 ^ z) (2 ^ (e + 1022 - z + 54))

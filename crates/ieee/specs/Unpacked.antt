@@ -4,9 +4,8 @@ use mathlib.Core.Bool.{Bool}
 use lib.Ieee.{Float}
 use lib.Ieee.Exact.{HasValue}
 
--- x has the sign neg and the magnitude sig * 2 ^ exp / 2 ^ 1074; where exp is not 0, the leading digit is in its place
+-- x has the sign neg and the magnitude sig * 2 ^ exp / 2 ^ 1074
 pub record Unpacked (x : Float) (neg : Bool) (sig exp : ℕ) : Type 0 where
   pub value : HasValue x neg (sig * 2 ^ exp) (2 ^ 1074)
   pub digits : sig < 2 ^ 53
   pub scale : exp ≤ 2045
-  pub normal : 0 < exp → 2 ^ 52 ≤ sig

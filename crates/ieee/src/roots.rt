@@ -117,18 +117,11 @@ struct Number {
 }
 
 fn raised(p: Parts) -> Number
-    requires { ⌜ (0 < p .sig) × (p .sig < 2 ^ 53) × (p .exp ≤ 2045) × (0 < p .exp → 2 ^ 52 ≤ p .sig) ⌝ }
+    requires { ⌜ (0 < p .sig) × (p .sig < 2 ^ 53) × (p .exp ≤ 2045) ⌝ }
     ensures { λ r. ⌜ (2 ^ 52 ≤ r .m) × (r .m < 2 ^ 53) × (r .e < 3068) × (r .m * 2 ^ (r .e + 54) ≡ p .sig * 2 ^ p .exp * 2 ^ 1076) ⌝ }
 {
     let sig = p.sig;
     let exp = p.exp;
-    // a normal number has its leading digit in place
-    if 0 < exp {
-        return Number {
-            m: sig,
-            e: exp + 1022,
-        };
-    }
     let z = u64::leading_zeros(sig) as u64 - 11;
     Number {
         m: sig << z,

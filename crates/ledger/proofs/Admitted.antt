@@ -1,4 +1,4 @@
--- Readings in demand 3 are refused with 18 and 20 alone: 19 is never the answer. Assumes nothing.
+-- The reading rule refuses with 18 and 20 alone. Assumes nothing.
 use mathlib.Core.Path.{_≡_, refl}
 use mathlib.Core.Bool.{Bool, cond, _&&_}
 use mathlib.Core.List.{List, [], _∷_}
@@ -12,30 +12,27 @@ use Rattle.float.specs.Order.{ordered}
 use Rattle.mesh.specs.Levels.{vertexCount, gridSize}
 use Rattle.mesh.specs.Mesh.{Mesh, levelPart}
 use Rattle.grid.specs.Bins.{distanceBin, dihedralBin}
-use Rattle.grid.specs.Settings.{counted}
 use Rattle.grid.specs.declared.Grid.{Grid}
 use Rattle.rows.specs.Rows.{Row, scalar, repulsive, mesh}
 use Rattle.search.specs.Geometry.{vertexAt, cellIndex, unit}
 use Rattle.search.specs.Cells.{cell, facesOf}
-use Rattle.search.specs.Search.{Locator, squared, notNearest, nearer, nearestFrom, nearestAmong, nearestOf, locate, bestFace, notLocated}
+use Rattle.search.specs.Search.{squared, notNearest, nearer, nearestFrom, nearestAmong, nearestOf, locate, bestFace, notLocated}
 use Rattle.search.specs.declared.Vector3.{Vector3}
 use Rattle.search.specs.declared.Nearest.{Nearest}
 use Rattle.search.specs.declared.Located.{Located}
-use Rattle.locator.specs.Several.{locators, Roomy}
 use Rattle.locator.proofs.Picked.{chosen}
-use Rattle.table.specs.Read.{readTable, readOut}
-use Rattle.reading.specs.Resolve.{Query, readingNumber, queryHeld, outside, Resolved, unresolved, beyond, slabAt, resolve, Picks, unpicked, picked, joint, nearestPick, facePick}
-use Rattle.reading.specs.Reading.{readingOut}
+use Rattle.reading.specs.Resolve.{readingValues, Query, queryHeld, outside, Resolved, unresolved, beyond, slabAt, resolve, Picks, unpicked, picked, joint, nearestPick, facePick}
 use Rattle.reading.specs.Rule.{search, rulePicks, ruleRow, ruleSlab, ruled}
-use Rattle.ledger.specs.Promise.{History, file, rows, Accepted}
-use Rattle.ledger.proofs.Theorem.{kept, some-slabs}
+use Rattle.ledger.specs.Promise.{Answered}
 
--- 20 or nothing, of a search; 18, 20 or nothing, of a reading
+-- 20 or nothing, of a search
 abbrev Searched : ℕ → Type 0
 Searched n = (n ≡ 0) ⊎ (n ≡ 20)
 
-abbrev pub Answered : ℕ → Type 0
-Answered n = (n ≡ 18) ⊎ Searched n
+-- .. and so of a reading
+of-search : {n : ℕ} → Searched n → Answered n
+of-search (inl e) = inl e
+of-search (inr e) = inr (inr e)
 
 -- ---- a search over a mesh
 
@@ -88,29 +85,21 @@ search-searched m q v b =
     (λ e. face-picks n (locate l n g (unit (q .a))) (locate l n g (unit (q .b))) (locate-searched l n g (unit (q .a))) (locate-searched l n g (unit (q .b))))
     (nearest-picks n (nearestOf l n g (unit (q .a))) (nearestOf l n g (unit (q .b))) (nearest-searched l n g (unit (q .a))) (nearest-searched l n g (unit (q .b))))
 
-picks-answered : (b : Bool) (es : List ℕ) (x : Picks) → PicksSearched x → Answered (readingNumber (rulePicks b es x))
-picks-answered b es (unpicked n) h = inr h
-picks-answered b es (picked ks x y) h = inr (inl refl)
+picks-answered : (b : Bool) (es : List ℕ) (x : Picks) → PicksSearched x → Answered (readingValues (rulePicks b es x) .number)
+picks-answered b es (unpicked n) h = of-search h
+picks-answered b es (picked ks x y) h = inl refl
 
-row-answered : (m : Mesh) (q : Query) (r : Row ℕ) → Answered (readingNumber (ruleRow m q r))
-row-answered m q (scalar x) = inr (inl refl)
-row-answered m q repulsive = inr (inl refl)
+row-answered : (m : Mesh) (q : Query) (r : Row ℕ) → Answered (readingValues (ruleRow m q r) .number)
+row-answered m q (scalar x) = inl refl
+row-answered m q repulsive = inl refl
 row-answered m q (mesh v b es) = picks-answered b es (search m q v b) (search-searched m q v b)
 
 -- over a grid with bins
-pub rule-answered : (g : Grid) (rs : List (Row ℕ)) (m : Mesh) (q : Query) → 0 < g .«n_r» → 0 < g .«n_omega» → Answered (readingNumber (ruled g rs m q))
+pub rule-answered : (g : Grid) (rs : List (Row ℕ)) (m : Mesh) (q : Query) → 0 < g .«n_r» → 0 < g .«n_omega» → Answered (ruled g rs m q .number)
 unfolding ruled resolve
 rule-answered g rs m q a b =
-    let P : Resolved → Type 0 = λ w. Answered (readingNumber (ruleSlab rs m q w)) in
+    let P : Resolved → Type 0 = λ w. Answered (readingValues (ruleSlab rs m q w) .number) in
     let s = distanceBin (q .r) (g .rmin) (g .dr) (g .«n_r») * g .«n_omega» + dihedralBin (q .omega) (g .«omega_step») (g .«n_omega») in
     rw (lt-ltb 0 (g .«n_r») a, lt-ltb 0 (g .«n_omega») b)
     (chosen P (queryHeld q) (cond (outside g (q .r)) beyond (slabAt s)) (unresolved 18)
-    (λ e. chosen P (outside g (q .r)) beyond (slabAt s) (λ f. inr (inl refl)) (row-answered m q (getD rs s repulsive))) (inl refl))
-
--- ---- readings of an accepted list's file
-
-pub answered : (h : History) → Accepted h → (l : Locator) → Roomy (h .top) l → (q : Query)
-    → Answered (readingNumber (readingOut (file h) (readTable (readOut (file h))) (h .meshes .vertices) (locators (h .top) (h .meshes) l) q))
-answered h ok l r q =
-    let n = some-slabs h ok in
-    rw (kept h ok .readings l r q) (rule-answered (counted (h .grid)) (rows h) (h .meshes) q (n .0) (n .1))
+    (λ e. chosen P (outside g (q .r)) beyond (slabAt s) (λ f. inl refl) (row-answered m q (getD rs s repulsive))) (inr (inl refl)))

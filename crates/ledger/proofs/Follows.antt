@@ -13,7 +13,7 @@ use borrow.Author.Tests.{eqb-true, ltb-true, le-leb}
 use Rattle.ieee.proofs.Pack.{le-or-lt}
 use Rattle.ieee.proofs.Fields.{both-true}
 use Rattle.mesh.specs.Questions.{ask, first}
-use Rattle.mesh.specs.Lists.{every, put}
+use Rattle.mesh.specs.Lists.{put}
 use Rattle.mesh.specs.Levels.{per, vertexCount, verticesBelow}
 use Rattle.mesh.specs.Mesh.{Mesh, levelPart, meshHeld, meshesKeep}
 use Rattle.mesh.proofs.Sizes.{per-mono, place}

@@ -23,7 +23,7 @@ use Rattle.rows.proofs.Compared.{narrowed-fits}
 use Rattle.locator.proofs.Picked.{chosen}
 use Rattle.settling.specs.Gradient.{allRepulsive, gradient, meanNarrowed}
 use Rattle.settling.specs.Settling.{byGradient, verdict, verdictOf, newRow, inPlaceOf, settledRows, fromLevel, energiesOf, replacedBy}
-use Rattle.questions.specs.Lists.{slabs, slab, rowAt, rowsFrom, rowsKnown}
+use Rattle.questions.specs.Lists.{slabs, rowAt, rowsFrom, rowsKnown}
 use Rattle.builder.specs.Calls.{settledLists}
 use Rattle.settling.specs.declared.Verdict.{Verdict}
 use Rattle.settling.specs.declared.Verdict.the-variants.{Empty as empty, Blocked as blocked, Isotropic as isotropic, Smooth as smooth, Rough as rough}

@@ -3,5 +3,5 @@ pub mod Store
 pub mod Invariant
 pub mod Follows
 pub mod Readings
-pub mod Theorem
 pub mod Admitted
+pub mod Theorem

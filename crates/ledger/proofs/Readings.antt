@@ -1,5 +1,5 @@
 -- A reading of the file of rows is what the reading rule gives from these rows. Assumes nothing.
-use mathlib.Core.Path.{_≡_, refl}
+use mathlib.Core.Path.{_≡_, refl, ap}
 use mathlib.Core.Bool.{Bool, true, false, cond, _&&_, _||_}
 use mathlib.Core.List.{List, [], _∷_, map}
 use Prim.Native.Nat.{ℕ, suc, _+_, _*_, _≤_, _<_}
@@ -29,7 +29,7 @@ use Rattle.table.proofs.Back.{All}
 use Rattle.table.proofs.Sound.{Fine}
 use Rattle.table.proofs.OfRows.{before}
 use Rattle.table.proofs.OfFile.{Filable, gridIn, tableIn, file-length, entry-of, energy-of}
-use Rattle.reading.specs.Resolve.{Query, queryHeld, outside, Resolved, unresolved, beyond, slabAt, resolve, Picks, unpicked, picked, joint, pairPlace, nearestPick, facePick}
+use Rattle.reading.specs.Resolve.{readingValues, Query, queryHeld, outside, Resolved, unresolved, beyond, slabAt, resolve, Picks, unpicked, picked, joint, pairPlace, nearestPick, facePick}
 use Rattle.reading.specs.Reading.{rowInside, energyInside, entryAt, energyAt, searchIn, readPicks, readEntry, readSlab, readingOut}
 use Rattle.reading.specs.Rule.{search, rulePicks, ruleRow, ruleSlab, ruled}
 use Rattle.ledger.proofs.Store.{all-at}
@@ -200,4 +200,4 @@ module _ (top : ℕ) (m : Mesh) (l : Locator) (low : top ≤ 15) (held : meshHel
     unfolding readingOut ruled
     reads =
         let n = some-bins g (suc top) (ok .held) in
-        rw grid-same (slab-read (resolve g q) (resolve-below g q (n .0) (n .1)))
+        rw grid-same (ap readingValues (slab-read (resolve g q) (resolve-below g q (n .0) (n .1))))

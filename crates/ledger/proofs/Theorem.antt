@@ -2,7 +2,7 @@
 use mathlib.Core.Path.{_≡_, refl, sym, ap, _∙_}
 use mathlib.Core.Bool.{Bool, true, false}
 use mathlib.Core.List.{List}
-use Prim.Native.Nat.{ℕ, suc, _+_, _<_}
+use Prim.Native.Nat.{ℕ, suc, _+_}
 use native.Mathlib.Omega.{arith}
 use lib.ListN.{length, getD, take, drop, length-map}
 use lib.Seq.{take-all, take-at, ext-getD}
@@ -16,37 +16,43 @@ use Rattle.grid.specs.declared.Grid.{Grid}
 use Rattle.grid.proofs.Tables.{table-held, some-bins}
 use Rattle.rows.specs.Rows.{Row, repulsive, compared}
 use Rattle.questions.specs.Lists.{Lists, slabs}
-use Rattle.builder.specs.Calls.{builtNumber, freshBuilder, filled, freshOut}
+use Rattle.builder.specs.Calls.{builtValues, noBuilder, freshBuilder, filled, freshOut}
 use Rattle.questions.specs.Refusals.{meshedRefusal}
 use Rattle.questions.specs.declared.Builder.{Builder}
 use Rattle.builder.specs.declared.Built.the-variants.{Accepted as Builds}
 use Rattle.questions.proofs.Laws.{first-yes, Meshed, meshed}
 use Rattle.table.specs.File.{fileOf}
-use Rattle.writer.specs.Write.{writtenNumber, writtenLength, fileFrom, writeRefusal, writeOut}
+use Rattle.writer.specs.Write.{fileFrom, writeRefusal, writeOut}
+use Rattle.search.specs.Search.{Locator}
+use Rattle.locator.specs.Several.{Roomy}
+use Rattle.locator.proofs.Laid.{made-yes}
+use Rattle.reading.specs.Resolve.{Query}
+use Rattle.reading.specs.Rule.{ruled}
 use Rattle.table.proofs.OfRows.{fine-rows}
 use Rattle.table.proofs.OfFile.{Filable, file-accepted, file-holds}
 use Rattle.ledger.specs.Ledger.{Ledger, opened, ledger}
-use Rattle.ledger.specs.Promise.{History, fresh, ended, file, Accepted, rows, Same, Kept, Promise}
+use Rattle.ledger.specs.Promise.{History, fresh, ended, file, Accepted, rows, Same, readingOf, Kept, Promise}
 use Rattle.ledger.proofs.Invariant.{rows-are}
 use Rattle.ledger.proofs.Follows.{Basis, builderAt, Agree, follows, starts}
+use Rattle.ledger.proofs.Admitted.{rule-answered}
 use Rattle.ledger.proofs.Readings.{reads}
 
 -- ---- what accepted calls are
 
-fresh-number : (g : Grid) (top : ℕ) (m : Mesh) (l : Lists) (x : Bool) → eqb (meshedRefusal (freshBuilder g top) m l) 0 ≡ x → builtNumber (freshOut g top m l .answer) ≡ 0
+fresh-number : (g : Grid) (top : ℕ) (m : Mesh) (l : Lists) (x : Bool) → eqb (meshedRefusal (freshBuilder g top) m l) 0 ≡ x → freshOut g top m l .answer .number ≡ 0
     → meshedRefusal (freshBuilder g top) m l ≡ 0
 unfolding freshOut
 fresh-number g top m l true d e = eqb-true _ 0 d
 fresh-number g top m l false d e = rw d at e
 
 fresh-is : (g : Grid) (top : ℕ) (m : Mesh) (l : Lists) → meshedRefusal (freshBuilder g top) m l ≡ 0
-    → freshOut g top m l ≡ record { answer = Builds (builderAt (counted g) top top); lists = filled (builderAt (counted g) top top) l }
+    → freshOut g top m l ≡ record { answer = builtValues noBuilder (Builds (builderAt (counted g) top top)); lists = filled (builderAt (counted g) top top) l }
 unfolding freshOut freshBuilder
 fresh-is g top m l e = rw e
 
 -- the bytes of an accepted write
-written-is : (b : Builder) (m : Mesh) (l : Lists) (out : List ℕ) (x : Bool) → eqb (writeRefusal b m l (length out)) 0 ≡ x → writtenNumber (writeOut b m l out .answer) ≡ 0
-    → take (writtenLength (writeOut b m l out .answer)) (writeOut b m l out .output) ≡ fileFrom b l
+written-is : (b : Builder) (m : Mesh) (l : Lists) (out : List ℕ) (x : Bool) → eqb (writeRefusal b m l (length out)) 0 ≡ x → writeOut b m l out .answer .number ≡ 0
+    → take (writeOut b m l out .answer .length) (writeOut b m l out .output) ≡ fileFrom b l
 unfolding writeOut put
 written-is b m l out true d e = rw d (take-at (fileFrom b l) (drop (0 + length (fileFrom b l)) out) (length (fileFrom b l)) refl)
 written-is b m l out false d e = absurd (eqb-false _ 0 d (rw d at e))
@@ -106,17 +112,18 @@ module _ (h : History) (ok : Accepted h) where
         fine = fine-rows (h .top) (last .rows) (agree .fit .good);
       }
 
-  -- both bin counts are above 0
-  pub some-slabs : (0 < g .«n_r») × (0 < g .«n_omega»)
-  some-slabs = some-bins g (suc (h .top)) (filable .held)
+  reads-rows : (l : Locator) → Roomy (h .top) l → (q : Query) → readingOf h l q ≡ ruled g (rows h) (h .meshes) q
+  reads-rows l r q =
+      rw (file-is, file-accepted g (suc (h .top)) (rows h) filable)
+      (reads (h .top) (h .meshes) l (yes-all .asked .top-le) (basis .held) (basis .kept) r q g (rows h) filable)
 
-  pub kept : Kept h
+  kept : Kept h
   kept =
       record {
         read = rw (file-is, file-accepted g (suc (h .top)) (rows h) filable) refl;
-        readings = λ l r q.
-            rw (file-is, file-accepted g (suc (h .top)) (rows h) filable)
-            (reads (h .top) (h .meshes) l (yes-all .asked .top-le) (basis .held) (basis .kept) r q g (rows h) filable);
+        locator-calls = λ l r. made-yes (h .top) (h .meshes) l (yes-all .asked .top-le) (basis .held) (basis .kept) r;
+        readings = reads-rows;
+        answers = λ l r q. let some = some-bins g (suc (h .top)) (filable .held) in rw (reads-rows l r q) (rule-answered g (rows h) (h .meshes) q (some .0) (some .1));
       }
 
 -- ---- two lists of calls

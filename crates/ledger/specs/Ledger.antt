@@ -13,7 +13,7 @@ use Rattle.rows.specs.Rows.{Row, scalar, mesh}
 use Rattle.settling.specs.Gradient.{zero}
 use Rattle.settling.specs.Settling.{verdicts, settledSlice, fromLevel}
 use Rattle.questions.specs.Lists.{Lists, slabs, slab}
-use Rattle.builder.specs.Calls.{builderAfter, settledBuilder, setOut, settleOut}
+use Rattle.builder.specs.Calls.{setOut, settleOut}
 use Rattle.questions.specs.Refusals.{setQuestion}
 use Rattle.questions.specs.declared.Builder.{Builder}
 use Rattle.writer.specs.Write.{writeOut}
@@ -34,10 +34,10 @@ pub record State : Type 0 where
 unfoldable pub called : Mesh → State → Call → State
 called m st (set-call ri oi e) =
     let o = setOut (st .builder) (st .lists) ri oi e in
-    record { builder = builderAfter (st .builder) (o .answer); lists = o .lists }
+    record { builder = o .answer .builder; lists = o .lists }
 called m st (settle-call ri) =
     let o = settleOut (st .builder) m (st .lists) ri in
-    record { builder = settledBuilder (st .builder) (o .answer); lists = o .lists }
+    record { builder = o .answer .builder; lists = o .lists }
 called m st (write-call out) =
     let o = writeOut (st .builder) m (st .lists) out in
     record { builder = o .builder; lists = o .lists }

@@ -1,22 +1,23 @@
 -- Demand 3 as one type.
 use mathlib.Core.Path.{_≡_}
 use mathlib.Core.List.{List, map}
-use mathlib.Core.Logic.{_↔_}
-use Prim.Native.Nat.{ℕ, suc, _<_}
+use mathlib.Core.Logic.{_↔_, _⊎_}
+use Prim.Native.Nat.{ℕ, suc, _≤_, _<_}
 use lib.ListN.{getD, take}
 use lib.Dec.{T}
 use lib.Ieee.{binary64, toBits, fits}
-use Rattle.mesh.specs.Mesh.{Mesh}
+use Rattle.mesh.specs.Mesh.{Mesh, levelPart}
 use Rattle.grid.specs.Settings.{counted}
 use Rattle.grid.specs.declared.Grid.{Grid}
 use Rattle.rows.specs.Rows.{Row, repulsive, compared}
 use Rattle.search.specs.Search.{Locator}
-use Rattle.locator.specs.Several.{locators, Roomy}
+use Rattle.locator.specs.Locator.{locatorOut}
+use Rattle.locator.specs.Several.{locatorPart, locators, Roomy}
 use Rattle.questions.specs.Lists.{Lists, slabs}
-use Rattle.builder.specs.Calls.{BuiltOut, builtNumber, builderAfter, freshBuilder, freshOut}
-use Rattle.writer.specs.Write.{WriteOut, writtenNumber, writtenLength, writeOut}
-use Rattle.table.specs.Read.{readNumber, readTable, readOut}
-use Rattle.reading.specs.Resolve.{Query}
+use Rattle.builder.specs.Calls.{BuiltOut, freshOut}
+use Rattle.writer.specs.Write.{WriteOut, writeOut}
+use Rattle.table.specs.Read.{readOut}
+use Rattle.reading.specs.Resolve.{Query, ReadingValues}
 use Rattle.reading.specs.Reading.{readingOut}
 use Rattle.reading.specs.Rule.{ruled}
 use Rattle.ledger.specs.Ledger.{Call, State, run, opened, ledger}
@@ -38,22 +39,22 @@ fresh h = freshOut (h .grid) (h .top) (h .meshes) (h .lists)
 
 -- after the calls
 unfoldable pub ended : History → State
-ended h = run (h .meshes) (record { builder = builderAfter (freshBuilder (h .grid) (h .top)) (fresh h .answer); lists = fresh h .lists }) (h .calls)
+ended h = run (h .meshes) (record { builder = fresh h .answer .builder; lists = fresh h .lists }) (h .calls)
 
 abbrev pub lastWrite : History → WriteOut
 lastWrite h = writeOut (ended h .builder) (h .meshes) (ended h .lists) (h .output)
 
 -- "The file of an accepted write is the first bytes of its output, as many as it returns."
 unfoldable pub file : History → List ℕ
-file h = take (writtenLength (lastWrite h .answer)) (lastWrite h .output)
+file h = take (lastWrite h .answer .length) (lastWrite h .output)
 
 -- fresh and the write after the calls are accepted. A setting is a value that an f64 can have: of the model's floats these are all that code can hand in.
 pub record Accepted (h : History) : Type 0 where
   pub rmin : T (fits binary64 (h .grid .rmin))
   pub dr : T (fits binary64 (h .grid .dr))
   pub step : T (fits binary64 (h .grid .«omega_step»))
-  pub fresh : builtNumber (fresh h .answer) ≡ 0
-  pub write : writtenNumber (lastWrite h .answer) ≡ 0
+  pub fresh : fresh h .answer .number ≡ 0
+  pub write : lastWrite h .answer .number ≡ 0
 
 -- ---- the list as the ledger keeps it
 
@@ -75,14 +76,23 @@ pub record Same (a b : History) : Type 0 where
 
 -- ---- what is promised of one list's file
 
+-- "In demand 3 a reading is handed its file, what read returned for it, the meshes of its builder and the locators"
+abbrev pub readingOf : History → Locator → Query → ReadingValues
+readingOf h l q = readingOut (file h) (readOut (file h) .table) (h .meshes .vertices) (locators (h .top) (h .meshes) l) q
+
+abbrev pub Answered : ℕ → Type 0
+Answered n = (n ≡ 0) ⊎ ((n ≡ 18) ⊎ (n ≡ 20))
+
 pub record Kept (h : History) : Type 0 where
   -- "The reader accepts both."
-  pub read : readNumber (readOut (file h)) ≡ 0
+  pub read : readOut (file h) .number ≡ 0
+  -- "the locators that the locator call made of them, for each level from 0 to the top": each of these calls is accepted
+  pub locator-calls : (l : Locator) → Roomy (h .top) l → (m : ℕ) → m ≤ h .top → locatorOut m (levelPart m (h .meshes)) (locatorPart m l) .number ≡ 0
   -- "Every admitted reading gives what the reading rule gives from that ledger's rows": "a reading is handed its file, what read returned for it, the
-  -- meshes of its builder and the locators that the locator call made of them". The rule refuses with 18 and 20 what a reading refuses with
-  -- them, and never with 19; so a reading that the rule admits is admitted, and one that is refused is refused alike.
-  pub readings : (l : Locator) → Roomy (h .top) l → (q : Query) →
-      readingOut (file h) (readTable (readOut (file h))) (h .meshes .vertices) (locators (h .top) (h .meshes) l) q ≡ ruled (counted (h .grid)) (rows h) (h .meshes) q
+  -- meshes of its builder and the locators that the locator call made of them". A reading that is refused is refused by the rule too, with the same number.
+  pub readings : (l : Locator) → Roomy (h .top) l → (q : Query) → readingOf h l q ≡ ruled (counted (h .grid)) (rows h) (h .meshes) q
+  -- 18 and 20 are the only numbers that refuse it: never 19
+  pub answers : (l : Locator) → Roomy (h .top) l → (q : Query) → Answered (readingOf h l q .number)
 
 -- ---- demand 3
 

@@ -21,18 +21,16 @@ use Rattle.questions.specs.Lists.{Lists, slabs}
 use Rattle.questions.specs.Refusals.{meshedRefusal, setRefusal, settleRefusal}
 use Rattle.questions.specs.declared.Builder.{Builder}
 use Rattle.questions.proofs.Laws.{meshed}
-use Rattle.builder.specs.declared.Settled.{Settled}
-use Rattle.builder.specs.declared.Settled.the-variants.{Accepted as Settles, Refused as NotSettled}
-use Rattle.builder.specs.Calls.{BuiltOut, SettleOut, builderAfter, settledNumber, settledGradient, freshBuilder, filled, freshOut, setLists, setOut, settledLists, settleAccepted, settleOut}
-use Rattle.writer.specs.Write.{WriteOut, writtenLength, writeRefusal, writeOut}
-use Rattle.table.specs.Read.{readTable, readOut}
+use Rattle.builder.specs.Calls.{BuiltOut, SettleOut, freshBuilder, filled, freshOut, setLists, setOut, settledLists, settleAccepted, settleOut}
+use Rattle.writer.specs.Write.{WriteOut, writeRefusal, writeOut}
+use Rattle.table.specs.Read.{readOut}
 use Rattle.reading.specs.Reading.{readingOut}
 use Rattle.ledger.specs.Ledger.{Call, set-call, settle-call, write-call, State, called, run}
 use Rattle.ledger.specs.Promise.{ended, lastWrite, file}
 use Rattle.lent.specs.declared.RowRecord.{RowRecord}
-use Rattle.lent.specs.Calls.{lentNumber, lentGradient, lentSettled, setLent, settleLent}
+use Rattle.lent.specs.Calls.{setLent, settleLent}
 use Rattle.lent.specs.Records.{columns, gathered, SpreadOut}
-use Rattle.lent.specs.Forms.{Reply, settle-reply, writeReply, replied, replies, begun, LentState, asState, spreadLists, leftIn, calledOver, repliedOver, calledLent, runLent, repliesLent, LentHistory, byValue, begunLent, endedLent, lastWriteLent, fileLent, Long, CallsAlike, EitherForm}
+use Rattle.lent.specs.Forms.{Reply, writeReply, replied, replies, begun, LentState, asState, spreadLists, leftIn, calledOver, repliedOver, calledLent, runLent, repliesLent, LentHistory, byValue, begunLent, endedLent, lastWriteLent, fileLent, Long, CallsAlike, EitherForm}
 use Rattle.lent.proofs.Columns.{spread-columns, gather-columns, long-gathered, rows-alike}
 
 -- ---- every call leaves lists of the length that they had
@@ -95,11 +93,6 @@ left-long rs l h = let e = sym (long-gathered rs l) in record { kinds = h .kinds
 
 -- ---- one call, and a list of them
 
--- settle's answer, as 01's number and value
-same-answer : (a : Settled) → settle-reply (lentNumber (lentSettled a)) (lentGradient (lentSettled a)) ≡ settle-reply (settledNumber a) (settledGradient a)
-same-answer (Settles b x) = refl
-same-answer (NotSettled n) = refl
-
 module _ (m : Mesh) where
   -- over number lists as long as the list of records
   over : (st : LentState) (l : Lists) → Long (st .rows) (l .rows) → (c : Call)
@@ -112,7 +105,7 @@ module _ (m : Mesh) where
   answered : (b : Builder) (l : Lists) (c : Call) → repliedOver m b l c ≡ replied m (record { builder = b; lists = l }) c
   unfolding repliedOver replied setLent settleLent
   answered b l (set-call ri oi e) = refl
-  answered b l (settle-call ri) = same-answer (settleOut b m l ri .answer)
+  answered b l (settle-call ri) = refl
   answered b l (write-call out) = refl
 
   runs : (st : LentState) (cs : List Call) → Long (st .rows) (st .work)
@@ -139,7 +132,7 @@ module _ (h : LentHistory) (long : Long (h .start .rows) (h .start .work)) where
   m = h .meshes
 
   abbrev fresh-state : Lists → State
-  fresh-state l = let o = freshOut (h .grid) (h .top) m l in record { builder = builderAfter (freshBuilder (h .grid) (h .top)) (o .answer); lists = o .lists }
+  fresh-state l = let o = freshOut (h .grid) (h .top) m l in record { builder = o .answer .builder; lists = o .lists }
 
   spread-is : spreadLists (h .start) ≡ asState (h .start) .lists
   spread-is = same-lists (h .start) long
@@ -162,7 +155,7 @@ module _ (h : LentHistory) (long : Long (h .start .rows) (h .start .work)) where
 
   same-file : fileLent h ≡ file (byValue h)
   unfolding file
-  same-file = ap (λ (o : WriteOut). take (writtenLength (o .answer)) (o .output)) writes
+  same-file = ap (λ (o : WriteOut). take (o .answer .length) (o .output)) writes
 
   calls-alike : CallsAlike h
   calls-alike =
@@ -172,7 +165,7 @@ module _ (h : LentHistory) (long : Long (h .start .rows) (h .start .work)) where
         state = ends;
         last-write = ap writeReply writes;
         bytes = same-file;
-        readings = λ vertices l q. ap (λ (f : List ℕ). readingOut f (readTable (readOut f)) vertices l q) same-file;
+        readings = λ vertices l q. ap (λ (f : List ℕ). readingOut f (readOut f .table) vertices l q) same-file;
       }
 
 pub either-form : EitherForm

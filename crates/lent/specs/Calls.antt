@@ -6,25 +6,18 @@ use Rattle.mesh.specs.Mesh.{Mesh}
 use Rattle.settling.specs.Gradient.{zero}
 use Rattle.questions.specs.Lists.{Lists}
 use Rattle.questions.specs.declared.Builder.{Builder}
-use Rattle.builder.specs.declared.Settled.{Settled}
-use Rattle.builder.specs.declared.Settled.the-variants.{Accepted as Settles, Refused as NotSettled}
-use Rattle.builder.specs.Calls.{BuiltOut, SettleOut, builtNumber, builderAfter, settledBuilder, setOut, settleOut}
+use Rattle.builder.specs.Calls.{BuiltOut, SettleOut, setOut, settleOut}
 use Rattle.lent.specs.declared.LentSettled.{LentSettled}
 use Rattle.lent.specs.declared.LentSettled.the-variants.{Accepted, Refused}
 
--- 01's number and value for each case of settle's answer
-abbrev pub lentNumber : LentSettled → ℕ
-lentNumber (Accepted x) = 0
-lentNumber (Refused n) = n
+-- 01's number and value for each case of settle's answer; beside a number that refuses stands 0
+pub record LentValues : Type 0 where
+  pub number : ℕ
+  pub gradient : Float
 
-abbrev pub lentGradient : LentSettled → Float
-lentGradient (Accepted x) = x
-lentGradient (Refused n) = zero
-
--- what by-value settle answers beside the builder
-abbrev pub lentSettled : Settled → LentSettled
-lentSettled (Settles b x) = Accepted x
-lentSettled (NotSettled n) = Refused n
+abbrev pub lentValues : LentSettled → LentValues
+lentValues (Accepted x) = record { number = 0; gradient = x }
+lentValues (Refused n) = record { number = n; gradient = zero }
 
 -- what a call leaves: the answer, the builder that was lent and every list that is lent to be altered
 pub record LentOut (A : Type 0) : Type 0 where
@@ -33,14 +26,14 @@ pub record LentOut (A : Type 0) : Type 0 where
   pub lists : Lists
 
 -- "set and settle also with the builder lent to be altered": the builder that the by-value call leaves is stored back; a refused call leaves it as it was
-abbrev pub setLeft : Builder → BuiltOut → LentOut ℕ
-setLeft b o = record { answer = builtNumber (o .answer); builder = builderAfter b (o .answer); lists = o .lists }
+abbrev pub setLeft : BuiltOut → LentOut ℕ
+setLeft o = record { answer = o .answer .number; builder = o .answer .builder; lists = o .lists }
 
-abbrev pub settleLeft : Builder → SettleOut → LentOut LentSettled
-settleLeft b o = record { answer = lentSettled (o .answer); builder = settledBuilder b (o .answer); lists = o .lists }
+abbrev pub settleLeft : SettleOut → LentOut LentValues
+settleLeft o = record { answer = record { number = o .answer .number; gradient = o .answer .gradient }; builder = o .answer .builder; lists = o .lists }
 
 unfoldable pub setLent : Builder → Lists → ℕ → ℕ → List Float → LentOut ℕ
-setLent b l ri oi e = setLeft b (setOut b l ri oi e)
+setLent b l ri oi e = setLeft (setOut b l ri oi e)
 
-unfoldable pub settleLent : Builder → Mesh → Lists → ℕ → LentOut LentSettled
-settleLent b m l ri = settleLeft b (settleOut b m l ri)
+unfoldable pub settleLent : Builder → Mesh → Lists → ℕ → LentOut LentValues
+settleLent b m l ri = settleLeft (settleOut b m l ri)

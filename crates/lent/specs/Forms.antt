@@ -11,16 +11,16 @@ use Rattle.rows.specs.Rows.{Rows, resolutionOf, resolutionAt, replaced}
 use Rattle.search.specs.Search.{Locator}
 use Rattle.questions.specs.Lists.{Lists}
 use Rattle.questions.specs.declared.Builder.{Builder}
-use Rattle.builder.specs.Calls.{BuiltOut, builtNumber, builderAfter, settledNumber, settledGradient, freshBuilder, freshOut, setOut, settleOut}
-use Rattle.writer.specs.Write.{WriteOut, writtenNumber, writtenLength, writeOut}
-use Rattle.table.specs.Read.{readTable, readOut}
+use Rattle.builder.specs.Calls.{BuiltOut, freshOut, setOut, settleOut}
+use Rattle.writer.specs.Write.{WriteOut, writeOut}
+use Rattle.table.specs.Read.{readOut}
 use Rattle.reading.specs.Resolve.{Query}
 use Rattle.reading.specs.Reading.{readingOut}
 use Rattle.ledger.specs.Ledger.{Call, set-call, settle-call, write-call, State, called}
 use Rattle.ledger.specs.Promise.{History, fresh, ended, lastWrite, file}
 use Rattle.lent.specs.declared.RowRecord.{RowRecord}
-use Rattle.lent.specs.Calls.{lentNumber, lentGradient, setLent, settleLent}
-use Rattle.lent.specs.Records.{columns, recordAt, recordOf, gathered, SpreadOut, spreadOut}
+use Rattle.lent.specs.Calls.{setLent, settleLent}
+use Rattle.lent.specs.Records.{columns, recordAt, recordOf, gathered, spreadOut}
 
 -- ---- by value
 
@@ -31,11 +31,11 @@ pub data Reply : Type 0 where
   write-reply : ℕ → ℕ → List ℕ → Reply
 
 abbrev pub writeReply : WriteOut → Reply
-writeReply o = write-reply (writtenNumber (o .answer)) (writtenLength (o .answer)) (o .output)
+writeReply o = write-reply (o .answer .number) (o .answer .length) (o .output)
 
 unfoldable pub replied : Mesh → State → Call → Reply
-replied m st (set-call ri oi e) = set-reply (builtNumber (setOut (st .builder) (st .lists) ri oi e .answer))
-replied m st (settle-call ri) = let a = settleOut (st .builder) m (st .lists) ri .answer in settle-reply (settledNumber a) (settledGradient a)
+replied m st (set-call ri oi e) = set-reply (setOut (st .builder) (st .lists) ri oi e .answer .number)
+replied m st (settle-call ri) = let a = settleOut (st .builder) m (st .lists) ri .answer in settle-reply (a .number) (a .gradient)
 replied m st (write-call out) = writeReply (writeOut (st .builder) m (st .lists) out)
 
 unfoldable pub replies : Mesh → State → List Call → List Reply
@@ -44,7 +44,7 @@ replies m st (c ∷ cs) = replied m st c ∷ replies m (called m st c) cs
 
 -- what fresh leaves
 abbrev pub begun : History → State
-begun h = record { builder = builderAfter (freshBuilder (h .grid) (h .top)) (fresh h .answer); lists = fresh h .lists }
+begun h = record { builder = fresh h .answer .builder; lists = fresh h .lists }
 
 -- ---- with the builder lent, over records
 
@@ -73,7 +73,7 @@ calledOver m st l (write-call out) = let o = writeOut (st .builder) m l out in l
 
 unfoldable pub repliedOver : Mesh → Builder → Lists → Call → Reply
 repliedOver m b l (set-call ri oi e) = set-reply (setLent b l ri oi e .answer)
-repliedOver m b l (settle-call ri) = let a = settleLent b m l ri .answer in settle-reply (lentNumber a) (lentGradient a)
+repliedOver m b l (settle-call ri) = let a = settleLent b m l ri .answer in settle-reply (a .number) (a .gradient)
 repliedOver m b l (write-call out) = writeReply (writeOut b m l out)
 
 abbrev pub calledLent : Mesh → LentState → Call → LentState
@@ -104,7 +104,7 @@ abbrev pub freshLent : LentHistory → BuiltOut
 freshLent h = freshOut (h .grid) (h .top) (h .meshes) (spreadLists (h .start))
 
 abbrev pub begunLent : LentHistory → LentState
-begunLent h = leftIn (h .start) (builderAfter (freshBuilder (h .grid) (h .top)) (freshLent h .answer)) (freshLent h .lists)
+begunLent h = leftIn (h .start) (freshLent h .answer .builder) (freshLent h .lists)
 
 abbrev pub endedLent : LentHistory → LentState
 endedLent h = runLent (h .meshes) (begunLent h) (h .calls)
@@ -113,7 +113,7 @@ abbrev pub lastWriteLent : LentHistory → WriteOut
 lastWriteLent h = writeOut (endedLent h .builder) (h .meshes) (spreadLists (endedLent h)) (h .output)
 
 abbrev pub fileLent : LentHistory → List ℕ
-fileLent h = take (writtenLength (lastWriteLent h .answer)) (lastWriteLent h .output)
+fileLent h = take (lastWriteLent h .answer .length) (lastWriteLent h .output)
 
 -- ---- alike
 
@@ -138,7 +138,7 @@ pub record CallsAlike (h : LentHistory) : Type 0 where
   pub last-write : writeReply (lastWriteLent h) ≡ writeReply (lastWrite (byValue h))
   pub bytes : fileLent h ≡ file (byValue h)
   pub readings : (vertices : List Float) (l : Locator) (q : Query) →
-      readingOut (fileLent h) (readTable (readOut (fileLent h))) vertices l q ≡ readingOut (file (byValue h)) (readTable (readOut (file (byValue h)))) vertices l q
+      readingOut (fileLent h) (readOut (fileLent h) .table) vertices l q ≡ readingOut (file (byValue h)) (readOut (file (byValue h)) .table) vertices l q
 
 -- all calls, files and readings answer alike through either form
 abbrev pub EitherForm : Type 0

@@ -1,9 +1,8 @@
 // Set and settle with the builder lent to be altered: the by-value call, and the builder that it leaves stored back.
 ghost use mathlib.Core.Path.{_≡_};
 ghost use Prim.Native.Nat.{ℕ};
-ghost use Rattle.builder.specs.Calls.{builtNumber, builderAfter, settledBuilder};
-ghost use Rattle.lent.specs.declared.LentSettled.{LentSettled};
-ghost use Rattle.lent.specs.Calls.{LentOut, lentSettled, setLent, settleLent};
+ghost use Rattle.builder.specs.Calls.{builtValues, settledValues};
+ghost use Rattle.lent.specs.Calls.{LentOut, LentValues, lentValues, setLent, settleLent};
 use crate::LentSettled;
 use builder::Built;
 use builder::Settled;
@@ -21,7 +20,7 @@ struct SettleDone {
 }
 
 fn set_done(kept: Builder, a: Built) -> SetDone
-    ensures { λ r. ⌜ (r .builder ≡ builderAfter kept a) × (r .number ≡ builtNumber a) ⌝ }
+    ensures { λ r. ⌜ (r .builder ≡ builtValues kept a .builder) × (r .number ≡ builtValues kept a .number) ⌝ }
 {
     match a {
         Built::Accepted(builder) => SetDone { builder, number: 0 },
@@ -33,7 +32,7 @@ fn set_done(kept: Builder, a: Built) -> SetDone
 }
 
 fn settle_done(kept: Builder, a: Settled) -> SettleDone
-    ensures { λ r. ⌜ (r .builder ≡ settledBuilder kept a) × (r .answer ≡ lentSettled a) ⌝ }
+    ensures { λ r. ⌜ (r .builder ≡ settledValues kept a .builder) × (lentValues (r .answer) ≡ record { number = settledValues kept a .number; gradient = settledValues kept a .gradient }) ⌝ }
 {
     match a {
         Settled::Accepted(builder, gradient) => SettleDone {
@@ -77,8 +76,8 @@ fn settle_kept(
     angles: &[f64],
     ri: u64,
 ) -> SettleDone
-    ensures { λ r. ⌜ _≡_ {A = LentOut LentSettled}
-        (record { answer = r .answer; builder = r .builder; lists = record { store = now (store .entry); rows = record { kinds = now (kinds .exit); levels = now (levels .exit); values = now (values .exit) } } })
+    ensures { λ r. ⌜ _≡_ {A = LentOut LentValues}
+        (record { answer = lentValues (r .answer); builder = r .builder; lists = record { store = now (store .entry); rows = record { kinds = now (kinds .exit); levels = now (levels .exit); values = now (values .exit) } } })
         (settleLent b (record { vertices = now (vertices .entry); counts = now (counts .entry); neighbours = now (neighbours .entry); angles = now (angles .entry) })
         (record { store = now (store .entry); rows = record { kinds = now (kinds .entry); levels = now (levels .entry); values = now (values .entry) } }) ri) ⌝ }
 {
@@ -130,8 +129,8 @@ pub fn settle_lent(
     angles: &[f64],
     ri: u64,
 ) -> LentSettled
-    ensures { λ r. ⌜ _≡_ {A = LentOut LentSettled}
-        (record { answer = r; builder = now (b .exit); lists = record { store = now (store .entry); rows = record { kinds = now (kinds .exit); levels = now (levels .exit); values = now (values .exit) } } })
+    ensures { λ r. ⌜ _≡_ {A = LentOut LentValues}
+        (record { answer = lentValues r; builder = now (b .exit); lists = record { store = now (store .entry); rows = record { kinds = now (kinds .exit); levels = now (levels .exit); values = now (values .exit) } } })
         (settleLent (now (b .entry)) (record { vertices = now (vertices .entry); counts = now (counts .entry); neighbours = now (neighbours .entry); angles = now (angles .entry) })
         (record { store = now (store .entry); rows = record { kinds = now (kinds .entry); levels = now (levels .entry); values = now (values .entry) } }) ri) ⌝ }
 {

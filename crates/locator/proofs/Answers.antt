@@ -1,7 +1,7 @@
 -- The search over the lists that the locator call makes is the search over the mesh. Other entries may stand behind them, as where levels are lent one after
 -- another and a reading has all of them from the level's first on.
 use mathlib.Core.Path.{_≡_, refl, sym, ap, _∙_}
-use mathlib.Core.Bool.{Bool, true, false, cond, _&&_}
+use mathlib.Core.Bool.{Bool, true, false, cond, _&&_, or-true}
 use mathlib.Core.List.{List, [], _∷_, _++_, append-assoc}
 use Prim.Native.Nat.{ℕ, zero, suc, _+_, _*_, _≤_, _<_}
 use native.Mathlib.Omega.{arith}
@@ -59,6 +59,7 @@ module _ {A : Type 0} (w K : ℕ) (f : ℕ → List A) (F : ℕ → List ℕ) (d
         lt-ltb (i + 1) (length o) (omega arith),
         le-leb (length (joined i f)) (length (joined (i + 1) f)) (joined-le i (i + 1) f (omega arith)),
         le-leb (length (joined (i + 1) F)) (length s) (omega (arith, joined-le (i + 1) K F (omega arith))),
+        or-true (eqb (length (joined i f)) (length (joined (i + 1) f))),
       )
 
 -- what is written before other entries

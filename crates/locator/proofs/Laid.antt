@@ -176,6 +176,9 @@ module _ (top : ℕ) (ms : Mesh) (l : Locator) (low : top ≤ 15) (held : meshHe
   pub made : (m : ℕ) → m ≤ top → madeAt ms l m ≡ located (vertexCount m) (gridSize (vertexCount m)) (levelPart m ms) (locatorPart m l)
   made m h = ap (λ (o : LocatorOut). o .lists) (accepted-out m h)
 
+  pub made-yes : (m : ℕ) → m ≤ top → locatorOut m (levelPart m ms) (locatorPart m l) .number ≡ 0
+  made-yes m h = ap (λ (o : LocatorOut). o .number) (accepted-out m h)
+
   -- the call leaves each list as long as it was
   made-sizes : (m : ℕ) → m ≤ top → Sizes m (madeAt ms l m)
   unfolding located

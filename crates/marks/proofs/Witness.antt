@@ -13,8 +13,8 @@ use Rattle.grid.specs.Settings.{counted}
 use Rattle.grid.specs.declared.Grid.{Grid}
 use Rattle.rows.specs.Rows.{Row, scalar, repulsive, mesh}
 use Rattle.questions.specs.Lists.{slabs}
-use Rattle.builder.specs.Calls.{builtNumber, freshOut}
-use Rattle.writer.specs.Write.{writtenNumber, writeOut}
+use Rattle.builder.specs.Calls.{freshOut}
+use Rattle.writer.specs.Write.{writeOut}
 use Rattle.ledger.specs.Ledger.{Call, set-call, settle-call, write-call, State, run, Ledger, opened, ledger}
 use Rattle.ledger.specs.Promise.{History, ended, file, rows, Accepted, Same}
 use Rattle.ledger.proofs.Theorem.{promise}
@@ -132,11 +132,11 @@ ended-refused : ended refused ≡ after
 unfolding ended run
 ended-refused = ap (λ (st : State). run twoLevels st later) ended-lowered ∙ later-refused
 
-written : writtenNumber (writeOut (after .builder) twoLevels (after .lists) (replicate 14202 7) .answer) ≡ 0
+written : writeOut (after .builder) twoLevels (after .lists) (replicate 14202 7) .answer .number ≡ 0
 unfolding computed
 written = refl
 
-opened-yes : builtNumber (freshOut (short .grid) 1 twoLevels (lent 5292 3) .answer) ≡ 0
+opened-yes : freshOut (short .grid) 1 twoLevels (lent 5292 3) .answer .number ≡ 0
 unfolding computed
 opened-yes = refl
 

@@ -23,7 +23,7 @@ use Rattle.grid.specs.Bins.{distanceBin, dihedralBin}
 use Rattle.grid.specs.Settings.{above, question, inRange, levelsHeld, countsHeld, ownCount, slabsHeld, counted}
 use Rattle.grid.specs.declared.Grid.{Grid}
 use Rattle.rows.specs.Rows.{resolutionOf, resolutionAt, replaced, known, rowRoom}
-use Rattle.settling.specs.Gradient.{weight, repulsive, allRepulsive, steeper, alongNeighbours, gradientOf, gradient, sumFrom, meanNarrowed}
+use Rattle.settling.specs.Gradient.{weight, repulsive, allRepulsive, steeper, alongNeighbours, pairWeight, gradientOf, gradient, sumFrom, meanNarrowed}
 use Rattle.settling.specs.Settling.{byGradient, verdict, verdicts, settledRows, largestFrom, someSettle, drops, settledSlice}
 use Rattle.questions.specs.Lists.{Lists, rowAt, rowsFrom, listRoom, rowsKnown}
 use Rattle.builder.specs.Calls.{settledLists, freshBuilder, filled, freshOut, setLists, setOut, settleAccepted, settleOut}
@@ -93,7 +93,7 @@ unfolding distanceBin dihedralBin above question counted inRange levelsHeld coun
 calls x = x
 
 unfoldable settling : {A : Type 0} → A → A
-unfolding weight repulsive allRepulsive steeper alongNeighbours gradientOf gradient sumFrom meanNarrowed byGradient verdict verdicts settledRows largestFrom someSettle drops settledSlice
+unfolding weight repulsive allRepulsive steeper alongNeighbours pairWeight gradientOf gradient sumFrom meanNarrowed byGradient verdict verdicts settledRows largestFrom someSettle drops settledSlice
 settling x = x
 
 unfoldable tables : {A : Type 0} → A → A

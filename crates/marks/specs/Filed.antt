@@ -5,8 +5,8 @@ use Prim.Native.Nat.{ℕ}
 use lib.ListN.{replicate, set, take, drop}
 use lib.Ieee.{Float}
 use Rattle.questions.specs.Lists.{Lists}
-use Rattle.writer.specs.Write.{writtenLength, writeOut}
-use Rattle.table.specs.Read.{readNumber, readTable, readOut}
+use Rattle.writer.specs.Write.{writeOut}
+use Rattle.table.specs.Read.{readOut}
 use Rattle.ledger.specs.Ledger.{set-call, settle-call, write-call}
 use Rattle.ledger.specs.Promise.{ended, lastWrite, file}
 use Rattle.marks.specs.Icospheres.{icosahedron}
@@ -23,7 +23,7 @@ abbrev meshFile : List ℕ
 meshFile = file (history (set-call 0 0 tens ∷ []))
 
 -- "Set alone at level 0 writes 642 bytes"; the bytes beyond the file stay
-pub set-alone : computed (writtenLength (lastWrite (history (set-call 0 0 tens ∷ [])) .answer)) ≡ 642
+pub set-alone : computed (lastWrite (history (set-call 0 0 tens ∷ [])) .answer .length) ≡ 642
 unfolding computed
 set-alone = refl
 
@@ -52,7 +52,7 @@ nan-row = refl
 -- ---- read
 
 abbrev reads : List ℕ → ℕ
-reads l = readNumber (readOut l)
+reads l = readOut l .number
 
 pub accepts-plain : computed (reads plainFile) ≡ 0
 unfolding computed
@@ -63,7 +63,7 @@ unfolding computed
 accepts-mesh = refl
 
 -- "each section's start (the byte after its count)"
-pub starts-at : computed (readTable (readOut meshFile) .«energies_start») ≡ 66
+pub starts-at : computed (readOut meshFile .table .«energies_start») ≡ 66
 unfolding computed
 starts-at = refl
 

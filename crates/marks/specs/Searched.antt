@@ -13,12 +13,10 @@ use Rattle.locator.specs.Several.{locators}
 use Rattle.locator.specs.Locator.{locatorOut}
 use Rattle.search.specs.declared.Vector3.{Vector3}
 use Rattle.grid.specs.Settings.{counted}
-use Rattle.table.specs.Read.{readTable, readOut}
-use Rattle.reading.specs.Resolve.{Query, readingNumber, readingEnergy}
+use Rattle.table.specs.Read.{readOut}
+use Rattle.reading.specs.Resolve.{Query, ReadingValues}
 use Rattle.reading.specs.Reading.{readingOut}
 use Rattle.reading.specs.Rule.{ruled}
-use Rattle.reading.specs.declared.Reading.{Reading}
-use Rattle.reading.specs.declared.Reading.the-variants.{Energy}
 use Rattle.ledger.specs.Ledger.{set-call}
 use Rattle.ledger.specs.Promise.{History, file, rows}
 use Rattle.marks.specs.Icospheres.{icosahedron}
@@ -142,11 +140,11 @@ down = direction 0 0 0xBFF0_0000_0000_0000
 abbrev none-at-all : Vector3
 none-at-all = direction 0 0 0
 
-abbrev reading : List ℕ → Locator → Query → Reading
-reading bytes l q = readingOut bytes (readTable (readOut bytes)) (icosahedron .vertices) l q
+abbrev reading : List ℕ → Locator → Query → ReadingValues
+reading bytes l q = readingOut bytes (readOut bytes .table) (icosahedron .vertices) l q
 
 -- at the directions of vertices 7 and 2: energy 7·12 + 2 = 86
-pub nearest-energy : computed (toBits binary64 (readingEnergy (reading nearestFile made (query 0 (vertexDirection 7) (vertexDirection 2))))) ≡ 0x4055_8000_0000_0000
+pub nearest-energy : computed (toBits binary64 (reading nearestFile made (query 0 (vertexDirection 7) (vertexDirection 2)) .energy)) ≡ 0x4055_8000_0000_0000
 unfolding computed
 nearest-energy = refl
 
@@ -155,25 +153,25 @@ abbrev slanted : Query
 slanted =
     query 0x3FF0_0000_0000_0000 (direction 0x3FF0_0000_0000_0000 0x3FD3_3333_3333_3333 0xBFB9_9999_9999_999A) (direction 0xBFF0_0000_0000_0000 0x3FD0_0000_0000_0000 0x3FC0_0000_0000_0000)
 
-pub interpolated : computed (toBits binary64 (readingEnergy (reading (file table) made slanted))) ≡ 0x404E_BE64_5AC1_242B
+pub interpolated : computed (toBits binary64 (reading (file table) made slanted .energy)) ≡ 0x404E_BE64_5AC1_242B
 unfolding computed
 interpolated = refl
 
-pub by-the-rule : computed (toBits binary64 (readingEnergy (ruled (counted (table .grid)) (rows table) icosahedron slanted))) ≡ 0x404E_BE64_5AC1_242B
+pub by-the-rule : computed (toBits binary64 (ruled (counted (table .grid)) (rows table) icosahedron slanted .energy)) ≡ 0x404E_BE64_5AC1_242B
 unfolding computed
 by-the-rule = refl
 
 -- 18, also for a distance outside; then 0.0, whatever was lent
-pub direction-first : computed (readingNumber (reading [] none (query 0x4014_0000_0000_0000 none-at-all down))) ≡ 18
+pub direction-first : computed (reading [] none (query 0x4014_0000_0000_0000 none-at-all down) .number) ≡ 18
 unfolding computed
 direction-first = refl
 
-pub outside : computed (reading nearestFile none (query 0x4014_0000_0000_0000 ahead down)) ≡ Energy (computed (f64 0))
+pub outside : computed (reading nearestFile none (query 0x4014_0000_0000_0000 ahead down)) ≡ record { number = 0; energy = computed (f64 0) }
 unfolding computed
 outside = refl
 
 -- 19: no bin
-pub no-bin : computed (readingNumber (reading [] made (query 0 ahead down))) ≡ 19
+pub no-bin : computed (reading [] made (query 0 ahead down) .number) ≡ 19
 unfolding computed
 no-bin = refl
 
@@ -181,15 +179,34 @@ no-bin = refl
 abbrev emptied : Locator
 emptied = record { cellOffsets = replicate 25 0; cellVertices = made .cellVertices; faceOffsets = made .faceOffsets; faces = made .faces }
 
-pub empty-cell : computed (readingNumber (reading nearestFile emptied (query 0 ahead down))) ≡ 20
+pub empty-cell : computed (reading nearestFile emptied (query 0 ahead down) .number) ≡ 20
 unfolding computed
 empty-cell = refl
+
+-- where start and end are equal no entry is touched, also beyond what was lent: 20 for cells, and for faces the answer where none fits
+abbrev far-cells : Locator
+far-cells = record { cellOffsets = replicate 25 325; cellVertices = made .cellVertices; faceOffsets = made .faceOffsets; faces = made .faces }
+
+pub far-cell : computed (reading nearestFile far-cells (query 0x3FE0_0000_0000_0000 ahead down) .number) ≡ 20
+unfolding computed
+far-cell = refl
+
+pub far-cell-interpolated : computed (reading (file table) far-cells (query 0x3FE0_0000_0000_0000 ahead down) .number) ≡ 20
+unfolding computed
+far-cell-interpolated = refl
+
+abbrev far-faces : Locator
+far-faces = record { cellOffsets = made .cellOffsets; cellVertices = made .cellVertices; faceOffsets = replicate 13 1; faces = [] }
+
+pub far-face : computed (reading (file table) far-faces (query 0x3FE0_0000_0000_0000 ahead down)) ≡ record { number = 0; energy = computed (f64 0) }
+unfolding computed
+far-face = refl
 
 -- 19 of the second direction before 20 of the first: an offset beyond what was lent
 abbrev beyond : Locator
 beyond = record { cellOffsets = replicate 24 0 ++ (60000 ∷ []); cellVertices = made .cellVertices; faceOffsets = made .faceOffsets; faces = made .faces }
 
-pub other-direction : computed (readingNumber (reading nearestFile beyond (query 0 ahead down))) ≡ 19
+pub other-direction : computed (reading nearestFile beyond (query 0 ahead down) .number) ≡ 19
 unfolding computed
 other-direction = refl
 
@@ -197,22 +214,22 @@ other-direction = refl
 abbrev no-face : Locator
 no-face = record { cellOffsets = replicate 24 0 ++ (1 ∷ []); cellVertices = replicate 324 0; faceOffsets = made .faceOffsets; faces = replicate 180 12 }
 
-pub face-number : computed (readingNumber (reading (file table) no-face (query 0 ahead down))) ≡ 19
+pub face-number : computed (reading (file table) no-face (query 0 ahead down) .number) ≡ 19
 unfolding computed
 face-number = refl
 
-pub nearest-no-face : computed (readingNumber (reading nearestFile no-face (query 0 ahead down))) ≡ 20
+pub nearest-no-face : computed (reading nearestFile no-face (query 0 ahead down) .number) ≡ 20
 unfolding computed
 nearest-no-face = refl
 
 -- energies that are not inside what was lent: 19, but 20 before it
-abbrev without : List ℕ → Locator → Query → Reading
-without bytes l q = readingOut (take 66 bytes) (readTable (readOut bytes)) (icosahedron .vertices) l q
+abbrev without : List ℕ → Locator → Query → ReadingValues
+without bytes l q = readingOut (take 66 bytes) (readOut bytes .table) (icosahedron .vertices) l q
 
-pub no-energy : computed (readingNumber (without nearestFile made (query 0 ahead down))) ≡ 19
+pub no-energy : computed (without nearestFile made (query 0 ahead down) .number) ≡ 19
 unfolding computed
 no-energy = refl
 
-pub empty-before-energy : computed (readingNumber (without nearestFile emptied (query 0 ahead down))) ≡ 20
+pub empty-before-energy : computed (without nearestFile emptied (query 0 ahead down) .number) ≡ 20
 unfolding computed
 empty-before-energy = refl

@@ -7,9 +7,9 @@ use lib.Ieee.{Float, nan}
 use Rattle.mesh.specs.Mesh.{Mesh}
 use Rattle.grid.specs.Settings.{counted}
 use Rattle.questions.specs.Lists.{Lists}
-use Rattle.builder.specs.Calls.{builtNumber, settledNumber, freshOut, setOut, settleOut}
+use Rattle.builder.specs.Calls.{freshOut, setOut, settleOut}
 use Rattle.questions.specs.declared.Builder.{Builder}
-use Rattle.writer.specs.Write.{writtenNumber, writeOut}
+use Rattle.writer.specs.Write.{writeOut}
 use Rattle.ledger.specs.Ledger.{Call, set-call, settle-call, State, run}
 use Rattle.ledger.specs.Promise.{History, ended}
 use Rattle.marks.specs.Icospheres.{twoLevels}
@@ -17,10 +17,10 @@ use Rattle.marks.specs.Computed.{f64, settings, lent, history, history�
 
 -- what a call answers after a list of calls
 abbrev wrote : History → List ℕ → ℕ
-wrote h out = writtenNumber (writeOut (ended h .builder) (h .meshes) (ended h .lists) out .answer)
+wrote h out = writeOut (ended h .builder) (h .meshes) (ended h .lists) out .answer .number
 
 abbrev wasSet : History → ℕ → ℕ → List Float → ℕ
-wasSet h ri oi e = builtNumber (setOut (ended h .builder) (ended h .lists) ri oi e .answer)
+wasSet h ri oi e = setOut (ended h .builder) (ended h .lists) ri oi e .answer .number
 
 abbrev zeros : ℕ → List Float
 zeros n = replicate n (f64 0)
@@ -48,7 +48,7 @@ after = record {
 
 -- what settle answers after further calls
 abbrev then : List Call → ℕ → ℕ
-then cs ri = let st = run twoLevels after cs in settledNumber (settleOut (st .builder) twoLevels (st .lists) ri .answer)
+then cs ri = let st = run twoLevels after cs in settleOut (st .builder) twoLevels (st .lists) ri .answer .number
 
 -- a builder of two levels at the lower one, two dihedral bins (step 3), and rows made by hand
 abbrev by-hand : Builder
@@ -58,7 +58,7 @@ abbrev made : List ℕ → List ℕ → Lists
 made kinds levels = record { store = zeros 3528; rows = record { kinds = kinds; levels = levels; values = 0 ∷ 0 ∷ [] } }
 
 abbrev settledByHand : Mesh → List ℕ → List ℕ → ℕ → ℕ
-settledByHand m kinds levels ri = settledNumber (settleOut by-hand m (made kinds levels) ri .answer)
+settledByHand m kinds levels ri = settleOut by-hand m (made kinds levels) ri .answer .number
 
 -- a vertex of four neighbours
 abbrev damaged : Mesh
@@ -159,7 +159,7 @@ unfolding computed
 set-infinite = refl
 
 -- write: 15 before 12
-pub write-kind : computed (writtenNumber (writeOut by-hand twoLevels (made (3 ∷ 9 ∷ []) (1 ∷ 0 ∷ [])) [] .answer)) ≡ 15
+pub write-kind : computed (writeOut by-hand twoLevels (made (3 ∷ 9 ∷ []) (1 ∷ 0 ∷ [])) [] .answer .number) ≡ 15
 unfolding computed
 write-kind = refl
 
@@ -168,11 +168,11 @@ unfolding computed
 write-room = refl
 
 -- fresh: 6 before 7; a refused one leaves the lists
-pub fresh-room : computed (builtNumber (freshOut (settings 0x3FF0_0000_0000_0000 0x4018_0000_0000_0000) 1 damaged (lent 1762 1) .answer)) ≡ 6
+pub fresh-room : computed (freshOut (settings 0x3FF0_0000_0000_0000 0x4018_0000_0000_0000) 1 damaged (lent 1762 1) .answer .number) ≡ 6
 unfolding computed
 fresh-room = refl
 
-pub fresh-rule : computed (builtNumber (freshOut (settings 0x3FF0_0000_0000_0000 0x4018_0000_0000_0000) 1 damaged (lent 1763 1) .answer)) ≡ 7
+pub fresh-rule : computed (freshOut (settings 0x3FF0_0000_0000_0000 0x4018_0000_0000_0000) 1 damaged (lent 1763 1) .answer .number) ≡ 7
 unfolding computed
 fresh-rule = refl
 

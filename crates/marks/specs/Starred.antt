@@ -12,8 +12,6 @@ use Rattle.grid.specs.Bins.{distanceBin, dihedralCount, dihedralBin}
 use Rattle.float.specs.Exp.{exponential}
 use Rattle.mesh.specs.Mesh.{meshesKeep}
 use Rattle.search.specs.Geometry.{cubeProject}
-use Rattle.builder.specs.Calls.{builtNumber}
-use Rattle.writer.specs.declared.Written.the-variants.{Accepted as Writes}
 use Rattle.ledger.specs.Promise.{fresh, lastWrite, file}
 use Rattle.marks.specs.Icospheres.{icosahedron}
 use Rattle.marks.specs.Computed.{f64, history, computed}
@@ -56,8 +54,8 @@ pub record Starred : Type 0 where
   pub projects : computed (cubeProject (record { x = f64 0x3FF0_0000_0000_0000; y = f64 0x3FF0_0000_0000_0000; z = f64 0x3FF0_0000_0000_0000 })) ≡ record { face = 0; u = computed (f64 0x3FF0_0000_0000_0000); w = computed (f64 0x3FF0_0000_0000_0000) }
   -- the 66 bytes: fresh's settings and top level with a lent mesh that keeps the rule, fresh accepted, write accepted with 66, and the file
   pub mesh-kept : computed (meshesKeep 0 icosahedron) ≡ true
-  pub fresh-accepted : computed (builtNumber (fresh (history []) .answer)) ≡ 0
-  pub write-answer : computed (lastWrite (history []) .answer) ≡ Writes 66
+  pub fresh-accepted : computed (fresh (history []) .answer .number) ≡ 0
+  pub write-answer : computed (lastWrite (history []) .answer) ≡ record { number = 0; length = 66 }
   pub bytes : computed (file (history [])) ≡ sixtySix
   -- with rmin 0, dr 1, four bins: r 0.5 in bin 1
   pub distance-half : distanceBin (f64 0x3FE0_0000_0000_0000) (f64 0) (f64 0x3FF0_0000_0000_0000) 4 ≡ 1

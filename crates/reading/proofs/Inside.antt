@@ -18,7 +18,7 @@ use Rattle.rows.specs.declared.SlabResolution.the-variants.{Scalar, Mesh, Repul
 use Rattle.search.specs.Search.{Locator}
 use Rattle.table.specs.File.{Entry}
 use Rattle.table.specs.declared.Table.{Table}
-use Rattle.reading.specs.Resolve.{Query, Resolved, unresolved, beyond, slabAt, queryHeld, outside, resolve, widened}
+use Rattle.reading.specs.Resolve.{readingValues, Query, Resolved, unresolved, beyond, slabAt, queryHeld, outside, resolve, widened}
 use Rattle.reading.specs.Reading.{rowInside, entryAt, readEntry, readSlab, readingOut, searchIn, readPicks}
 use Rattle.reading.specs.Steps.{itemsInside, slabOf, rowPlace, toward, readPlaced, readResolution}
 use Rattle.reading.specs.declared.Reading.the-variants.{Energy, Refused}
@@ -108,9 +108,9 @@ module _ (file : List ℕ) (t : Table) (vs : List Float) (l : Locator) (q : Quer
       by false = refl
 
   -- the answer by the row's place
-  pub reading-by : (p r : RowPlace) → p ≡ rowPlace file t (resolve (t .grid) q) → p ≡ r → readPlaced file t vs l q r ≡ readingOut file t vs l q
+  pub reading-by : (p r : RowPlace) → p ≡ rowPlace file t (resolve (t .grid) q) → p ≡ r → readingValues (readPlaced file t vs l q r) ≡ readingOut file t vs l q
   unfolding readingOut
-  reading-by p r e h = ap (λ (z : RowPlace). readPlaced file t vs l q z) (sym h ∙ e) ∙ sym (placed-slab (resolve (t .grid) q))
+  reading-by p r e h = ap readingValues (ap (λ (z : RowPlace). readPlaced file t vs l q z) (sym h ∙ e) ∙ sym (placed-slab (resolve (t .grid) q)))
 
   -- a row's answer has no use for the distance and the angle
   pub entry-toward : (e : Entry) → readEntry file t vs l (toward (q .a) (q .b)) e ≡ readEntry file t vs l q e

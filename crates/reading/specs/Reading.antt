@@ -12,7 +12,7 @@ use Rattle.search.specs.Search.{Locator, locatorFrom, verticesFrom, nearestIn, 
 use Rattle.table.specs.Bytes.{numberAt}
 use Rattle.table.specs.File.{Entry, entryOf}
 use Rattle.table.specs.declared.Table.{Table}
-use Rattle.reading.specs.Resolve.{Query, Resolved, unresolved, beyond, slabAt, resolve, Picks, unpicked, picked, nearestPick, facePick, widened, combined}
+use Rattle.reading.specs.Resolve.{ReadingValues, readingValues, Query, Resolved, unresolved, beyond, slabAt, resolve, Picks, unpicked, picked, nearestPick, facePick, widened, combined}
 use Rattle.reading.specs.declared.Reading.{Reading}
 use Rattle.reading.specs.declared.Reading.the-variants.{Energy, Refused}
 
@@ -62,5 +62,5 @@ readSlab file t vertices l q (unresolved n) = Refused n
 readSlab file t vertices l q beyond = Energy (ofBits binary64 0)
 readSlab file t vertices l q (slabAt s) = cond (rowInside file t s) (readEntry file t vertices l q (entryAt file t s)) (Refused 19)
 
-unfoldable pub readingOut : List ℕ → Table → List Float → Locator → Query → Reading
-readingOut file t vertices l q = readSlab file t vertices l q (resolve (t .grid) q)
+unfoldable pub readingOut : List ℕ → Table → List Float → Locator → Query → ReadingValues
+readingOut file t vertices l q = readingValues (readSlab file t vertices l q (resolve (t .grid) q))

@@ -19,14 +19,14 @@ use Rattle.search.specs.declared.Located.{Located}
 use Rattle.reading.specs.declared.Reading.{Reading}
 use Rattle.reading.specs.declared.Reading.the-variants.{Energy, Refused}
 
--- 01's number and value for each case: "reading returns the energy"
-abbrev pub readingNumber : Reading → ℕ
-readingNumber (Energy x) = 0
-readingNumber (Refused n) = n
+-- 01's number and value for each case of the answer: "reading returns the energy"; beside a number that refuses stands 0
+pub record ReadingValues : Type 0 where
+  pub number : ℕ
+  pub energy : Float
 
-abbrev pub readingEnergy : Reading → Float
-readingEnergy (Energy x) = x
-readingEnergy (Refused n) = ofBits binary64 0
+abbrev pub readingValues : Reading → ReadingValues
+readingValues (Energy x) = record { number = 0; energy = x }
+readingValues (Refused n) = record { number = n; energy = ofBits binary64 0 }
 
 -- what is asked for: a distance, a dihedral angle and two directions
 pub record Query : Type 0 where

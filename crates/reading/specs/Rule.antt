@@ -10,7 +10,7 @@ use Rattle.grid.specs.declared.Grid.{Grid}
 use Rattle.rows.specs.Rows.{Row, scalar, repulsive, mesh}
 use Rattle.search.specs.Geometry.{unit}
 use Rattle.search.specs.Search.{nearestOf, locate}
-use Rattle.reading.specs.Resolve.{Query, Resolved, unresolved, beyond, slabAt, resolve, Picks, unpicked, picked, nearestPick, facePick, widened, combined}
+use Rattle.reading.specs.Resolve.{ReadingValues, readingValues, Query, Resolved, unresolved, beyond, slabAt, resolve, Picks, unpicked, picked, nearestPick, facePick, widened, combined}
 use Rattle.reading.specs.declared.Reading.{Reading}
 use Rattle.reading.specs.declared.Reading.the-variants.{Energy, Refused}
 
@@ -40,5 +40,5 @@ ruleSlab rows ms q (unresolved n) = Refused n
 ruleSlab rows ms q beyond = Energy (ofBits binary64 0)
 ruleSlab rows ms q (slabAt s) = ruleRow ms q (getD rows s repulsive)
 
-unfoldable pub ruled : Grid → List (Row ℕ) → Mesh → Query → Reading
-ruled g rows ms q = ruleSlab rows ms q (resolve g q)
+unfoldable pub ruled : Grid → List (Row ℕ) → Mesh → Query → ReadingValues
+ruled g rows ms q = readingValues (ruleSlab rows ms q (resolve g q))

@@ -3,6 +3,7 @@ ghost use mathlib.Core.Path.{_≡_};
 ghost use Prim.Native.Nat.{_+_, _≤_, _<_};
 ghost use lib.ListN.{length, take, drop};
 ghost use Rattle.table.specs.File.{entryOf};
+ghost use Rattle.reading.specs.Resolve.{readingValues};
 ghost use Rattle.reading.specs.Reading.{readEntry, readingOut};
 ghost use Rattle.reading.specs.Steps.{toward, readResolution};
 use crate::Reading;
@@ -126,7 +127,7 @@ pub fn lookup(
     a: Vector3,
     b: Vector3,
 ) -> Reading
-    ensures { λ z. ⌜ z ≡ readingOut (now (file .entry)) t (now (vertices .entry))
+    ensures { λ z. ⌜ readingValues z ≡ readingOut (now (file .entry)) t (now (vertices .entry))
         (record { cellOffsets = now («cell_offsets» .entry); cellVertices = now («cell_vertices» .entry); faceOffsets = now («face_offsets» .entry); faces = now (faces .entry) })
         (record { r = r; omega = omega; a = a; b = b }) ⌝ }
 {

@@ -1,6 +1,6 @@
 -- The vertices that a search answers are below n. Assumes nothing.
 use mathlib.Core.Path.{_≡_, refl}
-use mathlib.Core.Bool.{Bool, true, false, cond, _&&_}
+use mathlib.Core.Bool.{Bool, true, false, cond, _&&_, _||_}
 use mathlib.Core.List.{List, [], _∷_}
 use Prim.Native.Nat.{ℕ, _+_, _*_, _<_}
 use native.Mathlib.Omega.{arith}
@@ -51,7 +51,7 @@ module _ (vs : List Float) (n : ℕ) (p : Vector3) where
   unfolding entriesInside
   listed w offsets entries i e =
       let x = every (vertexInside vs n) (entriesAt w offsets entries i) in
-      let y = leb (w * getD offsets (i + 1) 0) (length entries) in
+      let y = eqb (getD offsets i 0) (getD offsets (i + 1) 0) || leb (w * getD offsets (i + 1) 0) (length entries) in
       let z = leb (getD offsets i 0) (getD offsets (i + 1) 0) in
       and-yes y x (and-yes z (y && x) (and-yes (ltb (i + 1) (length offsets)) (z && (y && x)) e .1) .1) .1
 

@@ -1,6 +1,6 @@
 -- The turns of the search's loops, and its lists by their offsets.
 use mathlib.Core.Path.{_≡_, refl, sym, ap, _∙_}
-use mathlib.Core.Bool.{Bool, true, false, not, _&&_, cond, true≢false}
+use mathlib.Core.Bool.{Bool, true, false, not, _&&_, _||_, cond, true≢false}
 use mathlib.Core.List.{List, [], _∷_}
 use Prim.Native.Nat.{ℕ, zero, suc, _+_, _-_, _*_, _≤_, _<_}
 use native.Mathlib.Nat.{mul-le-mul-left}
@@ -8,9 +8,9 @@ use native.Mathlib.Numerals.{add-one}
 use native.Mathlib.Omega.{arith}
 use lib.ListN.{length, getD, take, drop, drop-of-length-le}
 use lib.Seq.{slice, drop-cons}
-use lib.Dec.{leb, ltb}
+use lib.Dec.{leb, ltb, eqb}
 use lib.Ieee.{Float}
-use borrow.Author.Tests.{lt-ltb, le-ltb, leb-true, not-true, not-false, eq-eqb, ne-eqb}
+use borrow.Author.Tests.{lt-ltb, le-ltb, le-leb, leb-true, not-true, not-false, eq-eqb, ne-eqb, eqb-true}
 use Rattle.ieee.proofs.Fields.{both-true}
 use Rattle.mesh.specs.Lists.{every}
 use Rattle.mesh.specs.Faces.{face}
@@ -41,6 +41,10 @@ part (suc f) (suc t) [] = empty (suc t - suc f)
     empty (suc k) = refl
 part (suc f) (suc t) (x ∷ l) = let e : suc t - suc f ≡ t - f = omega arith in rw e (part f t l)
 
+-- a part that ends where it starts
+slice-none : {A : Type 0} (f : ℕ) (l : List A) → slice f f l ≡ []
+slice-none f l = sym (part f f l) ∙ (let e : f - f ≡ 0 = omega arith in rw e)
+
 -- ---- the places between two offsets
 
 module _ (offsets : List ℕ) (w places i : ℕ) where
@@ -48,10 +52,16 @@ module _ (offsets : List ℕ) (w places i : ℕ) where
   unfolding spanOf
   span-past h = rw (le-ltb (i + 1) (length offsets) h)
 
-  pub span-by : (a b : ℕ) (t : Bool) → a ≡ getD offsets i 0 → b ≡ getD offsets (i + 1) 0 → i + 1 < length offsets → (leb a b && leb (w * b) places) ≡ t
-      → spanOf w offsets places i ≡ cond t (record { held = true; from = w * a; to = w * b }) (record { held = false; from = 0; to = 0 })
-  unfolding spanOf
-  span-by a b t p q h k = rw (← p, ← q, lt-ltb (i + 1) (length offsets) h, k)
+  -- the offsets are inside, and are a and b
+  module _ (a b : ℕ) (p : a ≡ getD offsets i 0) (q : b ≡ getD offsets (i + 1) 0) (h : i + 1 < length offsets) where
+    pub span-empty : a ≡ b → spanOf w offsets places i ≡ record { held = true; from = 0; to = 0 }
+    unfolding spanOf
+    span-empty e = rw (← p, ← q, lt-ltb (i + 1) (length offsets) h, eq-eqb a b e)
+
+    pub span-by : (t : Bool) → (a ≡ b → ⊥) → (leb a b && leb (w * b) places) ≡ t
+        → spanOf w offsets places i ≡ cond t (record { held = true; from = w * a; to = w * b }) (record { held = false; from = 0; to = 0 })
+    unfolding spanOf
+    span-by t d k = rw (← p, ← q, lt-ltb (i + 1) (length offsets) h, ne-eqb a b d, k)
 
 -- places that are held, and those that are not
 abbrev at : ℕ → ℕ → Span
@@ -64,8 +74,10 @@ none = record { held = false; from = 0; to = 0 }
 pub record Held (vs : List Float) (n w : ℕ) (offsets entries : List ℕ) (i : ℕ) (s : Span) : Type 0 where
   pub order : s .from ≤ s .to
   pub room : s .to ≤ length entries
-  pub start : s .from ≡ w * getD offsets i 0
-  pub end : s .to ≡ w * getD offsets (i + 1) 0
+  pub first : ℕ
+  pub start : s .from ≡ w * first
+  pub last : ℕ
+  pub end : s .to ≡ w * last
   pub cut : take (s .to - s .from) (drop (s .from) entries) ≡ entriesAt w offsets entries i
   pub inside : entriesInside vs n w offsets entries i ≡ every (vertexInside vs n) (entriesAt w offsets entries i)
 
@@ -73,35 +85,58 @@ module _ (vs : List Float) (n w : ℕ) (offsets entries : List ℕ) (i : ℕ) wh
   pub not-held : (s : Span) → s ≡ spanOf w offsets (length entries) i → s .held ≡ false → entriesInside vs n w offsets entries i ≡ false
   unfolding spanOf entriesInside
   not-held s e h =
-      either (ltb (i + 1) (length offsets)) (leb (getD offsets i 0) (getD offsets (i + 1) 0)) (leb (w * getD offsets (i + 1) 0) (length entries)) (every (vertexInside vs n) (entriesAt w offsets entries i))
+      either (ltb (i + 1) (length offsets)) (eqb (getD offsets i 0) (getD offsets (i + 1) 0)) (leb (getD offsets i 0) (getD offsets (i + 1) 0))
+      (leb (w * getD offsets (i + 1) 0) (length entries)) (every (vertexInside vs n) (entriesAt w offsets entries i))
       (w * getD offsets i 0) (w * getD offsets (i + 1) 0) (sym (ap (λ (x : Span). x .held) e) ∙ h)
     where
-      either : (p q r t : Bool) (a b : ℕ) → cond (p && (q && r)) (at a b) none .held ≡ false → (p && (q && (r && t))) ≡ false
-      either true true true t a b h = absurd (true≢false h)
-      either true true false t a b h = refl
-      either true false r t a b h = refl
-      either false q r t a b h = refl
+      either : (p o q r t : Bool) (a b : ℕ) → cond p (cond o (at 0 0) (cond (q && r) (at a b) none)) none .held ≡ false → (p && (q && ((o || r) && t))) ≡ false
+      either true true q r t a b h = absurd (true≢false h)
+      either true false true true t a b h = absurd (true≢false h)
+      either true false true false t a b h = refl
+      either true false false r t a b h = refl
+      either false o q r t a b h = refl
 
   pub held : (s : Span) → s ≡ spanOf w offsets (length entries) i → s .held ≡ true → Held vs n w offsets entries i s
   unfolding spanOf entriesAt entriesInside
-  held s e h = made (ltb (i + 1) (length offsets)) (leb (getD offsets i 0) (getD offsets (i + 1) 0)) (leb (w * getD offsets (i + 1) 0) (length entries)) refl refl refl e
+  held s e h = made (ltb (i + 1) (length offsets)) (eqb x y) (leb x y) (leb (w * y) (length entries)) refl refl refl refl e
     where
+      x : ℕ
+      x = getD offsets i 0
+
+      y : ℕ
+      y = getD offsets (i + 1) 0
+
       never : s ≡ none → Held vs n w offsets entries i s
       never e = absurd (true≢false (sym h ∙ ap (λ (x : Span). x .held) e))
 
-      made : (p q r : Bool) → ltb (i + 1) (length offsets) ≡ p → leb (getD offsets i 0) (getD offsets (i + 1) 0) ≡ q → leb (w * getD offsets (i + 1) 0) (length entries) ≡ r
-          → s ≡ cond (p && (q && r)) (at (w * getD offsets i 0) (w * getD offsets (i + 1) 0)) none → Held vs n w offsets entries i s
-      made true true true hp hq hr e = record {
+      made : (p o q r : Bool) → ltb (i + 1) (length offsets) ≡ p → eqb x y ≡ o → leb x y ≡ q → leb (w * y) (length entries) ≡ r
+          → s ≡ cond p (cond o (at 0 0) (cond (q && r) (at (w * x) (w * y)) none)) none → Held vs n w offsets entries i s
+      made true true q r hp ho hq hr e =
+          let j : x ≡ y = eqb-true x y ho in
+          let z : slice (w * x) (w * y) entries ≡ [] = rw (← j) (slice-none (w * x) entries) in
+          record {
+            order = rw e (omega arith);
+            room = rw e (omega arith);
+            first = 0;
+            start = rw e (omega arith);
+            last = 0;
+            end = rw e (omega arith);
+            cut = rw (e, z);
+            inside = rw (hp, ho, le-leb x y (omega arith));
+          }
+      made true false true true hp ho hq hr e = record {
         order = rw e (mul-le-mul-left w (leb-true _ _ hq));
         room = rw e (leb-true _ _ hr);
+        first = x;
         start = ap (λ (x : Span). x .from) e;
+        last = y;
         end = ap (λ (x : Span). x .to) e;
         cut = part (s .from) (s .to) entries ∙ rw e;
-        inside = rw (hp, hq, hr);
+        inside = rw (hp, ho, hq, hr);
       }
-      made true true false hp hq hr e = never e
-      made true false r hp hq hr e = never e
-      made false q r hp hq hr e = never e
+      made true false true false hp ho hq hr e = never e
+      made true false false r hp ho hq hr e = never e
+      made false o q r hp ho hq hr e = never e
 
 module _ (offsets entries : List ℕ) (vs : List Float) (n g : ℕ) (p : Vector3) (s : Span) (e : s ≡ spanOf 1 offsets (length entries) (cellIndex g p)) where
   pub cell-not-held : s .held ≡ false → nearestInCells offsets entries vs n g p ≡ notNearest 19

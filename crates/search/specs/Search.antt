@@ -1,5 +1,5 @@
 -- The search of a direction: over a mesh, and over lent lists that may be damaged. Definitions only.
-use mathlib.Core.Bool.{Bool, true, cond, _&&_}
+use mathlib.Core.Bool.{Bool, true, cond, _&&_, _||_}
 use mathlib.Core.List.{List, [], _∷_}
 use Prim.Native.Nat.{ℕ, _+_, _*_}
 use lib.ListN.{length, getD, drop}
@@ -109,12 +109,15 @@ vertexInside vs n v = ltb v n && leb (3 * v + 3) (length vs)
 unfoldable pub entriesAt : ℕ → List ℕ → List ℕ → ℕ → List ℕ
 entriesAt w offsets entries i = slice (w * getD offsets i 0) (w * getD offsets (i + 1) 0) entries
 
--- 19: "every .. cell and mesh entry touched inside what was lent, no end offset below its start, and vertex numbers below n"
+-- 19: "every .. cell and mesh entry touched inside what was lent, no end offset below its start, and vertex numbers below n"; where the
+-- start equals the end no entry is touched, wherever they lie
 unfoldable pub entriesInside : List Float → ℕ → ℕ → List ℕ → List ℕ → ℕ → Bool
 entriesInside vs n w offsets entries i =
+    let start = getD offsets i 0 in
+    let end = getD offsets (i + 1) 0 in
     ltb (i + 1) (length offsets)
-    && (leb (getD offsets i 0) (getD offsets (i + 1) 0)
-    && (leb (w * getD offsets (i + 1) 0) (length entries)
+    && (leb start end
+    && ((eqb start end || leb (w * end) (length entries))
     && every (vertexInside vs n) (entriesAt w offsets entries i)))
 
 -- `find_nearest_vertex`, over the two lists that it reads

@@ -3,7 +3,7 @@ use mathlib.Core.Bool.{true, false, cond, _&&_}
 use mathlib.Core.List.{List}
 use Prim.Native.Nat.{ℕ, _+_, _*_}
 use lib.ListN.{length, getD}
-use lib.Dec.{leb, ltb}
+use lib.Dec.{leb, ltb, eqb}
 use lib.Ieee.{Float}
 use Rattle.mesh.specs.Lists.{every}
 use Rattle.search.specs.Cells.{triples}
@@ -14,13 +14,18 @@ use Rattle.search.specs.declared.Located.{Located}
 use Rattle.search.specs.declared.cells.Span.{Span}
 use Rattle.search.specs.declared.faces.Fit.{Fit}
 
--- where the entries between offsets i and i + 1 stand, each offset counting w places; not held where an offset or an entry is not inside what was lent, or the end is below the start
+-- where the entries between offsets i and i + 1 stand, each offset counting w places; not held where an offset or an entry is not inside what was
+-- lent, or the end is below the start. Where there is no entry the places are those before the first, so that they can be cut out of any list
 unfoldable pub spanOf : ℕ → List ℕ → ℕ → ℕ → Span
 spanOf w offsets places i =
     let a = getD offsets i 0 in
     let b = getD offsets (i + 1) 0 in
-    cond (ltb (i + 1) (length offsets) && (leb a b && leb (w * b) places))
+    cond (ltb (i + 1) (length offsets))
+    (cond (eqb a b)
+    (record { held = true; from = 0; to = 0 })
+    (cond (leb a b && leb (w * b) places)
     (record { held = true; from = w * a; to = w * b })
+    (record { held = false; from = 0; to = 0 })))
     (record { held = false; from = 0; to = 0 })
 
 -- the nearest of a list's vertices and of one that was there before, or 19

@@ -56,6 +56,14 @@ pub(crate) fn span_of(offsets: &[u32], w: usize, places: usize, i: usize) -> Spa
     }
     let a = wide32(offsets[i]);
     let b = wide32(offsets[i + 1]);
+    // no entry is touched, wherever the offsets lie
+    if a == b {
+        return Span {
+            held: true,
+            from: 0,
+            to: 0,
+        };
+    }
     let from = w * a;
     let to = w * b;
     if (a <= b) & (to <= places) {

@@ -1,33 +1,28 @@
 -- The gradient along columns and rows is that of `compute_gradient`. Assumes nothing.
 use mathlib.Core.Path.{_≡_, refl, sym, ap, _∙_}
-use mathlib.Core.Bool.{Bool, true, false, cond, _&&_}
+use mathlib.Core.Bool.{Bool, true, false, cond}
+use mathlib.Core.Logic.{_⊎_, inl, inr}
 use mathlib.Core.List.{List, [], _∷_, map}
 use Prim.Native.Nat.{ℕ, zero as none, suc, _+_, _*_, _≤_, _<_}
 use native.Mathlib.Nat.{mul-comm, one-mul, add-comm}
 use native.Mathlib.Omega.{arith}
-use lib.Dec.{T, leb, ltb, eqb}
-use lib.ListN.{length, getD}
-use lib.Ieee.{Float, nan, inf, fin, binary64, up, down, round, ofBits, sub, div, lt}
+use lib.Dec.{T, eqb}
+use lib.ListN.{getD, List·getD-eq-default}
+use lib.Ieee.{Float, nan, inf, fin, binary64, up, down, round, ofBits, neg, sub, mul, div, lt, isNan}
 use lib.Ieee.Fits.{div-fits}
-use borrow.Author.Tests.{ltb-true, le-leb}
-use Rattle.ieee.proofs.Fields.{both-true}
+use borrow.Author.Tests.{lt-ltb, le-ltb}
+use Rattle.ieee.proofs.Pack.{le-or-lt}
 use Rattle.float.specs.Order.{magnitude}
-use Rattle.mesh.specs.Lists.{allUpTo, forEach}
-use Rattle.mesh.specs.Mesh.{Mesh, degree, neighbour, angleTo, neighbourKept, vertexKept, verticesFinite, keepsRule}
-use Rattle.mesh.proofs.Counting.{all-at}
+use Rattle.float.specs.Exp.{exponential}
+use Rattle.mesh.specs.Lists.{forEach}
+use Rattle.mesh.specs.Mesh.{Mesh, degree, neighbour, angleTo}
 use Rattle.grid.proofs.Reaches.{clash}
 use Rattle.grid.proofs.Order.{clear, round-clear}
-use Rattle.settling.specs.Gradient.{zero, weight, steeper, alongNeighbours, gradientOf, gradient}
-use Rattle.mesh.specs.Levels.{vertexCount}
-use Rattle.rows.specs.declared.SlabResolution.{SlabResolution}
-use Rattle.rows.specs.declared.SlabResolution.the-variants.{Scalar, Mesh as MeshRow, Repulsive}
-use Rattle.rows.specs.Rows.{rowWith}
-use Rattle.settling.specs.Settling.{verdict, verdictOf}
-use Rattle.settling.specs.Steps.{lineWeights, lineGradient, linesGradient, byLines, linedVerdict, linedVerdictOf, Below}
+use Rattle.settling.specs.Gradient.{zero, weight, steeper, alongNeighbours, pairWeight, gradientOf, gradient}
+use Rattle.settling.specs.Steps.{lineWeights, lineGradient, linesGradient}
 use Rattle.settling.proofs.Largest.{Slope, larger-swap}
 use Rattle.settling.proofs.Orders.{Commute, loops-commute, each-split, each-swap, each-same}
-use Rattle.mesh.proofs.Sizes.{place}
-use Rattle.settling.proofs.Lines.{line-at}
+use Rattle.settling.proofs.Lines.{length-line, line-at}
 
 -- ---- what a step of the gradient is is a slope
 
@@ -84,28 +79,25 @@ along-same m v f g x y h e s =
     each-same (degree m v) (λ k t. steeper x (f (neighbour m v k)) (angleTo m v k) t) (λ k t. steeper y (g (neighbour m v k)) (angleTo m v k) t)
     (λ k t l. rw (h k l, e)) s
 
--- ---- what the mesh rule says of neighbours
-
-pub kept-below : (n : ℕ) (m : Mesh) → keepsRule n m ≡ true → Below n m
-unfolding keepsRule vertexKept neighbourKept
-kept-below n m e v k h l =
-    let a = both-true (verticesFinite n (m .vertices)) (allUpTo n (vertexKept n m)) e .1 in
-    let b = all-at (vertexKept n m) v n h a in
-    let c = both-true (leb 5 (degree m v)) (leb (degree m v) 6 && allUpTo (degree m v) (neighbourKept n m v)) b .1 in
-    let d = both-true (leb (degree m v) 6) (allUpTo (degree m v) (neighbourKept n m v)) c .1 in
-    let z = all-at (neighbourKept n m v) k (degree m v) l d in
-    ltb-true (neighbour m v k) n (both-true (ltb (neighbour m v k) n) _ z .0)
-
 -- ---- the gradient by lines
 
-map-at : {A B : Type 0} (f : A → B) (l : List A) (i : ℕ) (x : A) (y : B) → i < length l → getD (map f l) i y ≡ f (getD l i x)
-map-at f [] i x y h = absurd (omega arith)
-map-at f (a ∷ l) none x y h = refl
-map-at f (a ∷ l) (suc i) x y h = map-at f l i x y (omega arith)
+map-at : {A B : Type 0} (f : A → B) (l : List A) (i : ℕ) (x : A) → getD (map f l) i (f x) ≡ f (getD l i x)
+map-at f [] i x = refl
+map-at f (a ∷ l) none x = refl
+map-at f (a ∷ l) (suc i) x = map-at f l i x
 
-module _ (m : Mesh) (n : ℕ) (beta : Float) (e : List Float) (below : Below n m) (many : length e ≡ n * n) where
+weight-none : (beta : Float) → weight beta nan ≡ nan
+unfolding weight exponential mul isNan
+weight-none beta = by (neg beta)
+  where
+    by : (b : Float) → exponential (mul binary64 b nan) ≡ nan
+    by nan = refl
+    by (inf s) = refl
+    by (fin s k d) = refl
+
+module _ (m : Mesh) (n : ℕ) (beta : Float) (e : List Float) where
   at : ℕ → ℕ → Float
-  at i j = getD (map (weight beta) e) (i * n + j) nan
+  at = pairWeight n (map (weight beta) e)
 
   -- the turns of `compute_gradient`: the neighbours of the first vertex, and those of the second
   first : ℕ → ℕ → Float → Float
@@ -124,18 +116,29 @@ module _ (m : Mesh) (n : ℕ) (beta : Float) (e : List Float) (below : Below n m
       ∙ ap (forEach n (λ i. forEach n (second i)))
       (each-swap n n first (λ i j k l. along-commutes m i k (λ t. at t j) (λ t. at t l) (at i j) (at k l)) zero)
 
-  -- an entry of the slab, and where it stands in a line
+  -- an entry of the slab, and where it stands in a line; beyond a line's end there is no vertex
   entry : (i j k : ℕ) → i < n → j < n → k ≡ i * n + j → weight beta (getD e k nan) ≡ at i j
-  unfolding at
-  entry i j k hi hj q =
-      let inside : i * n + j < length e = omega (arith, many, place i n (j + 1) n hi (omega arith)) in
-      rw q (sym (map-at (weight beta) e (i * n + j) nan nan inside))
+  unfolding at pairWeight
+  entry i j k hi hj q = rw (q, lt-ltb i n hi, lt-ltb j n hj) (sym (rw (weight-none beta) at (map-at (weight beta) e (i * n + j) nan)))
 
-  in-row : (i j : ℕ) → i < n → j < n → getD (lineWeights beta e (n * i) 1 n) j nan ≡ at i j
-  in-row i j hi hj = line-at beta e (n * i) 1 n j hj ∙ entry i j (n * i + 1 * j) hi hj (simp (mul-comm, one-mul))
+  past : (from step k : ℕ) → n ≤ k → getD (lineWeights beta e from step n) k nan ≡ nan
+  past from step k h = List·getD-eq-default (lineWeights beta e from step n) nan (omega (arith, length-line beta e from step n))
 
-  in-column : (i j : ℕ) → i < n → j < n → getD (lineWeights beta e (1 * j) n n) i nan ≡ at i j
-  in-column i j hi hj = line-at beta e (1 * j) n n i hi ∙ entry i j (1 * j + n * i) hi hj (simp (mul-comm, one-mul, add-comm))
+  in-row : (i j : ℕ) → i < n → getD (lineWeights beta e (n * i) 1 n) j nan ≡ at i j
+  unfolding at pairWeight
+  in-row i j hi = by (le-or-lt n j)
+    where
+      by : (n ≤ j) ⊎ (j < n) → getD (lineWeights beta e (n * i) 1 n) j nan ≡ at i j
+      by (inl h) = past (n * i) 1 j h ∙ rw (lt-ltb i n hi, le-ltb j n h)
+      by (inr h) = line-at beta e (n * i) 1 n j h ∙ entry i j (n * i + 1 * j) hi h (simp (mul-comm, one-mul))
+
+  in-column : (i j : ℕ) → j < n → getD (lineWeights beta e (1 * j) n n) i nan ≡ at i j
+  unfolding at pairWeight
+  in-column i j hj = by (le-or-lt n i)
+    where
+      by : (n ≤ i) ⊎ (i < n) → getD (lineWeights beta e (1 * j) n n) i nan ≡ at i j
+      by (inl h) = past (1 * j) n i h ∙ rw (le-ltb i n h)
+      by (inr h) = line-at beta e (1 * j) n n i h ∙ entry i j (1 * j + n * i) h hj (simp (mul-comm, one-mul, add-comm))
 
   rows : (s : Float) → linesGradient m n beta e n 1 s ≡ forEach n (λ i. forEach n (second i)) s
   unfolding linesGradient lineGradient second
@@ -143,7 +146,7 @@ module _ (m : Mesh) (n : ℕ) (beta : Float) (e : List Float) (below : Below n m
       each-same n (λ t. lineGradient m n (lineWeights beta e (n * t) 1 n)) (λ i. forEach n (second i))
       (λ i t hi. each-same n (λ v. alongNeighbours m v (λ k. getD (lineWeights beta e (n * i) 1 n) k nan) (getD (lineWeights beta e (n * i) 1 n) v nan)) (second i)
       (λ j u hj. along-same m j (λ k. getD (lineWeights beta e (n * i) 1 n) k nan) (λ k. at i k) (getD (lineWeights beta e (n * i) 1 n) j nan) (at i j)
-      (λ k l. in-row i (neighbour m j k) hi (below j k hj l)) (in-row i j hi hj) u) t) s
+      (λ k l. in-row i (neighbour m j k) hi) (in-row i j hi) u) t) s
 
   columns : (s : Float) → linesGradient m n beta e 1 n s ≡ forEach n (λ j. forEach n (λ i. first i j)) s
   unfolding linesGradient lineGradient first
@@ -151,18 +154,10 @@ module _ (m : Mesh) (n : ℕ) (beta : Float) (e : List Float) (below : Below n m
       each-same n (λ t. lineGradient m n (lineWeights beta e (1 * t) n n)) (λ j. forEach n (λ i. first i j))
       (λ j t hj. each-same n (λ v. alongNeighbours m v (λ k. getD (lineWeights beta e (1 * j) n n) k nan) (getD (lineWeights beta e (1 * j) n n) v nan)) (λ i. first i j)
       (λ i u hi. along-same m i (λ k. getD (lineWeights beta e (1 * j) n n) k nan) (λ k. at k j) (getD (lineWeights beta e (1 * j) n n) i nan) (at i j)
-      (λ k l. in-column (neighbour m i k) j (below i k hi l) hj) (in-column i j hi hj) u) t) s
+      (λ k l. in-column (neighbour m i k) j hj) (in-column i j hj) u) t) s
 
   pub by-lines : linesGradient m n beta e n 1 (linesGradient m n beta e 1 n zero) ≡ gradient m n beta e
   by-lines = ap (linesGradient m n beta e n 1) (columns zero) ∙ rows (forEach n (λ j. forEach n (λ i. first i j)) zero) ∙ sym by-parts
-
--- the verdict that the code finds is the defined one, at a level that a builder can have
-pub lined-is : (threshold beta : Float) (m : Mesh) (level : ℕ) (x : SlabResolution) (e : List Float) → level ≤ 15 → length e ≡ vertexCount level * vertexCount level → Below (vertexCount level) m
-    → linedVerdictOf threshold beta m level (rowWith x e) ≡ verdictOf threshold beta m (vertexCount level) (rowWith x e)
-unfolding linedVerdict verdict byLines
-lined-is threshold beta m level (Scalar y) e l many below = refl
-lined-is threshold beta m level Repulsive e l many below = refl
-lined-is threshold beta m level (MeshRow v b) e l many below = rw (le-leb level 15 l, by-lines m (vertexCount level) beta e below many)
 
 -- a gradient looks at the links alone
 pub gradient-links : (m : Mesh) (n : ℕ) (beta : Float) (e : List Float)

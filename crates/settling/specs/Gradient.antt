@@ -1,8 +1,9 @@
 -- The gradient of a slab (`compute_gradient`), its mean, and whether it is repulsive. Definitions only.
-use mathlib.Core.Bool.{Bool, cond}
+use mathlib.Core.Bool.{Bool, cond, _&&_}
 use mathlib.Core.List.{List, [], _∷_, map}
 use Prim.Native.Nat.{ℕ, _+_, _*_}
 use lib.ListN.{length, getD}
+use lib.Dec.{ltb}
 use lib.IntN.{pos}
 use lib.Ieee.{Float, nan, binary64, ofBits, ofInt, neg, add, sub, mul, div, lt}
 use Rattle.ieee.specs.Narrow.{narrowed}
@@ -37,10 +38,14 @@ steeper x y angle g =
 unfoldable pub alongNeighbours : Mesh → ℕ → (ℕ → Float) → Float → Float → Float
 alongNeighbours m v weightAt x g = forEach (degree m v) (λ k h. steeper x (weightAt (neighbour m v k)) (angleTo m v k) h) g
 
+-- the weight at a pair of vertices; a NaN where one of them is no vertex, which the mesh rule rules out
+unfoldable pub pairWeight : ℕ → List Float → ℕ → ℕ → Float
+pairWeight n ws i j = cond (ltb i n && ltb j n) (getD ws (i * n + j) nan) nan
+
 -- `compute_gradient` over the n·n weights of a slab: for each pair of vertices the neighbours of the first, then those of the second
 unfoldable pub gradientOf : Mesh → ℕ → List Float → Float
 gradientOf m n ws =
-    let at : ℕ → ℕ → Float = λ i j. getD ws (i * n + j) nan in
+    let at = pairWeight n ws in
     forEach n (λ i. forEach n (λ j g. alongNeighbours m j (λ k. at i k) (at i j) (alongNeighbours m i (λ k. at k j) (at i j) g))) zero
 
 unfoldable pub gradient : Mesh → ℕ → Float → List Float → Float

@@ -1,19 +1,17 @@
 -- What only the code of settling and its proofs need. Definitions only.
 use mathlib.Core.Bool.{Bool, true, false, cond, _&&_, _||_}
 use mathlib.Core.List.{List, [], _∷_, _++_}
-use Prim.Native.Nat.{ℕ, zero, suc, _+_, _*_, _<_}
+use Prim.Native.Nat.{ℕ, zero, suc, _+_, _*_}
 use lib.ListN.{getD}
-use lib.Dec.{leb}
 use lib.Ieee.{Float, nan}
 use Rattle.mesh.specs.Lists.{forEach}
-use Rattle.mesh.specs.Levels.{vertexCount}
-use Rattle.mesh.specs.Mesh.{Mesh, degree, neighbour}
-use Rattle.rows.specs.Rows.{Row, scalar, repulsive, mesh}
+use Rattle.mesh.specs.Mesh.{Mesh}
+use Rattle.rows.specs.Rows.{Row}
 use Rattle.rows.specs.declared.SlabResolution.{SlabResolution}
 use Rattle.rows.specs.declared.SlabResolution.the-variants.{Scalar as toScalar, Mesh as toMesh, Repulsive as toRepulsive}
 use Rattle.settling.specs.Gradient as Gradient
-use Rattle.settling.specs.Gradient.{weight, alongNeighbours, allRepulsive}
-use Rattle.settling.specs.Settling.{byGradient, newRow, inPlaceOf, steeperOf, settles, notRepulsive}
+use Rattle.settling.specs.Gradient.{weight, alongNeighbours}
+use Rattle.settling.specs.Settling.{newRow, inPlaceOf, steeperOf, settles, notRepulsive}
 use Rattle.settling.specs.declared.Tally.{Tally}
 use Rattle.settling.specs.declared.Verdict.{Verdict}
 use Rattle.settling.specs.declared.Verdict.the-variants.{Empty, Blocked, Isotropic, Smooth, Rough}
@@ -45,20 +43,6 @@ linesGradient m n beta e apart step g = forEach n (λ t. lineGradient m n (lineW
 -- the gradient of a slab: along its columns, then along its rows
 unfoldable pub byLines : Mesh → ℕ → Float → List Float → Float
 byLines m n beta e = linesGradient m n beta e n 1 (linesGradient m n beta e 1 n Gradient.zero)
-
--- a slab's verdict by that gradient; a level above 15, which no builder has, is not looked at
-unfoldable pub linedVerdict : Float → Float → Mesh → ℕ → List Float → Verdict
-linedVerdict threshold beta m level e =
-    cond (leb level 15) (cond (allRepulsive beta e) Blocked (byGradient threshold e (byLines m (vertexCount level) beta e))) Empty
-
-abbrev pub linedVerdictOf : Float → Float → Mesh → ℕ → Row Float → Verdict
-linedVerdictOf threshold beta m level (scalar x) = Empty
-linedVerdictOf threshold beta m level repulsive = Empty
-linedVerdictOf threshold beta m level (mesh v b e) = linedVerdict threshold beta m level e
-
--- every neighbour is a vertex
-abbrev pub Below : ℕ → Mesh → Type 0
-Below n m = (v k : ℕ) → v < n → k < degree m v → neighbour m v k < n
 
 -- the row stays as it is; and the row that takes its place where it does not
 abbrev pub stays : Verdict → Bool

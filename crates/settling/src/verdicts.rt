@@ -1,12 +1,15 @@
 // The settling of one slab.
 ghost use mathlib.Core.Path.{_≡_};
-ghost use mathlib.Core.Bool.{_&&_, _||_};
+ghost use mathlib.Core.Bool.{cond, _&&_, _||_};
 ghost use mathlib.Core.List.{[]};
+ghost use lib.Dec.{leb};
 ghost use lib.Ieee.{binary64, ofBits};
+ghost use Rattle.mesh.specs.Levels.{vertexCount};
 ghost use Rattle.rows.specs.Rows.{Rows, rowWith};
 ghost use Rattle.settling.specs.Gradient.{repulsive, allRepulsive, sumFrom, meanNarrowed};
-ghost use Rattle.settling.specs.Settling.{byGradient, newRow, replacedBy, steeperOf, settles};
-ghost use Rattle.settling.specs.Steps.{linedVerdict, linedVerdictOf, stays, becomes, leftRow, isClear};
+ghost use Rattle.settling.specs.Settling.{byGradient, verdict, verdictOf, newRow, replacedBy, steeperOf, settles};
+ghost use Rattle.settling.specs.declared.Verdict.the-variants.{Empty};
+ghost use Rattle.settling.specs.Steps.{stays, becomes, leftRow, isClear};
 use crate::Tally;
 use crate::Verdict;
 use crate::gradient;
@@ -86,7 +89,7 @@ fn settles(v: Verdict) -> bool
     }
 }
 
-// What settling finds of a slab's energies.
+// What settling finds of a slab's energies, at a level that a builder can have.
 fn verdict(
     threshold: f64,
     beta: f64,
@@ -96,7 +99,7 @@ fn verdict(
     energies: &[f64],
     level: u8,
 ) -> Verdict
-    ensures { λ r. ⌜ r ≡ linedVerdict threshold beta (record { vertices = []; counts = now (counts .entry); neighbours = now (neighbours .entry); angles = now (angles .entry) }) level (now (energies .entry)) ⌝ }
+    ensures { λ r. ⌜ r ≡ cond (leb level 15) (verdict threshold beta (record { vertices = []; counts = now (counts .entry); neighbours = now (neighbours .entry); angles = now (angles .entry) }) (vertexCount level) (now (energies .entry))) Empty ⌝ }
 {
     if 15 < level {
         return Verdict::Empty;
@@ -120,7 +123,7 @@ pub fn verdict_of(
     level: u8,
     row: SlabResolution,
 ) -> Verdict
-    ensures { λ r. ⌜ r ≡ linedVerdictOf threshold beta (record { vertices = []; counts = now (counts .entry); neighbours = now (neighbours .entry); angles = now (angles .entry) }) level (rowWith row (now (energies .entry))) ⌝ }
+    ensures { λ r. ⌜ r ≡ cond (leb level 15) (verdictOf threshold beta (record { vertices = []; counts = now (counts .entry); neighbours = now (neighbours .entry); angles = now (angles .entry) }) (vertexCount level) (rowWith row (now (energies .entry)))) Empty ⌝ }
 {
     match row {
         SlabResolution::Scalar(_) => Verdict::Empty,

@@ -12,7 +12,7 @@ use Rattle.mesh.specs.Questions.{ask}
 use Rattle.grid.specs.Settings.{gridRange, gridHeld, slabsHeld}
 use Rattle.grid.specs.declared.Grid.{Grid}
 use Rattle.grid.proofs.Laws.{Ranged, ranged}
-use Rattle.table.specs.Read.{countAt, layout, laidOut, tableOf, readRefusal, readOut}
+use Rattle.table.specs.Read.{countAt, layout, laidOut, tableOf, readValues, readRefusal, readOut}
 use Rattle.table.specs.Steps.{Placed, Inside, tableQuestion}
 use Rattle.table.specs.declared.Layout.{Layout}
 use Rattle.table.specs.declared.ReadAnswer.the-variants.{Accepted as Reads, Refused as NotRead}
@@ -46,7 +46,7 @@ held-ranged g levels h = ranged g levels (both-true (gridRange g levels) (slabsH
 -- ---- the outcome
 
 module _ (file : List ℕ) where
-  pub read-unlaid : laidOut file (layout file) ≡ false → readOut file ≡ NotRead 13
+  pub read-unlaid : laidOut file (layout file) ≡ false → readOut file ≡ readValues (NotRead 13)
   unfolding readOut readRefusal ask
   read-unlaid h = rw h
 
@@ -55,10 +55,10 @@ module _ (file : List ℕ) where
     unfolding readRefusal ask
     asked = rw h (sym e)
 
-    pub read-refused : (n ≡ 0 → ⊥) → readOut file ≡ NotRead n
+    pub read-refused : (n ≡ 0 → ⊥) → readOut file ≡ readValues (NotRead n)
     unfolding readOut
     read-refused z = rw (asked, ne-eqb n 0 z)
 
-    pub read-accepted : n ≡ 0 → readOut file ≡ Reads (tableOf file (layout file))
+    pub read-accepted : n ≡ 0 → readOut file ≡ readValues (Reads (tableOf file (layout file)))
     unfolding readOut
     read-accepted z = rw (asked, eq-eqb n 0 z)

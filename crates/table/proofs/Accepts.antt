@@ -17,7 +17,7 @@ use Rattle.grid.specs.Settings.{gridHeld}
 use Rattle.grid.specs.declared.Grid.{Grid}
 use Rattle.table.specs.Bytes.{numberOf, numberAt}
 use Rattle.table.specs.File.{Entry}
-use Rattle.table.specs.Read.{layout, tableOf, tableHeld, entryHeld, tiled, readOut}
+use Rattle.table.specs.Read.{layout, tableOf, tableHeld, entryHeld, tiled, readValues, readOut}
 use Rattle.table.specs.Steps.{tableQuestion}
 use Rattle.table.specs.declared.Table.{Table}
 use Rattle.table.specs.declared.ReadAnswer.the-variants.{Accepted as Reads}
@@ -101,5 +101,5 @@ module _ (x y z n m : ℕ) (ls : List ℕ) (rs : List Entry) (es : List ℕ)
         )
 
     -- the reader accepts the file, and answers with what it holds
-    pub accepts : readOut written ≡ Reads tableFound
-    accepts = read-accepted written (laid-out x y z n m ls rs es fewLevels fewRows fewEnergies) 0 asked refl ∙ ap Reads table-back
+    pub accepts : readOut written ≡ readValues (Reads tableFound)
+    accepts = read-accepted written (laid-out x y z n m ls rs es fewLevels fewRows fewEnergies) 0 asked refl ∙ ap (λ (t : Table). readValues (Reads t)) table-back

@@ -22,7 +22,7 @@ use Rattle.grid.proofs.Tables.{some-bins}
 use Rattle.grid.proofs.Reaches.{reaches}
 use Rattle.table.specs.Bytes.{numberAt, items}
 use Rattle.table.specs.File.{Entry, entryOf}
-use Rattle.table.specs.Read.{layout, laidOut, gridOf, tableOf, rowItems, tableHeld, entryHeld, tiled, readNumber, readTable, readRefusal, readOut}
+use Rattle.table.specs.Read.{layout, laidOut, gridOf, tableOf, rowItems, tableHeld, entryHeld, tiled, ReadValues, readValues, readRefusal, readOut}
 use Rattle.table.specs.Checks.{checkGrid, slabChecked, checkSlabs}
 use Rattle.table.specs.declared.Layout.{Layout}
 use Rattle.table.specs.declared.Table.{Table}
@@ -132,11 +132,11 @@ items-many dec w file at zero = refl
 items-many dec w file at (suc n) = ap suc (items-many dec w file (at + w) n)
 
 -- what an accepted file was asked
-accepted-by : (file : List ℕ) (t : Table) (x : Bool) → eqb (readRefusal file (layout file) (tableOf file (layout file))) 0 ≡ x → readOut file ≡ Reads t
+accepted-by : (file : List ℕ) (t : Table) (x : Bool) → eqb (readRefusal file (layout file) (tableOf file (layout file))) 0 ≡ x → readOut file ≡ readValues (Reads t)
     → (readRefusal file (layout file) (tableOf file (layout file)) ≡ 0) × (tableOf file (layout file) ≡ t)
 unfolding readOut
-accepted-by file t true d e = (eqb-true _ 0 d, ap readTable (rw d at e))
-accepted-by file t false d e = absurd (eqb-false _ 0 d (ap readNumber (rw d at e)))
+accepted-by file t true d e = (eqb-true _ 0 d, ap (λ (v : ReadValues). v .table) (rw d at e))
+accepted-by file t false d e = absurd (eqb-false _ 0 d (ap (λ (v : ReadValues). v .number) (rw d at e)))
 
 own-rmax : (file : List ℕ) (p : Layout) → let g : Grid = tableOf file p .grid in g .rmax ≡ tableRmax (g .«n_r») (g .dr) (g .rmin)
 unfolding tableOf gridOf
@@ -163,7 +163,7 @@ found-checked file p e =
     )
 
 -- "An accepted file also passes `check_grid` and `check_slabs`"
-pub checked : (file : List ℕ) (t : Table) → readOut file ≡ Reads t → (checkGrid (t .grid) ≡ true) × (checkSlabs file t ≡ true)
+pub checked : (file : List ℕ) (t : Table) → readOut file ≡ readValues (Reads t) → (checkGrid (t .grid) ≡ true) × (checkSlabs file t ≡ true)
 checked file t e =
     let a = accepted-by file t _ refl e in
     rw (← a .1) (found-checked file (layout file) (a .0))

@@ -20,7 +20,7 @@ use Rattle.grid.proofs.Laws.{Ranged, ranged}
 use Rattle.rows.specs.Rows.{Row, repulsive}
 use Rattle.table.specs.Bytes.{numberOf, numberAt, items}
 use Rattle.table.specs.File.{Entry, entryOf, entry, entries, energiesIn, energiesOf, fileOf}
-use Rattle.table.specs.Read.{layout, laidOut, countAt, readTable, readOut}
+use Rattle.table.specs.Read.{layout, laidOut, countAt, ReadValues, readValues, readOut}
 use Rattle.table.specs.declared.Table.{Table}
 use Rattle.table.specs.declared.ReadAnswer.the-variants.{Accepted as Reads}
 use Rattle.table.proofs.Back.{All, Fitting, item-at}
@@ -151,13 +151,13 @@ module _ (g : Grid) (levels : ℕ) (rows : List (Row ℕ)) (ok : Filable g level
       ) (ok .held)
 
   -- the reader accepts the file
-  pub file-accepted : readOut (fileOf g levels rows) ≡ Reads (tableIn g levels rows)
+  pub file-accepted : readOut (fileOf g levels rows) ≡ readValues (Reads (tableIn g levels rows))
   file-accepted =
       rw file-is
       (accepts x y z (g .«n_r») (g .«n_omega») ls rs es few-levels few-rows few-energies hx hy hz hn hm
       (λ k l. counts-at levels k (omega (arith, counts-many levels))) (counts-fit levels (sizes .0 .few)) fit-rows fit-energies q14 (entries-length 0 rows ∙ ok .many)
       (rw (counts-many levels) (entries-held levels 0 rows (ok .fine))) (entries-tiled levels 0 (length es) rows (ok .fine) (zero-add (length es))) (energies-held es (numbers levels rows (ok .fine))))
-      ∙ ap Reads found-is
+      ∙ ap (λ (t : Table). readValues (Reads t)) found-is
 
   -- ---- what stands in it
 
@@ -216,7 +216,7 @@ pub record Holds (g h : Grid) (m n : ℕ) (a b : List (Row ℕ)) : Type 0 where
 pub file-holds : (g h : Grid) (m n : ℕ) (a b : List (Row ℕ)) → Filable g m a → Filable h n b → fileOf g m a ≡ fileOf h n b → Holds g h m n a b
 file-holds g h m n a b p q e =
     let t : tableIn g m a ≡ tableIn h n b =
-    sym (ap readTable (file-accepted g m a p)) ∙ ap (λ (f : List ℕ). readTable (readOut f)) e ∙ ap readTable (file-accepted h n b q) in
+    sym (ap (λ (v : ReadValues). v .table) (file-accepted g m a p)) ∙ ap (λ (f : List ℕ). readOut f .table) e ∙ ap (λ (v : ReadValues). v .table) (file-accepted h n b q) in
     let rows : entries 0 a ≡ entries 0 b =
     sym (entries-are g m a p) ∙ ap (λ (f : List ℕ). items entryOf 10 f (tableIn g m a .«rows_start») (length a)) e
     ∙ ap (λ (k : Table). items entryOf 10 (fileOf h n b) (k .«rows_start») (k .rows)) t ∙ entries-are h n b q in

@@ -18,11 +18,6 @@ use Rattle.table.specs.declared.Table.{Table}
 use Rattle.table.specs.declared.ReadAnswer.{ReadAnswer}
 use Rattle.table.specs.declared.ReadAnswer.the-variants.{Accepted as Reads, Refused as NotRead}
 
--- 01's number and values for each case; the fields of a refused answer are 0
-abbrev pub readNumber : ReadAnswer → ℕ
-readNumber (Reads t) = 0
-readNumber (NotRead n) = n
-
 abbrev noGrid : Grid
 noGrid = let x = ofBits binary64 0 in record { rmin = x; rmax = x; dr = x; «omega_step» = x; threshold = x; beta = x; «n_r» = 0; «n_omega» = 0 }
 
@@ -30,9 +25,15 @@ abbrev noTable : Table
 noTable =
     record { grid = noGrid; levels = 0; rows = 0; energies = 0; «grid_start» = 0; «bins_start» = 0; «levels_start» = 0; «rows_start» = 0; «energies_start» = 0 }
 
-abbrev pub readTable : ReadAnswer → Table
-readTable (Reads t) = t
-readTable (NotRead n) = noTable
+-- 01's number and values for each case of the answer: "read returns the grid, the counts and each section's start"; beside a number that
+-- refuses stands a table of zeros
+pub record ReadValues : Type 0 where
+  pub number : ℕ
+  pub table : Table
+
+abbrev pub readValues : ReadAnswer → ReadValues
+readValues (Reads t) = record { number = 0; table = t }
+readValues (NotRead n) = record { number = n; table = noTable }
 
 -- ---- 13, the layout
 
@@ -137,9 +138,9 @@ readRefusal file p t =
     (ask (tiled 0 (t .energies) (rowItems file t)) 16
     (ask (every (λ x. not (nanBits binary32 x)) (energyItems file t)) 17 0))))
 
-unfoldable pub readOut : List ℕ → ReadAnswer
+unfoldable pub readOut : List ℕ → ReadValues
 readOut file =
     let p = layout file in
     let t = tableOf file p in
     let r = readRefusal file p t in
-    cond (eqb r 0) (Reads t) (NotRead r)
+    cond (eqb r 0) (readValues (Reads t)) (readValues (NotRead r))

@@ -15,7 +15,7 @@ use Rattle.questions.specs.Lists.{Lists, slabs, rowsKnown}
 use Rattle.questions.specs.Refusals.{meshedRefusal}
 use Rattle.questions.specs.declared.Builder.{Builder}
 use Rattle.questions.proofs.Laws.{ask-yes, first-yes, meshed}
-use Rattle.writer.specs.Write.{fileFrom, writeRefusal, writeOut}
+use Rattle.writer.specs.Write.{writtenValues, fileFrom, writeRefusal, writeOut}
 use Rattle.writer.specs.Steps.{resolutions, total, Bounded, writeQuestion, Ready}
 use Rattle.writer.specs.declared.Written.the-variants.{Accepted as Writes, Refused as NotWritten}
 use Rattle.writer.proofs.Filed.{res-length}
@@ -89,7 +89,7 @@ ready b l e room s same fits = record {
 
 module _ (b : Builder) (m : Mesh) (l : Lists) (out : List ℕ) where
   pub write-refused : (k : ℕ) → k ≡ writeQuestion b m l → (k ≡ 0 → ⊥)
-      → writeOut b m l out ≡ record { answer = NotWritten k; builder = b; lists = l; output = out }
+      → writeOut b m l out ≡ record { answer = writtenValues (NotWritten k); builder = b; lists = l; output = out }
   unfolding writeOut writeRefusal
   write-refused k e h =
       let z : writeRefusal b m l (length out) ≡ k =
@@ -104,11 +104,11 @@ module _ (b : Builder) (m : Mesh) (l : Lists) (out : List ℕ) where
         let known : rowsKnown (b .top) (l .rows) 0 (slabs (b .grid)) ≡ true = ask-yes (lit< tt) (f .1) .0 in
         first-zero (meshedRefusal b m l) _ (f .0) ∙ rw known
 
-    pub write-short : leb (length (fileFrom b l)) (length out) ≡ false → writeOut b m l out ≡ record { answer = NotWritten 12; builder = b; lists = l; output = out }
+    pub write-short : leb (length (fileFrom b l)) (length out) ≡ false → writeOut b m l out ≡ record { answer = writtenValues (NotWritten 12); builder = b; lists = l; output = out }
     unfolding writeOut ask
     write-short e = rw (last, e)
 
     pub write-done : leb (length (fileFrom b l)) (length out) ≡ true
-        → writeOut b m l out ≡ record { answer = Writes (length (fileFrom b l)); builder = b; lists = l; output = put out 0 (fileFrom b l) }
+        → writeOut b m l out ≡ record { answer = writtenValues (Writes (length (fileFrom b l))); builder = b; lists = l; output = put out 0 (fileFrom b l) }
     unfolding writeOut ask
     write-done e = rw (last, e)

@@ -15,14 +15,14 @@ use Rattle.table.specs.File.{fileOf}
 use Rattle.writer.specs.declared.Written.{Written}
 use Rattle.writer.specs.declared.Written.the-variants.{Accepted as Writes, Refused as NotWritten}
 
--- 01's number and value for each case: "write returns its length in bytes"
-abbrev pub writtenNumber : Written → ℕ
-writtenNumber (Writes n) = 0
-writtenNumber (NotWritten n) = n
+-- 01's number and value for each case of the answer: "write returns its length in bytes"; beside a number that refuses stands 0
+pub record WrittenValues : Type 0 where
+  pub number : ℕ
+  pub length : ℕ
 
-abbrev pub writtenLength : Written → ℕ
-writtenLength (Writes n) = n
-writtenLength (NotWritten n) = 0
+abbrev pub writtenValues : Written → WrittenValues
+writtenValues (Writes n) = record { number = 0; length = n }
+writtenValues (NotWritten n) = record { number = n; length = 0 }
 
 -- the file of a builder and the lists that it holds. "The level count is the top level plus one."
 unfoldable pub fileFrom : Builder → Lists → List ℕ
@@ -37,7 +37,7 @@ writeRefusal b m l room =
 
 -- what write leaves: the builder and the lists, which it does not alter, and the output
 pub record WriteOut : Type 0 where
-  pub answer : Written
+  pub answer : WrittenValues
   pub builder : Builder
   pub lists : Lists
   pub output : List ℕ
@@ -47,5 +47,5 @@ unfoldable pub writeOut : Builder → Mesh → Lists → List ℕ → WriteOut
 writeOut b m l out =
     let r = writeRefusal b m l (length out) in
     cond (eqb r 0)
-    (record { answer = Writes (length (fileFrom b l)); builder = b; lists = l; output = put out 0 (fileFrom b l) })
-    (record { answer = NotWritten r; builder = b; lists = l; output = out })
+    (record { answer = writtenValues (Writes (length (fileFrom b l))); builder = b; lists = l; output = put out 0 (fileFrom b l) })
+    (record { answer = writtenValues (NotWritten r); builder = b; lists = l; output = out })

@@ -10,7 +10,7 @@ ghost use Rattle.mesh.specs.Levels.{verticesBelow};
 ghost use Rattle.mesh.specs.Mesh.{meshHeld, meshesKeep};
 ghost use Rattle.questions.specs.Lists.{slabs, listRoom, rowsKnown};
 ghost use Rattle.questions.specs.Refusals.{builderQuestion};
-ghost use Rattle.writer.specs.Write.{WriteOut, fileFrom, writeOut};
+ghost use Rattle.writer.specs.Write.{WriteOut, writtenValues, fileFrom, writeOut};
 ghost use Rattle.writer.specs.Steps.{headBytes, Ready};
 use crate::Written;
 use crate::sections::energy_total;
@@ -139,7 +139,7 @@ pub fn write(
     output: &mut [u8],
 ) -> Written
     ensures { λ r. ⌜ _≡_ {A = WriteOut}
-        (record { answer = r; builder = b; lists = record { store = now (store .entry); rows = record { kinds = now (kinds .entry); levels = now (levels .entry); values = now (values .entry) } }; output = now (output .exit) })
+        (record { answer = writtenValues r; builder = b; lists = record { store = now (store .entry); rows = record { kinds = now (kinds .entry); levels = now (levels .entry); values = now (values .entry) } }; output = now (output .exit) })
         (writeOut b (record { vertices = now (vertices .entry); counts = now (counts .entry); neighbours = now (neighbours .entry); angles = now (angles .entry) })
         (record { store = now (store .entry); rows = record { kinds = now (kinds .entry); levels = now (levels .entry); values = now (values .entry) } }) (now (output .entry))) ⌝ }
 {

@@ -1,6 +1,8 @@
 /* Tools for table files: icotable inspect FILE, verify FILE.., diff A B, map [-o OUT] FILE [FILE]. */
 #include "tools.h"
 
+#include "environment.h"
+
 #include <string.h>
 
 typedef struct tool {
@@ -26,6 +28,11 @@ static int usage(void) {
 }
 
 int main(int count, char **names) {
+    unsigned environment = icotable_float_environment();
+    if (environment != 0) {
+        fprintf(stderr, "icotable: the floating-point environment: %s\n", icotable_float_environment_words(environment));
+        return TROUBLE;
+    }
     for (size_t i = 0; count > 1 && i < sizeof tools / sizeof tools[0]; i++)
         if (strcmp(names[1], tools[i].name) == 0) {
             if (count - 2 < tools[i].least || count - 2 > tools[i].most)

@@ -1,4 +1,6 @@
 //! A table that is being built.
+use crate::environment::FloatEnvironment;
+use crate::error::Error;
 use crate::refusal::{answer, Refusal};
 use crate::sys::{self, Grid};
 use crate::Mesh;
@@ -29,12 +31,13 @@ impl Lists {
 
 impl Builder {
     /// A builder with no slab set, at the mesh's top level.
-    pub fn new(settings: Grid, mesh: Arc<Mesh>) -> Result<Builder, Refusal> {
+    pub fn new(settings: Grid, mesh: Arc<Mesh>) -> Result<Builder, Error> {
+        FloatEnvironment::ask()?;
         let slabs = slabs(settings, &mesh)?;
         let n = sys::vertices(mesh.top()) as usize;
         let mut lists = Lists { store: vec![0.0; slabs * n * n], kinds: vec![0; slabs], levels: vec![0; slabs], values: vec![0; slabs] };
         let built = sys::fresh(settings, mesh.top(), &mut lists.lent(), mesh.lent());
-        answer(built.number, Builder { held: built.builder, mesh, lists })
+        Ok(answer(built.number, Builder { held: built.builder, mesh, lists })?)
     }
 
     /// Gives the slab of a distance bin and a dihedral bin its energies: that of vertices a and b of the current level at a·n + b.

@@ -68,6 +68,17 @@ impl Mesh {
         self.vertices[3 * at..3 * (at + n)].chunks_exact(3).map(|v| [v[0], v[1], v[2]])
     }
 
+    /// A level as it was made; none above the top.
+    pub fn level(&self, level: u64) -> Option<Level> {
+        if level > self.top {
+            return None;
+        }
+        let vertices: Vec<[f64; 3]> = self.directions(level).collect();
+        let at: usize = (0..level).map(|m| sys::vertices(m) as usize).sum();
+        let list = |v: usize| (6 * v..6 * v + self.counts[v] as usize).map(|k| (self.neighbours[k], self.angles[k])).collect();
+        Some(Level { neighbours: (at..at + vertices.len()).map(list).collect(), vertices })
+    }
+
     pub(crate) fn lent(&self) -> sys::Meshes<'_> {
         sys::Meshes { vertices: &self.vertices, counts: &self.counts, neighbours: &self.neighbours, angles: &self.angles }
     }

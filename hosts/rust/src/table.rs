@@ -1,4 +1,6 @@
 //! A table file that the library accepted.
+use crate::environment::FloatEnvironment;
+use crate::error::Error;
 use crate::refusal::{answer, Refusal};
 use crate::sys::{self, Grid};
 use crate::Mesh;
@@ -29,11 +31,12 @@ pub struct Row {
 }
 
 impl Table {
-    /// Looks over a file, all of it. The mesh has to be the one that the table was built over, with at least its levels: a file does not
-    /// hold it.
-    pub fn read(file: Vec<u8>, mesh: Arc<Mesh>) -> Result<Table, Refusal> {
+    /// Looks over a file, all of it. The mesh has to be the one that the table was built over, with at least its levels: a
+    /// file does not hold it.
+    pub fn read(file: Vec<u8>, mesh: Arc<Mesh>) -> Result<Table, Error> {
+        FloatEnvironment::ask()?;
         let held = sys::read(&file);
-        answer(held.number, Table { file, held, mesh })
+        Ok(answer(held.number, Table { file, held, mesh })?)
     }
 
     /// The energy at a distance, a dihedral angle and two directions of any length: infinity inside a repulsive wall, 0 outside the table's

@@ -1,5 +1,5 @@
 //! The wrapper, used as a host does.
-use icotable::{settings, vertex_count, Builder, Grid, Kind, Level, Mesh, Refusal, Table};
+use icotable::{settings, vertex_count, Builder, Error, FloatEnvironment, Grid, Kind, Level, Mesh, Refusal, Table};
 use std::sync::Arc;
 
 fn mesh(top: u64) -> Arc<Mesh> {
@@ -49,15 +49,88 @@ fn meshes_keep_the_rule_up_to_level_15() {
     assert_eq!(Mesh::icospheres(16), Err(Refusal::Level));
     assert_eq!(Mesh::new(&[]), Err(Refusal::ShortList));
     assert_eq!(Mesh::new(&[Level::default()]), Err(Refusal::ShortList));
+    assert_eq!(all.level(15).unwrap().neighbours.len(), 2562);
+    assert_eq!((all.level(16), all.level(u64::MAX)), (None, None));
+}
+
+// As docs/FORMAT.md says it.
+fn checksum(bytes: impl IntoIterator<Item = u8>) -> u64 {
+    bytes.into_iter().fold(0xCBF29CE484222325, |sum, byte| (sum ^ byte as u64).wrapping_mul(0x100000001B3))
+}
+
+#[test]
+fn meshes_have_the_pages_checksums() {
+    let page = include_str!("../../../docs/FORMAT.md");
+    let all = mesh(15);
+    for m in 0..=15 {
+        let level = all.level(m).unwrap();
+        let places = || level.neighbours.iter().flat_map(|list| (0..6).map(|k| list.get(k).copied().unwrap_or((0, 0.0))));
+        let vertices = level.vertices.iter().flatten().flat_map(|x| x.to_le_bytes());
+        let counts = level.neighbours.iter().map(|list| list.len() as u8);
+        let first = checksum(vertices.chain(counts).chain(places().flat_map(|p| p.0.to_le_bytes())));
+        let second = checksum(places().flat_map(|p| p.1.to_le_bytes()));
+        let row = format!("| {m} | {} | {first:016X} | {second:016X} |\n", level.vertices.len());
+        assert!(page.contains(&row), "docs/FORMAT.md has another row than this: {row}");
+    }
+}
+
+// What is found in a thread of its own with these bits set in MXCSR, the register that x86-64 keeps the environment in.
+fn found_with(bits: u32) -> (FloatEnvironment, Option<Error>, Option<Error>) {
+    let file = builder(0).write().unwrap();
+    let mesh = mesh(0);
+    let thread = std::thread::spawn(move || {
+        let mut was = 0u32;
+        unsafe { std::arch::asm!("stmxcsr [{}]", in(reg) &mut was) };
+        let now = was | bits;
+        unsafe { std::arch::asm!("ldmxcsr [{}]", in(reg) &now) };
+        let found = FloatEnvironment::of_thread();
+        let (built, read) = (Builder::new(small(), mesh.clone()).err(), Table::read(file, mesh).err());
+        unsafe { std::arch::asm!("ldmxcsr [{}]", in(reg) &was) };
+        (found, built, read)
+    });
+    thread.join().unwrap()
+}
+
+#[test]
+fn another_float_environment_is_told() {
+    const DOWN: u32 = 0x2000;
+    const UP: u32 = 0x4000;
+    const FLUSH_RESULTS: u32 = 0x8000;
+    const FLUSH_OPERANDS: u32 = 0x40;
+    assert_eq!(found_with(0), (FloatEnvironment::default(), None, None));
+    for (bits, flags) in [
+        (DOWN, (true, false, false)),
+        (UP, (true, false, false)),
+        (DOWN | UP, (true, false, false)),
+        (FLUSH_RESULTS, (false, true, false)),
+        (FLUSH_OPERANDS, (false, false, true)),
+        (UP | FLUSH_RESULTS | FLUSH_OPERANDS, (true, true, true)),
+    ] {
+        let (rounding, results_flushed, operands_flushed) = flags;
+        let wanted = FloatEnvironment { rounding, results_flushed, operands_flushed };
+        let error = Some(Error::Environment(wanted));
+        assert_eq!(found_with(bits), (wanted, error, error), "with {bits:X}");
+    }
+}
+
+#[test]
+fn an_environments_words_are_the_helpers() {
+    let helper = include_str!("../../c/environment.c");
+    let words: Vec<&str> = helper.lines().filter_map(|l| l.strip_prefix("#define ")?.split('"').nth(1)).collect();
+    let all = FloatEnvironment { rounding: true, results_flushed: true, operands_flushed: true };
+    assert_eq!(all.to_string(), words.join("; "));
+    assert_eq!(words.len(), 3);
+    assert!(helper.contains(&format!("\"{}\"", FloatEnvironment::default())));
 }
 
 #[test]
 fn settings_are_refused_with_their_number() {
     let new = |g: Grid, top| Builder::new(g, mesh(top)).err();
-    assert_eq!(new(Grid { dr: 0.0, ..small() }, 0), Some(Refusal::Settings));
-    assert_eq!(new(Grid { rmax: 0.4, ..small() }, 0), Some(Refusal::BinCount));
-    assert_eq!(new(Grid { rmax: 1.79e308, dr: 1.1e308, ..small() }, 0), Some(Refusal::OwnCount));
-    assert_eq!(new(Grid { rmax: 655.0, omega_step: 6.0, ..small() }, 15), Some(Refusal::TooManyEnergies));
+    let refused = |refusal| Some(Error::Refused(refusal));
+    assert_eq!(new(Grid { dr: 0.0, ..small() }, 0), refused(Refusal::Settings));
+    assert_eq!(new(Grid { rmax: 0.4, ..small() }, 0), refused(Refusal::BinCount));
+    assert_eq!(new(Grid { rmax: 1.79e308, dr: 1.1e308, ..small() }, 0), refused(Refusal::OwnCount));
+    assert_eq!(new(Grid { rmax: 655.0, omega_step: 6.0, ..small() }, 15), refused(Refusal::TooManyEnergies));
     assert_eq!(new(small(), 0), None);
 }
 
@@ -115,18 +188,19 @@ fn damaged_files_are_refused() {
     let mut b = builder(0);
     b.set(0, 0, &smooth(0)).unwrap();
     let file = b.write().unwrap();
-    let number = |file: Vec<u8>| Table::read(file, b.mesh().clone()).err();
-    assert_eq!(number(file.clone()), None);
-    assert_eq!(number(Vec::new()), Some(Refusal::Sections));
-    assert_eq!(number(file[..file.len() - 1].to_vec()), Some(Refusal::Sections));
+    let refusal = |file: Vec<u8>| Table::read(file, b.mesh().clone()).err();
+    let refused = |refusal| Some(Error::Refused(refusal));
+    assert_eq!(refusal(file.clone()), None);
+    assert_eq!(refusal(Vec::new()), refused(Refusal::Sections));
+    assert_eq!(refusal(file[..file.len() - 1].to_vec()), refused(Refusal::Sections));
     let with = |at: usize, byte: u8| {
         let mut copy = file.clone();
         copy[at] = byte;
-        number(copy)
+        refusal(copy)
     };
-    assert_eq!(with(36, 3), Some(Refusal::FileGrid));
-    assert_eq!(with(52, 4), Some(Refusal::Row));
-    assert_eq!(with(54, 1), Some(Refusal::Tiling));
+    assert_eq!(with(36, 3), refused(Refusal::FileGrid));
+    assert_eq!(with(52, 4), refused(Refusal::Row));
+    assert_eq!(with(54, 1), refused(Refusal::Tiling));
 }
 
 #[test]

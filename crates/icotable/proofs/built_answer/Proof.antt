@@ -1,5 +1,5 @@
 -- `built_answer` meets its contract. Assumes nothing.
-use Rattle.icotable.specs.Answers.{builtAnswer}
+use Rattle.icotable.specs.Answers.{builtIn}
 use borrow.Author.Needs.{needs}
 use Rattle.icotable.proofs.built_answer.Statement.{statement}
 use Rattle.icotable.proofs.built_answer.Tie as tie
@@ -11,11 +11,11 @@ enum-known-a-2 : tie.Need-enum-known-a-2
 enum-known-a-2 c = search needs
 
 returns : tie.Need-returns
-unfolding builtAnswer
+unfolding builtIn
 returns c = rw (c .before .a .given .1)
 
 returns-2 : tie.Need-returns-2
-unfolding builtAnswer
+unfolding builtIn
 returns-2 c = rw (c .before .a2 .given .1)
 
 pub built-answer-spec : {M : Type 1} → statement M

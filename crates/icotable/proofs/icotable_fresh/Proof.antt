@@ -1,6 +1,4 @@
 -- `icotable_fresh` meets its contract. Assumes nothing.
-use mathlib.Core.Path.{ap}
-use Rattle.icotable.specs.Answers.{noBuilder, buildOut}
 use borrow.Author.Needs.{needs}
 use Rattle.icotable.proofs.icotable_fresh.Statement.{statement}
 use Rattle.icotable.proofs.icotable_fresh.Tie as tie
@@ -27,7 +25,7 @@ same-length-4 : tie.Need-same-length-4
 same-length-4 c = search needs
 
 returns : tie.Need-returns
-returns c = rw (c .built-answer .ensures, c .before .before .before .before .before .before .before .before .before .before .before .before .before .before .no-builder .ensures) (ap (buildOut noBuilder) (c .before .before .before .before .before .before .before .before .before .fresh .ensures))
+returns c = rw (c .built-answer .ensures, c .before .before .before .before .before .before .before .before .before .before .before .before .before .before .no-builder .ensures) (c .before .before .before .before .before .before .before .before .before .fresh .ensures)
 
 pub icotable-fresh-spec : {M : Type 1} → statement M
 icotable-fresh-spec =

@@ -1,6 +1,4 @@
 -- `icotable_set` meets its contract. Assumes nothing.
-use mathlib.Core.Path.{ap}
-use Rattle.icotable.specs.Answers.{buildOut}
 use borrow.Author.Needs.{needs}
 use Rattle.icotable.proofs.icotable_set.Statement.{statement}
 use Rattle.icotable.proofs.icotable_set.Tie as tie
@@ -24,7 +22,7 @@ same-length-4 : tie.Need-same-length-4
 same-length-4 c = search needs
 
 returns : tie.Need-returns
-returns c = rw (c .built-answer .ensures) (ap (buildOut _) (c .before .before .before .before .before .before .before .before .before .set .ensures))
+returns c = rw (c .built-answer .ensures) (c .before .before .before .before .before .before .before .before .before .set .ensures)
 
 pub icotable-set-spec : {M : Type 1} → statement M
 icotable-set-spec =

@@ -1,6 +1,4 @@
 -- `icotable_settle` meets its contract. Assumes nothing.
-use mathlib.Core.Path.{ap}
-use Rattle.icotable.specs.Answers.{settledOut}
 use borrow.Author.Needs.{needs}
 use Rattle.icotable.proofs.icotable_settle.Statement.{statement}
 use Rattle.icotable.proofs.icotable_settle.Tie as tie
@@ -21,7 +19,7 @@ same-length-3 : tie.Need-same-length-3
 same-length-3 c = search needs
 
 returns : tie.Need-returns
-returns c = rw (c .settle-answer .ensures) (ap (settledOut _) (c .before .before .before .before .before .before .before .settle .ensures))
+returns c = rw (c .settle-answer .ensures) (c .before .before .before .before .before .before .before .settle .ensures)
 
 pub icotable-settle-spec : {M : Type 1} → statement M
 icotable-settle-spec =

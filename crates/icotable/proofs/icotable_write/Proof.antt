@@ -1,6 +1,4 @@
 -- `icotable_write` meets its contract. Assumes nothing.
-use mathlib.Core.Path.{ap}
-use Rattle.icotable.specs.Answers.{writtenOut}
 use borrow.Author.Needs.{needs}
 use Rattle.icotable.proofs.icotable_write.Statement.{statement}
 use Rattle.icotable.proofs.icotable_write.Tie as tie
@@ -15,7 +13,7 @@ same-length : tie.Need-same-length
 same-length c = search needs
 
 returns : tie.Need-returns
-returns c = rw (c .write-answer .ensures) (ap writtenOut (c .before .before .before .write .ensures))
+returns c = rw (c .write-answer .ensures) (c .before .before .before .write .ensures)
 
 pub icotable-write-spec : {M : Type 1} → statement M
 icotable-write-spec = tie.close (tie.spec write-requires write-answer-requires same-length returns)

@@ -1,5 +1,5 @@
 -- `write_answer` meets its contract. Assumes nothing.
-use Rattle.icotable.specs.Answers.{writeAnswer}
+use Rattle.icotable.specs.Answers.{writtenIn}
 use borrow.Author.Needs.{needs}
 use Rattle.icotable.proofs.write_answer.Statement.{statement}
 use Rattle.icotable.proofs.write_answer.Tie as tie
@@ -11,11 +11,11 @@ enum-known-a-2 : tie.Need-enum-known-a-2
 enum-known-a-2 c = search needs
 
 returns : tie.Need-returns
-unfolding writeAnswer
+unfolding writtenIn
 returns c = rw (c .before .a .given .1)
 
 returns-2 : tie.Need-returns-2
-unfolding writeAnswer
+unfolding writtenIn
 returns-2 c = rw (c .before .a2 .given .1)
 
 pub write-answer-spec : {M : Type 1} → statement M

@@ -67,7 +67,7 @@ settle-slab-requires : tie.Need-settle-slab-requires Inv-loop μ-loop
 unfolding per
 settle-slab-requires c κs =
     let s = c .before .before .before .before .before .before .before .before .before .before .before .before .before .before .before in
-    (omega (arith, s .pre .top-le, s .pre .level-le), rw (c .before .before .before .before .before .per-level .ensures) (inside (c .before .before .before)), s .pre .below)
+    (omega (arith, s .pre .top-le, s .pre .level-le), rw (c .before .before .before .before .before .per-level .ensures) (inside (c .before .before .before)))
 
 add-i : tie.Need-add-i Inv-loop μ-loop
 add-i c = omega arith

@@ -4,16 +4,16 @@ use Prim.Native.Nat.{_*_, _≤_}
 use native.Mathlib.Nat.{mul-le-mul}
 use native.Mathlib.Omega.{arith}
 use mathlib.Core.List.{List, []}
-use lib.ListN.{length, take, drop}
+use lib.ListN.{take, drop}
 use lib.Ieee.{Float}
+use borrow.Author.Tests.{le-leb}
 use Rattle.mesh.specs.Levels.{vertexCount}
 use Rattle.mesh.specs.Mesh.{Mesh}
 use Rattle.rows.specs.Rows.{Rows, resolutionAt, rowWith}
 use Rattle.settling.specs.Settling.{verdictOf}
 use Rattle.settling.specs.Steps.{tallied}
 use Rattle.mesh.proofs.Laws.{count-le}
-use Rattle.mesh.proofs.Loops.{part-length, part-is}
-use Rattle.settling.proofs.Slopes.{lined-is}
+use Rattle.mesh.proofs.Loops.{part-is}
 use Rattle.settling.proofs.Changes.{row-clear}
 use borrow.Author.Needs.{needs}
 use Rattle.builder.proofs.slices.settle_slab.Statement.{statement}
@@ -76,10 +76,9 @@ returns c =
     let m : Mesh = record { vertices = []; counts = a .counts .now; neighbours = a .neighbours .now; angles = a .angles .now } in
     let v = verdictOf (a .threshold) (a .beta) m n (rowWith x e) in
     let pre = c .before .before .before .before .before .before .before .before .before .before .before .before .before .before .before .before .before .before .before .before .before .before .before .before .before .pre in
-    let many : length e ≡ n * n = rw (part-is (a .store .now) (a .at) (n * n)) at (part-length (a .store .now) (a .at) (n * n) (pre .1)) in
     let found : c .before .before .before .before .before .before .before .before .before .before .before .verdict-of .result ≡ v =
     rw (c .before .before .before .before .before .before .before .before .before .before .before .before .before .vertex-count .ensures, part-is (a .store .now) (a .at) (n * n), c .before .before .before .before .before .before .before .before .before .before .before .before .before .before .resolution-at .ensures) at (c .before .before .before .before .before .before .before .before .before .before .before .verdict-of .ensures)
-    ∙ lined-is (a .threshold) (a .beta) m (a .level) x e (pre .0) many (pre .2) in
+    ∙ rw (le-leb (a .level) 15 (pre .0)) in
     (c .tallied .ensures ∙ rw (c .before .before .before .before .before .before .before .before .before .before .before .before .before .before .resolution-at .ensures, found, row-clear x e (a .level) v), c .before .before .before .before .before .before .before .replace-by .ensures ∙ rw found)
 
 pub settle-slab-spec : {M : Type 1} → statement M

@@ -1,5 +1,5 @@
 -- `settle_slice` meets its contract. Assumes nothing.
-use mathlib.Core.Path.{_≡_, refl, sym, subst}
+use mathlib.Core.Path.{_≡_, refl}
 use mathlib.Core.List.{[]}
 use Prim.Native.Nat.{suc, _+_, _*_, _-_, _≤_}
 use native.Mathlib.Omega.{arith}
@@ -8,8 +8,7 @@ use Rattle.mesh.specs.Levels.{verticesBelow}
 use Rattle.mesh.specs.Mesh.{Mesh, levelPart}
 use Rattle.mesh.proofs.Laws.{below-more, below-few}
 use Rattle.mesh.proofs.Written.{part}
-use Rattle.questions.specs.Lists.{Lists}
-use Rattle.builder.specs.Steps.{Ready, partLinks}
+use Rattle.builder.specs.Steps.{partLinks}
 use borrow.Author.Needs.{needs}
 use Rattle.builder.proofs.slices.settle_slice.Statement.{statement}
 use Rattle.builder.proofs.slices.settle_slice.Tie as tie
@@ -96,10 +95,7 @@ part-settle-rows-end-3 c = omega (arith, total (c .before .before), few (c .befo
 
 settle-rows-requires : tie.Need-settle-rows-requires
 settle-rows-requires c κs =
-    let s = c .before .before .before .before .before .before .before .before .before .before .before .before .before .before .before .before in
-    let a = s .args in
-    let l : Lists = record { store = a .store .now; rows = record { kinds = a .kinds .now; levels = a .levels .now; values = a .values .now } } in
-    subst (λ (m : Mesh). Ready (a .b) m l (a .ri)) (sym (cut (c .before .before .before .before .before .before))) (s .pre .ready)
+    c .before .before .before .before .before .before .before .before .before .before .before .before .before .before .before .before .pre .ready
 
 same-length : tie.Need-same-length
 same-length c = search needs

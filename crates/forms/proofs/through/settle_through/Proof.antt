@@ -43,7 +43,7 @@ use denote.Triple.Walked.{says, Stays, stay-none, stay-none-slice, gave-slice, w
 use denote.Exit.{yes}
 use denote.Struct.Laws as LL
 use denote.Enum.Laws as LE
-use Rattle.lent.specs.Calls.{LentOut, settleLent}
+use Rattle.lent.specs.Calls.{LentOut, LentValues, lentValues, settleLent}
 use Rattle.questions.specs.declared.Builder.{Builder}
 use Rattle.questions.proofs.Builder as T
 use Rattle.questions.proofs.Builder.Laws as T′
@@ -167,7 +167,7 @@ module _ {M : Type 1} (𝓤 : URA M) (H : Heap 𝓤) (A : Atoms 𝓤) (W : Given
 
   -- what `settle_lent` ensures
   abbrev Said : LentSettled → Builder → List ℕ → List ℕ → List ℕ → Type 0
-  Said r b′ z-kinds z-levels z-values = _≡_ {A = LentOut LentSettled} (record { answer = r; builder = b′; lists = record { store = store .now; rows = record { kinds = z-kinds; levels = z-levels; values = z-values } } }) (settleLent h (record { vertices = vertices .now; counts = counts .now; neighbours = neighbours .now; angles = angles .now }) (record { store = store .now; rows = record { kinds = kinds .now; levels = levels .now; values = values .now } }) ri)
+  Said r b′ z-kinds z-levels z-values = _≡_ {A = LentOut LentValues} (record { answer = lentValues r; builder = b′; lists = record { store = store .now; rows = record { kinds = z-kinds; levels = z-levels; values = z-values } } }) (settleLent h (record { vertices = vertices .now; counts = counts .now; neighbours = neighbours .now; angles = angles .now }) (record { store = store .now; rows = record { kinds = kinds .now; levels = levels .now; values = values .now } }) ri)
 
   -- the answer, of its two parts
   abbrev made : LentSettled → Builder → SettleLeft

@@ -5,7 +5,7 @@ use native.Mathlib.Nat.{lt-of-le-of-lt, lt-of-lt-of-le, mod-eq-of-lt}
 use native.Mathlib.Omega.{arith}
 use lib.Dec.{lit<, lit≤}
 use lib.Count.{leadingZeros, leading-le}
-use Rattle.ieee.proofs.RootSteps.{raised-scale, plain-scale}
+use Rattle.ieee.proofs.RootSteps.{raised-scale}
 use borrow.Author.Needs.{needs}
 use Rattle.ieee.proofs.roots.raised.Statement.{statement}
 use Rattle.ieee.proofs.roots.raised.Tie as tie
@@ -17,41 +17,32 @@ up c = lead (c .args .p .sig) 11 (c .pre .0) (c .pre .1)
 whole : (c : tie.Start) → (let s = c .args .p .sig in let z = leadingZeros 64 s - 11 in s * 2 ^ z % 2 ^ 64 ≡ s * 2 ^ z)
 whole c = mod-eq-of-lt (lt-of-lt-of-le (up c .1 .high) (lit≤ tt))
 
-add-t6 : tie.Need-add-t6
-add-t6 c = search needs
+cast-z : tie.Need-cast-z
+cast-z c = record { fits = lt-of-le-of-lt (leading-le 64 (c .args .p .sig)) (lit< tt) }
+
+sub-z : tie.Need-sub-z
+sub-z c = up c .0
+
+shl-t6 : tie.Need-shl-t6
+shl-t6 c = omega (arith, up c .1 .room)
+
+add-t7 : tie.Need-add-t7
+add-t7 c = search needs
+
+sub-t8 : tie.Need-sub-t8
+sub-t8 c = omega (arith, up c .1 .room)
 
 returns : tie.Need-returns
 returns c =
-    let s = c .before in
-    (s .pre .3 (c .if1 .taken), s .pre .1, omega arith, plain-scale (s .args .p .sig) (s .args .p .exp))
-
-cast-z : tie.Need-cast-z
-cast-z c = record { fits = lt-of-le-of-lt (leading-le 64 (c .before .args .p .sig)) (lit< tt) }
-
-sub-z : tie.Need-sub-z
-sub-z c = up (c .before) .0
-
-shl-t8 : tie.Need-shl-t8
-shl-t8 c = omega (arith, up (c .before) .1 .room)
-
-add-t9 : tie.Need-add-t9
-add-t9 c = search needs
-
-sub-t10 : tie.Need-sub-t10
-sub-t10 c = omega (arith, up (c .before) .1 .room)
-
-returns-2 : tie.Need-returns-2
-returns-2 c =
-    let s = c .before in
-    let sig = s .args .p .sig in
-    let exp = s .args .p .exp in
+    let sig = c .args .p .sig in
+    let exp = c .args .p .exp in
     let z = leadingZeros 64 sig - 11 in
-    let r = up s .1 in (
-      subst (λ (y : ℕ). 2 ^ 52 ≤ y) (sym (whole s)) (r .low),
-      subst (λ (y : ℕ). y < 2 ^ 53) (sym (whole s)) (r .high),
-      omega arith,
-      ap (λ (y : ℕ). y * 2 ^ (exp + 1022 - z + 54)) (whole s) ∙ raised-scale sig exp z (r .room),
+    let r = up c .1 in (
+      subst (λ (y : ℕ). 2 ^ 52 ≤ y) (sym (whole c)) (r .low),
+      subst (λ (y : ℕ). y < 2 ^ 53) (sym (whole c)) (r .high),
+      omega (arith, c .pre .2),
+      ap (λ (y : ℕ). y * 2 ^ (exp + 1022 - z + 54)) (whole c) ∙ raised-scale sig exp z (r .room),
     )
 
 pub raised-spec : {M : Type 1} → statement M
-raised-spec = tie.close (tie.spec add-t6 returns cast-z sub-z shl-t8 add-t9 sub-t10 returns-2)
+raised-spec = tie.close (tie.spec cast-z sub-z shl-t6 add-t7 sub-t8 returns)

@@ -26,7 +26,7 @@ raised-requires : tie.Need-raised-requires
 raised-requires c κs =
     let r = c .unpack .result in
     let u = c .unpack .ensures in
-    (factor-pos (r .sig) (2 ^ r .exp) (above c .1), u .digits, u .scale, u .normal)
+    (factor-pos (r .sig) (2 ^ r .exp) (above c .1), u .digits, u .scale)
 
 finish-requires : tie.Need-finish-requires
 finish-requires c κs = search needs

@@ -40,7 +40,6 @@ returns c =
       value = subst (λ (y : Float). HasValue y s (t * 2 ^ 0) (2 ^ 1074)) (sym (as-fields binary64 x (held (c .before)))) (at-low binary64 s (b % 2 ^ 63 / 2 ^ 52) t (sym (field-is b) ∙ c .if1 .taken));
       digits = low-lt b;
       scale = omega arith;
-      normal = λ l. omega arith;
     }
 
 add-t6 : tie.Need-add-t6
@@ -61,7 +60,6 @@ returns-2 c =
       value = subst (λ (y : Float). HasValue y s ((2 ^ 52 + t) * 2 ^ (f - 1)) (2 ^ 1074)) (sym (as-fields binary64 x (held (c .before)) ∙ ap (λ (y : ℕ). ofFields binary64 s y t) (sym (field-is b)))) (at-mid binary64 s f t (c .if1 .left) last);
       digits = lead-lt b;
       scale = field-le b last;
-      normal = λ l. omega arith;
     }
 
 pub unpack-spec : {M : Type 1} → statement M

@@ -25,7 +25,7 @@ same-length-4 c = search needs
 
 returns : tie.Need-returns
 unfolding setLent
-returns c = rw (c .set-done .ensures .0, c .set-done .ensures .1) (ap (setLeft _) (c .before .before .before .before .before .before .before .before .before .set .ensures))
+returns c = rw (c .set-done .ensures .0, c .set-done .ensures .1) (ap setLeft (c .before .before .before .before .before .before .before .before .before .set .ensures))
 
 pub set-kept-spec : {M : Type 1} → statement M
 set-kept-spec =

@@ -22,7 +22,7 @@ same-length-3 c = search needs
 
 returns : tie.Need-returns
 unfolding settleLent
-returns c = rw (c .settle-done .ensures .0, c .settle-done .ensures .1) (ap (settleLeft _) (c .before .before .before .before .before .before .before .settle .ensures))
+returns c = rw (c .settle-done .ensures .0, c .settle-done .ensures .1) (ap settleLeft (c .before .before .before .before .before .before .before .settle .ensures))
 
 pub settle-kept-spec : {M : Type 1} → statement M
 settle-kept-spec =

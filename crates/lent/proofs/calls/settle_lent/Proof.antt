@@ -43,7 +43,7 @@ use denote.Triple.Clauses.{ensured, lasts}
 use denote.Triple.Table.{entered, cited}
 use denote.Triple.Walked.{says, Stays, stay-ref, stay-none, stay-none-slice, gave-slice, walkOf, AllGo, goes-ref, goes-none, goes-none-slice, goes-gave-slice, Walks, ends-at, walked, walk-meets}
 use denote.Exit.{yes}
-use Rattle.lent.specs.Calls.{LentOut, settleLent}
+use Rattle.lent.specs.Calls.{LentOut, LentValues, lentValues, settleLent}
 use Rattle.questions.specs.declared.Builder.{Builder}
 use Rattle.lent.specs.declared.calls.SettleDone.{SettleDone}
 use Rattle.questions.proofs.Builder as T
@@ -168,7 +168,7 @@ module _ {M : Type 1} (𝓤 : URA M) (H : Heap 𝓤) (A : Atoms 𝓤) (W : Given
 
   -- what `settle_kept` ensures
   abbrev Said : SettleDone → List ℕ → List ℕ → List ℕ → Type 0
-  Said r z-kinds z-levels z-values = _≡_ {A = LentOut LentSettled} (record { answer = r .answer; builder = r .builder; lists = record { store = store .now; rows = record { kinds = z-kinds; levels = z-levels; values = z-values } } }) (settleLent h (record { vertices = vertices .now; counts = counts .now; neighbours = neighbours .now; angles = angles .now }) (record { store = store .now; rows = record { kinds = kinds .now; levels = levels .now; values = values .now } }) ri)
+  Said r z-kinds z-levels z-values = _≡_ {A = LentOut LentValues} (record { answer = lentValues (r .answer); builder = r .builder; lists = record { store = store .now; rows = record { kinds = z-kinds; levels = z-levels; values = z-values } } }) (settleLent h (record { vertices = vertices .now; counts = counts .now; neighbours = neighbours .now; angles = angles .now }) (record { store = store .now; rows = record { kinds = kinds .now; levels = levels .now; values = values .now } }) ri)
 
   exits : (r : SettleDone) (z-kinds : List ℕ) (z-levels : List ℕ) (z-values : List ℕ) → Said r z-kinds z-levels z-values → length z-kinds ≡ length (kinds .now) → length z-levels ≡ length (levels .now) → length z-values ≡ length (values .now) → Is O.the-row (r .answer) (machO (r .answer) ∷ [])
       → ent 𝓤 (⋆ 𝓤 H A (‵ (fobs γ (T.the-row .coded .code (r .builder))) ∷ ‵ (fbor κ (Body (mem T.the-row) b o γ)) ∷ ‵ (flft κ q) ∷ Toks ∷ ‵ (finally u8 (kinds .name) z-kinds) ∷ ‵ (finally u8 (levels .name) z-levels) ∷ ‵ (finally u32 (values .name) z-values) ∷ ‵ Own-store ∷ ‵ Own-vertices ∷ ‵ Own-counts ∷ ‵ Own-neighbours ∷ ‵ Own-angles ∷ [])) (Post (machO (r .answer)))

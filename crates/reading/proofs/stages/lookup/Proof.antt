@@ -1,8 +1,8 @@
 -- `lookup` meets its contract. Assumes nothing.
 use borrow.Author.Needs.{needs}
-use mathlib.Core.Path.{sym, _∙_}
+use mathlib.Core.Path.{sym, ap, _∙_}
 use Rattle.search.specs.Search.{Locator}
-use Rattle.reading.specs.Resolve.{Query, resolve}
+use Rattle.reading.specs.Resolve.{readingValues, Query, resolve}
 use Rattle.reading.proofs.Inside.{placed-fits, reading-by, entry-toward}
 use Rattle.reading.proofs.stages.lookup.Statement.{statement}
 use Rattle.reading.proofs.stages.lookup.Tie as tie
@@ -47,7 +47,8 @@ returns-3 : tie.Need-returns-3
 returns-3 c =
     let p = c .before .before .before .before in
     let s = p .before .before .before .before .before .before .before in
-    c .read-row .ensures ∙ entry-toward (s .args .file .now) (s .args .t) (s .args .vertices .now) (lists s) (query s) _ ∙ reading-by (s .args .file .now) (s .args .t) (s .args .vertices .now) (lists s) (query s) (p .row-place .result) _ (p .row-place .ensures) (c .before .before .at .given .1)
+    ap readingValues (c .read-row .ensures ∙ entry-toward (s .args .file .now) (s .args .t) (s .args .vertices .now) (lists s) (query s) _)
+    ∙ reading-by (s .args .file .now) (s .args .t) (s .args .vertices .now) (lists s) (query s) (p .row-place .result) _ (p .row-place .ensures) (c .before .before .at .given .1)
 
 pub lookup-spec : {M : Type 1} → statement M
 lookup-spec =

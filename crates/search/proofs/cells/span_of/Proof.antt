@@ -4,7 +4,7 @@ use Prim.Native.Nat.{_+_, _≤_}
 use mathlib.Core.Bool.{true, false}
 use native.Mathlib.Omega.{arith}
 use native.Mathlib.Nat.{mul-le-mul}
-use Rattle.search.proofs.Laws.{span-past, span-by}
+use Rattle.search.proofs.Laws.{span-past, span-empty, span-by}
 use borrow.Author.Needs.{needs}
 use Rattle.search.proofs.cells.span_of.Statement.{statement}
 use Rattle.search.proofs.cells.span_of.Tie as tie
@@ -49,36 +49,44 @@ shared-slice-read-wide32-2 c = search needs
 wide32-requires-2 : tie.Need-wide32-requires-2
 wide32-requires-2 c κs = tt
 
+returns-3 : tie.Need-returns-3
+returns-3 c =
+    let b = c .before in
+    let a = b .before .before in
+    let s = a .before .before .before .before .before .args in
+    sym (span-empty (s .offsets .now) (s .w) (s .places) (s .i) (a .wide32 .result) (b .wide322 .result) (a .wide32 .ensures) (b .wide322 .ensures) (omega arith) (c .if3 .taken))
+
 mul-from : tie.Need-mul-from
 mul-from c =
-    let a = c .before .before in
+    let a = c .before .before .before in
     let s = a .before .before .before .before .before in
     let h : a .wide32 .result ≤ 4294967295 = omega (arith, a .wide32 .ensures, a .before .shared-slice-known2 .given (s .args .i)) in
     omega (arith, mul-le-mul (s .pre) h)
 
 mul-to : tie.Need-mul-to
 mul-to c =
-    let a = c .before .before in
-    let s = a .before .before .before .before .before in
-    let h : c .wide322 .result ≤ 4294967295 = omega (arith, c .wide322 .ensures, c .before .shared-slice-known3 .given (s .args .i + 1)) in
-    omega (arith, mul-le-mul (s .pre) h)
-
-returns-3 : tie.Need-returns-3
-returns-3 c =
     let b = c .before in
-    let a = b .before .before in
-    let s = a .before .before .before .before .before .args in
-    sym (span-by (s .offsets .now) (s .w) (s .places) (s .i) (a .wide32 .result) (b .wide322 .result) true (a .wide32 .ensures) (b .wide322 .ensures) (omega arith) (c .if3 .taken))
-
-no-span-requires-3 : tie.Need-no-span-requires-3
-no-span-requires-3 c κs = tt
+    let s = b .before .before .before .before .before .before .before in
+    let h : b .wide322 .result ≤ 4294967295 = omega (arith, b .wide322 .ensures, b .before .shared-slice-known3 .given (s .args .i + 1)) in
+    omega (arith, mul-le-mul (s .pre) h)
 
 returns-4 : tie.Need-returns-4
 returns-4 c =
     let b = c .before .before in
     let a = b .before .before in
     let s = a .before .before .before .before .before .args in
-    c .no-span3 .ensures ∙ sym (span-by (s .offsets .now) (s .w) (s .places) (s .i) (a .wide32 .result) (b .wide322 .result) false (a .wide32 .ensures) (b .wide322 .ensures) (omega arith) (c .before .if3 .left))
+    sym (span-by (s .offsets .now) (s .w) (s .places) (s .i) (a .wide32 .result) (b .wide322 .result) (a .wide32 .ensures) (b .wide322 .ensures) (omega arith) true (c .before .if3 .left) (c .if4 .taken))
+
+no-span-requires-3 : tie.Need-no-span-requires-3
+no-span-requires-3 c κs = tt
+
+returns-5 : tie.Need-returns-5
+returns-5 c =
+    let b = c .before .before .before in
+    let a = b .before .before in
+    let s = a .before .before .before .before .before .args in
+    c .no-span3 .ensures
+    ∙ sym (span-by (s .offsets .now) (s .w) (s .places) (s .i) (a .wide32 .result) (b .wide322 .result) (a .wide32 .ensures) (b .wide322 .ensures) (omega arith) false (c .before .before .if3 .left) (c .before .if4 .left))
 
 pub span-of-spec : {M : Type 1} → statement M
 span-of-spec =
@@ -96,8 +104,9 @@ span-of-spec =
     mul-wide32-2
     shared-slice-read-wide32-2
     wide32-requires-2
+    returns-3
     mul-from
     mul-to
-    returns-3
+    returns-4
     no-span-requires-3
-    returns-4)
+    returns-5)

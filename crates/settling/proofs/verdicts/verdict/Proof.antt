@@ -3,7 +3,9 @@ use Prim.Native.Nat.{_≤_}
 use native.Mathlib.Omega.{arith}
 use borrow.Author.Tests.{le-leb, lt-leb}
 use Rattle.mesh.proofs.Laws.{count-le}
-use Rattle.settling.specs.Steps.{linedVerdict}
+use Rattle.settling.specs.Settling.{verdict}
+use Rattle.settling.specs.Steps.{byLines}
+use Rattle.settling.proofs.Slopes.{by-lines}
 use borrow.Author.Needs.{needs}
 use Rattle.settling.proofs.verdicts.verdict.Statement.{statement}
 use Rattle.settling.proofs.verdicts.verdict.Tie as tie
@@ -13,14 +15,13 @@ small : (c : tie.After-vertex-count) → c .vertex-count .result ≤ 2562
 small c = rw (c .vertex-count .ensures) (count-le _ 16 (omega (arith, c .before .before .before .if1 .left)))
 
 returns : tie.Need-returns
-unfolding linedVerdict
 returns c = rw (lt-leb _ _ (c .if1 .taken))
 
 all-repulsive-requires : tie.Need-all-repulsive-requires
 all-repulsive-requires c κs = search needs
 
 returns-2 : tie.Need-returns-2
-unfolding linedVerdict
+unfolding verdict
 returns-2 c = rw (le-leb _ _ (c .before .before .if1 .left), ← c .before .all-repulsive .ensures, c .if2 .taken)
 
 vertex-count-requires : tie.Need-vertex-count-requires
@@ -36,9 +37,9 @@ by-gradient-requires : tie.Need-by-gradient-requires
 by-gradient-requires c κs = search needs
 
 returns-3 : tie.Need-returns-3
-unfolding linedVerdict
+unfolding verdict byLines
 returns-3 c =
-    rw (le-leb _ _ (c .before .before .before .before .before .if1 .left), ← c .before .before .before .before .all-repulsive .ensures, c .before .before .before .if2 .left, c .by-gradient .ensures, c .before .gradient .ensures, c .before .before .vertex-count .ensures)
+    rw (le-leb _ _ (c .before .before .before .before .before .if1 .left), ← c .before .before .before .before .all-repulsive .ensures, c .before .before .before .if2 .left, c .by-gradient .ensures, c .before .gradient .ensures, c .before .before .vertex-count .ensures, by-lines)
 
 pub verdict-spec : {M : Type 1} → statement M
 verdict-spec =

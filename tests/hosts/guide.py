@@ -1,0 +1,64 @@
+#!/usr/bin/env python3
+"""The snippets of docs/GUIDE.md as one program, in the page's order: guide.py GUIDE > PROGRAM.c. What the page leaves to the host (lists, bins, a
+query, `check`) is declared here."""
+import sys
+
+HEAD = """#include "environment.h"
+#include "mesh.h"
+
+#include <stdio.h>
+#include <stdlib.h>
+
+enum { top = 1, slabs = 32 * 12, n = 42, store_count = slabs * n * n, output_count = 60 + 10 * slabs + 4 * store_count };
+static double store[store_count], energies[n * n];
+static uint8_t kinds[slabs], levels[slabs], output[output_count];
+static uint32_t values[slabs];
+
+static void check(const char *what, uint64_t number) {
+    if (number != 0) {
+        fprintf(stderr, "%s: %s\\n", what, icotable_words(number));
+        exit(1);
+    }
+}
+
+int main(void) {
+    uint64_t ri = 3, oi = 2;
+    double r = 3.25, omega = 1.05, ax = 1, ay = 0, az = 0, bx = 0, by = 1, bz = 0;
+    for (int i = 0; i < n * n; i++)
+        energies[i] = 7;
+"""
+BETWEEN = """    icotable_free_meshes(&m);
+    {
+        uint8_t *file = output;
+        size_t length = w.length;
+"""
+TAIL = """        printf("energy %g\\n", v.energy);
+        icotable_free_meshes(&m);
+    }
+    return 0;
+}
+"""
+
+
+def snippets(page, name, indent):
+    """The indented lines of a section."""
+    section = page.split(f"\n## {name}\n")[1].split("\n## ")[0]
+    lines = [line for line in section.split("\n") if line.startswith(" " * indent)]
+    return "".join(line[indent - 4 :] + "\n" for line in lines if line.strip() != "..")
+
+
+def main():
+    with open(sys.argv[1], encoding="utf-8") as text:
+        page = text.read()
+    parts = [
+        HEAD,
+        snippets(page, "What the library needs of the process", 4),
+        snippets(page, "Building a table", 7),
+        BETWEEN,
+        snippets(page, "Reading in a simulation", 4),
+        TAIL,
+    ]
+    sys.stdout.write("".join(parts))
+
+
+main()
