@@ -40,6 +40,17 @@
 #include <stddef.h>
 #include <stdint.h>
 
+/* The version, raised where a struct, a function or the table file changes (CHANGELOG.md). The pkg-config file and the
+ * tool take it from here; a test compares it with hosts/rust. */
+#define ICOTABLE_VERSION_MAJOR 0
+#define ICOTABLE_VERSION_MINOR 5
+#define ICOTABLE_VERSION_PATCH 0
+
+#define ICOTABLE_STRING_(x) #x
+#define ICOTABLE_DOTTED_(a, b, c) ICOTABLE_STRING_(a) "." ICOTABLE_STRING_(b) "." ICOTABLE_STRING_(c)
+/* The same as a string. */
+#define ICOTABLE_VERSION ICOTABLE_DOTTED_(ICOTABLE_VERSION_MAJOR, ICOTABLE_VERSION_MINOR, ICOTABLE_VERSION_PATCH)
+
 /* Every number that a call can be refused with: the question that was answered no, its name and its words. */
 #define ICOTABLE_REFUSALS(X) \
     X(1, SETTINGS, "rmin is not finite, rmax not above it, dr, omega_step or beta not finite and above 0, or threshold not finite or below 0") \

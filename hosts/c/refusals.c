@@ -214,9 +214,11 @@ int main(void) {
     int differing = 0;
     if (icotable_make_meshes(&held, TOP_LEVEL) != 0)
         return 1;
-    puts("# Refusals\n\nA call that is refused answers the number of the first question that was answered no, and alters nothing: no list, no builder, no file.\n"
-         "`include/icotable.h` has the table (`ICOTABLE_REFUSALS`, `icotable_words`), `hosts/rust` the same as an enum (`Refusal`). Each example below is run by\n"
-         "`hosts/c/refusals.c`, which writes this page; the gate compares the page with what it writes.\n\n"
+    puts("# Refusals\n\nA call that is refused answers the number of the first question that was answered no, and alters "
+         "nothing: no list, no\nbuilder, no file. `include/icotable.h` has the table (`ICOTABLE_REFUSALS`, "
+         "`icotable_words`), `hosts/rust` the same as\nan enum (`Refusal`); docs/SPEC.md has each question, S5.1 to S5.20, "
+         "and their order. Each example below is run by\n`hosts/c/refusals.c`, which writes this page; the gate compares "
+         "the page with what it writes.\n\n"
          "| number | name | what was answered no | an example |\n|---|---|---|---|");
     for (uint64_t number = 1; number <= NUMBERS; number++) {
         uint64_t given = examples[number - 1].give();

@@ -48,14 +48,14 @@ fn unfused_elsewhere(random: &mut Random, most: u64) -> Settings {
 // A threshold at a gradient or beside it; or one whose tenth is there; or one whose tenth is, by a quotient, on one side of the gradient and, as a product with 0.1, on the other.
 fn threshold_at(g: f64, random: &mut Random) -> Option<f64> {
     let near = |x: f64, random: &mut Random| step(x, random.below(3) as i64 - 1);
-    let tenfold = (-12..=12).map(|k| step(10.0 * g, k)).filter(|t| t.is_finite());
+    let mut tenfold = (-12..=12).map(|k| step(10.0 * g, k)).filter(|t| t.is_finite());
     match random.below(4) {
         0 => Some(near(g, random)),
         1 => {
             let tenth = near(g, random);
-            tenfold.filter(|t| t / 10.0 == tenth).last()
+            tenfold.find(|t| t / 10.0 == tenth)
         }
-        _ => tenfold.filter(|t| (g < t / 10.0) != (g < t * 0.1)).last(),
+        _ => tenfold.find(|t| (g < t / 10.0) != (g < t * 0.1)),
     }
 }
 

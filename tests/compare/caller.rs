@@ -55,7 +55,7 @@ pub struct Answer {
     pub held: Held,
 }
 
-// Where the calls go: to a file for a program of the gate, or to the static library.
+// Where the calls go: to a file of tests/replay, or to the static library.
 pub trait Sink {
     // The lists as they are lent at first.
     fn lend(&mut self, lists: &Lists);

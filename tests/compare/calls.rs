@@ -1,5 +1,5 @@
-// Writes the lists of calls that the program `calls` replays, with the answers, gradients, levels and rows that the Rust gives; a refused call's number is document 01's (refusals.rs). The
-// first argument names the file, and what the program writes where all agrees goes to the second. Prints which cases occur, and fails where one is missing. A third argument, a number, gives
+// Writes the lists of calls that tests/replay has as calls, with the answers, gradients, levels and rows that the Rust gives; a refused call's number is document 01's (refusals.rs). The
+// first argument names the file, and what the replay prints where all agrees goes to the second. Prints which cases occur, and fails where one is missing. A third argument, a number, gives
 // other lists of the same kinds.
 mod lines;
 #[allow(dead_code)]
@@ -120,7 +120,7 @@ impl Sink for Written {
     }
 }
 
-// What the program `calls` has before the first line.
+// What the replay has before the first line.
 fn blank() -> Lists {
     let n = vertices_below(3);
     Lists {

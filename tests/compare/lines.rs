@@ -1,4 +1,4 @@
-// The lines that data files for the programs of the gate are made of: a fixed number of letters, with numbers in upper-case hexadecimal at fixed places.
+// The lines that the data files of tests/replay are made of: a fixed number of letters, with numbers in upper-case hexadecimal at fixed places.
 pub struct Fixed<const N: usize>(pub [u8; N]);
 
 // The bits of a float; every NaN has one pattern. Not inlined: where it is, rustc 1.95 -O was seen to give FFF8000000000000 for the root of -1.

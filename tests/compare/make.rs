@@ -1,4 +1,4 @@
-// Writes the blocks that the program `searches` replays: meshes of levels 0 to 3, the lists and answers that the Rust gives for them, and
+// Writes the blocks that tests/replay has as searches: meshes of levels 0 to 3, the lists and answers that the Rust gives for them, and
 // 100 directions each. The Rust has no answer to a locator call that is refused, to searches in the lists that such a call leaves, and to
 // a search whose cell is empty: there the answers are document 01's, from the search read apart (search.rs), which is compared with the Rust
 // on the others. Numbers are in upper-case hexadecimal of fixed widths, one letter apart; every NaN has one pattern. How often the

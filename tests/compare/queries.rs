@@ -129,12 +129,6 @@ pub fn query_at(t: &Table, s: u64, meshes: [&Mesh; 2], random: &mut Random) -> Q
     Query { r, omega, a: direction(m, random), b: direction(m, random) }
 }
 
-// Queries at both ends of the distances and beside them, by the last places.
-pub fn queries_at_ends(t: &Table, meshes: [&Mesh; 2], random: &mut Random) -> Vec<Query> {
-    let ends = [t.grid.rmin, t.grid.rmax].into_iter().flat_map(|end| [end.next_down(), end, end.next_up()]);
-    ends.map(|r| Query { r, ..query(t, meshes, random) }).collect()
-}
-
 fn readings(reader: &mut Reader, random: &mut Random, meshes: [&Mesh; 2], how_many: usize) {
     let t = reader.table;
     for _ in 0..how_many {
@@ -429,14 +423,6 @@ fn empty_cells(reader: &mut Reader, random: &mut Random, meshes: [&Mesh; 2]) {
     }
 }
 
-// A slab that is Mesh, and its level.
-fn mesh_slab(reader: &Reader, random: &mut Random) -> (u64, u64) {
-    let row = |s: u64| &reader.lists.file[(reader.table.start[3] + 10 * s) as usize..][..2];
-    let slabs: Vec<u64> = (0..reader.table.rows).filter(|&s| row(s)[0] >= 2).collect();
-    let s = slabs[random.below(slabs.len())];
-    (s, row(s)[1] as u64)
-}
-
 // An empty span for a direction, inside what is lent or beyond: of its cell, of the faces of its nearest vertex, or of all cells or faces.
 fn empty_span(reader: &Reader, d: &mut Damage, level: u64, direction: [f64; 3], random: &mut Random) {
     let cell = cell_offset(level, direction) as usize;
@@ -449,10 +435,13 @@ fn empty_span(reader: &Reader, d: &mut Damage, level: u64, direction: [f64; 3], 
     d.entries.extend(places.map(|place| (list, place, e)));
 }
 
-// Spans whose start equals their end touch no entry, wherever they lie; beside good ones, and beside other damage.
+// A table of slabs that are Mesh. Spans whose start equals their end touch no entry, wherever they lie; beside good ones, and beside other damage.
 fn empty_spans(reader: &mut Reader, random: &mut Random, meshes: [&Mesh; 2], count: usize) {
+    table(reader, random, meshes, 1, [0.5, 4.5, 1.0, 6.0], &[NEAREST, INTERPOLATED].concat());
     for _ in 0..count {
-        let (s, level) = mesh_slab(reader, random);
+        let s = random.below(4) as u64;
+        // of levels 0 and 1 in turn
+        let level = s % 2;
         let q = query_at(&reader.table, s, meshes, random);
         let mut d = reader.undamaged();
         if random.below(4) == 0 {
@@ -524,9 +513,6 @@ pub fn asked(reader: &mut Reader, random: &mut Random, many: usize, most: usize)
     table(reader, random, lent, 1, [1e-3, 1.0, 1.0 / 3.0, 6.0], &[i0, i1, n0]);
     readings(reader, random, lent, 60 * many);
     damages(reader, random, lent, most.div_ceil(6));
-
-    let lent = [&spheres[0], &spheres[1]];
-    table(reader, random, lent, 1, [0.5, 4.5, 1.0, 6.0], &[n0, i0, n1, i1]);
-    empty_spans(reader, random, lent, 12 * many);
-    offsets_beyond(reader, random, lent);
+    empty_spans(reader, random, [&spheres[0], &spheres[1]], 12 * many);
+    offsets_beyond(reader, random, [&spheres[0], &spheres[1]]);
 }

@@ -70,7 +70,7 @@ pub struct Damage {
     pub table: Table,
 }
 
-// Where the readings go: to a file for a program of the gate, or to the static library.
+// Where the readings go: to a file of tests/replay, or to the static library.
 pub trait Sink {
     // Meshes of levels 0 and 1, and the lists with their locators.
     fn lend(&mut self, meshes: [&Mesh; 2], lists: &Lists);
@@ -105,7 +105,7 @@ pub fn same_as_rust(rust: &Table6DAdaptive<f32>, t: &Table, q: &Query, energy: f
     }
 }
 
-// What the program counts, in the order in which it writes them.
+// What the replay counts, in the order in which it prints them.
 pub const COUNTED: [&str; 11] = [
     "meshes and their locators",
     "files read",

@@ -1,5 +1,5 @@
-// Writes the readings that the program `readings` replays: tables that the Rust's `build` packs, with what its `lookup` answers; then damaged files, meshes and locators, and tables made by a host, with the
-// answers of document 01's text (reading.rs). The first argument names the file, and what the program writes where all agrees goes to the second. Prints which cases occur, and fails where one is missing.
+// Writes the readings that tests/replay has: tables that the Rust's `build` packs, with what its `lookup` answers; then damaged files, meshes and locators, and tables made by a host, with the
+// answers of document 01's text (reading.rs). The first argument names the file, and what the replay prints where all agrees goes to the second. Prints which cases occur, and fails where one is missing.
 // A third argument, a number, gives other readings of the same kinds.
 mod lines;
 #[allow(dead_code)]

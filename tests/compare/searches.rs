@@ -43,6 +43,25 @@ impl Tally {
             None => self.directions.push((kind, 1)),
         }
     }
+
+    fn print(&self) {
+        println!("locator: {} meshes, {} list entries, {} refused calls", self.meshes, self.entries, self.refusals);
+        println!("  of vertices whose cell number saturates: {}", self.saturated);
+        let all: usize = self.directions.iter().map(|d| d.1).sum();
+        println!("find_nearest_vertex and locate: {all} directions");
+        for (kind, count) in &self.directions {
+            println!("  {count} {kind}");
+        }
+        println!("  of these {} with an empty cell (20), {} with several nearest vertices,", self.empty, self.tied);
+        println!("  {} where no face fits, {} with a weight that is infinite or a NaN", self.unfit, self.strange);
+        println!("find_nearest_vertex and locate over damaged lists: {} directions", self.damaged.values().sum::<usize>());
+        for ((number, words), count) in &self.damaged {
+            println!("  {count} answered {number}: {words}");
+        }
+        for words in DAMAGED {
+            assert!(self.damaged.keys().any(|case| case.1 == words), "nothing was compared of this case: {words}");
+        }
+    }
 }
 
 fn words(xs: &[f64]) -> String {
@@ -444,21 +463,6 @@ fn main() {
             compare(&strange_points(&base, kind, &mut random), 200, &mut random, &mut tally);
         }
     }
-    println!("locator: {} meshes, {} list entries, {} refused calls", tally.meshes, tally.entries, tally.refusals);
-    println!("  of vertices whose cell number saturates: {}", tally.saturated);
-    let all: usize = tally.directions.iter().map(|d| d.1).sum();
-    println!("find_nearest_vertex and locate: {all} directions");
-    for (kind, count) in &tally.directions {
-        println!("  {count} {kind}");
-    }
-    println!("  of these {} with an empty cell (20), {} with several nearest vertices,", tally.empty, tally.tied);
-    println!("  {} where no face fits, {} with a weight that is infinite or a NaN", tally.unfit, tally.strange);
-    println!("find_nearest_vertex and locate over damaged lists: {} directions", tally.damaged.values().sum::<usize>());
-    for ((number, words), count) in &tally.damaged {
-        println!("  {count} answered {number}: {words}");
-    }
-    for words in DAMAGED {
-        assert!(tally.damaged.keys().any(|case| case.1 == words), "nothing was compared of this case: {words}");
-    }
+    tally.print();
     println!("compare: all equal");
 }

@@ -41,14 +41,14 @@ mod worlds;
 use arguments::arguments;
 use bounds::{drawn, CASES};
 use caller::Caller;
-use icotable::{Grid, Table};
+use icotable::{Grid, Query, Table};
 use library::{builder_of, file_words, lists_of, same_reading, same_table, Library, Readings};
 use lines::bits;
 use lists::{needed_lengths, wrong, wrong_mesh, WRONG, WRONG_MESH};
 use meshes::Random;
 use oracle::FaceGrid;
 use pack::packed;
-use queries::{asked, queries_at_ends, query, query_at};
+use queries::{asked, query, query_at};
 use reader::{same_as_rust, Reader};
 use refusals::{Held, Lists};
 use report::differ;
@@ -255,7 +255,9 @@ fn readings(world: &World, t: &Table, table: &rust::Table6DAdaptive<f32>, file: 
     let ends = [&world.meshes[0], world.meshes.last().unwrap()];
     let lent = icotable::Lent { file, ..world.lists.lent(&world.lists.lengths()) };
     let mut found = [0; 21];
-    let mut queries = queries_at_ends(t, ends, random);
+    // at both ends of the distances and one float beside them, then anywhere
+    let distances = [t.grid.rmin, t.grid.rmax].into_iter().flat_map(|r| [r.next_down(), r, r.next_up()]);
+    let mut queries: Vec<Query> = distances.map(|r| Query { r, ..query(t, ends, random) }).collect();
     for _ in 0..many {
         queries.push(if random.below(3) == 0 { query(t, ends, random) } else { query_at(t, random.below(t.rows as usize) as u64, ends, random) });
     }

@@ -1,5 +1,6 @@
 -- What an accepted settle may count on, and what it gives. Assumes nothing.
 use mathlib.Core.Path.{_≡_, refl, ap}
+use Rattle.lists.proofs.Asking.{ask-yes, first-yes}
 use mathlib.Core.Bool.{cond}
 use mathlib.Core.List.{List, [], _∷_, map}
 use Prim.Native.Nat.{ℕ, suc}
@@ -10,31 +11,31 @@ use lib.ListN.{length}
 use lib.Ieee.{Float}
 use borrow.Author.Tests.{ltb-true}
 use Rattle.mesh.specs.Levels.{vertexCount, verticesBelow}
-use Rattle.mesh.specs.Mesh.{Mesh, levelPart}
+use Rattle.mesh.specs.Mesh.{Mesh, levelPart, meshOf}
 use Rattle.mesh.proofs.Laws.{below-le}
 use Rattle.mesh.proofs.Kept.{held}
 use Rattle.rows.specs.Rows.{Rows, Row, scalar, repulsive, mesh}
 use Rattle.settling.specs.Gradient.{allRepulsive, gradient}
 use Rattle.settling.specs.Settling.{byGradient, verdict, verdictOf, verdicts, drops, settledSlice}
-use Rattle.questions.specs.Lists.{Lists, slab, sliceAt}
+use Rattle.builder.specs.BuilderLists.{BuilderLists, slab, sliceAt}
 use Rattle.builder.specs.Calls.{settledValues, settledLists, SettleOut, settleAccepted}
-use Rattle.builder.specs.Steps.{ReadyIn, partLinks, tallyFrom, start, dropsBy, droppedBy}
-use Rattle.questions.specs.declared.Builder.{Builder}
+use Rattle.builder.specs.Internal.{SettleReadyIn, partLinks, tallyFrom, start, dropsBy, droppedBy}
+use Rattle.builder.specs.declared.Builder.{Builder}
 use Rattle.builder.specs.declared.Settled.the-variants.{Accepted as Settles}
 use Rattle.settling.specs.declared.Tally.{Tally}
 use Rattle.settling.specs.declared.Verdict.the-variants.{Blocked}
-use Rattle.mesh.proofs.Sizes.{place}
-use Rattle.questions.proofs.Laws.{ask-yes, first-yes, meshed}
-use Rattle.questions.specs.Refusals.{meshedRefusal, settleRefusal}
+use Rattle.lists.proofs.Places.{place}
+use Rattle.builder.proofs.Laws.{meshed}
+use Rattle.builder.specs.Refusals.{meshedRefusal, settleRefusal}
 use Rattle.settling.proofs.Slopes.{gradient-links}
 use Rattle.builder.proofs.Changes.{tally-gradient, tally-settled, tally-clear}
 
 -- ---- what an accepted settle may count on
 
 abbrev linksOf : Mesh → Mesh
-linksOf ms = record { vertices = []; counts = ms .counts; neighbours = ms .neighbours; angles = ms .angles }
+linksOf ms = meshOf [] (ms .counts) (ms .neighbours) (ms .angles)
 
-pub ready : (b : Builder) (ms : Mesh) (l : Lists) (ri : ℕ) → settleRefusal b ms l ri ≡ 0 → ReadyIn b (linksOf ms) l ri
+pub ready : (b : Builder) (ms : Mesh) (l : BuilderLists) (ri : ℕ) → settleRefusal b ms l ri ≡ 0 → SettleReadyIn b (linksOf ms) l ri
 unfolding settleRefusal meshedRefusal
 ready b ms l ri e =
     let g = b .grid in
@@ -75,12 +76,12 @@ map-same : {A B : Type 0} (f g : A → B) (l : List A) → ((x : A) → f x ≡ 
 map-same f g [] h = refl
 map-same f g (x ∷ l) h = rw (h x, map-same f g l h)
 
-pub given : (b : Builder) (ms : Mesh) (l : Lists) (ri : ℕ) (t : Tally) (rows : Rows)
+pub settle-is : (b : Builder) (ms : Mesh) (l : BuilderLists) (ri : ℕ) (t : Tally) (rows : Rows)
     → (let f = verdictOf (b .grid .threshold) (b .grid .beta) (partLinks (b .level) (linksOf ms)) (vertexCount (b .level)) in
     (t ≡ tallyFrom f (b .level) start (sliceAt b l ri)) × (rows ≡ settledLists (b .level) (l .rows) (slab (b .grid) ri 0) (map f (sliceAt b l ri))))
     → _≡_ {A = SettleOut} (record { answer = settledValues b (Settles (droppedBy b t) (t .gradient)); lists = record { store = l .store; rows = rows } }) (settleAccepted b ms l ri)
 unfolding settleAccepted settledSlice droppedBy dropsBy drops verdicts
-given b ms l ri t rows h =
+settle-is b ms l ri t rows h =
     let c = b .level in
     let rs = sliceAt b l ri in
     let f = verdictOf (b .grid .threshold) (b .grid .beta) (partLinks c (linksOf ms)) (vertexCount c) in

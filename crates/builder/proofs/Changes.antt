@@ -1,17 +1,16 @@
 -- A slice of slabs added up, and the level after it. Assumes nothing.
 use mathlib.Core.Path.{_≡_, refl, sym, _∙_}
-use mathlib.Core.Bool.{Bool, true, false, _&&_, _||_}
+use mathlib.Core.Bool.{true, _&&_, _||_, and-true, or-false, and-assoc, or-assoc, and-eq-true-iff}
 use mathlib.Core.List.{List, [], _∷_, map}
 use Prim.Native.Nat.{ℕ, _<_}
 use lib.Dec.{ltb}
 use lib.Ieee.{Float, lt}
 use borrow.Author.Tests.{ltb-true}
-use Rattle.ieee.proofs.Fields.{both-true}
-use Rattle.mesh.specs.Lists.{every}
+use Rattle.lists.specs.Lists.{every}
 use Rattle.rows.specs.Rows.{Row}
 use Rattle.settling.specs.Settling.{newRow, inPlaceOf, settles, someSettle, largestFrom, settledRows, notRepulsive}
-use Rattle.settling.specs.Steps.{tallied}
-use Rattle.builder.specs.Steps.{tallyFrom, dropsBy}
+use Rattle.settling.specs.Internal.{tallied}
+use Rattle.builder.specs.Internal.{tallyFrom, dropsBy}
 use Rattle.settling.specs.declared.Tally.{Tally}
 use Rattle.settling.specs.declared.Verdict.{Verdict}
 
@@ -21,36 +20,20 @@ module _ (f : Row Float → Verdict) (c : ℕ) where
   tally-gradient t [] = refl
   tally-gradient t (r ∷ rs) = tally-gradient (tallied c t r (f r)) rs
 
-  or-assoc : (a b d : Bool) → (a || b) || d ≡ a || (b || d)
-  or-assoc true b d = refl
-  or-assoc false b d = refl
-
   pub tally-settled : (t : Tally) (rs : List (Row Float)) → tallyFrom f c t rs .settled ≡ t .settled || someSettle (map f rs)
   unfolding tallyFrom tallied someSettle
   tally-settled t [] = sym (or-false (t .settled))
-    where
-      or-false : (a : Bool) → a || false ≡ a
-      or-false true = refl
-      or-false false = refl
   tally-settled t (r ∷ rs) = tally-settled (tallied c t r (f r)) rs ∙ or-assoc (t .settled) (settles (f r)) (someSettle (map f rs))
-
-  and-assoc : (a b d : Bool) → (a && b) && d ≡ a && (b && d)
-  and-assoc true b d = refl
-  and-assoc false b d = refl
 
   pub tally-clear : (t : Tally) (rs : List (Row Float)) → tallyFrom f c t rs .clear ≡ t .clear && every notRepulsive (settledRows c rs (map f rs))
   unfolding tallyFrom tallied every settledRows
   tally-clear t [] = sym (and-true (t .clear))
-    where
-      and-true : (a : Bool) → a && true ≡ a
-      and-true true = refl
-      and-true false = refl
   tally-clear t (r ∷ rs) = tally-clear (tallied c t r (f r)) rs ∙ and-assoc (t .clear) (notRepulsive (inPlaceOf r (newRow c (f r)))) (every notRepulsive (settledRows c rs (map f rs)))
 
 -- the level drops only where it is above 0
 pub drops-above : (t : Tally) (threshold : Float) (level : ℕ) → dropsBy t threshold level ≡ true → 0 < level
 unfolding dropsBy
 drops-above t threshold level e =
-    let a = both-true (t .settled) (t .clear && (lt (t .gradient) threshold && ltb 0 level)) e .1 in
-    let b = both-true (t .clear) (lt (t .gradient) threshold && ltb 0 level) a .1 in
-    ltb-true 0 level (both-true (lt (t .gradient) threshold) (ltb 0 level) b .1)
+    let a = and-eq-true-iff (t .settled) (t .clear && (lt (t .gradient) threshold && ltb 0 level)) .0 e .1 in
+    let b = and-eq-true-iff (t .clear) (lt (t .gradient) threshold && ltb 0 level) .0 a .1 in
+    ltb-true 0 level (and-eq-true-iff (lt (t .gradient) threshold) (ltb 0 level) .0 b .1)

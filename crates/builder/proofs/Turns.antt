@@ -1,6 +1,6 @@
 -- A turn of the loop over a slice. Assumes nothing.
 use mathlib.Core.Path.{_≡_, refl, sym, _∙_}
-use mathlib.Core.Bool.{Bool, true, false, cond}
+use mathlib.Core.Bool.{Bool, true, false, cond, and-eq-true-iff}
 use mathlib.Core.List.{List, _∷_, map}
 use mathlib.Core.Option.{Option, none, some}
 use Prim.Native.Nat.{ℕ, zero, suc, _+_, _*_, _-_, _≤_, _<_}
@@ -10,17 +10,16 @@ use lib.ListN.{length, getD, take, drop, length-set}
 use lib.Seq.{getD-set-other}
 use lib.Ieee.{Float, binary32, ofBits}
 use borrow.Author.Tests.{eqb-true}
-use Rattle.ieee.proofs.Fields.{both-true}
-use Rattle.mesh.specs.Lists.{every}
+use Rattle.lists.specs.Lists.{every}
 use Rattle.mesh.specs.Levels.{vertexCount, per}
 use Rattle.rows.specs.declared.SlabResolution.{SlabResolution}
 use Rattle.rows.specs.declared.SlabResolution.the-variants.{Scalar, Mesh, Repulsive}
 use Rattle.rows.specs.Rows.{Rows, kindOf, levelOf, valueOf, resolutionOf, resolutionAt, replaced, Row, rowWith}
 use Rattle.settling.specs.Settling.{newRow, fromLevel, replacedBy}
-use Rattle.questions.specs.Lists.{Lists, storePlace, rowAt, rowsFrom}
+use Rattle.builder.specs.BuilderLists.{BuilderLists, storePlace, rowAt, rowsFrom}
 use Rattle.builder.specs.Calls.{settledLists}
-use Rattle.settling.specs.Steps.{tallied}
-use Rattle.builder.specs.Steps.{tallyFrom}
+use Rattle.settling.specs.Internal.{tallied}
+use Rattle.builder.specs.Internal.{tallyFrom}
 use Rattle.settling.specs.declared.Tally.{Tally}
 use Rattle.settling.specs.declared.Verdict.{Verdict}
 
@@ -34,7 +33,7 @@ level-by false true x v c b e h = refl
 level-by false false x v c b e h = let same : v ≡ c = eqb-true v c h in rw same
 
 -- energies that a row holds are those of the current level
-pub row-energies : (top : ℕ) (l : Lists) (s c : ℕ) → fromLevel c (rowAt top l s) ≡ true
+pub row-energies : (top : ℕ) (l : BuilderLists) (s c : ℕ) → fromLevel c (rowAt top l s) ≡ true
     → rowAt top l s ≡ rowWith (resolutionAt (l .rows) s) (take (per c) (drop (storePlace top s) (l .store)))
 unfolding rowAt resolutionAt resolutionOf
 row-energies top l s c h =
@@ -53,7 +52,7 @@ unfolding resolutionAt
 same-row a b s h = rw (h .kinds, h .levels, h .values)
 
 -- the row that a turn reads is the row at entry
-pub read-row : (top c s apart : ℕ) (l : Lists) (now : Rows) → apart ≡ per top → Same now (l .rows) s → fromLevel c (rowAt top l s) ≡ true
+pub read-row : (top c s apart : ℕ) (l : BuilderLists) (now : Rows) → apart ≡ per top → Same now (l .rows) s → fromLevel c (rowAt top l s) ≡ true
     → rowWith (resolutionAt now s) (take (vertexCount c * vertexCount c) (drop (s * apart) (l .store))) ≡ rowAt top l s
 unfolding per
 read-row top c s apart l now e h g = rw (e, same-row now (l .rows) s h) (sym (row-energies top l s c g))
@@ -71,7 +70,7 @@ past r at s (some x) h =
 
 -- ---- the rows of a slice, one after another
 
-rows-more : (top : ℕ) (l : Lists) (base n i : ℕ) → i < n → rowsFrom top l (base + i) (n - i) ≡ rowAt top l (base + i) ∷ rowsFrom top l (base + (i + 1)) (n - (i + 1))
+rows-more : (top : ℕ) (l : BuilderLists) (base n i : ℕ) → i < n → rowsFrom top l (base + i) (n - i) ≡ rowAt top l (base + i) ∷ rowsFrom top l (base + (i + 1)) (n - (i + 1))
 unfolding rowsFrom
 rows-more top l base n i h =
     let e : n - i ≡ suc (n - (i + 1)) = omega arith in
@@ -79,17 +78,17 @@ rows-more top l base n i h =
     rw (e, d)
 
 -- a test that every row of the slice passes
-pub row-passes : (p : Row Float → Bool) (top : ℕ) (l : Lists) (s n i : ℕ) → i < n → every p (rowsFrom top l s n) ≡ true → p (rowAt top l (s + i)) ≡ true
+pub row-passes : (p : Row Float → Bool) (top : ℕ) (l : BuilderLists) (s n i : ℕ) → i < n → every p (rowsFrom top l s n) ≡ true → p (rowAt top l (s + i)) ≡ true
 unfolding every rowsFrom
 row-passes p top l s zero i h e = absurd (omega arith)
-row-passes p top l s (suc n) zero h e = let z : s + 0 ≡ s = omega arith in rw z (both-true (p (rowAt top l s)) (every p (rowsFrom top l (suc s) n)) e .0)
+row-passes p top l s (suc n) zero h e = let z : s + 0 ≡ s = omega arith in rw z (and-eq-true-iff (p (rowAt top l s)) (every p (rowsFrom top l (suc s) n)) .0 e .0)
 row-passes p top l s (suc n) (suc i) h e =
     let z : s + suc i ≡ suc s + i = omega arith in
-    rw z (row-passes p top l (suc s) n i (omega arith) (both-true (p (rowAt top l s)) (every p (rowsFrom top l (suc s) n)) e .1))
+    rw z (row-passes p top l (suc s) n i (omega arith) (and-eq-true-iff (p (rowAt top l s)) (every p (rowsFrom top l (suc s) n)) .0 e .1))
 
 -- ---- the loop
 
-module _ (f : Row Float → Verdict) (c top base n : ℕ) (l : Lists) (start : Tally) where
+module _ (f : Row Float → Verdict) (c top base n : ℕ) (l : BuilderLists) (start : Tally) where
   left : ℕ → List (Row Float)
   left i = rowsFrom top l (base + i) (n - i)
 
@@ -111,7 +110,7 @@ module _ (f : Row Float → Verdict) (c top base n : ℕ) (l : Lists) (start : T
         in-slice = omega arith;
         tally = rw (b, m) refl;
         rows = rw (b, m) refl;
-        same = λ s h. record { kinds = refl; levels = refl; values = refl };
+        same = λ s h. (record { kinds = refl; levels = refl; values = refl });
         kinds-size = refl;
         levels-size = refl;
         values-size = refl;

@@ -5,19 +5,19 @@ use Prim.Native.Nat.{ℕ, suc, _*_}
 use lib.ListN.{replicate}
 use lib.Dec.{eqb}
 use lib.Ieee.{Float}
-use Rattle.mesh.specs.Lists.{put}
+use Rattle.lists.specs.Lists.{put}
 use Rattle.mesh.specs.Levels.{per}
 use Rattle.mesh.specs.Mesh.{Mesh}
 use Rattle.grid.specs.Settings.{counted}
 use Rattle.grid.specs.declared.Grid.{Grid}
 use Rattle.rows.specs.declared.SlabResolution.the-variants.{Mesh as toMesh}
-use Rattle.rows.specs.Rows.{Rows, replaced}
+use Rattle.rows.specs.Rows.{Rows, replaced, rowsOf}
 use Rattle.settling.specs.Gradient.{zero}
 use Rattle.settling.specs.Settling.{newRow, replacedBy, verdicts, settledSlice}
 use Rattle.settling.specs.declared.Verdict.{Verdict}
-use Rattle.questions.specs.Lists.{Lists, slabs, slab, storePlace, sliceAt}
-use Rattle.questions.specs.Refusals.{meshedRefusal, setRefusal, settleRefusal}
-use Rattle.questions.specs.declared.Builder.{Builder}
+use Rattle.builder.specs.BuilderLists.{BuilderLists, slabs, slab, storePlace, sliceAt}
+use Rattle.builder.specs.Refusals.{meshedRefusal, setRefusal, settleRefusal}
+use Rattle.builder.specs.declared.Builder.{Builder}
 use Rattle.builder.specs.declared.Built.{Built}
 use Rattle.builder.specs.declared.Built.the-variants.{Accepted as Builds, Refused as NotBuilt}
 use Rattle.builder.specs.declared.Settled.{Settled}
@@ -54,21 +54,22 @@ noBuilder =
 unfoldable pub freshBuilder : Grid → ℕ → Builder
 freshBuilder g top = record { grid = counted g; top = top; level = top }
 
--- "fresh fills rows with Scalar 0.0 and the store with 0.0"
-unfoldable pub filled : Builder → Lists → Lists
+-- "fresh fills rows with Scalar 0.0 and the store with 0.0" (S6.2)
+unfoldable pub filled : Builder → BuilderLists → BuilderLists
 filled b l =
     let n = slabs (b .grid) in
     record {
       store = put (l .store) 0 (replicate (n * per (b .top)) zero);
-      rows = record { kinds = put (l .rows .kinds) 0 (replicate n 0); levels = put (l .rows .levels) 0 (replicate n 0); values = put (l .rows .values) 0 (replicate n 0) };
+      rows = rowsOf (put (l .rows .kinds) 0 (replicate n 0)) (put (l .rows .levels) 0 (replicate n 0)) (put (l .rows .values) 0 (replicate n 0));
     }
 
 -- what fresh and set leave: the answer and every list that is lent to be altered
 pub record BuiltOut : Type 0 where
   pub answer : BuiltValues
-  pub lists : Lists
+  pub lists : BuilderLists
 
-unfoldable pub freshOut : Grid → ℕ → Mesh → Lists → BuiltOut
+-- S6.2
+unfoldable pub freshOut : Grid → ℕ → Mesh → BuilderLists → BuiltOut
 freshOut g top m l =
     let b = freshBuilder g top in
     let r = meshedRefusal b m l in
@@ -77,10 +78,10 @@ freshOut g top m l =
 -- ---- set
 
 -- "Set writes the first n·n places of its slab in the store and the slab's others stay"; "the row becomes Mesh, current level, flag true"
-unfoldable pub setLists : Builder → Lists → ℕ → List Float → Lists
+unfoldable pub setLists : Builder → BuilderLists → ℕ → List Float → BuilderLists
 setLists b l s e = record { store = put (l .store) (storePlace (b .top) s) e; rows = replaced (l .rows) s (toMesh (b .level) true) }
 
-unfoldable pub setOut : Builder → Lists → ℕ → ℕ → List Float → BuiltOut
+unfoldable pub setOut : Builder → BuilderLists → ℕ → ℕ → List Float → BuiltOut
 setOut b l ri oi e =
     let r = setRefusal b l ri oi e in
     cond (eqb r 0) (record { answer = builtValues b (Builds b); lists = setLists b l (slab (b .grid) ri oi) e }) (record { answer = builtValues b (NotBuilt r); lists = l })
@@ -95,9 +96,9 @@ settledLists c r s (v ∷ vs) = settledLists c (replacedBy r s (newRow c v)) (su
 -- what settle leaves; "settle leaves the store"
 pub record SettleOut : Type 0 where
   pub answer : SettledValues
-  pub lists : Lists
+  pub lists : BuilderLists
 
-unfoldable pub settleAccepted : Builder → Mesh → Lists → ℕ → SettleOut
+unfoldable pub settleAccepted : Builder → Mesh → BuilderLists → ℕ → SettleOut
 settleAccepted b m l ri =
     let rs = sliceAt b l ri in
     let vs = verdicts (b .grid) m (b .level) rs in
@@ -107,7 +108,7 @@ settleAccepted b m l ri =
       lists = record { store = l .store; rows = settledLists (b .level) (l .rows) (slab (b .grid) ri 0) vs };
     }
 
-unfoldable pub settleOut : Builder → Mesh → Lists → ℕ → SettleOut
+unfoldable pub settleOut : Builder → Mesh → BuilderLists → ℕ → SettleOut
 settleOut b m l ri =
     let r = settleRefusal b m l ri in
     cond (eqb r 0) (settleAccepted b m l ri) (record { answer = settledValues b (NotSettled r); lists = l })

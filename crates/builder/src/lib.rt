@@ -1,12 +1,24 @@
 // The builder of a table, by value; its store, rows and meshes are lent.
 ghost use mathlib.Core.Path.{_≡_};
+ghost use Rattle.mesh.specs.Mesh.{meshOf};
+ghost use Rattle.builder.specs.BuilderLists.{listsOf};
 ghost use Rattle.builder.specs.Calls.{BuiltOut, SettleOut, builtValues, settledValues, noBuilder, freshBuilder, freshOut, setOut, settleOut};
 use grid::Grid;
-use questions::Builder;
 use rows::SlabResolution;
 
 mod copies;
+mod questions;
 mod slices;
+
+pub use questions::meshed_refusal;
+
+// The settings, the top level and the current one.
+#[repr(C)]
+pub struct Builder {
+    pub grid: Grid,
+    pub top: u64,
+    pub level: u64,
+}
 
 // What fresh and set answer.
 pub enum Built {
@@ -44,9 +56,9 @@ pub fn fresh(
     angles: &[f64],
 ) -> Built
     ensures { λ r. ⌜ _≡_ {A = BuiltOut}
-        (record { answer = builtValues noBuilder r; lists = record { store = now (store .exit); rows = record { kinds = now (kinds .exit); levels = now (levels .exit); values = now (values .exit) } } })
-        (freshOut g top (record { vertices = now (vertices .entry); counts = now (counts .entry); neighbours = now (neighbours .entry); angles = now (angles .entry) })
-        (record { store = now (store .entry); rows = record { kinds = now (kinds .entry); levels = now (levels .entry); values = now (values .entry) } })) ⌝ }
+        (record { answer = builtValues noBuilder r; lists = listsOf (now (store .exit)) (now (kinds .exit)) (now (levels .exit)) (now (values .exit)) })
+        (freshOut g top (meshOf (now (vertices .entry)) (now (counts .entry)) (now (neighbours .entry)) (now (angles .entry)))
+        (listsOf (now (store .entry)) (now (kinds .entry)) (now (levels .entry)) (now (values .entry)))) ⌝ }
 {
     let b = fresh_builder(g, top);
     let no = questions::meshed_refusal(
@@ -84,8 +96,8 @@ pub fn set(
     energies: &[f64],
 ) -> Built
     ensures { λ r. ⌜ _≡_ {A = BuiltOut}
-        (record { answer = builtValues b r; lists = record { store = now (store .exit); rows = record { kinds = now (kinds .exit); levels = now (levels .exit); values = now (values .exit) } } })
-        (setOut b (record { store = now (store .entry); rows = record { kinds = now (kinds .entry); levels = now (levels .entry); values = now (values .entry) } }) ri oi (now (energies .entry))) ⌝ }
+        (record { answer = builtValues b r; lists = listsOf (now (store .exit)) (now (kinds .exit)) (now (levels .exit)) (now (values .exit)) })
+        (setOut b (listsOf (now (store .entry)) (now (kinds .entry)) (now (levels .entry)) (now (values .entry))) ri oi (now (energies .entry))) ⌝ }
 {
     let no = questions::set_refusal(
         b,
@@ -129,9 +141,9 @@ pub fn settle(
     ri: u64,
 ) -> Settled
     ensures { λ r. ⌜ _≡_ {A = SettleOut}
-        (record { answer = settledValues b r; lists = record { store = now (store .entry); rows = record { kinds = now (kinds .exit); levels = now (levels .exit); values = now (values .exit) } } })
-        (settleOut b (record { vertices = now (vertices .entry); counts = now (counts .entry); neighbours = now (neighbours .entry); angles = now (angles .entry) })
-        (record { store = now (store .entry); rows = record { kinds = now (kinds .entry); levels = now (levels .entry); values = now (values .entry) } }) ri) ⌝ }
+        (record { answer = settledValues b r; lists = listsOf (now (store .entry)) (now (kinds .exit)) (now (levels .exit)) (now (values .exit)) })
+        (settleOut b (meshOf (now (vertices .entry)) (now (counts .entry)) (now (neighbours .entry)) (now (angles .entry)))
+        (listsOf (now (store .entry)) (now (kinds .entry)) (now (levels .entry)) (now (values .entry))) ri) ⌝ }
 {
     let no = questions::settle_refusal(
         b,

@@ -3,10 +3,12 @@ ghost use mathlib.Core.Path.{_≡_};
 ghost use mathlib.Core.List.{[]};
 ghost use Prim.Native.Nat.{_+_, _*_, _≤_};
 ghost use lib.ListN.{length, take, drop};
+ghost use Rattle.mesh.specs.Mesh.{meshOf};
+ghost use Rattle.builder.specs.BuilderLists.{listsOf};
 ghost use Rattle.mesh.specs.Levels.{vertexCount};
-ghost use Rattle.rows.specs.Rows.{resolutionAt, rowWith};
-ghost use Rattle.builder.specs.Steps.{Ready, ReadyIn, partLinks, settledSlab, settledRows, dropsBy, droppedBy};
-use questions::Builder;
+ghost use Rattle.rows.specs.Rows.{resolutionAt, rowWith, rowsOf};
+ghost use Rattle.builder.specs.Internal.{SettleReady, SettleReadyIn, partLinks, settledSlab, SliceSettled, dropsBy, droppedBy};
+use crate::Builder;
 use settling::Tally;
 
 // Settles slab s, whose energies are at place `at` of the store.
@@ -26,10 +28,10 @@ fn settle_slab(
     t: Tally,
 ) -> Tally
     requires { ⌜ (level ≤ 15) × (at + vertexCount level * vertexCount level ≤ length (now store)) ⌝ }
-    ensures { λ r. ⌜ settledSlab threshold beta (record { vertices = []; counts = now (counts .entry); neighbours = now (neighbours .entry); angles = now (angles .entry) }) level t
-        (rowWith (resolutionAt (record { kinds = now (kinds .entry); levels = now (levels .entry); values = now (values .entry) }) s) (take (vertexCount level * vertexCount level) (drop at (now (store .entry))))) s
-        (record { kinds = now (kinds .entry); levels = now (levels .entry); values = now (values .entry) })
-        r (record { kinds = now (kinds .exit); levels = now (levels .exit); values = now (values .exit) }) ⌝ }
+    ensures { λ r. ⌜ settledSlab threshold beta (meshOf [] (now (counts .entry)) (now (neighbours .entry)) (now (angles .entry))) level t
+        (rowWith (resolutionAt (rowsOf (now (kinds .entry)) (now (levels .entry)) (now (values .entry))) s) (take (vertexCount level * vertexCount level) (drop at (now (store .entry))))) s
+        (rowsOf (now (kinds .entry)) (now (levels .entry)) (now (values .entry)))
+        r (rowsOf (now (kinds .exit)) (now (levels .exit)) (now (values .exit))) ⌝ }
 {
     let row = rows::resolution_at(kinds, levels, values, s);
     let n = mesh::vertex_count(level);
@@ -60,10 +62,10 @@ pub(crate) fn settle_rows(
     levels: &mut [u8],
     values: &mut [u32],
 ) -> Tally
-    requires { ⌜ Ready b (record { store = now store; rows = record { kinds = now kinds; levels = now levels; values = now values } }) ri ⌝ }
-    ensures { λ r. ⌜ settledRows b (record { vertices = []; counts = now (counts .entry); neighbours = now (neighbours .entry); angles = now (angles .entry) })
-        (record { store = now (store .entry); rows = record { kinds = now (kinds .entry); levels = now (levels .entry); values = now (values .entry) } }) ri
-        r (record { kinds = now (kinds .exit); levels = now (levels .exit); values = now (values .exit) }) ⌝ }
+    requires { ⌜ SettleReady b (listsOf (now store) (now kinds) (now levels) (now values)) ri ⌝ }
+    ensures { λ r. ⌜ SliceSettled b (meshOf [] (now (counts .entry)) (now (neighbours .entry)) (now (angles .entry)))
+        (listsOf (now (store .entry)) (now (kinds .entry)) (now (levels .entry)) (now (values .entry))) ri
+        r (rowsOf (now (kinds .exit)) (now (levels .exit)) (now (values .exit))) ⌝ }
 {
     let threshold = b.grid.threshold;
     let beta = b.grid.beta;
@@ -112,11 +114,11 @@ pub(crate) fn settle_slice(
     levels: &mut [u8],
     values: &mut [u32],
 ) -> Tally
-    requires { ⌜ ReadyIn b (record { vertices = []; counts = now counts; neighbours = now neighbours; angles = now angles })
-        (record { store = now store; rows = record { kinds = now kinds; levels = now levels; values = now values } }) ri ⌝ }
-    ensures { λ r. ⌜ settledRows b (partLinks (b .level) (record { vertices = []; counts = now (counts .entry); neighbours = now (neighbours .entry); angles = now (angles .entry) }))
-        (record { store = now (store .entry); rows = record { kinds = now (kinds .entry); levels = now (levels .entry); values = now (values .entry) } }) ri
-        r (record { kinds = now (kinds .exit); levels = now (levels .exit); values = now (values .exit) }) ⌝ }
+    requires { ⌜ SettleReadyIn b (meshOf [] (now counts) (now neighbours) (now angles))
+        (listsOf (now store) (now kinds) (now levels) (now values)) ri ⌝ }
+    ensures { λ r. ⌜ SliceSettled b (partLinks (b .level) (meshOf [] (now (counts .entry)) (now (neighbours .entry)) (now (angles .entry))))
+        (listsOf (now (store .entry)) (now (kinds .entry)) (now (levels .entry)) (now (values .entry))) ri
+        r (rowsOf (now (kinds .exit)) (now (levels .exit)) (now (values .exit))) ⌝ }
 {
     let level = b.level as u8;
     let a = mesh::vertices_below(level) as usize;

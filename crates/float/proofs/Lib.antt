@@ -8,3 +8,4 @@ pub mod Truncation
 pub mod Powers
 pub mod Casts
 pub mod Remainders
+pub mod Order

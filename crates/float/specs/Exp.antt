@@ -6,14 +6,14 @@ use lib.IntN.{ℤ}
 use lib.Ieee.{Float, nan, inf, binary64, up, down, round, add, sub, mul, lt, isNan, ofBits, toSigned}
 use Rattle.float.specs.Whole.{floored}
 
--- 2 ^ k, rounded: an infinity above 2 ^ 1023, and 0 below 2 ^ -1074
+-- 2 ^ k, rounded: an infinity above 2 ^ 1023, and 0 below 2 ^ -1074 (S2.13)
 unfoldable pub twoTo : ℤ → Float
 twoTo k = round binary64 false (up k) (down k)
 
 abbrev pub bits : ℕ → Float
 bits = ofBits binary64
 
--- 1/j! for j from 12 down to 0
+-- 1/j! for j from 12 down to 0 (S2.13)
 abbrev pub inverseFactorials : List ℕ
 inverseFactorials =
     0x3E21_EED8_EFF8_D898 ∷ 0x3E5A_E645_67F5_44E4 ∷ 0x3E92_7E4F_B778_9F5C ∷ 0x3EC7_1DE3_A556_C734
@@ -21,16 +21,16 @@ inverseFactorials =
     ∷ 0x3FA5_5555_5555_5555 ∷ 0x3FC5_5555_5555_5555 ∷ 0x3FE0_0000_0000_0000 ∷ 0x3FF0_0000_0000_0000
     ∷ 0x3FF0_0000_0000_0000 ∷ []
 
--- p, then p * r + c for each c of the list
+-- p, then p * r + c for each c of the list (S2.13)
 abbrev pub horner : Float → Float → List ℕ → Float
 horner r p [] = p
 horner r p (c ∷ cs) = horner r (add binary64 (mul binary64 p r) (bits c)) cs
 
--- k = floor(y * L + 0.5)
+-- k = floor(y * L + 0.5) (S2.13)
 unfoldable pub doublings : Float → Float
 doublings y = floored (add binary64 (mul binary64 y (bits 0x3FF7_1547_652B_82FE)) (bits 0x3FE0_0000_0000_0000))
 
--- (y - k * H) - k * W
+-- (y - k * H) - k * W (S2.13)
 unfoldable pub residue : Float → Float → Float
 residue y k =
     sub binary64 (sub binary64 y (mul binary64 k (bits 0x3FE6_2E42_FEE0_0000))) (mul binary64 k (bits 0x3DEA_39EF_3579_3C76))
@@ -39,7 +39,7 @@ residue y k =
 unfoldable pub scaled : Float → Float → Float
 scaled y k = mul binary64 (horner (residue y k) (bits 0x3DE6_1246_13A8_6D09) inverseFactorials) (twoTo (toSigned 63 k))
 
--- E(y): NaN for a NaN, 0 for y below -708, infinity above 709
+-- E(y): NaN for a NaN, 0 for y below -708, infinity above 709 (S2.13)
 unfoldable pub exponential : Float → Float
 exponential y =
     cond (isNan y) nan

@@ -10,16 +10,18 @@ unfoldable pub steps : Bool → Bool → ℕ → ℤ → ℕ
 steps upward s m e = m * up e / down e + cond (unlike s upward && not (eqb (m * up e % down e) 0)) 1 0
 
 -- IEEE 754's roundToIntegralTowardPositive where `upward` is true, and roundToIntegralTowardNegative where it is false.
--- A zero keeps the sign, and infinities and NaN are themselves.
+-- A zero keeps the sign, and infinities and NaN are themselves. (S2.7)
 unfoldable pub integral : Bool → Float → Float
 unfolding steps
 integral upward nan = nan
 integral upward (inf s) = inf s
 integral upward (fin s m e) = round binary64 s (steps upward s m e) 1
 
+-- S2.7
 abbrev pub floored : Float → Float
 floored = integral false
 
+-- S2.7
 abbrev pub ceiled : Float → Float
 ceiled = integral true
 

@@ -1,1 +1,2 @@
+-- A reader has to believe `Narrows`.
 pub mod Narrows

@@ -1,40 +1,32 @@
 -- What the questions' answers say of the numbers asked about.
-use mathlib.Core.Path.{_≡_, sym, _∙_}
-use mathlib.Core.Bool.{Bool, true, false, not, _&&_}
-use Prim.Native.Nat.{ℕ, _+_, _*_, _≤_, _<_}
+use mathlib.Core.Path.{_≡_}
+use mathlib.Core.Bool.{true, _&&_, and-eq-true-iff}
+use Prim.Native.Nat.{ℕ, _*_, _≤_}
 use native.Mathlib.Nat.{mul-le-mul}
 use native.Mathlib.Omega.{arith}
 use lib.Dec.{leb, eqb}
 use lib.Ieee.Scale.{finite}
-use borrow.Author.Tests.{leb-true, not-true, not-false}
-use Rattle.ieee.proofs.Fields.{both-true}
+use borrow.Author.Tests.{leb-true}
 use Rattle.mesh.specs.Levels.{per}
 use Rattle.mesh.proofs.Laws.{per-le}
 use Rattle.grid.specs.Bins.{distanceCount, dihedralCount}
-use Rattle.grid.specs.Settings.{above, levelsHeld, binsInRange, countsHeld, ownCount, gridRange}
+use Rattle.grid.specs.Settings.{above, levelsValid, binsInRange, countsValid, gridRange}
 use Rattle.grid.specs.declared.Grid.{Grid}
-
--- a question was asked, with the answer r, and the branch on `!r` was passed by; or taken
-pub yes : {q r : Bool} → r ≡ q → not r ≡ false → q ≡ true
-yes {q} {r} e t = sym e ∙ not-false r t
-
-pub no : {q r : Bool} → r ≡ q → not r ≡ true → q ≡ false
-no {q} {r} e t = sym e ∙ not-true r t
 
 pub bins-le : (n m : ℕ) → binsInRange n m ≡ true → (n ≤ 65535) × (m ≤ 65535)
 unfolding binsInRange
 bins-le n m h =
-    let a = both-true (leb 1 n) (leb n 65535 && (leb 1 m && leb m 65535)) h .1 in
-    let b = both-true (leb n 65535) (leb 1 m && leb m 65535) a in
-    (leb-true n 65535 (b .0), leb-true m 65535 (both-true (leb 1 m) (leb m 65535) (b .1) .1))
+    let a = and-eq-true-iff (leb 1 n) (leb n 65535 && (leb 1 m && leb m 65535)) .0 h .1 in
+    let b = and-eq-true-iff (leb n 65535) (leb 1 m && leb m 65535) .0 a in
+    (leb-true n 65535 (b .0), leb-true m 65535 (and-eq-true-iff (leb 1 m) (leb m 65535) .0 (b .1) .1))
 
-pub counts-le : (g : Grid) → countsHeld g ≡ true → (g .«n_r» ≤ 65535) × (g .«n_omega» ≤ 65535)
-unfolding countsHeld
-counts-le g h = bins-le (g .«n_r») (g .«n_omega») (both-true (binsInRange (g .«n_r») (g .«n_omega»)) (eqb (g .«n_r») (distanceCount (g .rmin) (g .rmax) (g .dr)) && eqb (g .«n_omega») (dihedralCount (g .«omega_step»))) h .0)
+pub counts-le : (g : Grid) → countsValid g ≡ true → (g .«n_r» ≤ 65535) × (g .«n_omega» ≤ 65535)
+unfolding countsValid
+counts-le g h = bins-le (g .«n_r») (g .«n_omega») (and-eq-true-iff (binsInRange (g .«n_r») (g .«n_omega»)) (eqb (g .«n_r») (distanceCount (g .rmin) (g .rmax) (g .dr)) && eqb (g .«n_omega») (dihedralCount (g .«omega_step»))) .0 h .0)
 
-pub top-le : (top level : ℕ) → levelsHeld top level ≡ true → top ≤ 15
-unfolding levelsHeld
-top-le top level h = leb-true top 15 (both-true (leb top 15) (leb level top) h .0)
+pub top-le : (top level : ℕ) → levelsValid top level ≡ true → top ≤ 15
+unfolding levelsValid
+top-le top level h = leb-true top 15 (and-eq-true-iff (leb top 15) (leb level top) .0 h .0)
 
 -- the energies that slabs hold at the top level
 pub energies-le : (n m top : ℕ) → n ≤ 65535 → m ≤ 65535 → top ≤ 15 → n * m * per top ≤ 65535 * 65535 * (2562 * 2562)
@@ -49,10 +41,10 @@ pub record Ranged (g : Grid) (levels : ℕ) : Type 0 where
 
 pub ranged : (g : Grid) (levels : ℕ) → gridRange g levels ≡ true → Ranged g levels
 ranged g levels h =
-    let a = both-true (finite (g .rmin)) _ h .1 in
-    let b = both-true (above (g .dr)) _ a .1 in
-    let d = both-true (above (g .«omega_step»)) _ b .1 in
-    let e = both-true (leb 1 levels) _ d in
-    let f = both-true (leb levels 16) _ (e .1) in
-    let n = bins-le (g .«n_r») (g .«n_omega») (both-true (binsInRange (g .«n_r») (g .«n_omega»)) _ (f .1) .0) in
+    let a = and-eq-true-iff (finite (g .rmin)) _ .0 h .1 in
+    let b = and-eq-true-iff (above (g .dr)) _ .0 a .1 in
+    let d = and-eq-true-iff (above (g .«omega_step»)) _ .0 b .1 in
+    let e = and-eq-true-iff (leb 1 levels) _ .0 d in
+    let f = and-eq-true-iff (leb levels 16) _ .0 (e .1) in
+    let n = bins-le (g .«n_r») (g .«n_omega») (and-eq-true-iff (binsInRange (g .«n_r») (g .«n_omega»)) _ .0 (f .1) .0) in
     record { some = leb-true 1 levels (e .0); few = leb-true levels 16 (f .0); distances = n .0; dihedrals = n .1 }

@@ -2,5 +2,4 @@
 pub mod Laws
 pub mod Tables
 pub mod Reaches
-pub mod Order
 pub mod Short

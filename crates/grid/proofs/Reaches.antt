@@ -1,6 +1,7 @@
 -- A distance count above 0 comes only of an end above rmin. Assumes nothing.
 use mathlib.Core.Path.{_≡_, refl, sym, ap, _∙_, subst}
-use mathlib.Core.Bool.{Bool, true, false, cond, not, _&&_, _||_}
+use Rattle.lists.proofs.Counting.{chosen}
+use mathlib.Core.Bool.{Bool, true, false, cond, not, _&&_, _||_, true≢false}
 use mathlib.Core.Logic.{_⊎_, inl, inr}
 use Prim.Native.Nat.{ℕ, zero, suc, _+_, _*_, _-_, _/_, _%_, _^_, _≤_, _<_, compare}
 use native.Mathlib.Nat.{mul-pos, div-eq-of-lt}
@@ -15,9 +16,6 @@ use borrow.Author.Tests.{ltb-true, ltb-false, le-ltb, eqb-true, ne-eqb}
 use Rattle.grid.specs.Bins.{nearestBin, distanceCount}
 use Rattle.grid.specs.Settings.{above}
 
-pub clash : {A : Type 0} → true ≡ false → A
-clash e = absurd (let z : _≡_ {A = ℕ} 0 1 = ap (λ (t : Bool). cond t 0 1) e in omega arith)
-
 -- no number above 0
 abbrev Low : Float → Type 0
 Low nan = Unit {0}
@@ -31,13 +29,9 @@ unfolding odd
 odd-low d zero k l = inl refl
 odd-low d (suc q) k l = inl refl
 
-cond-low : (t : Bool) (x y : Float) → Low x → Low y → Low (cond t x y)
-cond-low true x y a b = a
-cond-low false x y a b = b
-
 units-low : (f : Format) (q k : ℕ) → Low (units f true q k)
 unfolding units
-units-low f q k = cond-low (ltb (q * 2 ^ k) (2 ^ (low f + suc (emax f)))) (odd (suc (prec f)) true q k (low f)) (inf true) (odd-low (suc (prec f)) q k (low f)) refl
+units-low f q k = chosen Low (ltb (q * 2 ^ k) (2 ^ (low f + suc (emax f)))) (odd (suc (prec f)) true q k (low f)) (inf true) (λ _. odd-low (suc (prec f)) q k (low f)) refl
 
 round-below : (f : Format) (n d : ℕ) → Low (round f true n d)
 unfolding round
@@ -66,7 +60,7 @@ sign-low false n d h k = rw (k refl) (nought false d h)
 sum-low : (s t : Bool) (a b c : ℕ) → 0 < c → below t b s a ≡ false → Low (sum binary64 s a (not t) b c)
 unfolding sum
 sum-low false false a b c h e =
-    cond-low (ltb a b) (round binary64 true (b - a) c) (round binary64 false (a - b) c) (round-low (b - a) c)
+    chosen Low (ltb a b) (round binary64 true (b - a) c) (round binary64 false (a - b) c) (λ _. round-low (b - a) c)
     (sign-low false (a - b) c h (λ z. omega (arith, ltb-false b a e)))
 sum-low false true a b c h e = sign-low false (a + b) c h (λ z. omega (arith, ltb-false 0 (b + a) e))
 sum-low true false a b c h e = round-low (a + b) c
@@ -76,7 +70,7 @@ sum-low true true a b c h e =
 -- ---- (1) an end that is not above x
 
 not-finite : {A : Type 0} → false ≡ true → A
-not-finite e = clash (sym e)
+not-finite e = absurd (true≢false (sym e))
 
 sub-low : (x y : Float) → finite x ≡ true → lt x y ≡ false → Low (sub binary64 y x)
 unfolding finite lt sub add neg
@@ -84,7 +78,7 @@ sub-low nan y f e = not-finite f
 sub-low (inf s) y f e = not-finite f
 sub-low (fin s m k) nan f e = tt
 sub-low (fin s m k) (inf true) f e = refl
-sub-low (fin s m k) (inf false) f e = clash e
+sub-low (fin s m k) (inf false) f e = absurd (true≢false e)
 sub-low (fin s m k) (fin t n d) f e = sum-low t s (n * up d * down k) (m * up k * down d) (down d * down k) (mul-pos (down-pos d) (down-pos k)) e
 
 -- ---- (2) by a number above 0

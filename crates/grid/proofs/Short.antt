@@ -1,6 +1,6 @@
 -- A bound below the table's own rmax that two rounded operations give: n less 2 ^ -20 in place of n leaves room for what the product's rounding may add. Assumes nothing.
 use mathlib.Core.Path.{_≡_, refl, sym, ap, _∙_, subst}
-use mathlib.Core.Bool.{Bool, true, false, _&&_}
+use mathlib.Core.Bool.{Bool, true, false, _&&_, and-eq-true-iff}
 use mathlib.Core.Logic.{_⊎_, inl, inr}
 use Prim.Native.Nat.{ℕ, suc, _+_, _*_, _-_, _/_, _%_, _^_, _≤_, _<_, compare}
 use native.Mathlib.Nat.{le-trans, le-of-eq, lt-of-lt-of-le, suc-mul, add-mul, mul-one, one-mul, mul-assoc, mul-comm, mul-left-comm, mul-right-comm, mul-mul-mul-comm, mul-pos, mul-le-mul-right, le-of-mul-le-mul-right, le-div-iff-mul-le, div-mul-le-self, div-one, eq-zero-or-pos}
@@ -23,12 +23,12 @@ use Rattle.ieee.proofs.Pack.{all-in-use}
 use Rattle.ieee.proofs.Sticky.{closest-lt}
 use Rattle.ieee.proofs.Sums.{sum-more}
 use Rattle.ieee.proofs.Terms.{sum-same, fused-finite}
-use Rattle.ieee.proofs.Fields.{both-true, sum-finite, product-finite}
+use Rattle.ieee.proofs.Fields.{sum-finite, product-finite}
 use Rattle.ieee.proofs.RootSteps.{above-zero}
 use Rattle.float.proofs.Fields.{units-of}
 use Rattle.float.proofs.Values.{other-scale}
 use Rattle.grid.specs.Bins.{tableRmax}
-use Rattle.grid.proofs.Order.{lt-trans, sum-mono}
+use Rattle.float.proofs.Order.{lt-trans, sum-mono}
 
 -- ---- M / c rounded to p digits, with a whole number Y above it by a gap of more than the last digit
 
@@ -157,7 +157,7 @@ pub not-above : (n : ℕ) (r dr rmin m : Float) (b : Bool) → T (fits binary64 
     → (let near = add binary64 (mul binary64 (sub binary64 m (ofBits binary64 0x3EB0_0000_0000_0000)) dr) rmin in b ≡ finite near → (leb 1 n && (lt (ofBits binary64 0) dr && (b && lt r near))) ≡ true → false ≡ lt (tableRmax n dr rmin) r)
 unfolding ofBits
 not-above n r dr rmin m b h k few e f t =
-    let t1 = both-true (leb 1 n) _ t in
-    let t2 = both-true (lt (ofBits binary64 0) dr) _ (t1 .1) in
-    let t3 = both-true b _ (t2 .1) in
+    let t1 = and-eq-true-iff (leb 1 n) _ .0 t in
+    let t2 = and-eq-true-iff (lt (ofBits binary64 0) dr) _ .0 (t1 .1) in
+    let t3 = and-eq-true-iff b _ .0 (t2 .1) in
     sym (short-within n r dr rmin h k (leb-true 1 n (t1 .0)) few (t2 .0) (rw (← e) (sym f ∙ t3 .0)) (rw (← e) (t3 .1)))

@@ -1,6 +1,6 @@
 -- A builder's grid as a table's, and the bins of a reading. Assumes nothing.
 use mathlib.Core.Path.{_≡_}
-use mathlib.Core.Bool.{true}
+use mathlib.Core.Bool.{true, and-eq-true-iff}
 use Prim.Native.Nat.{ℕ, suc, _-_, _<_}
 use native.Mathlib.Nat.{mod-lt}
 use native.Mathlib.Omega.{arith}
@@ -8,43 +8,42 @@ use lib.Dec.{leb, eqb, lit<}
 use lib.Ieee.{Float, lt}
 use lib.Ieee.Scale.{finite}
 use borrow.Author.Tests.{leb-true, le-leb, ne-eqb}
-use Rattle.ieee.proofs.Fields.{both-true}
 use Rattle.float.specs.Order.{angle}
-use Rattle.mesh.proofs.Asking.{ask-yes}
+use Rattle.lists.proofs.Asking.{ask-yes}
 use Rattle.grid.specs.Bins.{nearestBin, distanceCount, dihedralCount, distanceBin, dihedralBin}
-use Rattle.grid.specs.Settings.{above, inRange, levelsHeld, binsInRange, countsHeld, ownCount, slabsHeld, question, gridHeld}
+use Rattle.grid.specs.Settings.{above, inRange, levelsValid, binsInRange, countsValid, ownCount, slabsFit, question, gridValid}
 use Rattle.grid.specs.declared.Grid.{Grid}
 use Rattle.grid.proofs.Laws.{top-le}
 
 -- 1 to 5 answered yes of a builder: 14 is answered yes of its table
-pub table-held : (g : Grid) (top level : ℕ) → question g top level ≡ 0 → gridHeld g (suc top) ≡ true
-unfolding question inRange countsHeld gridHeld
-table-held g top level e =
-    let q1 = ask-yes _ 1 _ (lit< tt) e in
-    let q2 = ask-yes (levelsHeld top level) 2 _ (lit< tt) (q1 .1) in
-    let q3 = ask-yes _ 3 _ (lit< tt) (q2 .1) in
-    let q4 = ask-yes (ownCount (g .«n_r») (g .dr) (g .rmin)) 4 _ (lit< tt) (q3 .1) in
-    let q5 = ask-yes (slabsHeld (g .«n_r») (g .«n_omega») top) 5 0 (lit< tt) (q4 .1) in
-    let a = both-true (finite (g .rmin)) _ (q1 .0) in
-    let d = both-true (above (g .dr)) _ (both-true (lt (g .rmin) (g .rmax)) _ (a .1) .1) in
-    let s = both-true (above (g .«omega_step»)) _ (d .1) in
-    let b = both-true (binsInRange (g .«n_r») (g .«n_omega»)) _ (q3 .0) in
-    let m = both-true (eqb (g .«n_r») (distanceCount (g .rmin) (g .rmax) (g .dr))) (eqb (g .«n_omega») (dihedralCount (g .«omega_step»))) (b .1) in
+pub table-valid : (g : Grid) (top level : ℕ) → question g top level ≡ 0 → gridValid g (suc top) ≡ true
+unfolding question inRange countsValid gridValid
+table-valid g top level e =
+    let q1 = ask-yes (lit< tt) e in
+    let q2 = ask-yes {q = levelsValid top level} (lit< tt) (q1 .1) in
+    let q3 = ask-yes (lit< tt) (q2 .1) in
+    let q4 = ask-yes {q = ownCount (g .«n_r») (g .dr) (g .rmin)} (lit< tt) (q3 .1) in
+    let q5 = ask-yes {q = slabsFit (g .«n_r») (g .«n_omega») top} (lit< tt) (q4 .1) in
+    let a = and-eq-true-iff (finite (g .rmin)) _ .0 (q1 .0) in
+    let d = and-eq-true-iff (above (g .dr)) _ .0 (and-eq-true-iff (lt (g .rmin) (g .rmax)) _ .0 (a .1) .1) in
+    let s = and-eq-true-iff (above (g .«omega_step»)) _ .0 (d .1) in
+    let b = and-eq-true-iff (binsInRange (g .«n_r») (g .«n_omega»)) _ .0 (q3 .0) in
+    let m = and-eq-true-iff (eqb (g .«n_r») (distanceCount (g .rmin) (g .rmax) (g .dr))) (eqb (g .«n_omega») (dihedralCount (g .«omega_step»))) .0 (b .1) in
     let t = top-le top level (q2 .0) in
     let z : suc top - 1 ≡ top = omega arith in
     rw (a .0, d .0, s .0, le-leb 1 (suc top) (omega arith), le-leb (suc top) 16 (omega arith), b .0, m .1, q4 .0, z, q5 .0)
 
 -- both bin counts are above 0
-pub some-bins : (g : Grid) (levels : ℕ) → gridHeld g levels ≡ true → (0 < g .«n_r») × (0 < g .«n_omega»)
-unfolding gridHeld binsInRange
+pub some-bins : (g : Grid) (levels : ℕ) → gridValid g levels ≡ true → (0 < g .«n_r») × (0 < g .«n_omega»)
+unfolding gridValid binsInRange
 some-bins g levels h =
-    let a = both-true (finite (g .rmin)) _ (both-true _ (slabsHeld (g .«n_r») (g .«n_omega») (levels - 1)) h .0) .1 in
-    let b = both-true (above (g .dr)) _ a .1 in
-    let d = both-true (above (g .«omega_step»)) _ b .1 in
-    let e = both-true (leb levels 16) _ (both-true (leb 1 levels) _ d .1) .1 in
-    let n = both-true _ _ e .0 in
-    let m = both-true (leb 1 (g .«n_r»)) _ n in
-    let o = both-true (leb 1 (g .«n_omega»)) (leb (g .«n_omega») 65535) (both-true (leb (g .«n_r») 65535) _ (m .1) .1) in
+    let a = and-eq-true-iff (finite (g .rmin)) _ .0 (and-eq-true-iff _ (slabsFit (g .«n_r») (g .«n_omega») (levels - 1)) .0 h .0) .1 in
+    let b = and-eq-true-iff (above (g .dr)) _ .0 a .1 in
+    let d = and-eq-true-iff (above (g .«omega_step»)) _ .0 b .1 in
+    let e = and-eq-true-iff (leb levels 16) _ .0 (and-eq-true-iff (leb 1 levels) _ .0 d .1) .1 in
+    let n = and-eq-true-iff _ _ .0 e .0 in
+    let m = and-eq-true-iff (leb 1 (g .«n_r»)) _ .0 n in
+    let o = and-eq-true-iff (leb 1 (g .«n_omega»)) (leb (g .«n_omega») 65535) .0 (and-eq-true-iff (leb (g .«n_r») 65535) _ .0 (m .1) .1) in
     (leb-true 1 (g .«n_r») (m .0), leb-true 1 (g .«n_omega») (o .0))
 
 -- a bin is below its count

@@ -7,16 +7,17 @@ use lib.Ieee.{Float, binary64, ofBits, ofInt, add, sub, div, toUnsigned}
 use Rattle.ieee.specs.Fused.{fused}
 use Rattle.float.specs.Order.{tau, angle}
 
--- x / step + 0.5, truncated
+-- x / step + 0.5, truncated (S4.3)
 unfoldable pub nearestBin : Float → Float → ℕ
 unfolding add div ofBits toUnsigned
 nearestBin x step = toUnsigned 64 (add binary64 (div binary64 x step) (ofBits binary64 0x3FE0_0000_0000_0000))
 
--- "Counts: (rmax - rmin)/dr + 0.5 and TAU/step + 0.5, truncated"
+-- "Counts: (rmax - rmin)/dr + 0.5 and TAU/step + 0.5, truncated" (S4.3)
 unfoldable pub distanceCount : Float → Float → Float → ℕ
 unfolding nearestBin sub
 distanceCount rmin rmax dr = nearestBin (sub binary64 rmax rmin) dr
 
+-- S4.3
 unfoldable pub dihedralCount : Float → ℕ
 unfolding nearestBin
 dihedralCount step = nearestBin tau step

@@ -1,2 +1,3 @@
+-- A reader has to believe `Bins` and `Settings`.
 pub mod Bins
 pub mod Settings

@@ -3,7 +3,7 @@ ghost use mathlib.Core.Path.{_≡_};
 ghost use Prim.Native.Nat.{_≤_};
 ghost use lib.Ieee.{lt};
 ghost use Rattle.grid.specs.Bins.{nearestBin, distanceCount, dihedralCount, tableRmax, distanceBin, dihedralBin};
-ghost use Rattle.grid.specs.Settings.{above, inRange, levelsHeld, binsInRange, countsHeld, ownCount, slabsHeld, question, counted, freshQuestion, gridRange, gridHeld};
+ghost use Rattle.grid.specs.Settings.{above, inRange, levelsValid, binsInRange, countsValid, ownCount, slabsFit, question, counted, freshQuestion, gridRange, gridValid};
 
 // The settings beside the bin counts that they give. In a table that was read, rmax is the table's own.
 #[repr(C)]
@@ -112,8 +112,8 @@ pub fn in_range(g: Grid) -> bool
 }
 
 // Question 2.
-pub fn levels_held(top: u64, level: u64) -> bool
-    ensures { λ r. ⌜ r ≡ levelsHeld top level ⌝ }
+pub fn levels_valid(top: u64, level: u64) -> bool
+    ensures { λ r. ⌜ r ≡ levelsValid top level ⌝ }
 {
     (top <= 15) & (level <= top)
 }
@@ -126,8 +126,8 @@ pub fn bins_in_range(n: u64, m: u64) -> bool
 }
 
 // Question 3 of a held builder: they are also those that the settings give.
-pub fn counts_held(g: Grid) -> bool
-    ensures { λ r. ⌜ r ≡ countsHeld g ⌝ }
+pub fn counts_valid(g: Grid) -> bool
+    ensures { λ r. ⌜ r ≡ countsValid g ⌝ }
 {
     let rmin = g.rmin;
     let rmax = g.rmax;
@@ -147,9 +147,9 @@ pub fn own_count(n: u64, dr: f64, rmin: f64) -> bool
 }
 
 // Question 5, once the others are answered yes.
-fn slabs_held(n: u64, m: u64, top: u64) -> bool
+fn slabs_fit(n: u64, m: u64, top: u64) -> bool
     requires { ⌜ (n ≤ 65535) × (m ≤ 65535) × (top ≤ 15) ⌝ }
-    ensures { λ r. ⌜ r ≡ slabsHeld n m top ⌝ }
+    ensures { λ r. ⌜ r ≡ slabsFit n m top ⌝ }
 {
     n * m * mesh::per_level(top as u8) <= 4294967295
 }
@@ -165,16 +165,16 @@ pub fn question(g: Grid, top: u64, level: u64) -> u64
     if !in_range(g) {
         return 1;
     }
-    if !levels_held(top, level) {
+    if !levels_valid(top, level) {
         return 2;
     }
-    if !counts_held(g) {
+    if !counts_valid(g) {
         return 3;
     }
     if !own_count(n_r, dr, rmin) {
         return 4;
     }
-    if !slabs_held(n_r, n_omega, top) {
+    if !slabs_fit(n_r, n_omega, top) {
         return 5;
     }
     0
@@ -228,13 +228,13 @@ fn grid_range(g: Grid, levels: u64) -> bool
 }
 
 // Question 14 of a table's grid and level count.
-pub fn grid_held(g: Grid, levels: u64) -> bool
-    ensures { λ r. ⌜ r ≡ gridHeld g levels ⌝ }
+pub fn grid_valid(g: Grid, levels: u64) -> bool
+    ensures { λ r. ⌜ r ≡ gridValid g levels ⌝ }
 {
     let n_r = g.n_r;
     let n_omega = g.n_omega;
     if !grid_range(g, levels) {
         return false;
     }
-    slabs_held(n_r, n_omega, levels - 1)
+    slabs_fit(n_r, n_omega, levels - 1)
 }

@@ -1,5 +1,8 @@
 // The table's operations for a caller in C or Rust: include/icotable.h declares them. Each function calls the operation and turns its answer into a struct whose first field is document 01's number, 0 for accepted.
 ghost use mathlib.Core.Path.{_≡_};
+ghost use Rattle.mesh.specs.Mesh.{meshOf};
+ghost use Rattle.search.specs.Search.{locatorOf};
+ghost use Rattle.builder.specs.BuilderLists.{listsOf};
 ghost use Rattle.ieee.specs.Root.{root};
 ghost use Rattle.ieee.specs.Fused.{fused};
 ghost use Rattle.ieee.specs.Narrow.{narrowed};
@@ -12,10 +15,10 @@ ghost use Rattle.reading.specs.Resolve.{readingValues};
 ghost use Rattle.reading.specs.Reading.{readingOut};
 ghost use Rattle.icotable.specs.Sizes.{heldVertices, heldCells};
 ghost use Rattle.icotable.specs.Answers.{builtIn, settledIn, writtenIn, valueIn, tableWith, tableAnswer, tableFrom};
+use builder::Builder;
 use builder::Built;
 use builder::Settled;
 use grid::Grid;
-use questions::Builder;
 use reading::Reading;
 use search::Vector3;
 use table::ReadAnswer;
@@ -210,9 +213,9 @@ pub extern "C" fn icotable_fresh(
     angles: &[f64],
 ) -> BuildAnswer
     ensures { λ r. ⌜ _≡_ {A = BuiltOut}
-        (record { answer = builtIn r; lists = record { store = now (store .exit); rows = record { kinds = now (kinds .exit); levels = now (levels .exit); values = now (values .exit) } } })
-        (freshOut grid top (record { vertices = now (vertices .entry); counts = now («neighbour_counts» .entry); neighbours = now (neighbours .entry); angles = now (angles .entry) })
-        (record { store = now (store .entry); rows = record { kinds = now (kinds .entry); levels = now (levels .entry); values = now (values .entry) } })) ⌝ }
+        (record { answer = builtIn r; lists = listsOf (now (store .exit)) (now (kinds .exit)) (now (levels .exit)) (now (values .exit)) })
+        (freshOut grid top (meshOf (now (vertices .entry)) (now («neighbour_counts» .entry)) (now (neighbours .entry)) (now (angles .entry)))
+        (listsOf (now (store .entry)) (now (kinds .entry)) (now (levels .entry)) (now (values .entry)))) ⌝ }
 {
     let none = no_builder();
     let a = builder::fresh(
@@ -242,8 +245,8 @@ pub extern "C" fn icotable_set(
     energies: &[f64],
 ) -> BuildAnswer
     ensures { λ r. ⌜ _≡_ {A = BuiltOut}
-        (record { answer = builtIn r; lists = record { store = now (store .exit); rows = record { kinds = now (kinds .exit); levels = now (levels .exit); values = now (values .exit) } } })
-        (setOut builder (record { store = now (store .entry); rows = record { kinds = now (kinds .entry); levels = now (levels .entry); values = now (values .entry) } }) ri oi (now (energies .entry))) ⌝ }
+        (record { answer = builtIn r; lists = listsOf (now (store .exit)) (now (kinds .exit)) (now (levels .exit)) (now (values .exit)) })
+        (setOut builder (listsOf (now (store .entry)) (now (kinds .entry)) (now (levels .entry)) (now (values .entry))) ri oi (now (energies .entry))) ⌝ }
 {
     let a = builder::set(builder, store, kinds, levels, values, ri, oi, energies);
     built_answer(builder, a)
@@ -263,9 +266,9 @@ pub extern "C" fn icotable_settle(
     ri: u64,
 ) -> SettleAnswer
     ensures { λ r. ⌜ _≡_ {A = SettleOut}
-        (record { answer = settledIn r; lists = record { store = now (store .entry); rows = record { kinds = now (kinds .exit); levels = now (levels .exit); values = now (values .exit) } } })
-        (settleOut builder (record { vertices = now (vertices .entry); counts = now («neighbour_counts» .entry); neighbours = now (neighbours .entry); angles = now (angles .entry) })
-        (record { store = now (store .entry); rows = record { kinds = now (kinds .entry); levels = now (levels .entry); values = now (values .entry) } }) ri) ⌝ }
+        (record { answer = settledIn r; lists = listsOf (now (store .entry)) (now (kinds .exit)) (now (levels .exit)) (now (values .exit)) })
+        (settleOut builder (meshOf (now (vertices .entry)) (now («neighbour_counts» .entry)) (now (neighbours .entry)) (now (angles .entry)))
+        (listsOf (now (store .entry)) (now (kinds .entry)) (now (levels .entry)) (now (values .entry))) ri) ⌝ }
 {
     let a = builder::settle(
         builder,
@@ -296,9 +299,9 @@ pub extern "C" fn icotable_write(
     output: &mut [u8],
 ) -> WriteAnswer
     ensures { λ r. ⌜ _≡_ {A = WriteOut}
-        (record { answer = writtenIn r; builder = builder; lists = record { store = now (store .entry); rows = record { kinds = now (kinds .entry); levels = now (levels .entry); values = now (values .entry) } }; output = now (output .exit) })
-        (writeOut builder (record { vertices = now (vertices .entry); counts = now («neighbour_counts» .entry); neighbours = now (neighbours .entry); angles = now (angles .entry) })
-        (record { store = now (store .entry); rows = record { kinds = now (kinds .entry); levels = now (levels .entry); values = now (values .entry) } }) (now (output .entry))) ⌝ }
+        (record { answer = writtenIn r; builder = builder; lists = listsOf (now (store .entry)) (now (kinds .entry)) (now (levels .entry)) (now (values .entry)); output = now (output .exit) })
+        (writeOut builder (meshOf (now (vertices .entry)) (now («neighbour_counts» .entry)) (now (neighbours .entry)) (now (angles .entry)))
+        (listsOf (now (store .entry)) (now (kinds .entry)) (now (levels .entry)) (now (values .entry))) (now (output .entry))) ⌝ }
 {
     let a = writer::write(
         builder,
@@ -336,9 +339,9 @@ pub extern "C" fn icotable_locator(
     faces: &mut [u16],
 ) -> u64
     ensures { λ r. ⌜ _≡_ {A = LocatorOut}
-        (record { number = r; lists = record { cellOffsets = now («cell_offsets» .exit); cellVertices = now («cell_vertices» .exit); faceOffsets = now («face_offsets» .exit); faces = now (faces .exit) } })
-        (locatorOut level (record { vertices = now (vertices .entry); counts = now («neighbour_counts» .entry); neighbours = now (neighbours .entry); angles = now (angles .entry) })
-        (record { cellOffsets = now («cell_offsets» .entry); cellVertices = now («cell_vertices» .entry); faceOffsets = now («face_offsets» .entry); faces = now (faces .entry) })) ⌝ }
+        (record { number = r; lists = locatorOf (now («cell_offsets» .exit)) (now («cell_vertices» .exit)) (now («face_offsets» .exit)) (now (faces .exit)) })
+        (locatorOut level (meshOf (now (vertices .entry)) (now («neighbour_counts» .entry)) (now (neighbours .entry)) (now (angles .entry)))
+        (locatorOf (now («cell_offsets» .entry)) (now («cell_vertices» .entry)) (now («face_offsets» .entry)) (now (faces .entry)))) ⌝ }
 {
     locator::locator(
         level,
@@ -372,7 +375,7 @@ pub extern "C" fn icotable_reading(
     bz: f64,
 ) -> ValueAnswer
     ensures { λ z. ⌜ valueIn z ≡ readingOut (now (file .entry)) (tableFrom table) (now (vertices .entry))
-        (record { cellOffsets = now («cell_offsets» .entry); cellVertices = now («cell_vertices» .entry); faceOffsets = now («face_offsets» .entry); faces = now (faces .entry) })
+        (locatorOf (now («cell_offsets» .entry)) (now («cell_vertices» .entry)) (now («face_offsets» .entry)) (now (faces .entry)))
         (record { r = r; omega = omega; a = record { x = ax; y = ay; z = az }; b = record { x = bx; y = by; z = bz } }) ⌝ }
 {
     let t = table_from(table);

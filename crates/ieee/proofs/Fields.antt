@@ -14,7 +14,7 @@ use lib.Ieee.Exact.{HasValue, odd-sign}
 use lib.Ieee.Scale.{round-same, finite}
 use borrow.Author.Tests.{ne-eqb}
 use Rattle.ieee.specs.Narrow.{narrowed}
-use Rattle.ieee.specs.Pattern.{pattern}
+use Rattle.ieee.specs.Internal.{pattern}
 use Rattle.ieee.proofs.Steps.{float-law}
 
 -- ---- the test for a NaN
@@ -74,10 +74,6 @@ finite-sum x y z h =
     let a = sum-finite (mul binary64 x y) z h in
     let b = product-finite x y (a .0) in
     ap (λ (t : Bool). t && (finite y && finite z)) (b .0) ∙ ap (λ (t : Bool). t && finite z) (b .1) ∙ a .1
-
-pub both-true : (a b : Bool) → (a && b) ≡ true → (a ≡ true) × (b ≡ true)
-both-true true b h = (refl, h)
-both-true false b h = absurd (false≢true h)
 
 -- ---- the fields
 pub as-fields : (f : Format) (x : Float) → T (fits f x) → x ≡ ofFields f (leb (top f) (toBits f x)) (toBits f x % top f / hid f) (toBits f x % hid f)

@@ -12,7 +12,7 @@ use lib.Ieee.{Float, Format, prec, round, le}
 use lib.Ieee.Order.{round-mono}
 use lib.Ieee.Scale.{round-same}
 use Rattle.ieee.proofs.Pack.{le-or-lt}
-use Rattle.ieee.specs.Words.{Sticky}
+use Rattle.ieee.specs.Internal.{Sticky}
 use Rattle.ieee.proofs.Sticky.{round-sticky}
 use Rattle.ieee.proofs.Squares.{square-le, square-lt, next-sq}
 

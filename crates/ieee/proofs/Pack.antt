@@ -16,7 +16,7 @@ use lib.Ieee.Bits.{ofBits-toBits, cond-no}
 use lib.Ieee.Exact.{HasValue, units-val}
 use lib.Ieee.Nearest.{nearest-ge}
 use lib.Ieee.Order.{drop, kept}
-use Rattle.ieee.specs.Pattern.{pattern}
+use Rattle.ieee.specs.Internal.{pattern}
 
 -- ---- which of two numbers is the larger
 pub le-or-lt : (a b : ℕ) → (a ≤ b) ⊎ (b < a)

@@ -3,7 +3,7 @@ use mathlib.Core.Path.{_≡_, refl, sym, ap, _∙_, subst}
 use Prim.Native.Nat.{ℕ, zero, suc, _+_, _-_, _*_, _/_, _%_, _^_, _≤_, _<_, min}
 use native.Mathlib.Nat.{zero-lt-suc, le-refl, le-trans, le-of-eq, lt-of-not-le, zero-mul, mul-pos, mul-le-mul, mul-assoc, mul-comm, mul-left-comm, mul-right-comm, mul-add, add-mul, mul-one, one-mul, add-assoc, add-comm, add-left-comm, mul-div-cancel, div-add-mod', two-mul, suc-ne-zero, ne-of-gt, le-add-right, zero-add, min-eq-left}
 use native.Mathlib.Omega.{arith}
-use mathlib.Core.Bool.{Bool, true, false, not, _&&_, _||_, Bool·beq, cond, true≢false, false≢true}
+use mathlib.Core.Bool.{Bool, true, false, not, _&&_, _||_, Bool·beq, cond, true≢false, false≢true, and-eq-true-iff}
 use borrow.Author.Tests.{ne-eqb, eq-eqb, eqb-true, ltb-true, lt-ltb}
 use lib.Dec.{T, eqb, ltb, leb, ltb→lt, nltb→le, leb→le, nleb→lt, lit≤}
 use mir.Val.{boolByte}
@@ -14,8 +14,7 @@ use lib.Ieee.Scale.{finite}
 use lib.Ieee.Fits.{round-fits, up-pos, down-pos}
 use lib.Ieee.Exact.{HasValue}
 use Rattle.ieee.specs.Root.{isqrt, rootOf, root}
-use Rattle.ieee.specs.Words.{NearestRoot}
-use Rattle.ieee.proofs.Fields.{both-true}
+use Rattle.ieee.specs.Internal.{NearestRoot}
 use Rattle.ieee.proofs.Pack.{pattern-units, before-next}
 use Rattle.ieee.proofs.Squares.{nearest-root, next-sq}
 
@@ -226,7 +225,7 @@ unfolding eq root
 root-zero nan h = absurd (false≢true h)
 root-zero (inf s) h = absurd (false≢true h)
 root-zero (fin s zero e) h = refl
-root-zero (fin s (suc m) e) h = absurd (ne-of-gt (size-pos m e) (eqb-true (suc m * up e * 1) (0 * 1 * down e) (both-true (eqb (suc m * up e * 1) (0 * 1 * down e)) (Bool·beq s false || eqb (suc m * up e * 1) 0) h .0) ∙ zero-mul (down e)))
+root-zero (fin s (suc m) e) h = absurd (ne-of-gt (size-pos m e) (eqb-true (suc m * up e * 1) (0 * 1 * down e) (and-eq-true-iff (eqb (suc m * up e * 1) (0 * 1 * down e)) (Bool·beq s false || eqb (suc m * up e * 1) 0) .0 h .0) ∙ zero-mul (down e)))
 
 pub root-none : (x : Float) → lt nought x ≡ false → eq x nought ≡ false → nan ≡ root x
 unfolding lt eq root

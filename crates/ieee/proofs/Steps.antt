@@ -17,7 +17,7 @@ use lib.Ieee.Nearest.{closest, closest-same, div-same}
 use lib.Ieee.Order.{drop, kept}
 use borrow.Author.Tests.{lt-ltb, le-ltb}
 use native.Mathlib.Numerals.{add-one}
-use Rattle.ieee.specs.Pattern.{pattern}
+use Rattle.ieee.specs.Internal.{pattern}
 use Rattle.ieee.proofs.Pack.{le-or-lt, pattern-round, two-more, twice-hid, pow-lt-back}
 use Rattle.ieee.proofs.Sticky.{closest-lt, closest-eq, closest-gt, cut-law}
 

@@ -14,7 +14,7 @@ use lib.Ieee.Digits.{size-lt, size-le, size-reaches}
 use lib.Ieee.Fits.{round-is, two, two-le-pos}
 use lib.Ieee.Nearest.{closest, closest-same}
 use lib.Ieee.Order.{drop, kept}
-use Rattle.ieee.specs.Words.{Sticky}
+use Rattle.ieee.specs.Internal.{Sticky}
 use Rattle.ieee.proofs.Pack.{size-gt, pow-lt-back, le-or-lt, exactly, all-in-use, next-le}
 
 -- ---- what `closest` is, by the remainder

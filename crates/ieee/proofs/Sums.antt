@@ -12,7 +12,7 @@ use lib.Pow.{pow-add, pow-pos, pow-mono, shr-lt}
 use lib.Ieee.{Format, prec, round, sum}
 use lib.Ieee.Scale.{round-same}
 use Rattle.ieee.proofs.Pack.{le-or-lt, next-le}
-use Rattle.ieee.specs.Words.{wide, Sticky, jammed, sumSize, sumSign, Addable}
+use Rattle.ieee.specs.Internal.{wide, Sticky, jammed, sumSize, sumSign, Addable}
 use Rattle.ieee.proofs.Sticky.{round-sticky}
 use Rattle.ieee.proofs.Words.{zero-or, none-left, some-left, jammed-sticks, jammed-exact, whole-back}
 

@@ -16,7 +16,7 @@ use lib.Ieee.Scale.{round-same, finite}
 use lib.Ieee.Exact.{HasValue}
 use Rattle.ieee.proofs.Pack.{le-or-lt}
 use Rattle.ieee.specs.Fused.{fused}
-use Rattle.ieee.specs.Words.{wide, Placed}
+use Rattle.ieee.specs.Internal.{wide, Placed}
 use Rattle.ieee.proofs.Sums.{sub-mul, sum-like, sum-less, sum-more, sum-level}
 use Rattle.ieee.proofs.Words.{product-high}
 use Rattle.ieee.proofs.Steps.{Lead, lead}

@@ -15,7 +15,7 @@ use lib.Count.{leadingZeros, leading-top}
 use lib.Ieee.{Format, prec, round}
 use lib.Ieee.Scale.{round-same}
 use Rattle.ieee.proofs.Pack.{le-or-lt, before-next}
-use Rattle.ieee.specs.Words.{wide, Sticky, stuck, jammed}
+use Rattle.ieee.specs.Internal.{wide, Sticky, stuck, jammed}
 use Rattle.ieee.proofs.Sticky.{round-sticky}
 use Rattle.ieee.proofs.Steps.{flag-yes, flag-no, normal-form}
 

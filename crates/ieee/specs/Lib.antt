@@ -1,8 +1,5 @@
--- What the contracts of this crate cite. `Root`, `Fused` and `Narrow` are what a reader has to believe of the public functions; the others serve the functions inside.
+-- A reader has to believe `Root`, `Fused` and `Narrow`. Only the code and the proofs need `Internal`.
 pub mod Root
 pub mod Fused
 pub mod Narrow
-pub mod Pattern
-pub mod Unpacked
-pub mod Words
-pub mod Aligned
+pub mod Internal

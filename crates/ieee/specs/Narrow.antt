@@ -2,6 +2,7 @@
 use Prim.Native.Nat.{_*_}
 use lib.Ieee.{Float, nan, inf, fin, binary32, up, down, round}
 
+-- S2.6
 unfoldable pub narrowed : Float → Float
 unfolding round
 narrowed nan = nan

@@ -5,7 +5,7 @@
 -- `Rooted` says why this is the rounded root, and proofs/Meaning.antt proves it. Definitions only.
 use Prim.Native.Nat.{ℕ, zero, suc, _+_, _*_, _/_, _^_, _<_, _≤_}
 use mathlib.Core.Path.{_≡_}
-use mathlib.Core.Bool.{Bool, true, false, cond}
+use mathlib.Core.Bool.{true, false, cond}
 use lib.Dec.{T, leb, eqb}
 use lib.Ieee.{Float, nan, inf, fin, up, down, size, round, le, binary64}
 
@@ -14,17 +14,17 @@ unfoldable pub rootIn : ℕ → ℕ → ℕ
 rootIn zero n = 0
 rootIn (suc k) n = let r = 2 * rootIn k (n / 4) in cond (leb ((r + 1) * (r + 1)) n) (r + 1) r
 
--- the largest r with r * r ≤ n: n is below 2 ^ size n
+-- the largest r with r * r ≤ n: n is below 2 ^ size n (S2.4)
 unfoldable pub isqrt : ℕ → ℕ
 unfolding rootIn size
 isqrt n = rootIn (size n) n
 
--- the root of n * 4 ^ -1075, rounded
+-- the root of n * 4 ^ -1075, rounded (S2.4)
 unfoldable pub rootOf : ℕ → Float
 unfolding isqrt round
 rootOf n = let r = isqrt n in round binary64 false (2 * r + cond (eqb (r * r) n) 0 1) (2 ^ 1076)
 
--- squareRoot: the root of a zero is that zero, of a number below zero and of a NaN it is a NaN
+-- squareRoot: the root of a zero is that zero, of a number below zero and of a NaN it is a NaN (S2.4)
 unfoldable pub root : Float → Float
 unfolding rootOf
 root nan = nan

@@ -4,7 +4,7 @@ ghost use Prim.Native.Nat.{_+_, _-_, _*_, _^_, _≤_, _<_};
 ghost use mathlib.Core.Bool.{false};
 ghost use lib.Ieee.{isNan};
 ghost use Rattle.ieee.specs.Root as Root;
-ghost use Rattle.ieee.specs.Words.{NearestRoot};
+ghost use Rattle.ieee.specs.Internal.{NearestRoot};
 use crate::rounding::Parts;
 use crate::rounding::is_finite;
 use crate::rounding::unpack;

@@ -7,8 +7,7 @@ ghost use mir.Val.{boolByte};
 ghost use lib.Ieee.{binary32, binary64, round, ofBits, top, ones, hid};
 ghost use lib.Ieee.Nearest.{closest};
 ghost use lib.Ieee.Scale as Scale;
-ghost use Rattle.ieee.specs.Pattern.{pattern};
-ghost use Rattle.ieee.specs.Unpacked.{Unpacked};
+ghost use Rattle.ieee.specs.Internal.{pattern, Unpacked};
 
 // w / 2^(n + 1), to the nearest whole number, a tie to the even one. `some` says that w goes on: the number is more than w, and less than w + 1.
 pub(crate) fn cut(w: u64, some: bool, n: u64) -> u64

@@ -4,7 +4,7 @@ ghost use mathlib.Core.Bool.{cond};
 ghost use Prim.Native.Nat.{_+_, _-_, _*_, _^_, _≤_, _<_};
 ghost use lib.Dec.{ltb};
 ghost use lib.Ieee.{binary64, round};
-ghost use Rattle.ieee.specs.Words.{wide, stuck, jammed};
+ghost use Rattle.ieee.specs.Internal.{wide, stuck, jammed};
 use crate::rounding::pattern_top;
 use crate::rounding::round64;
 use crate::rounding::signed64;

@@ -1,5 +1,6 @@
 -- The reading rule refuses with 18 and 20 alone. Assumes nothing.
 use mathlib.Core.Path.{_≡_, refl}
+use Rattle.lists.proofs.Counting.{chosen}
 use mathlib.Core.Bool.{Bool, cond, _&&_}
 use mathlib.Core.List.{List, [], _∷_}
 use mathlib.Core.Logic.{_⊎_, inl, inr}
@@ -20,8 +21,7 @@ use Rattle.search.specs.Search.{squared, notNearest, nearer, nearestFrom, neare
 use Rattle.search.specs.declared.Vector3.{Vector3}
 use Rattle.search.specs.declared.Nearest.{Nearest}
 use Rattle.search.specs.declared.Located.{Located}
-use Rattle.locator.proofs.Picked.{chosen}
-use Rattle.reading.specs.Resolve.{readingValues, Query, queryHeld, outside, Resolved, unresolved, beyond, slabAt, resolve, Picks, unpicked, picked, joint, nearestPick, facePick}
+use Rattle.reading.specs.Resolve.{readingValues, Query, queryValid, outside, Resolved, unresolved, beyond, slabAt, resolve, Picks, unpicked, picked, joint, nearestPick, facePick}
 use Rattle.reading.specs.Rule.{search, rulePicks, ruleRow, ruleSlab, ruled}
 use Rattle.ledger.specs.Promise.{Answered}
 
@@ -101,5 +101,5 @@ rule-answered g rs m q a b =
     let P : Resolved → Type 0 = λ w. Answered (readingValues (ruleSlab rs m q w) .number) in
     let s = distanceBin (q .r) (g .rmin) (g .dr) (g .«n_r») * g .«n_omega» + dihedralBin (q .omega) (g .«omega_step») (g .«n_omega») in
     rw (lt-ltb 0 (g .«n_r») a, lt-ltb 0 (g .«n_omega») b)
-    (chosen P (queryHeld q) (cond (outside g (q .r)) beyond (slabAt s)) (unresolved 18)
+    (chosen P (queryValid q) (cond (outside g (q .r)) beyond (slabAt s)) (unresolved 18)
     (λ e. chosen P (outside g (q .r)) beyond (slabAt s) (λ f. inl refl) (row-answered m q (getD rs s repulsive))) (inr (inl refl)))

@@ -1,6 +1,7 @@
 -- After every call, accepted or refused, the builder's level and rows are the ledger's. Assumes nothing.
 use mathlib.Core.Path.{_≡_, refl, sym, ap, _∙_, subst}
-use mathlib.Core.Bool.{Bool, true, false, cond}
+use Rattle.lists.proofs.Asking.{ask-yes}
+use mathlib.Core.Bool.{Bool, true, false, cond, and-eq-true-iff}
 use mathlib.Core.List.{List, [], _∷_, map}
 use mathlib.Core.Logic.{_⊎_, inl, inr}
 use Prim.Native.Nat.{ℕ, suc, _+_, _*_, _-_, _≤_, _<_}
@@ -11,14 +12,14 @@ use lib.Dec.{eqb, ltb, lit<}
 use lib.Ieee.{Float, fits, ofBits, toBits}
 use borrow.Author.Tests.{eqb-true, ltb-true, le-leb}
 use Rattle.ieee.proofs.Pack.{le-or-lt}
-use Rattle.ieee.proofs.Fields.{both-true}
-use Rattle.mesh.specs.Questions.{ask, first}
-use Rattle.mesh.specs.Lists.{put}
+use Rattle.lists.specs.Questions.{ask, first}
+use Rattle.lists.specs.Lists.{put}
 use Rattle.mesh.specs.Levels.{per, vertexCount, verticesBelow}
-use Rattle.mesh.specs.Mesh.{Mesh, levelPart, meshHeld, meshesKeep}
-use Rattle.mesh.proofs.Sizes.{per-mono, place}
-use Rattle.mesh.proofs.Written.{length-put}
-use Rattle.grid.specs.Settings.{inRange, levelsHeld, countsHeld, ownCount, slabsHeld, question}
+use Rattle.mesh.specs.Mesh.{Mesh, levelPart, meshLong, meshesKeep}
+use Rattle.mesh.proofs.Sizes.{per-mono}
+use Rattle.lists.proofs.Places.{place}
+use Rattle.lists.proofs.Written.{length-put}
+use Rattle.grid.specs.Settings.{inRange, levelsValid, countsValid, ownCount, slabsFit, question}
 use Rattle.grid.specs.declared.Grid.{Grid}
 use Rattle.grid.proofs.Laws.{top-le}
 use Rattle.rows.specs.declared.SlabResolution.the-variants.{Mesh as OnMesh}
@@ -26,15 +27,15 @@ use Rattle.rows.specs.Rows.{Rows, replaced, rowRoom, Row, scalar, repulsive, me
 use Rattle.locator.proofs.Entries.{getD-put}
 use Rattle.settling.specs.Gradient.{zero as nought}
 use Rattle.settling.specs.Settling.{verdictOf, verdicts, settledRows, settledSlice, drops}
-use Rattle.questions.specs.Lists.{Lists, slabs, slab, sliceAt, listRoom, listsHeld}
+use Rattle.builder.specs.BuilderLists.{BuilderLists, slabs, slab, sliceAt, listRoom, listsLong}
 use Rattle.builder.specs.Calls.{settledLists, filled, setLists, setOut, settleAccepted, settleOut}
-use Rattle.questions.specs.Refusals.{meshedRefusal, setQuestion, setRefusal, settleRefusal}
-use Rattle.questions.specs.declared.Builder.{Builder}
+use Rattle.builder.specs.Refusals.{meshedRefusal, setQuestion, setRefusal, settleRefusal}
+use Rattle.builder.specs.declared.Builder.{Builder}
 use Rattle.settling.specs.declared.Verdict.{Verdict}
-use Rattle.questions.proofs.Laws.{ask-yes, Roomy}
+use Rattle.builder.proofs.Laws.{Roomy}
 use Rattle.writer.specs.Write.{writeRefusal, writeOut}
 use Rattle.table.proofs.OfRows.{Good}
-use Rattle.ledger.specs.Ledger.{Call, set-call, settle-call, write-call, State, called, run, Ledger, opened, ledgerSlice, settleQuestion, setEntered, settleEntered, entered, ledger}
+use Rattle.ledger.specs.Ledger.{Call, set-call, settle-call, write-call, State, called, run, Ledger, opened, ledgerSlice, ledgerQuestion, setEntered, settleEntered, entered, ledger}
 use Rattle.ledger.proofs.Store.{put-same, other-slab, put-sets, all-replicate}
 use Rattle.ledger.proofs.Invariant.{Fit, rows-are, rows-known, fit-set, settled-fit, verdict-fits}
 
@@ -42,7 +43,7 @@ use Rattle.ledger.proofs.Invariant.{Fit, rows-are, rows-known, fit-set,
 
 pub record Basis (g : Grid) (top : ℕ) (m : Mesh) : Type 0 where
   pub asked : question g top top ≡ 0
-  pub held : meshHeld (verticesBelow (suc top)) m ≡ true
+  pub held : meshLong (verticesBelow (suc top)) m ≡ true
   pub kept : meshesKeep top m ≡ true
 
 abbrev pub builderAt : Grid → ℕ → ℕ → Builder
@@ -50,13 +51,13 @@ builderAt g top v = record { grid = g; top = top; level = v }
 
 -- 1 to 5, at a lower level
 lower-asked : (g : Grid) (top v : ℕ) → question g top top ≡ 0 → v ≤ top → question g top v ≡ 0
-unfolding question levelsHeld ask
+unfolding question levelsValid ask
 lower-asked g top v e h =
     let q1 = ask-yes {q = inRange g} (lit< tt) e in
-    let q2 = ask-yes {q = levelsHeld top top} (lit< tt) (q1 .1) in
-    let q3 = ask-yes {q = countsHeld g} (lit< tt) (q2 .1) in
+    let q2 = ask-yes {q = levelsValid top top} (lit< tt) (q1 .1) in
+    let q3 = ask-yes {q = countsValid g} (lit< tt) (q2 .1) in
     let q4 = ask-yes {q = ownCount (g .«n_r») (g .dr) (g .rmin)} (lit< tt) (q3 .1) in
-    let q5 = ask-yes {q = slabsHeld (g .«n_r») (g .«n_omega») top} (lit< tt) (q4 .1) in
+    let q5 = ask-yes {q = slabsFit (g .«n_r») (g .«n_omega») top} (lit< tt) (q4 .1) in
     rw (q1 .0, le-leb top 15 (top-le top top (q2 .0)), le-leb v top h, q3 .0, q4 .0, q5 .0)
 
 room-held : (g : Grid) (top store kinds levels values : ℕ) → Roomy g top store kinds levels values → listRoom g top store kinds levels values ≡ true
@@ -88,7 +89,7 @@ module _ (g : Grid) (top : ℕ) (m : Mesh) (base : Basis g top m) (v : ℕ) (low
   abbrev b : Builder
   b = builderAt g top v
 
-  abbrev ls : Lists
+  abbrev ls : BuilderLists
   ls = record { store = store; rows = l }
 
   abbrev st : State
@@ -103,7 +104,7 @@ module _ (g : Grid) (top : ℕ) (m : Mesh) (base : Basis g top m) (v : ℕ) (low
   abbrev asked : question g top v ≡ 0
   asked = lower-asked g top v (base .asked) low
 
-  abbrev roomy : listsHeld b ls ≡ true
+  abbrev roomy : listsLong b ls ≡ true
   roomy = room-held g top (length store) (length (l .kinds)) (length (l .levels)) (length (l .values)) (a .room)
 
   pub meshed-yes : meshedRefusal b m ls ≡ 0
@@ -123,7 +124,7 @@ module _ (g : Grid) (top : ℕ) (m : Mesh) (base : Basis g top m) (v : ℕ) (low
       let q8 = ask-yes (lit< tt) p in
       let q9 = ask-yes (lit< tt) (q8 .1) in
       let q10 = ask-yes (lit< tt) (q9 .1) in
-      let bins = both-true (ltb ri (g .«n_r»)) (ltb oi (g .«n_omega»)) (q8 .0) in
+      let bins = and-eq-true-iff (ltb ri (g .«n_r»)) (ltb oi (g .«n_omega»)) .0 (q8 .0) in
       let s = slab g ri oi in
       let w = per top in
       let row : s < slabs g =
@@ -147,17 +148,17 @@ module _ (g : Grid) (top : ℕ) (m : Mesh) (base : Basis g top m) (v : ℕ) (low
   slice-is : (ri : ℕ) → ltb ri (g .«n_r») ≡ true → sliceAt b ls ri ≡ ledgerSlice g bk ri
   slice-is ri d = rows-are g top store l rows a (g .«n_omega») (slab g ri 0) (slice-in ri d)
 
-  settle-number : (ri : ℕ) (x : Bool) → ltb ri (g .«n_r») ≡ x → settleRefusal b m ls ri ≡ settleQuestion g bk ri
-  unfolding settleRefusal settleQuestion first ask
+  settle-number : (ri : ℕ) (x : Bool) → ltb ri (g .«n_r») ≡ x → settleRefusal b m ls ri ≡ ledgerQuestion g bk ri
+  unfolding settleRefusal ledgerQuestion first ask
   settle-number ri true d = rw (meshed-yes, d, rows-known g top store l rows a (g .«n_omega») (slab g ri 0) (slice-in ri d), slice-is ri d)
   settle-number ri false d = rw (meshed-yes, d)
 
   abbrev seen : Row Float → Verdict
   seen = verdictOf (g .threshold) (g .beta) (levelPart v m) (vertexCount v)
 
-  settle-fit : (ri : ℕ) → settleQuestion g bk ri ≡ 0
+  settle-fit : (ri : ℕ) → ledgerQuestion g bk ri ≡ 0
       → (let rs = ledgerSlice g bk ri in Fit g top store (settledLists v l (slab g ri 0) (map seen rs)) (put rows (slab g ri 0) (settledRows v rs (map seen rs))))
-  unfolding settleQuestion
+  unfolding ledgerQuestion
   settle-fit ri p =
       let q8 = ask-yes (lit< tt) p in
       let q11 = ask-yes (lit< tt) (q8 .1) in
@@ -169,8 +170,8 @@ module _ (g : Grid) (top : ℕ) (m : Mesh) (base : Basis g top m) (v : ℕ) (low
       rw (put-sets rows s (settledRows v rs (map seen rs)) (omega (arith, settled-many v seen rs, a .many)))
       (settled-fit g top v seen (λ x. refl) refl (verdict-fits (g .threshold) (g .beta) (levelPart v m) (vertexCount v)) n s store l rows a i (q11 .0))
 
-  settle-step : (ri : ℕ) (x : Bool) → eqb (settleQuestion g bk ri) 0 ≡ x → Agree g top (called m st (settle-call ri)) (entered g m bk (settle-call ri))
-  unfolding called entered settleOut settleAccepted settleEntered settledSlice settleQuestion verdicts
+  settle-step : (ri : ℕ) (x : Bool) → eqb (ledgerQuestion g bk ri) 0 ≡ x → Agree g top (called m st (settle-call ri)) (entered g m bk (settle-call ri))
+  unfolding called entered settleOut settleAccepted settleEntered settledSlice ledgerQuestion verdicts
   settle-step ri true d =
       let q8 = ask-yes (lit< tt) (eqb-true _ _ d) in
       let rs = ledgerSlice g bk ri in
@@ -206,7 +207,7 @@ filled-at d n s h = getD-put d (replicate n 0) s (omega (arith, length-replicate
 filled-wide : {A : Type 0} (d : List A) (n : ℕ) (x : A) → n ≤ length d → length (put d 0 (replicate n x)) ≡ length d
 filled-wide d n x h = length-put d 0 (replicate n x) (omega (arith, length-replicate n x))
 
-pub starts : (g : Grid) (top : ℕ) (l : Lists) → Roomy g top (length (l .store)) (length (l .rows .kinds)) (length (l .rows .levels)) (length (l .rows .values))
+pub starts : (g : Grid) (top : ℕ) (l : BuilderLists) → Roomy g top (length (l .store)) (length (l .rows .kinds)) (length (l .rows .levels)) (length (l .rows .values))
     → Agree g top (record { builder = builderAt g top top; lists = filled (builderAt g top top) l }) (opened g top)
 unfolding filled opened fits ofBits toBits
 starts g top l r =

@@ -1,6 +1,7 @@
 -- The lists of a builder hold the ledger's rows, through every list of calls, refused ones included. Assumes nothing.
 use mathlib.Core.Path.{_≡_, refl, _∙_}
-use mathlib.Core.Bool.{Bool, true, false, cond}
+use Rattle.lists.proofs.Counting.{chosen}
+use mathlib.Core.Bool.{Bool, true, false, cond, and-eq-true-iff}
 use mathlib.Core.List.{List, map}
 use Prim.Native.Nat.{ℕ, zero, suc, _+_, _*_, _-_, _≤_, _<_}
 use native.Mathlib.Omega.{arith}
@@ -9,8 +10,7 @@ use lib.Seq.{sets, getD-set-same, getD-set-other, set-getD, drop-set-lt, drop-co
 use lib.Dec.{T}
 use lib.Ieee.{Float, binary32, binary64, fits, ofBits, lt, div}
 use borrow.Author.Tests.{eqb-true, le-leb}
-use Rattle.ieee.proofs.Fields.{both-true}
-use Rattle.mesh.specs.Lists.{every}
+use Rattle.lists.specs.Lists.{every}
 use Rattle.mesh.specs.Levels.{per}
 use Rattle.mesh.specs.Mesh.{Mesh}
 use Rattle.mesh.proofs.Sizes.{per-mono}
@@ -20,14 +20,13 @@ use Rattle.rows.specs.declared.SlabResolution.the-variants.{Scalar, Mesh as OnM
 use Rattle.rows.specs.Rows.{Rows, kindOf, levelOf, valueOf, resolutionAt, replaced, known, Row, scalar, repulsive, mesh, rowWith}
 use Rattle.rows.proofs.Replaced.{Held, numbers-back}
 use Rattle.rows.proofs.Compared.{narrowed-fits}
-use Rattle.locator.proofs.Picked.{chosen}
 use Rattle.settling.specs.Gradient.{allRepulsive, gradient, meanNarrowed}
-use Rattle.settling.specs.Settling.{byGradient, verdict, verdictOf, newRow, inPlaceOf, settledRows, fromLevel, energiesOf, replacedBy}
-use Rattle.questions.specs.Lists.{slabs, rowAt, rowsFrom, rowsKnown}
+use Rattle.settling.specs.Settling.{byGradient, verdict, verdictOf, newRow, inPlaceOf, settledRows, fromLevel, rowEnergies, replacedBy}
+use Rattle.builder.specs.BuilderLists.{slabs, rowAt, rowsFrom, rowsKnown}
 use Rattle.builder.specs.Calls.{settledLists}
 use Rattle.settling.specs.declared.Verdict.{Verdict}
 use Rattle.settling.specs.declared.Verdict.the-variants.{Empty as empty, Blocked as blocked, Isotropic as isotropic, Smooth as smooth, Rough as rough}
-use Rattle.questions.proofs.Laws.{Roomy}
+use Rattle.builder.proofs.Laws.{Roomy}
 use Rattle.table.proofs.Accepts.{all-is}
 use Rattle.table.proofs.Back.{All}
 use Rattle.table.proofs.OfRows.{Good}
@@ -42,7 +41,7 @@ numbersOf (mesh v b e) = OnMesh v b
 
 -- slab s of a store begins with a row's energies
 abbrev Stored : ℕ → List Float → ℕ → Row Float → Type 0
-Stored top store s r = take (length (energiesOf r)) (drop (s * per top) store) ≡ energiesOf r
+Stored top store s r = take (length (rowEnergies r)) (drop (s * per top) store) ≡ rowEnergies r
 
 abbrev Holds : ℕ → List Float → Rows → ℕ → Row Float → Type 0
 Holds top store l s r =
@@ -55,7 +54,7 @@ pub record Fit (g : Grid) (top : ℕ) (store : List Float) (l : Rows) (rows : Li
   pub good : All (Good top) rows
   pub each : (s : ℕ) → s < slabs g → Holds top store l s (getD rows s repulsive)
 
-short : (top : ℕ) (r : Row Float) → Good top r → length (energiesOf r) ≤ per top
+short : (top : ℕ) (r : Row Float) → Good top r → length (rowEnergies r) ≤ per top
 short top (scalar x) q = omega arith
 short top repulsive q = omega arith
 short top (mesh v b e) q = omega (arith, q .1, per-mono v top (q .0))
@@ -81,7 +80,7 @@ module _ (g : Grid) (top : ℕ) (store : List Float) (l : Rows) (rows : List (Ro
         getD-set-other (l .kinds) s t (kindOf (numbersOf r)) 0 e ∙ o .0,
         getD-set-other (l .levels) s t (levelOf (numbersOf r)) 0 e ∙ o .1,
         getD-set-other (l .values) s t (valueOf (numbersOf r)) 0 e ∙ o .2,
-        others t (length (energiesOf (getD rows t repulsive))) e (short top (getD rows t repulsive) z) ∙ o .3,
+        others t (length (rowEnergies (getD rows t repulsive))) e (short top (getD rows t repulsive) z) ∙ o .3,
       )
 
   pub fit-set : Fit g top store′ (replaced l s (numbersOf r)) (set rows s r)
@@ -194,7 +193,7 @@ module _ (g : Grid) (top c : ℕ) (f : Row Float → Verdict) (plain : (x : Floa
   settled-fit (suc n) s store l rows a h z =
       let r = getD rows s repulsive in
       let d = drop-cons rows s repulsive (omega (arith, a .many)) in
-      let y = both-true (fromLevel c r) (every (fromLevel c) (take n (drop (suc s) rows))) (rw d at z) in
+      let y = and-eq-true-iff (fromLevel c r) (every (fromLevel c) (take n (drop (suc s) rows))) .0 (rw d at z) in
       let l′ = replacedBy l s (newRow c (f r)) in
       let x = inPlaceOf r (newRow c (f r)) in
       let rest = drop-set-lt (suc s) rows s x (omega arith) in

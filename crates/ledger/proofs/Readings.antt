@@ -1,15 +1,16 @@
 -- A reading of the file of rows is what the reading rule gives from these rows. Assumes nothing.
 use mathlib.Core.Path.{_≡_, refl, ap}
-use mathlib.Core.Bool.{Bool, true, false, cond, _&&_, _||_}
+use Rattle.lists.proofs.Counting.{chosen}
+use mathlib.Core.Bool.{Bool, true, false, cond, _&&_}
 use mathlib.Core.List.{List, [], _∷_, map}
 use Prim.Native.Nat.{ℕ, suc, _+_, _*_, _≤_, _<_}
 use native.Mathlib.Omega.{arith}
 use lib.ListN.{length, getD}
 use lib.Dec.{ltb, eqb}
-use borrow.Author.Tests.{eqb-true, eqb-false, lt-ltb, le-leb}
-use Rattle.mesh.specs.Lists.{every}
+use borrow.Author.Tests.{eqb-true, lt-ltb, le-leb}
+use Rattle.lists.specs.Lists.{every}
 use Rattle.mesh.specs.Levels.{vertexCount, per, verticesBelow}
-use Rattle.mesh.specs.Mesh.{Mesh, meshHeld, meshesKeep}
+use Rattle.mesh.specs.Mesh.{Mesh, meshLong, meshesKeep}
 use Rattle.grid.specs.Bins.{distanceBin, dihedralBin}
 use Rattle.grid.specs.declared.Grid.{Grid}
 use Rattle.grid.proofs.Tables.{some-bins, distance-below, dihedral-below}
@@ -20,17 +21,18 @@ use Rattle.search.specs.declared.Nearest.{Nearest}
 use Rattle.search.specs.declared.Located.{Located}
 use Rattle.locator.specs.Several.{locators, Roomy}
 use Rattle.locator.proofs.Laid.{nearest-at, locate-at}
-use Rattle.locator.proofs.Picked.{chosen, FaceBelow, nearest-vertex, located-face}
-use Rattle.questions.specs.Lists.{slabs}
-use Rattle.mesh.proofs.Sizes.{place}
-use Rattle.table.specs.File.{energiesIn, energiesOf, entry, fileOf}
+use Rattle.locator.proofs.Picked.{FaceBelow, nearest-vertex, located-face}
+use Rattle.builder.specs.BuilderLists.{slabs}
+use Rattle.lists.proofs.Places.{place}
+use Rattle.table.specs.File.{energiesIn, packedEnergies, entry, fileOf}
 use Rattle.table.specs.declared.Table.{Table}
 use Rattle.table.proofs.Back.{All}
 use Rattle.table.proofs.Sound.{Fine}
 use Rattle.table.proofs.OfRows.{before}
 use Rattle.table.proofs.OfFile.{Filable, gridIn, tableIn, file-length, entry-of, energy-of}
-use Rattle.reading.specs.Resolve.{readingValues, Query, queryHeld, outside, Resolved, unresolved, beyond, slabAt, resolve, Picks, unpicked, picked, joint, pairPlace, nearestPick, facePick}
+use Rattle.reading.specs.Resolve.{readingValues, Query, queryValid, outside, Resolved, unresolved, beyond, slabAt, resolve, Picks, unpicked, picked, joint, pairPlace, nearestPick, facePick}
 use Rattle.reading.specs.Reading.{rowInside, energyInside, entryAt, energyAt, searchIn, readPicks, readEntry, readSlab, readingOut}
+use Rattle.reading.proofs.Picked.{both-found}
 use Rattle.reading.specs.Rule.{search, rulePicks, ruleRow, ruleSlab, ruled}
 use Rattle.ledger.proofs.Store.{all-at}
 
@@ -53,7 +55,7 @@ resolve-below g q a b =
           (omega (arith, dihedral-below (q .omega) (g .«omega_step») n b)),
     ) in
     let some = ltb 0 (g .«n_r») && ltb 0 n in
-    chosen (SlabBelow (slabs g)) (queryHeld q) (cond (outside g (q .r)) beyond (cond some (slabAt s) (unresolved 19))) (unresolved 18)
+    chosen (SlabBelow (slabs g)) (queryValid q) (cond (outside g (q .r)) beyond (cond some (slabAt s) (unresolved 19))) (unresolved 18)
     (λ e. chosen (SlabBelow (slabs g)) (outside g (q .r)) beyond (cond some (slabAt s) (unresolved 19)) (λ f. tt) (chosen (SlabBelow (slabs g)) some (slabAt s) (unresolved 19) (λ f. h) tt)) tt
 
 -- ---- places that a search picks are a slab's
@@ -65,20 +67,11 @@ PicksBelow n (picked ks a b) = All (λ k. k < n) ks
 pair-below : (n a b : ℕ) → a < n → b < n → pairPlace n a b < n * n
 pair-below n a b h k = omega (arith, place a n (b + 1) n h (omega arith))
 
-joint-none : (a b : ℕ) → joint a b ≡ 0 → (a ≡ 0) × (b ≡ 0)
-unfolding joint
-joint-none a b e = by (eqb a 19 || eqb b 19) (eqb a 0) refl e
-  where
-    by : (t u : Bool) → eqb a 0 ≡ u → cond t 19 (cond u b a) ≡ 0 → (a ≡ 0) × (b ≡ 0)
-    by true u d e = absurd (omega arith)
-    by false true d e = (eqb-true a 0 d, e)
-    by false false d e = absurd (eqb-false a 0 d e)
-
 nearest-picks : (n : ℕ) (a b : Nearest) → (a .number ≡ 0 → a .vertex < n) → (b .number ≡ 0 → b .vertex < n) → PicksBelow (n * n) (nearestPick n a b)
 unfolding nearestPick
 nearest-picks n a b h k =
     chosen (PicksBelow (n * n)) (eqb (joint (a .number) (b .number)) 0) _ _
-    (λ e. let z = joint-none (a .number) (b .number) (eqb-true (joint (a .number) (b .number)) 0 e) in (pair-below n (a .vertex) (b .vertex) (h (z .0)) (k (z .1)), tt)) tt
+    (λ e. let z = both-found (a .number) (b .number) (eqb-true (joint (a .number) (b .number)) 0 e) in (pair-below n (a .vertex) (b .vertex) (h (z .0)) (k (z .1)), tt)) tt
 
 face-picks : (n : ℕ) (a b : Located) → FaceBelow n (a .face) → FaceBelow n (b .face) → PicksBelow (n * n) (facePick n a b)
 unfolding facePick
@@ -117,7 +110,7 @@ every-yes P p h (k ∷ ks) q = rw (h k (q .0), every-yes P p h ks (q .1))
 
 -- ---- the meshes of an accepted fresh, and locators made of them
 
-module _ (top : ℕ) (m : Mesh) (l : Locator) (low : top ≤ 15) (held : meshHeld (verticesBelow (suc top)) m ≡ true) (kept : meshesKeep top m ≡ true) (roomy : Roomy top l) (q : Query) where
+module _ (top : ℕ) (m : Mesh) (l : Locator) (low : top ≤ 15) (held : meshLong (verticesBelow (suc top)) m ≡ true) (kept : meshesKeep top m ≡ true) (roomy : Roomy top l) (q : Query) where
   search-same : (v : ℕ) (b : Bool) → v ≤ top → searchIn (m .vertices) (locators top m l) q v b ≡ search m q v b
   unfolding searchIn search
   search-same v b h =
@@ -148,10 +141,10 @@ module _ (top : ℕ) (m : Mesh) (l : Locator) (low : top ≤ 15) (held : meshHel
     unfolding rowInside
     row-in s h = rw (lt-ltb s (length rows) h, le-leb (t .«rows_start» + s * 10 + 10) (length file) (omega (arith, file-length g (suc top) rows ok)))
 
-    energy-in : (k : ℕ) → k < length (energiesOf rows) → energyInside file t k ≡ true
+    energy-in : (k : ℕ) → k < length (packedEnergies rows) → energyInside file t k ≡ true
     unfolding energyInside
     energy-in k h =
-        rw (lt-ltb k (length (energiesOf rows)) h, le-leb (t .«energies_start» + k * 4 + 4) (length file) (omega (arith, file-length g (suc top) rows ok)))
+        rw (lt-ltb k (length (packedEnergies rows)) h, le-leb (t .«energies_start» + k * 4 + 4) (length file) (omega (arith, file-length g (suc top) rows ok)))
 
     -- the energies of a row are in the file, from place o on
     abbrev Found : ℕ → List ℕ → Type 0

@@ -6,8 +6,8 @@ use Prim.Native.Nat.{ℕ, zero, suc, _+_, _*_, _-_, _≤_, _<_}
 use native.Mathlib.Omega.{arith}
 use lib.ListN.{length, getD, set, take, drop, replicate, length-append, length-drop, take-append-drop}
 use lib.Seq.{length-take-le, take-at, drop-at, take-append-le, drop-append-le, drop-append-add, drop-drop, sets, sets-eq}
-use Rattle.mesh.specs.Lists.{put}
-use Rattle.mesh.proofs.Sizes.{place}
+use Rattle.lists.specs.Lists.{put}
+use Rattle.lists.proofs.Places.{place}
 use Rattle.table.proofs.Back.{All}
 
 module _ {A : Type 0} where

@@ -1,5 +1,6 @@
 -- Demand 3. Assumes nothing.
 use mathlib.Core.Path.{_≡_, refl, sym, ap, _∙_}
+use Rattle.lists.proofs.Asking.{first-yes}
 use mathlib.Core.Bool.{Bool, true, false}
 use mathlib.Core.List.{List}
 use Prim.Native.Nat.{ℕ, suc, _+_}
@@ -9,18 +10,18 @@ use lib.Seq.{take-all, take-at, ext-getD}
 use lib.Dec.{eqb}
 use lib.Ieee.{binary64, toBits}
 use borrow.Author.Tests.{eqb-true, eqb-false}
-use Rattle.mesh.specs.Lists.{put}
+use Rattle.lists.specs.Lists.{put}
 use Rattle.mesh.specs.Mesh.{Mesh}
 use Rattle.grid.specs.Settings.{counted}
 use Rattle.grid.specs.declared.Grid.{Grid}
-use Rattle.grid.proofs.Tables.{table-held, some-bins}
+use Rattle.grid.proofs.Tables.{table-valid, some-bins}
 use Rattle.rows.specs.Rows.{Row, repulsive, compared}
-use Rattle.questions.specs.Lists.{Lists, slabs}
+use Rattle.builder.specs.BuilderLists.{BuilderLists, slabs}
 use Rattle.builder.specs.Calls.{builtValues, noBuilder, freshBuilder, filled, freshOut}
-use Rattle.questions.specs.Refusals.{meshedRefusal}
-use Rattle.questions.specs.declared.Builder.{Builder}
+use Rattle.builder.specs.Refusals.{meshedRefusal}
+use Rattle.builder.specs.declared.Builder.{Builder}
 use Rattle.builder.specs.declared.Built.the-variants.{Accepted as Builds}
-use Rattle.questions.proofs.Laws.{first-yes, Meshed, meshed}
+use Rattle.builder.proofs.Laws.{Meshed, meshed}
 use Rattle.table.specs.File.{fileOf}
 use Rattle.writer.specs.Write.{fileFrom, writeRefusal, writeOut}
 use Rattle.search.specs.Search.{Locator}
@@ -39,19 +40,19 @@ use Rattle.ledger.proofs.Readings.{reads}
 
 -- ---- what accepted calls are
 
-fresh-number : (g : Grid) (top : ℕ) (m : Mesh) (l : Lists) (x : Bool) → eqb (meshedRefusal (freshBuilder g top) m l) 0 ≡ x → freshOut g top m l .answer .number ≡ 0
+fresh-number : (g : Grid) (top : ℕ) (m : Mesh) (l : BuilderLists) (x : Bool) → eqb (meshedRefusal (freshBuilder g top) m l) 0 ≡ x → freshOut g top m l .answer .number ≡ 0
     → meshedRefusal (freshBuilder g top) m l ≡ 0
 unfolding freshOut
 fresh-number g top m l true d e = eqb-true _ 0 d
 fresh-number g top m l false d e = rw d at e
 
-fresh-is : (g : Grid) (top : ℕ) (m : Mesh) (l : Lists) → meshedRefusal (freshBuilder g top) m l ≡ 0
+fresh-is : (g : Grid) (top : ℕ) (m : Mesh) (l : BuilderLists) → meshedRefusal (freshBuilder g top) m l ≡ 0
     → freshOut g top m l ≡ record { answer = builtValues noBuilder (Builds (builderAt (counted g) top top)); lists = filled (builderAt (counted g) top top) l }
 unfolding freshOut freshBuilder
 fresh-is g top m l e = rw e
 
 -- the bytes of an accepted write
-written-is : (b : Builder) (m : Mesh) (l : Lists) (out : List ℕ) (x : Bool) → eqb (writeRefusal b m l (length out)) 0 ≡ x → writeOut b m l out .answer .number ≡ 0
+written-is : (b : Builder) (m : Mesh) (l : BuilderLists) (out : List ℕ) (x : Bool) → eqb (writeRefusal b m l (length out)) 0 ≡ x → writeOut b m l out .answer .number ≡ 0
     → take (writeOut b m l out .answer .length) (writeOut b m l out .output) ≡ fileFrom b l
 unfolding writeOut put
 written-is b m l out true d e = rw d (take-at (fileFrom b l) (drop (0 + length (fileFrom b l)) out) (length (fileFrom b l)) refl)
@@ -107,7 +108,7 @@ module _ (h : History) (ok : Accepted h) where
         rmin = ok .rmin;
         dr = ok .dr;
         step = ok .step;
-        held = table-held g (h .top) (h .top) (basis .asked);
+        held = table-valid g (h .top) (h .top) (basis .asked);
         many = many;
         fine = fine-rows (h .top) (last .rows) (agree .fit .good);
       }

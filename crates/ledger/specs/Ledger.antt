@@ -1,21 +1,21 @@
--- Lists of calls: what running them means, and document 01's ledger of them. Definitions only.
+-- BuilderLists of calls: what running them means, and document 01's ledger of them. Definitions only.
 use mathlib.Core.Bool.{true, cond}
 use mathlib.Core.List.{List, [], _∷_}
 use Prim.Native.Nat.{ℕ}
 use lib.ListN.{set, take, drop, replicate}
 use lib.Dec.{ltb, eqb}
 use lib.Ieee.{Float}
-use Rattle.mesh.specs.Questions.{ask}
-use Rattle.mesh.specs.Lists.{every, put}
+use Rattle.lists.specs.Questions.{ask}
+use Rattle.lists.specs.Lists.{every, put}
 use Rattle.mesh.specs.Mesh.{Mesh}
 use Rattle.grid.specs.declared.Grid.{Grid}
 use Rattle.rows.specs.Rows.{Row, scalar, mesh}
 use Rattle.settling.specs.Gradient.{zero}
 use Rattle.settling.specs.Settling.{verdicts, settledSlice, fromLevel}
-use Rattle.questions.specs.Lists.{Lists, slabs, slab}
+use Rattle.builder.specs.BuilderLists.{BuilderLists, slabs, slab}
 use Rattle.builder.specs.Calls.{setOut, settleOut}
-use Rattle.questions.specs.Refusals.{setQuestion}
-use Rattle.questions.specs.declared.Builder.{Builder}
+use Rattle.builder.specs.Refusals.{setQuestion}
+use Rattle.builder.specs.declared.Builder.{Builder}
 use Rattle.writer.specs.Write.{writeOut}
 
 -- "lists of set, settle and write calls": set's bins and energies, settle's distance bin, write's output
@@ -26,11 +26,12 @@ pub data Call : Type 0 where
 
 -- ---- running a list
 
--- "the store, rows and meshes are the same lists, altered by these calls only, and each call gets the builder as the call before left it"
+-- "the store, rows and meshes are the same lists, altered by these calls only, and each call gets the builder as the call before left it" (S13.1)
 pub record State : Type 0 where
   pub builder : Builder
-  pub lists : Lists
+  pub lists : BuilderLists
 
+-- S13.1
 unfoldable pub called : Mesh → State → Call → State
 called m st (set-call ri oi e) =
     let o = setOut (st .builder) (st .lists) ri oi e in
@@ -42,18 +43,19 @@ called m st (write-call out) =
     let o = writeOut (st .builder) m (st .lists) out in
     record { builder = o .builder; lists = o .lists }
 
+-- S13.1
 unfoldable pub run : Mesh → State → List Call → State
 run m st [] = st
 run m st (c ∷ cs) = run m (called m st c) cs
 
 -- ---- the ledger: "It takes nothing from the builder, the store or the lent rows."
 
--- "State: the current level, and a row per slab"
+-- "State: the current level, and a row per slab" (S13.2)
 pub record Ledger : Type 0 where
   pub level : ℕ
   pub rows : List (Row Float)
 
--- "Fresh: top level, all rows Scalar 0.0"
+-- "Fresh: top level, all rows Scalar 0.0" (S13.2)
 unfoldable pub opened : Grid → ℕ → Ledger
 opened g top = record { level = top; rows = replicate (slabs g) (scalar zero) }
 
@@ -61,10 +63,10 @@ abbrev pub ledgerSlice : Grid → Ledger → ℕ → List (Row Float)
 ledgerSlice g b ri = take (g .«n_omega») (drop (slab g ri 0) (b .rows))
 
 -- "It puts 8 to 11 to these and to its own level and rows": 8 and 11 of settle, and 8 to 10 of set by `setQuestion`
-unfoldable pub settleQuestion : Grid → Ledger → ℕ → ℕ
-settleQuestion g b ri = ask (ltb ri (g .«n_r»)) 8 (ask (every (fromLevel (b .level)) (ledgerSlice g b ri)) 11 0)
+unfoldable pub ledgerQuestion : Grid → Ledger → ℕ → ℕ
+ledgerQuestion g b ri = ask (ltb ri (g .«n_r»)) 8 (ask (every (fromLevel (b .level)) (ledgerSlice g b ri)) 11 0)
 
--- "Set accepted: the row becomes Mesh, current level, flag true, the energies given."
+-- "Set accepted: the row becomes Mesh, current level, flag true, the energies given." (S13.3)
 unfoldable pub setEntered : Grid → Ledger → ℕ → List Float → Ledger
 setEntered g b s e = record { level = b .level; rows = set (b .rows) s (mesh (b .level) true e) }
 
@@ -75,10 +77,10 @@ settleEntered g m b ri =
     let s = settledSlice g (b .level) rs (verdicts g m (b .level) rs) in
     record { level = s .level; rows = put (b .rows) (slab g ri 0) (s .rows) }
 
--- "Refused calls and writes change nothing."
+-- "Refused calls and writes change nothing." (S13.6, S13.5)
 unfoldable pub entered : Grid → Mesh → Ledger → Call → Ledger
 entered g m b (set-call ri oi e) = cond (eqb (setQuestion g (b .level) ri oi e) 0) (setEntered g b (slab g ri oi) e) b
-entered g m b (settle-call ri) = cond (eqb (settleQuestion g b ri) 0) (settleEntered g m b ri) b
+entered g m b (settle-call ri) = cond (eqb (ledgerQuestion g b ri) 0) (settleEntered g m b ri) b
 entered g m b (write-call out) = b
 
 unfoldable pub ledger : Grid → Mesh → Ledger → List Call → Ledger

@@ -13,7 +13,7 @@ use Rattle.rows.specs.Rows.{Row, repulsive, compared}
 use Rattle.search.specs.Search.{Locator}
 use Rattle.locator.specs.Locator.{locatorOut}
 use Rattle.locator.specs.Several.{locatorPart, locators, Roomy}
-use Rattle.questions.specs.Lists.{Lists, slabs}
+use Rattle.builder.specs.BuilderLists.{BuilderLists, slabs}
 use Rattle.builder.specs.Calls.{BuiltOut, freshOut}
 use Rattle.writer.specs.Write.{WriteOut, writeOut}
 use Rattle.table.specs.Read.{readOut}
@@ -28,7 +28,7 @@ pub record History : Type 0 where
   pub grid : Grid
   pub top : ℕ
   pub meshes : Mesh
-  pub lists : Lists
+  pub lists : BuilderLists
   pub calls : List Call
   pub output : List ℕ
 
@@ -44,7 +44,7 @@ ended h = run (h .meshes) (record { builder = fresh h .answer .builder; lists = 
 abbrev pub lastWrite : History → WriteOut
 lastWrite h = writeOut (ended h .builder) (h .meshes) (ended h .lists) (h .output)
 
--- "The file of an accepted write is the first bytes of its output, as many as it returns."
+-- "The file of an accepted write is the first bytes of its output, as many as it returns." (S8.7)
 unfoldable pub file : History → List ℕ
 file h = take (lastWrite h .answer .length) (lastWrite h .output)
 
@@ -64,7 +64,7 @@ unfoldable pub rows : History → List (Row ℕ)
 rows h = map compared (ledger (counted (h .grid)) (h .meshes) (opened (counted (h .grid)) (h .top)) (h .calls) .rows)
 
 -- "exactly when grids and level counts are equal and 01's ledger, run over each list alone, ends with the same row at every slab".
--- "Grids are equal when rmin, dr and omega step have equal bits and both counts are equal. The level count is the top level plus one."
+-- "Grids are equal when rmin, dr and omega step have equal bits and both counts are equal. The level count is the top level plus one." (S14.4)
 pub record Same (a b : History) : Type 0 where
   pub rmin : toBits binary64 (a .grid .rmin) ≡ toBits binary64 (b .grid .rmin)
   pub dr : toBits binary64 (a .grid .dr) ≡ toBits binary64 (b .grid .dr)
@@ -83,6 +83,7 @@ readingOf h l q = readingOut (file h) (readOut (file h) .table) (h .meshes .vert
 abbrev pub Answered : ℕ → Type 0
 Answered n = (n ≡ 0) ⊎ ((n ≡ 18) ⊎ (n ≡ 20))
 
+-- S14.6
 pub record Kept (h : History) : Type 0 where
   -- "The reader accepts both."
   pub read : readOut (file h) .number ≡ 0
@@ -96,6 +97,6 @@ pub record Kept (h : History) : Type 0 where
 
 -- ---- demand 3
 
--- "For every two lists .. the files that an accepted write gives are equal byte for byte exactly when .. The reader accepts both. Every admitted reading .. One theorem."
+-- "For every two lists .. the files that an accepted write gives are equal byte for byte exactly when .. The reader accepts both. Every admitted reading .. One theorem." (S14.3 to S14.6)
 abbrev pub Promise : Type 0
 Promise = (a b : History) → Accepted a → Accepted b → ((file a ≡ file b) ↔ Same a b) × (Kept a × Kept b)

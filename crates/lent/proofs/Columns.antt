@@ -8,7 +8,7 @@ use lib.ListN.{length, getD, set, length-map, List·getD-map}
 use lib.Seq.{ext-getD, getD-set-same, getD-set-other}
 use borrow.Author.Tests.{le-leb}
 use Rattle.ieee.proofs.Pack.{le-or-lt}
-use Rattle.mesh.specs.Lists.{forEach}
+use Rattle.lists.specs.Lists.{forEach}
 use Rattle.rows.specs.Rows.{Rows, rowRoom, resolutionAt, replaced}
 use Rattle.lent.specs.declared.RowRecord.{RowRecord}
 use Rattle.lent.specs.Records.{columns, recordAt, recordOf, bridged, bridgedOf, copied, gathered, spreadOut}

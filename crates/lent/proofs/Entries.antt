@@ -1,5 +1,5 @@
 -- One record of a list, and the numbers that it stands for. Assumes nothing.
-use mathlib.Core.Path.{_≡_, refl, sym, _∙_}
+use mathlib.Core.Path.{_≡_, refl, sym, _∙_, ap}
 use mathlib.Core.Bool.{Bool, true, false, not, cond, _&&_}
 use mathlib.Core.List.{List}
 use Prim.Native.Nat.{ℕ, zero, suc, _<_, _≤_, _+_, _*_, _^_, zero-le}
@@ -8,7 +8,8 @@ use lib.ListN.{length, getD, set, length-set, List·getD-map, List·getD-eq-defa
 use lib.Seq.{set-out}
 use lib.Dec.{T as Holds, ltb, leb, nltb→le}
 use borrow.Author.Tests.{leb-true}
-use Rattle.mesh.specs.Lists.{forEach}
+use Rattle.lists.specs.Lists.{forEach}
+use Rattle.lists.proofs.Loops.{each-turn}
 use Rattle.rows.specs.Rows.{rowRoom}
 use Rattle.lent.specs.declared.RowRecord.{RowRecord}
 use Rattle.lent.specs.Records.{columns, recordAt, bridged, copied}
@@ -40,6 +41,9 @@ bridged-le n k l v = by-test (leb n k) (leb n l) (leb n v) refl refl refl
 pub copied-none : {A : Type 0} (f : ℕ → A) (xs : List A) → xs ≡ copied 0 f xs
 unfolding forEach
 copied-none f xs = refl
+
+pub copied-more : {A : Type 0} (f : ℕ → A) (xs : List A) (n : ℕ) (x : A) → x ≡ f n → set (copied n f xs) n x ≡ copied (n + 1) f xs
+copied-more f xs n x e = ap (λ y. set (copied n f xs) n y) e ∙ each-turn (λ s ys. set ys s (f s)) n xs (copied n f xs) refl
 
 pub length-copied : {A : Type 0} (n : ℕ) (f : ℕ → A) (xs : List A) → length (copied n f xs) ≡ length xs
 unfolding forEach

@@ -4,8 +4,8 @@ use Prim.Native.Nat.{ℕ}
 use lib.Ieee.{Float}
 use Rattle.mesh.specs.Mesh.{Mesh}
 use Rattle.settling.specs.Gradient.{zero}
-use Rattle.questions.specs.Lists.{Lists}
-use Rattle.questions.specs.declared.Builder.{Builder}
+use Rattle.builder.specs.BuilderLists.{BuilderLists}
+use Rattle.builder.specs.declared.Builder.{Builder}
 use Rattle.builder.specs.Calls.{BuiltOut, SettleOut, setOut, settleOut}
 use Rattle.lent.specs.declared.LentSettled.{LentSettled}
 use Rattle.lent.specs.declared.LentSettled.the-variants.{Accepted, Refused}
@@ -23,7 +23,7 @@ lentValues (Refused n) = record { number = n; gradient = zero }
 pub record LentOut (A : Type 0) : Type 0 where
   pub answer : A
   pub builder : Builder
-  pub lists : Lists
+  pub lists : BuilderLists
 
 -- "set and settle also with the builder lent to be altered": the builder that the by-value call leaves is stored back; a refused call leaves it as it was
 abbrev pub setLeft : BuiltOut → LentOut ℕ
@@ -32,8 +32,8 @@ setLeft o = record { answer = o .answer .number; builder = o .answer .builder; l
 abbrev pub settleLeft : SettleOut → LentOut LentValues
 settleLeft o = record { answer = record { number = o .answer .number; gradient = o .answer .gradient }; builder = o .answer .builder; lists = o .lists }
 
-unfoldable pub setLent : Builder → Lists → ℕ → ℕ → List Float → LentOut ℕ
+unfoldable pub setLent : Builder → BuilderLists → ℕ → ℕ → List Float → LentOut ℕ
 setLent b l ri oi e = setLeft (setOut b l ri oi e)
 
-unfoldable pub settleLent : Builder → Mesh → Lists → ℕ → LentOut LentValues
+unfoldable pub settleLent : Builder → Mesh → BuilderLists → ℕ → LentOut LentValues
 settleLent b m l ri = settleLeft (settleOut b m l ri)

@@ -9,8 +9,8 @@ use Rattle.grid.specs.declared.Grid.{Grid}
 use Rattle.rows.specs.declared.SlabResolution.{SlabResolution}
 use Rattle.rows.specs.Rows.{Rows, resolutionOf, resolutionAt, replaced}
 use Rattle.search.specs.Search.{Locator}
-use Rattle.questions.specs.Lists.{Lists}
-use Rattle.questions.specs.declared.Builder.{Builder}
+use Rattle.builder.specs.BuilderLists.{BuilderLists}
+use Rattle.builder.specs.declared.Builder.{Builder}
 use Rattle.builder.specs.Calls.{BuiltOut, freshOut, setOut, settleOut}
 use Rattle.writer.specs.Write.{WriteOut, writeOut}
 use Rattle.table.specs.Read.{readOut}
@@ -59,19 +59,19 @@ pub record LentState : Type 0 where
 abbrev pub asState : LentState → State
 asState st = record { builder = st .builder; lists = record { store = st .store; rows = columns (st .rows) } }
 
-abbrev pub spreadLists : LentState → Lists
+abbrev pub spreadLists : LentState → BuilderLists
 spreadLists st = record { store = st .store; rows = spreadOut (st .rows) (st .work) .rows }
 
-abbrev pub leftIn : LentState → Builder → Lists → LentState
+abbrev pub leftIn : LentState → Builder → BuilderLists → LentState
 leftIn st b l = record { builder = b; store = l .store; rows = gathered (l .rows) (st .rows); work = l .rows }
 
 -- a call, and its answer, over the number lists l that the records were spread over
-unfoldable pub calledOver : Mesh → LentState → Lists → Call → LentState
+unfoldable pub calledOver : Mesh → LentState → BuilderLists → Call → LentState
 calledOver m st l (set-call ri oi e) = let o = setLent (st .builder) l ri oi e in leftIn st (o .builder) (o .lists)
 calledOver m st l (settle-call ri) = let o = settleLent (st .builder) m l ri in leftIn st (o .builder) (o .lists)
 calledOver m st l (write-call out) = let o = writeOut (st .builder) m l out in leftIn st (o .builder) (o .lists)
 
-unfoldable pub repliedOver : Mesh → Builder → Lists → Call → Reply
+unfoldable pub repliedOver : Mesh → Builder → BuilderLists → Call → Reply
 repliedOver m b l (set-call ri oi e) = set-reply (setLent b l ri oi e .answer)
 repliedOver m b l (settle-call ri) = let a = settleLent b m l ri .answer in settle-reply (a .number) (a .gradient)
 repliedOver m b l (write-call out) = writeReply (writeOut b m l out)

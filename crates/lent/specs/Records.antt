@@ -3,14 +3,14 @@ use mathlib.Core.Bool.{cond}
 use mathlib.Core.List.{List, map}
 use Prim.Native.Nat.{ℕ}
 use lib.ListN.{length, getD, set}
-use Rattle.mesh.specs.Lists.{forEach}
+use Rattle.lists.specs.Lists.{forEach}
 use Rattle.rows.specs.declared.SlabResolution.{SlabResolution}
-use Rattle.rows.specs.Rows.{Rows, kindOf, levelOf, valueOf, rowRoom}
+use Rattle.rows.specs.Rows.{Rows, kindOf, levelOf, valueOf, rowRoom, rowsOf}
 use Rattle.lent.specs.declared.RowRecord.{RowRecord}
 
 -- "one lent list of row records": the three lists of numbers that it stands for
 abbrev pub columns : List RowRecord → Rows
-columns rs = record { kinds = map (λ (r : RowRecord). r .kind) rs; levels = map (λ (r : RowRecord). r .level) rs; values = map (λ (r : RowRecord). r .value) rs }
+columns rs = rowsOf (map (λ (r : RowRecord). r .kind) rs) (map (λ (r : RowRecord). r .level) rs) (map (λ (r : RowRecord). r .value) rs)
 
 -- "read one .. over the proved number lists"; beyond a list its entries count as 0
 abbrev pub recordAt : Rows → ℕ → RowRecord
@@ -40,7 +40,7 @@ gathered l rs = copied (bridgedOf rs l) (recordAt l) rs
 abbrev pub spreadFirst : ℕ → List RowRecord → Rows → Rows
 spreadFirst n rs l =
     let c = recordAt (columns rs) in
-    record { kinds = copied n (λ s. c s .kind) (l .kinds); levels = copied n (λ s. c s .level) (l .levels); values = copied n (λ s. c s .value) (l .values) }
+    (rowsOf (copied n (λ s. c s .kind) (l .kinds)) (copied n (λ s. c s .level) (l .levels)) (copied n (λ s. c s .value) (l .values)))
 
 pub record SpreadOut : Type 0 where
   pub answer : ℕ

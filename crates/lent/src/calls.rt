@@ -1,12 +1,14 @@
 // Set and settle with the builder lent to be altered: the by-value call, and the builder that it leaves stored back.
 ghost use mathlib.Core.Path.{_≡_};
 ghost use Prim.Native.Nat.{ℕ};
+ghost use Rattle.mesh.specs.Mesh.{meshOf};
+ghost use Rattle.builder.specs.BuilderLists.{listsOf};
 ghost use Rattle.builder.specs.Calls.{builtValues, settledValues};
 ghost use Rattle.lent.specs.Calls.{LentOut, LentValues, lentValues, setLent, settleLent};
 use crate::LentSettled;
+use builder::Builder;
 use builder::Built;
 use builder::Settled;
-use questions::Builder;
 
 // What the by-value calls leave: the builder, a refused call's being the one it was handed, and the rest of the answer.
 struct SetDone {
@@ -57,8 +59,8 @@ fn set_kept(
     energies: &[f64],
 ) -> SetDone
     ensures { λ r. ⌜ _≡_ {A = LentOut ℕ}
-        (record { answer = r .number; builder = r .builder; lists = record { store = now (store .exit); rows = record { kinds = now (kinds .exit); levels = now (levels .exit); values = now (values .exit) } } })
-        (setLent b (record { store = now (store .entry); rows = record { kinds = now (kinds .entry); levels = now (levels .entry); values = now (values .entry) } }) ri oi (now (energies .entry))) ⌝ }
+        (record { answer = r .number; builder = r .builder; lists = listsOf (now (store .exit)) (now (kinds .exit)) (now (levels .exit)) (now (values .exit)) })
+        (setLent b (listsOf (now (store .entry)) (now (kinds .entry)) (now (levels .entry)) (now (values .entry))) ri oi (now (energies .entry))) ⌝ }
 {
     let a = builder::set(b, store, kinds, levels, values, ri, oi, energies);
     set_done(b, a)
@@ -77,9 +79,9 @@ fn settle_kept(
     ri: u64,
 ) -> SettleDone
     ensures { λ r. ⌜ _≡_ {A = LentOut LentValues}
-        (record { answer = lentValues (r .answer); builder = r .builder; lists = record { store = now (store .entry); rows = record { kinds = now (kinds .exit); levels = now (levels .exit); values = now (values .exit) } } })
-        (settleLent b (record { vertices = now (vertices .entry); counts = now (counts .entry); neighbours = now (neighbours .entry); angles = now (angles .entry) })
-        (record { store = now (store .entry); rows = record { kinds = now (kinds .entry); levels = now (levels .entry); values = now (values .entry) } }) ri) ⌝ }
+        (record { answer = lentValues (r .answer); builder = r .builder; lists = listsOf (now (store .entry)) (now (kinds .exit)) (now (levels .exit)) (now (values .exit)) })
+        (settleLent b (meshOf (now (vertices .entry)) (now (counts .entry)) (now (neighbours .entry)) (now (angles .entry)))
+        (listsOf (now (store .entry)) (now (kinds .entry)) (now (levels .entry)) (now (values .entry))) ri) ⌝ }
 {
     let a = builder::settle(
         b,
@@ -108,8 +110,8 @@ pub fn set_lent(
     energies: &[f64],
 ) -> u64
     ensures { λ r. ⌜ _≡_ {A = LentOut ℕ}
-        (record { answer = r; builder = now (b .exit); lists = record { store = now (store .exit); rows = record { kinds = now (kinds .exit); levels = now (levels .exit); values = now (values .exit) } } })
-        (setLent (now (b .entry)) (record { store = now (store .entry); rows = record { kinds = now (kinds .entry); levels = now (levels .entry); values = now (values .entry) } }) ri oi (now (energies .entry))) ⌝ }
+        (record { answer = r; builder = now (b .exit); lists = listsOf (now (store .exit)) (now (kinds .exit)) (now (levels .exit)) (now (values .exit)) })
+        (setLent (now (b .entry)) (listsOf (now (store .entry)) (now (kinds .entry)) (now (levels .entry)) (now (values .entry))) ri oi (now (energies .entry))) ⌝ }
 {
     let a = set_kept(*b, store, kinds, levels, values, ri, oi, energies);
     *b = a.builder;
@@ -130,9 +132,9 @@ pub fn settle_lent(
     ri: u64,
 ) -> LentSettled
     ensures { λ r. ⌜ _≡_ {A = LentOut LentValues}
-        (record { answer = lentValues r; builder = now (b .exit); lists = record { store = now (store .entry); rows = record { kinds = now (kinds .exit); levels = now (levels .exit); values = now (values .exit) } } })
-        (settleLent (now (b .entry)) (record { vertices = now (vertices .entry); counts = now (counts .entry); neighbours = now (neighbours .entry); angles = now (angles .entry) })
-        (record { store = now (store .entry); rows = record { kinds = now (kinds .entry); levels = now (levels .entry); values = now (values .entry) } }) ri) ⌝ }
+        (record { answer = lentValues r; builder = now (b .exit); lists = listsOf (now (store .entry)) (now (kinds .exit)) (now (levels .exit)) (now (values .exit)) })
+        (settleLent (now (b .entry)) (meshOf (now (vertices .entry)) (now (counts .entry)) (now (neighbours .entry)) (now (angles .entry)))
+        (listsOf (now (store .entry)) (now (kinds .entry)) (now (levels .entry)) (now (values .entry))) ri) ⌝ }
 {
     let a = settle_kept(
         *b,

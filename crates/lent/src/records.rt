@@ -3,7 +3,7 @@ ghost use mathlib.Core.Path.{_≡_};
 ghost use Prim.Native.Nat.{_<_};
 ghost use lib.Dec.{ltb};
 ghost use lib.ListN.{length, set};
-ghost use Rattle.rows.specs.Rows.{resolutionOf};
+ghost use Rattle.rows.specs.Rows.{resolutionOf, rowsOf};
 ghost use Rattle.lent.specs.Records.{columns, recordAt, recordOf, bridged, gathered, SpreadOut, spreadOut};
 use crate::RowRecord;
 use rows::SlabResolution;
@@ -65,7 +65,7 @@ fn bridged(n: usize, kinds: usize, levels: usize, values: usize) -> usize
 // The record that the three lists hold of slab s.
 fn record_at(kinds: &[u8], levels: &[u8], values: &[u32], s: usize) -> RowRecord
     requires { ⌜ (s < length (now kinds)) × (s < length (now levels)) × (s < length (now values)) ⌝ }
-    ensures { λ r. ⌜ r ≡ recordAt (record { kinds = now (kinds .entry); levels = now (levels .entry); values = now (values .entry) }) s ⌝ }
+    ensures { λ r. ⌜ r ≡ recordAt (rowsOf (now (kinds .entry)) (now (levels .entry)) (now (values .entry))) s ⌝ }
 {
     RowRecord {
         kind: kinds[s],
@@ -77,7 +77,7 @@ fn record_at(kinds: &[u8], levels: &[u8], values: &[u32], s: usize) -> RowRecord
 // The lists' numbers into the records.
 pub fn gather(rows: &mut [RowRecord], kinds: &[u8], levels: &[u8], values: &[u32]) -> usize
     ensures { λ r. ⌜ (r ≡ bridged (length (now (rows .entry))) (length (now (kinds .entry))) (length (now (levels .entry))) (length (now (values .entry))))
-        × (now (rows .exit) ≡ gathered (record { kinds = now (kinds .entry); levels = now (levels .entry); values = now (values .entry) }) (now (rows .entry))) ⌝ }
+        × (now (rows .exit) ≡ gathered (rowsOf (now (kinds .entry)) (now (levels .entry)) (now (values .entry))) (now (rows .entry))) ⌝ }
 {
     let n = bridged(rows.len(), kinds.len(), levels.len(), values.len());
     let mut i = 0;
@@ -92,8 +92,8 @@ pub fn gather(rows: &mut [RowRecord], kinds: &[u8], levels: &[u8], values: &[u32
 // The records' numbers over the lists.
 pub fn spread(rows: &[RowRecord], kinds: &mut [u8], levels: &mut [u8], values: &mut [u32]) -> usize
     ensures { λ r. ⌜ _≡_ {A = SpreadOut}
-        (record { answer = r; rows = record { kinds = now (kinds .exit); levels = now (levels .exit); values = now (values .exit) } })
-        (spreadOut (now (rows .entry)) (record { kinds = now (kinds .entry); levels = now (levels .entry); values = now (values .entry) })) ⌝ }
+        (record { answer = r; rows = rowsOf (now (kinds .exit)) (now (levels .exit)) (now (values .exit)) })
+        (spreadOut (now (rows .entry)) (rowsOf (now (kinds .entry)) (now (levels .entry)) (now (values .entry)))) ⌝ }
 {
     let n = bridged(rows.len(), kinds.len(), levels.len(), values.len());
     let mut i = 0;

@@ -1,7 +1,7 @@
 -- The search over the lists that the locator call makes is the search over the mesh. Other entries may stand behind them, as where levels are lent one after
 -- another and a reading has all of them from the level's first on.
 use mathlib.Core.Path.{_≡_, refl, sym, ap, _∙_}
-use mathlib.Core.Bool.{Bool, true, false, cond, _&&_, or-true}
+use mathlib.Core.Bool.{Bool, true, false, cond, _&&_, or-true, and-eq-true-iff}
 use mathlib.Core.List.{List, [], _∷_, _++_, append-assoc}
 use Prim.Native.Nat.{ℕ, zero, suc, _+_, _*_, _≤_, _<_}
 use native.Mathlib.Omega.{arith}
@@ -11,20 +11,19 @@ use lib.Dec.{leb, ltb, eqb}
 use lib.Ieee.{Float, nan}
 use borrow.Author.Tests.{lt-ltb, le-leb, ltb-true, leb-true, eqb-true}
 use Rattle.float.specs.Order.{ordered}
-use Rattle.mesh.specs.Lists.{put, below, every, joined, starts}
+use Rattle.lists.specs.Lists.{put, below, every, joined, starts}
 use Rattle.mesh.specs.Levels.{cellCount}
 use Rattle.mesh.specs.Mesh.{Mesh, degree, neighbour}
 use Rattle.mesh.specs.Faces.{face, isFace, facesFrom, extractFaces, has}
 use Rattle.mesh.specs.declared.Face.{Face}
-use Rattle.mesh.proofs.Counting.{and-yes}
-use Rattle.mesh.proofs.Written.{length-put, length-starts, joined-le}
+use Rattle.lists.proofs.Written.{length-put, length-starts, joined-le}
 use Rattle.search.specs.Geometry.{vertexAt, cellIndex}
 use Rattle.search.specs.Cells.{inCell, cell, facesOf, flat, triples}
 use Rattle.search.specs.Search.{Locator, squared, notNearest, nearer, nearestFrom, nearestAmong, nearestOf, locate, noFit, better, fitFrom, bestFace, notLocated, vertexInside, entriesAt, entriesInside, nearestIn, locateIn}
 use Rattle.search.specs.declared.Vector3.{Vector3}
 use Rattle.search.specs.declared.Nearest.{Nearest}
 use Rattle.search.proofs.Bounds.{cell-index-lt}
-use Rattle.locator.specs.Locator.{located}
+use Rattle.locator.specs.Locator.{locatorLists}
 use Rattle.locator.proofs.Blocks.{flat-append, length-flat}
 use Rattle.locator.proofs.Graphs.{rule}
 use Rattle.locator.proofs.Accepted.{Accepted, cells-fit}
@@ -87,9 +86,9 @@ every-flat : (q : ℕ → Bool) (l : List Face) → every (λ (f : Face). q (f .
 unfolding every flat
 every-flat q [] e = refl
 every-flat q (x ∷ l) e =
-    let h = and-yes (q (x .a) && (q (x .b) && q (x .c))) (every (λ f. q (f .a) && (q (f .b) && q (f .c))) l) e in
-    let a = and-yes (q (x .a)) (q (x .b) && q (x .c)) (h .0) in
-    let b = and-yes (q (x .b)) (q (x .c)) (a .1) in
+    let h = and-eq-true-iff (q (x .a) && (q (x .b) && q (x .c))) (every (λ f. q (f .a) && (q (f .b) && q (f .c))) l) .0 e in
+    let a = and-eq-true-iff (q (x .a)) (q (x .b) && q (x .c)) .0 (h .0) in
+    let b = and-eq-true-iff (q (x .b)) (q (x .c)) .0 (a .1) in
     rw (a .0, b .0, b .1) (every-flat q l (h .1))
 
 -- ---- vertices before other entries
@@ -102,7 +101,7 @@ folds : {A B : Type 0} (q : A → Bool) (F G : B → List A → B) (f g : B → 
 unfolding every
 folds {A} {B} q F G f g fn fc gn gc s b [] e = fn b ∙ sym (gn b)
 folds {A} {B} q F G f g fn fc gn gc s b (x ∷ l) e =
-    let h = and-yes (q x) (every q l) e in
+    let h = and-eq-true-iff (q x) (every q l) .0 e in
     fc b x l ∙ ap (λ (t : B). F t l) (s b x (h .0)) ∙ folds q F G f g fn fc gn gc s (g b x) l (h .1) ∙ sym (gc b x l)
 
 -- a face whose vertices are below n and lent
@@ -113,21 +112,21 @@ module _ (vs r : List Float) (p : Vector3) (n : ℕ) where
   vertex-more : (v : ℕ) → vertexInside vs n v ≡ true → vertexAt (vs ++ r) v ≡ vertexAt vs v
   unfolding vertexAt vertexInside
   vertex-more v e =
-      let h = leb-true (3 * v + 3) (length vs) (and-yes (ltb v n) (leb (3 * v + 3) (length vs)) e .1) in
+      let h = leb-true (3 * v + 3) (length vs) (and-eq-true-iff (ltb v n) (leb (3 * v + 3) (length vs)) .0 e .1) in
       rw (List·getD-append vs r nan (3 * v) (omega arith), List·getD-append vs r nan (3 * v + 1) (omega arith), List·getD-append vs r nan (3 * v + 2) (omega arith))
 
   nearest-more : (best : Nearest) (l : List ℕ) → every (vertexInside vs n) l ≡ true → nearestFrom (vs ++ r) p best l ≡ nearestFrom vs p best l
   unfolding nearestFrom nearer every
   nearest-more best [] e = refl
   nearest-more best (v ∷ l) e =
-      let a = and-yes (vertexInside vs n v) (every (vertexInside vs n) l) e in
+      let a = and-eq-true-iff (vertexInside vs n v) (every (vertexInside vs n) l) .0 e in
       rw (vertex-more v (a .0)) (nearest-more (nearer vs p best v) l (a .1))
 
   better-more : (f : Face) → lent vs n f ≡ true
       → (vertexAt (vs ++ r) (f .a) ≡ vertexAt vs (f .a)) × (vertexAt (vs ++ r) (f .b) ≡ vertexAt vs (f .b)) × (vertexAt (vs ++ r) (f .c) ≡ vertexAt vs (f .c))
   better-more f e =
-      let a = and-yes (vertexInside vs n (f .a)) (vertexInside vs n (f .b) && vertexInside vs n (f .c)) e in
-      let b = and-yes (vertexInside vs n (f .b)) (vertexInside vs n (f .c)) (a .1) in
+      let a = and-eq-true-iff (vertexInside vs n (f .a)) (vertexInside vs n (f .b) && vertexInside vs n (f .c)) .0 e in
+      let b = and-eq-true-iff (vertexInside vs n (f .b)) (vertexInside vs n (f .c)) .0 (a .1) in
       (vertex-more (f .a) (a .0), vertex-more (f .b) (b .0), vertex-more (f .c) (b .1))
 
   fit-more : (l : List Face) → every (lent vs n) l ≡ true → fitFrom (vs ++ r) p noFit l ≡ fitFrom vs p noFit l
@@ -152,8 +151,8 @@ module _ (vs : List Float) (p : Vector3) (n : ℕ) where
   unfolding nearestFrom every vertexInside
   nearest-in-list best [] e h = h
   nearest-in-list best (v ∷ l) e h =
-      let a = and-yes (ltb v n && leb (3 * v + 3) (length vs)) (every (vertexInside vs n) l) e in
-      let b = and-yes (ltb v n) (leb (3 * v + 3) (length vs)) (a .0) in
+      let a = and-eq-true-iff (ltb v n && leb (3 * v + 3) (length vs)) (every (vertexInside vs n) l) .0 e in
+      let b = and-eq-true-iff (ltb v n) (leb (3 * v + 3) (length vs)) .0 (a .0) in
       nearest-in-list (nearer vs p best v) l (a .1) (nearer-in best v h (ltb-true v n (b .0)))
 
 -- ---- a mesh that keeps the rule, lists with room, and other entries behind them
@@ -174,7 +173,7 @@ module _ (n g : ℕ) (m : Mesh) (l : Locator)
   vertices = m .vertices ++ after
 
   abbrev lists : Locator
-  lists = ahead (located n g m l) behind
+  lists = ahead (locatorLists n g m l) behind
 
   vertex-in : (vs : List Float) (v : ℕ) → length (m .vertices) ≤ length vs → v < n → vertexInside vs n v ≡ true
   unfolding vertexInside
@@ -211,7 +210,7 @@ module _ (n g : ℕ) (m : Mesh) (l : Locator)
 
   whole-cells : (lists .cellOffsets ≡ put (l .cellOffsets ++ behind .cellOffsets) 0 (starts (cellCount g + 1) (cell (m .vertices) n g)))
       × (lists .cellVertices ≡ put (l .cellVertices ++ behind .cellVertices) 0 (joined (cellCount g) (cell (m .vertices) n g)))
-  unfolding ahead located
+  unfolding ahead locatorLists
   whole-cells = (
     put-append (l .cellOffsets) (starts (cellCount g + 1) (cell (m .vertices) n g)) (behind .cellOffsets) (omega (arith, ok .r1, length-starts (cellCount g + 1) (cell (m .vertices) n g))),
     put-append (l .cellVertices) (joined (cellCount g) (cell (m .vertices) n g)) (behind .cellVertices) cells-held,
@@ -248,16 +247,16 @@ module _ (n g : ℕ) (m : Mesh) (l : Locator)
 
   whole-faces : (lists .faceOffsets ≡ put (l .faceOffsets ++ behind .faceOffsets) 0 (starts (n + 1) (facesOf m n)))
       × (lists .faces ≡ put (l .faces ++ behind .faces) 0 (joined n (λ v. flat (facesOf m n v))))
-  unfolding ahead located
+  unfolding ahead locatorLists
   whole-faces = (
     put-append (l .faceOffsets) (starts (n + 1) (facesOf m n)) (behind .faceOffsets) (omega (arith, ok .r3, length-starts (n + 1) (facesOf m n))),
     rw (flat-joined n (facesOf m n)) (put-append (l .faces) (joined n (λ v. flat (facesOf m n v))) (behind .faces) faces-held),
   )
 
   -- each list stays as long as it was
-  pub kept-sizes : (length (located n g m l .cellOffsets) ≡ length (l .cellOffsets)) × (length (located n g m l .cellVertices) ≡ length (l .cellVertices))
-      × (length (located n g m l .faceOffsets) ≡ length (l .faceOffsets)) × (length (located n g m l .faces) ≡ length (l .faces))
-  unfolding located
+  pub kept-sizes : (length (locatorLists n g m l .cellOffsets) ≡ length (l .cellOffsets)) × (length (locatorLists n g m l .cellVertices) ≡ length (l .cellVertices))
+      × (length (locatorLists n g m l .faceOffsets) ≡ length (l .faceOffsets)) × (length (locatorLists n g m l .faces) ≡ length (l .faces))
+  unfolding locatorLists
   kept-sizes = (
     length-put (l .cellOffsets) 0 (starts (cellCount g + 1) (cell (m .vertices) n g)) (omega (arith, ok .r1, length-starts (cellCount g + 1) (cell (m .vertices) n g))),
     length-put (l .cellVertices) 0 (joined (cellCount g) (cell (m .vertices) n g)) (omega (arith, cells-held)),

@@ -8,14 +8,14 @@ use native.Mathlib.Nat.{mul-add-div-right, mul-add-mod-self-right, mod-eq-of-lt,
 use native.Mathlib.Omega.{arith}
 use lib.ListN.{length, set}
 use lib.Dec.{eqb}
-use Rattle.mesh.specs.Lists.{put, joined, filter}
+use Rattle.lists.specs.Lists.{put, joined, filter}
 use Rattle.mesh.specs.Mesh.{Mesh, degree, neighbour, within, lists}
 use Rattle.mesh.specs.Faces.{face, isFace, facesFrom, extractFaces, has}
 use Rattle.mesh.specs.declared.Face.{Face}
-use Rattle.mesh.proofs.Counting.{any-none, or-none}
-use Rattle.mesh.proofs.Written.{filter-append, joined-more, Written, nothing, pushed, chunk}
+use Rattle.lists.proofs.Counting.{any-none, or-none}
+use Rattle.lists.proofs.Written.{filter-append, joined-more, Written, nothing, pushed, chunk}
 use Rattle.search.specs.Cells.{facesOf, flat}
-use Rattle.locator.specs.Steps.{only, wanted, touches, block}
+use Rattle.locator.specs.Internal.{only, wanted, touches, block}
 
 module _ {A : Type 0} where
   -- lists that are equal one by one

@@ -1,6 +1,6 @@
 -- A vertex of a mesh is in at most 15 faces: the two other vertices of each are neighbours of it, and there are at most 15 pairs of these.
 use mathlib.Core.Path.{_≡_, refl, sym, ap, _∙_}
-use mathlib.Core.Bool.{Bool, true, false, cond, _&&_, _||_}
+use mathlib.Core.Bool.{Bool, true, false, cond, _&&_, _||_, and-eq-true-iff}
 use mathlib.Core.List.{[], _∷_}
 use mathlib.Core.Logic.{⊎-elim}
 use Prim.Native.Nat.{ℕ, zero, suc, _+_, _*_, _/_, _%_, _≤_, _<_}
@@ -9,15 +9,14 @@ use native.Mathlib.Omega.{arith}
 use lib.ListN.{length}
 use lib.Dec.{ltb, eqb}
 use borrow.Author.Tests.{eq-eqb, ne-eqb, lt-ltb, le-ltb, eqb-true, ltb-true}
-use Rattle.mesh.specs.Lists.{joined, anyUpTo, sum}
+use Rattle.lists.specs.Lists.{joined, anyUpTo, sum}
 use Rattle.mesh.specs.Mesh.{Mesh, degree, neighbour, within, lists}
 use Rattle.mesh.specs.Faces.{face, isFace, has}
 use Rattle.mesh.specs.declared.Face.{Face}
-use Rattle.mesh.proofs.Counting.{and-yes}
-use Rattle.mesh.proofs.Sums.{one, count, sum-eq, sum-le, sum-add, sum-const, sum-grid, sum-mul, sum-none}
-use Rattle.mesh.proofs.Written.{length-joined}
+use Rattle.lists.proofs.Sums.{one, count, sum-eq, sum-le, sum-add, sum-const, sum-grid, sum-mul, sum-none}
+use Rattle.lists.proofs.Written.{length-joined}
 use Rattle.search.specs.Cells.{facesOf}
-use Rattle.locator.specs.Steps.{wanted, touches, block}
+use Rattle.locator.specs.Internal.{wanted, touches, block}
 use Rattle.locator.proofs.Blocks.{piece, block-is, faces-of-is}
 
 -- what the mesh rule says of the lists
@@ -274,9 +273,9 @@ module _ {n : ℕ} {l : Mesh} (r : Rule n l) where
       by true false w p q u = omega arith
       by true true false p q u = omega arith
       by true true true p q u =
-          let a = and-yes (isFace l i j k) (has v (face i j k)) u in
-          let b = and-yes (ltb i j) (ltb j k && lists l j k) (a .0) in
-          let d = and-yes (ltb j k) (lists l j k) (b .1) in
+          let a = and-eq-true-iff (isFace l i j k) (has v (face i j k)) .0 u in
+          let b = and-eq-true-iff (ltb i j) (ltb j k && lists l j k) .0 (a .0) in
+          let d = and-eq-true-iff (ltb j k) (lists l j k) .0 (b .1) in
           one′ p q (b .0) (d .0) (d .1) (eqb i v) (eqb j v) (eqb k v) refl refl refl (a .1)
 
   length-block : (v i : ℕ) → length (block l v i) ≡ sum (degree l i) (λ x. sum (degree l i) (λ y. one (wanted l i (neighbour l i x) (neighbour l i y) v)))

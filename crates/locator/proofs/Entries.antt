@@ -1,6 +1,6 @@
--- Lists written one after another, read back by their offsets.
+-- BuilderLists written one after another, read back by their offsets.
 use mathlib.Core.Path.{_≡_, refl, sym, ap, _∙_}
-use mathlib.Core.Bool.{Bool, true, false, cond}
+use mathlib.Core.Bool.{Bool, true, false, cond, and-eq-true-iff}
 use mathlib.Core.List.{List, [], _∷_, _++_, append-assoc}
 use mathlib.Core.Logic.{⊎-elim}
 use Prim.Native.Nat.{ℕ, zero, suc, _+_, _-_, _<_}
@@ -8,9 +8,8 @@ use native.Mathlib.Nat.{eq-or-lt-of-le, le-of-suc-le-suc, not-suc-le-zero}
 use native.Mathlib.Omega.{arith}
 use lib.ListN.{length, drop, getD, List·getD-append}
 use lib.Seq.{take-at, drop-at, getD-at, slice}
-use Rattle.mesh.specs.Lists.{put, below, every, filter, joined, starts}
-use Rattle.mesh.proofs.Counting.{and-yes}
-use Rattle.mesh.proofs.Written.{joined-more, length-starts}
+use Rattle.lists.specs.Lists.{put, below, every, filter, joined, starts}
+use Rattle.lists.proofs.Written.{joined-more, length-starts}
 use Rattle.locator.proofs.Blocks.{joined-split}
 
 -- what is written from the first place on is read there
@@ -49,12 +48,12 @@ module _ {A : Type 0} (q : A → Bool) where
   pub every-append : (l m : List A) → every q l ≡ true → every q m ≡ true → every q (l ++ m) ≡ true
   unfolding every
   every-append [] m e f = f
-  every-append (x ∷ l) m e f = let h = and-yes (q x) (every q l) e in rw (h .0) (every-append l m (h .1) f)
+  every-append (x ∷ l) m e f = let h = and-eq-true-iff (q x) (every q l) .0 e in rw (h .0) (every-append l m (h .1) f)
 
   pub every-filter : (p : A → Bool) (l : List A) → every q l ≡ true → every q (filter p l) ≡ true
   unfolding every filter
   every-filter p [] e = refl
-  every-filter p (x ∷ l) e = let h = and-yes (q x) (every q l) e in by (p x) (h .0) (every-filter p l (h .1))
+  every-filter p (x ∷ l) e = let h = and-eq-true-iff (q x) (every q l) .0 e in by (p x) (h .0) (every-filter p l (h .1))
     where
       by : (t : Bool) → q x ≡ true → every q (filter p l) ≡ true → every q (cond t (x ∷ filter p l) (filter p l)) ≡ true
       by true a b = rw (a, b)

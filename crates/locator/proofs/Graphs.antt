@@ -1,13 +1,13 @@
 -- What the mesh rule gives the faces.
 use mathlib.Core.Path.{_≡_}
-use mathlib.Core.Bool.{true, false, not, _&&_}
+use mathlib.Core.Bool.{true, false, not, _&&_, and-eq-true-iff}
 use Prim.Native.Nat.{ℕ, _≤_, _<_}
 use lib.Dec.{leb, ltb, eqb}
 use borrow.Author.Tests.{ltb-true, leb-true, eqb-false, not-true}
-use Rattle.mesh.specs.Lists.{allUpTo}
+use Rattle.lists.specs.Lists.{allUpTo}
 use Rattle.mesh.specs.Mesh.{Mesh, degree, neighbour, angleTo, within, lists, angleKept, neighbourKept, vertexKept, verticesFinite, keepsRule}
-use Rattle.mesh.proofs.Counting.{and-yes, all-at, any-none}
-use Rattle.locator.specs.Steps.{Graph}
+use Rattle.lists.proofs.Counting.{all-at, any-none}
+use Rattle.locator.specs.Internal.{Graph}
 use Rattle.locator.proofs.Bound.{Rule, mutual′}
 
 record Near (n : ℕ) (m : Mesh) (v k : ℕ) : Type 0 where
@@ -20,9 +20,9 @@ module _ (n : ℕ) (m : Mesh) (h : keepsRule n m ≡ true) where
   unfolding keepsRule vertexKept
   vertex v hv =
       let d = degree m v in
-      let a = all-at (vertexKept n m) v n hv (and-yes (verticesFinite n (m .vertices)) (allUpTo n (vertexKept n m)) h .1) in
-      let b = and-yes (leb 5 d) (leb d 6 && allUpTo d (neighbourKept n m v)) a .1 in
-      and-yes (leb d 6) (allUpTo d (neighbourKept n m v)) b
+      let a = all-at (vertexKept n m) v n hv (and-eq-true-iff (verticesFinite n (m .vertices)) (allUpTo n (vertexKept n m)) .0 h .1) in
+      let b = and-eq-true-iff (leb 5 d) (leb d 6 && allUpTo d (neighbourKept n m v)) .0 a .1 in
+      and-eq-true-iff (leb d 6) (allUpTo d (neighbourKept n m v)) .0 b
 
   near : (v k : ℕ) → v < n → k < degree m v → Near n m v k
   unfolding neighbourKept
@@ -34,10 +34,10 @@ module _ (n : ℕ) (m : Mesh) (h : keepsRule n m ≡ true) where
       let t4 = lists m w v in
       let t5 = angleKept (angleTo m v k) in
       let o = all-at (neighbourKept n m v) k (degree m v) hk (vertex v hv .1) in
-      let a1 = and-yes t1 (t2 && (t3 && (t4 && t5))) o in
-      let a2 = and-yes t2 (t3 && (t4 && t5)) (a1 .1) in
-      let a3 = and-yes t3 (t4 && t5) (a2 .1) in
-      record { inside = ltb-true w n (a1 .0); fresh = not-true (within m v k w) (a3 .0); back = and-yes t4 t5 (a3 .1) .0 }
+      let a1 = and-eq-true-iff t1 (t2 && (t3 && (t4 && t5))) .0 o in
+      let a2 = and-eq-true-iff t2 (t3 && (t4 && t5)) .0 (a1 .1) in
+      let a3 = and-eq-true-iff t3 (t4 && t5) .0 (a2 .1) in
+      record { inside = ltb-true w n (a1 .0); fresh = not-true (within m v k w) (a3 .0); back = and-eq-true-iff t4 t5 .0 (a3 .1) .0 }
 
   pub rule : Rule n m
   unfolding within

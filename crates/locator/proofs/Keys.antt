@@ -13,12 +13,12 @@ use lib.Signed.{leZ}
 use lib.Ieee.{Float, le}
 use borrow.Author.Count.{below-more}
 use borrow.Author.Tests.{le-leb, lt-leb, leb-true, leb-false, ltb-true, ltb-false, ne-eqb}
-use Rattle.mesh.specs.Lists.{filter, below}
-use Rattle.mesh.proofs.Written.{filter-append}
+use Rattle.lists.specs.Lists.{filter, below}
+use Rattle.lists.proofs.Written.{filter-append}
 use Rattle.search.specs.Geometry.{vertexAt, cubeFaceProject}
 use Rattle.search.specs.Geometry as Geometry
 use Rattle.search.specs.Cells.{near, cellNumber, nearCell, inCell, cell}
-use Rattle.locator.specs.Steps.{kept, nearKept, keyOf, vertexKey, hit, Keyed, keyCell}
+use Rattle.locator.specs.Internal.{kept, nearKept, keyOf, vertexKey, hit, Keyed, keyCell}
 
 pub kept-le : (c : ℤ) → kept c ≤ 65535
 unfolding kept

@@ -11,18 +11,18 @@ use lib.Seq.{slice, length-slice, drop-append-seam, drop-drop}
 use lib.Dec.{leb}
 use borrow.Author.Tests.{le-leb, eq-eqb}
 use Rattle.ieee.proofs.Pack.{le-or-lt}
-use Rattle.mesh.specs.Lists.{joined, sum}
+use Rattle.lists.specs.Lists.{joined, sum}
 use Rattle.mesh.specs.Levels.{vertexCount, gridSize, cellCount, verticesBelow, cellOffsetsBelow}
-use Rattle.mesh.specs.Mesh.{Mesh, keepsRule, levelPart, meshRoom, meshHeld, meshesKeep}
+use Rattle.mesh.specs.Mesh.{Mesh, keepsRule, levelPart, meshRoom, meshLong, meshesKeep}
 use Rattle.mesh.proofs.Laws.{below-more, below-le}
-use Rattle.mesh.proofs.Counting.{all-at}
+use Rattle.lists.proofs.Counting.{all-at}
 use Rattle.mesh.proofs.Kept.{held as heldBy}
-use Rattle.mesh.proofs.Sums.{sum-eq}
-use Rattle.mesh.proofs.Written.{length-joined, part}
+use Rattle.lists.proofs.Sums.{sum-eq}
+use Rattle.lists.proofs.Written.{length-joined, part}
 use Rattle.search.specs.declared.Vector3.{Vector3}
-use Rattle.search.specs.Search.{Locator, locatorFrom, verticesFrom, nearestIn, nearestOf, locateIn, locate}
-use Rattle.locator.specs.Locator.{locatorRoom, locatorHeld, locatorRefusal, located, LocatorOut, locatorOut}
-use Rattle.locator.specs.Steps.{refusal}
+use Rattle.search.specs.Search.{Locator, locatorFrom, verticesFrom, nearestIn, nearestOf, locateIn, locate, locatorOf}
+use Rattle.locator.specs.Locator.{locatorRoom, locatorLong, locatorRefusal, locatorLists, LocatorOut, locatorOut}
+use Rattle.locator.specs.Internal.{refusal}
 use Rattle.locator.proofs.Accepted.{Accepted, accepted, not-refused}
 use Rattle.locator.proofs.Answers.{ahead, kept-sizes, nearest-in, locate-in}
 use Rattle.locator.specs.Several.{locatorPart, madeAt, locators, Roomy}
@@ -76,7 +76,7 @@ sum-ones f zero = refl
 sum-ones f (suc n) = omega (arith, sum-ones f n)
 
 four : {a b c d a′ b′ c′ d′ : List ℕ} → a ≡ a′ → b ≡ b′ → c ≡ c′ → d ≡ d′
-    → _≡_ {A = Locator} (record { cellOffsets = a; cellVertices = b; faceOffsets = c; faces = d }) (record { cellOffsets = a′; cellVertices = b′; faceOffsets = c′; faces = d′ })
+    → _≡_ {A = Locator} (locatorOf a b c d) (locatorOf a′ b′ c′ d′)
 four p q r s = rw (p, q, r, s) refl
 
 -- a list from a place on: a part, and what is behind it
@@ -84,7 +84,7 @@ cut-at : {A : Type 0} (a b : ℕ) (l : List A) → a ≤ b → b ≤ length l �
 cut-at {A} a b l h k =
     let e : a + (b - a) ≡ b = omega arith in
     sym (take-append-drop (b - a) (drop a l))
-    ∙ ap (λ (z : List A). z ++ drop (b - a) (drop a l)) (part a b l h k)
+    ∙ ap (λ (z : List A). z ++ drop (b - a) (drop a l)) (part a b l)
     ∙ ap (λ (z : List A). slice a b l ++ z) (drop-drop (b - a) a l ∙ ap (λ (n : ℕ). drop n l) e)
 
 -- ---- each level's call is accepted
@@ -93,8 +93,8 @@ cut-at {A} a b l h k =
 cut-room : {A : Type 0} (a b n k : ℕ) (l : List A) → b ≡ a + k * n → b ≤ length l → leb (k * n) (length (slice a b l)) ≡ true
 cut-room a b n k l e h = le-leb (k * n) (length (slice a b l)) (omega (arith, length-slice a b l h))
 
-module _ (top : ℕ) (ms : Mesh) (l : Locator) (low : top ≤ 15) (held : meshHeld (verticesBelow (suc top)) ms ≡ true) (kept : meshesKeep top ms ≡ true) (roomy : Roomy top l) where
-  part-held : (m : ℕ) → m ≤ top → meshHeld (vertexCount m) (levelPart m ms) ≡ true
+module _ (top : ℕ) (ms : Mesh) (l : Locator) (low : top ≤ 15) (held : meshLong (verticesBelow (suc top)) ms ≡ true) (kept : meshesKeep top ms ≡ true) (roomy : Roomy top l) where
+  part-held : (m : ℕ) → m ≤ top → meshLong (vertexCount m) (levelPart m ms) ≡ true
   unfolding meshRoom levelPart
   part-held m h =
       let n = vertexCount m in
@@ -140,7 +140,7 @@ module _ (top : ℕ) (ms : Mesh) (l : Locator) (low : top ≤ 15) (held : meshHe
         faces = omega (arith, length-slice (45 * a) (45 * b) (l .faces) (omega (arith, roomy .faces)));
       }
 
-  room : (m : ℕ) → m ≤ top → locatorHeld (vertexCount m) (gridSize (vertexCount m)) (locatorPart m l) ≡ true
+  room : (m : ℕ) → m ≤ top → locatorLong (vertexCount m) (gridSize (vertexCount m)) (locatorPart m l) ≡ true
   unfolding locatorRoom
   room m h =
       let s = part-sizes m h in
@@ -161,33 +161,33 @@ module _ (top : ℕ) (ms : Mesh) (l : Locator) (low : top ≤ 15) (held : meshHe
   answered-yes m h = not-refused m (levelPart m ms) (locatorPart m l) (omega (arith, low)) (part-held m h) (room m h) (rule m h)
 
   -- the call is accepted, and leaves what the level's locator is
-  pub ok : (m : ℕ) → m ≤ top → let p = locatorPart m l in
+  pub call-accepted : (m : ℕ) → m ≤ top → let p = locatorPart m l in
       Accepted (vertexCount m) (gridSize (vertexCount m)) (levelPart m ms) (length (p .cellOffsets)) (length (p .cellVertices)) (length (p .faceOffsets)) (length (p .faces))
   unfolding refusal locatorRefusal
-  ok m h = let p = locatorPart m l in accepted m (levelPart m ms) (length (p .cellOffsets)) (length (p .cellVertices)) (length (p .faceOffsets)) (length (p .faces)) (answered-yes m h)
+  call-accepted m h = let p = locatorPart m l in accepted m (levelPart m ms) (length (p .cellOffsets)) (length (p .cellVertices)) (length (p .faceOffsets)) (length (p .faces)) (answered-yes m h)
 
-  accepted-out : (m : ℕ) → m ≤ top → locatorOut m (levelPart m ms) (locatorPart m l) ≡ record { number = 0; lists = located (vertexCount m) (gridSize (vertexCount m)) (levelPart m ms) (locatorPart m l) }
+  accepted-out : (m : ℕ) → m ≤ top → locatorOut m (levelPart m ms) (locatorPart m l) ≡ record { number = 0; lists = locatorLists (vertexCount m) (gridSize (vertexCount m)) (levelPart m ms) (locatorPart m l) }
   unfolding locatorOut
   accepted-out m h =
-      ap (λ (t : Bool). cond t (record { number = 0; lists = located (vertexCount m) (gridSize (vertexCount m)) (levelPart m ms) (locatorPart m l) })
+      ap (λ (t : Bool). cond t (record { number = 0; lists = locatorLists (vertexCount m) (gridSize (vertexCount m)) (levelPart m ms) (locatorPart m l) })
       (record { number = locatorRefusal m (levelPart m ms) (locatorPart m l); lists = locatorPart m l }))
       (eq-eqb (locatorRefusal m (levelPart m ms) (locatorPart m l)) 0 (answered-yes m h))
 
-  pub made : (m : ℕ) → m ≤ top → madeAt ms l m ≡ located (vertexCount m) (gridSize (vertexCount m)) (levelPart m ms) (locatorPart m l)
-  made m h = ap (λ (o : LocatorOut). o .lists) (accepted-out m h)
+  pub lists-made : (m : ℕ) → m ≤ top → madeAt ms l m ≡ locatorLists (vertexCount m) (gridSize (vertexCount m)) (levelPart m ms) (locatorPart m l)
+  lists-made m h = ap (λ (o : LocatorOut). o .lists) (accepted-out m h)
 
   pub made-yes : (m : ℕ) → m ≤ top → locatorOut m (levelPart m ms) (locatorPart m l) .number ≡ 0
   made-yes m h = ap (λ (o : LocatorOut). o .number) (accepted-out m h)
 
   -- the call leaves each list as long as it was
   made-sizes : (m : ℕ) → m ≤ top → Sizes m (madeAt ms l m)
-  unfolding located
+  unfolding locatorLists
   made-sizes m h =
       let n = vertexCount m in
       let p = locatorPart m l in
       let s = part-sizes m h in
-      let k = kept-sizes n (gridSize n) (levelPart m ms) p (ok m h) [] p in
-      rw (made m h) (record { cellOffsets = k .0 ∙ s .cellOffsets; cellVertices = k .1 ∙ s .cellVertices; faceOffsets = k .2 ∙ s .faceOffsets; faces = k .3 ∙ s .faces })
+      let k = kept-sizes n (gridSize n) (levelPart m ms) p (call-accepted m h) [] p in
+      rw (lists-made m h) (record { cellOffsets = k .0 ∙ s .cellOffsets; cellVertices = k .1 ∙ s .cellVertices; faceOffsets = k .2 ∙ s .faceOffsets; faces = k .3 ∙ s .faces })
 
   -- ---- from a level's first entries on
 
@@ -205,13 +205,13 @@ module _ (top : ℕ) (ms : Mesh) (l : Locator) (low : top ≤ 15) (held : meshHe
   one-list : (f : Locator → List ℕ) (v : ℕ) (size : ℕ → ℕ) (rest : List ℕ) (from to : ℕ) → v ≤ top → ((i : ℕ) → i ≤ top → length (f (madeAt ms l i)) ≡ size i)
       → sum v size ≡ from → sum (suc v) size ≡ to
       → drop from (joined (suc top) (λ m. f (madeAt ms l m)) ++ rest)
-      ≡ f (located (vertexCount v) (gridSize (vertexCount v)) (levelPart v ms) (locatorPart v l)) ++ drop to (joined (suc top) (λ m. f (madeAt ms l m)) ++ rest)
+      ≡ f (locatorLists (vertexCount v) (gridSize (vertexCount v)) (levelPart v ms) (locatorPart v l)) ++ drop to (joined (suc top) (λ m. f (madeAt ms l m)) ++ rest)
   one-list f v size rest from to h e p q =
       rw (← p, ← q)
       (from-place (λ m. f (madeAt ms l m)) (suc top) v rest size (omega arith) (λ i k. e i (omega arith))
-      ∙ ap (λ (z : Locator). f z ++ drop (sum (suc v) size) (joined (suc top) (λ m. f (madeAt ms l m)) ++ rest)) (made v h))
+      ∙ ap (λ (z : Locator). f z ++ drop (sum (suc v) size) (joined (suc top) (λ m. f (madeAt ms l m)) ++ rest)) (lists-made v h))
 
-  pub at-level : (v : ℕ) → v ≤ top → locatorFrom v (locators top ms l) ≡ ahead (located (vertexCount v) (gridSize (vertexCount v)) (levelPart v ms) (locatorPart v l)) (behind v)
+  pub at-level : (v : ℕ) → v ≤ top → locatorFrom v (locators top ms l) ≡ ahead (locatorLists (vertexCount v) (gridSize (vertexCount v)) (levelPart v ms) (locatorPart v l)) (behind v)
   unfolding locatorFrom locators ahead behind cellOffsetsBelow verticesBelow
   at-level v h =
       let k = suc top in
@@ -238,11 +238,11 @@ module _ (top : ℕ) (ms : Mesh) (l : Locator) (low : top ≤ 15) (held : meshHe
       ≡ nearestOf (levelPart v ms) (vertexCount v) (gridSize (vertexCount v)) p
   nearest-at v h p =
       rw (at-level v h, vertices-at v h)
-      (nearest-in (vertexCount v) (gridSize (vertexCount v)) (levelPart v ms) (locatorPart v l) (ok v h) (drop (3 * verticesBelow (suc v)) (ms .vertices)) (behind v) p)
+      (nearest-in (vertexCount v) (gridSize (vertexCount v)) (levelPart v ms) (locatorPart v l) (call-accepted v h) (drop (3 * verticesBelow (suc v)) (ms .vertices)) (behind v) p)
 
   pub locate-at : (v : ℕ) → v ≤ top → (p : Vector3)
       → locateIn (locatorFrom v (locators top ms l)) (verticesFrom v (ms .vertices)) (vertexCount v) (gridSize (vertexCount v)) p
       ≡ locate (levelPart v ms) (vertexCount v) (gridSize (vertexCount v)) p
   locate-at v h p =
       rw (at-level v h, vertices-at v h)
-      (locate-in (vertexCount v) (gridSize (vertexCount v)) (levelPart v ms) (locatorPart v l) (ok v h) (drop (3 * verticesBelow (suc v)) (ms .vertices)) (behind v) p)
+      (locate-in (vertexCount v) (gridSize (vertexCount v)) (levelPart v ms) (locatorPart v l) (call-accepted v h) (drop (3 * verticesBelow (suc v)) (ms .vertices)) (behind v) p)

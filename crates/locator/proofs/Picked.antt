@@ -1,6 +1,7 @@
 -- What a search at a level answers with are vertices of that level. Assumes nothing.
 use mathlib.Core.Path.{_≡_, refl}
-use mathlib.Core.Bool.{Bool, true, false, cond, _&&_}
+use Rattle.lists.proofs.Counting.{chosen}
+use mathlib.Core.Bool.{Bool, true, _&&_, and-eq-true-iff}
 use mathlib.Core.List.{List, [], _∷_}
 use Prim.Native.Nat.{ℕ, suc, _+_, _*_, _≤_, _<_}
 use native.Mathlib.Omega.{arith}
@@ -9,11 +10,10 @@ use lib.Dec.{leb, ltb, eqb}
 use lib.Ieee.{Float, lt}
 use borrow.Author.Tests.{ltb-true}
 use Rattle.float.specs.Order.{smaller}
-use Rattle.mesh.specs.Lists.{every}
+use Rattle.lists.specs.Lists.{every}
 use Rattle.mesh.specs.Levels.{vertexCount, gridSize, verticesBelow}
-use Rattle.mesh.specs.Mesh.{Mesh, levelPart, meshHeld, meshesKeep}
+use Rattle.mesh.specs.Mesh.{Mesh, levelPart, meshLong, meshesKeep}
 use Rattle.mesh.specs.declared.Face.{Face}
-use Rattle.mesh.proofs.Counting.{and-yes}
 use Rattle.search.specs.Geometry.{vertexAt, projectedBarycentric}
 use Rattle.search.specs.Cells.{facesOf}
 use Rattle.search.specs.Search.{Locator, nearestOf, locate, noFit, better, fitFrom, bestFace, notLocated, vertexInside}
@@ -21,7 +21,7 @@ use Rattle.search.specs.declared.Vector3.{Vector3}
 use Rattle.search.specs.declared.Located.{Located}
 use Rattle.locator.specs.Several.{locatorPart, Roomy}
 use Rattle.locator.proofs.Answers.{lent, nearest-below, faces-in}
-use Rattle.locator.proofs.Laid.{ok}
+use Rattle.locator.proofs.Laid.{call-accepted}
 
 -- a face of vertices below n
 abbrev pub FaceBelow : ℕ → Face → Type 0
@@ -33,23 +33,18 @@ keeps : {A B : Type 0} (q : A → Bool) (F : B → List A → B) (f : B → A �
 unfolding every
 keeps {A} {B} q F f P n c s b [] e h = rw (n b) h
 keeps {A} {B} q F f P n c s b (x ∷ l) e h =
-    let a = and-yes (q x) (every q l) e in
+    let a = and-eq-true-iff (q x) (every q l) .0 e in
     rw (c b x l) (keeps q F f P n c s (f b x) l (a .1) (s b x h (a .0)))
-
--- of two answers, the one that a test chooses
-pub chosen : {B : Type 0} (P : B → Type 0) (t : Bool) (x y : B) → (t ≡ true → P x) → P y → P (cond t x y)
-chosen P true x y h k = h refl
-chosen P false x y h k = k
 
 module _ (vs : List Float) (p : Vector3) (n : ℕ) where
   vertex-below : (v : ℕ) → vertexInside vs n v ≡ true → v < n
   unfolding vertexInside
-  vertex-below v e = ltb-true v n (and-yes (ltb v n) (leb (3 * v + 3) (length vs)) e .0)
+  vertex-below v e = ltb-true v n (and-eq-true-iff (ltb v n) (leb (3 * v + 3) (length vs)) .0 e .0)
 
   lent-below : (f : Face) → lent vs n f ≡ true → FaceBelow n f
   lent-below f e =
-      let a = and-yes (vertexInside vs n (f .a)) (vertexInside vs n (f .b) && vertexInside vs n (f .c)) e in
-      let b = and-yes (vertexInside vs n (f .b)) (vertexInside vs n (f .c)) (a .1) in
+      let a = and-eq-true-iff (vertexInside vs n (f .a)) (vertexInside vs n (f .b) && vertexInside vs n (f .c)) .0 e in
+      let b = and-eq-true-iff (vertexInside vs n (f .b)) (vertexInside vs n (f .c)) .0 (a .1) in
       (vertex-below (f .a) (a .0), vertex-below (f .b) (b .0), vertex-below (f .c) (b .1))
 
   pub fit-below : (l : List Face) → 0 < n → every (lent vs n) l ≡ true → FaceBelow n (fitFrom vs p noFit l .face)
@@ -66,7 +61,7 @@ some-vertices : (v : ℕ) → 0 < vertexCount v
 unfolding vertexCount
 some-vertices v = omega arith
 
-module _ (top : ℕ) (ms : Mesh) (l : Locator) (low : top ≤ 15) (held : meshHeld (verticesBelow (suc top)) ms ≡ true) (kept : meshesKeep top ms ≡ true) (roomy : Roomy top l)
+module _ (top : ℕ) (ms : Mesh) (l : Locator) (low : top ≤ 15) (held : meshLong (verticesBelow (suc top)) ms ≡ true) (kept : meshesKeep top ms ≡ true) (roomy : Roomy top l)
     (v : ℕ) (h : v ≤ top) (p : Vector3) where
   abbrev m : Mesh
   m = levelPart v ms
@@ -78,12 +73,12 @@ module _ (top : ℕ) (ms : Mesh) (l : Locator) (low : top ≤ 15) (held : meshHe
   g = gridSize (vertexCount v)
 
   pub nearest-vertex : nearestOf m n g p .number ≡ 0 → nearestOf m n g p .vertex < n
-  nearest-vertex e = nearest-below n g m (locatorPart v l) (ok top ms l low held kept roomy v h) [] (locatorPart v l) p e
+  nearest-vertex e = nearest-below n g m (locatorPart v l) (call-accepted top ms l low held kept roomy v h) [] (locatorPart v l) p e
 
   pub located-face : FaceBelow n (locate m n g p .face)
   unfolding locate bestFace
   located-face =
       chosen (λ (r : Located). FaceBelow n (r .face)) (eqb (nearestOf m n g p .number) 0) (bestFace (m .vertices) p (facesOf m n (nearestOf m n g p .vertex))) (notLocated (nearestOf m n g p .number))
       (λ e. fit-below (m .vertices) p n (facesOf m n (nearestOf m n g p .vertex)) (some-vertices v)
-      (faces-in n g m (locatorPart v l) (ok top ms l low held kept roomy v h) [] (locatorPart v l) (m .vertices) (nearestOf m n g p .vertex) (omega arith)))
+      (faces-in n g m (locatorPart v l) (call-accepted top ms l low held kept roomy v h) [] (locatorPart v l) (m .vertices) (nearestOf m n g p .vertex) (omega arith)))
       (some-vertices v, some-vertices v, some-vertices v)

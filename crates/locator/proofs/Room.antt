@@ -11,17 +11,17 @@ use lib.Dec.{leb, ltb, eqb}
 use lib.Ieee.{Float, nan, inf, fin, ofBits, lt, eq, le, neg, up, down}
 use lib.Ieee.Scale.{finite}
 use borrow.Author.Tests.{leb-true, ltb-false, eq-eqb}
-use Rattle.mesh.specs.Lists.{joined, sum}
+use Rattle.lists.specs.Lists.{joined, sum}
 use Rattle.mesh.specs.Levels.{cellCount}
 use Rattle.mesh.specs.Mesh.{verticesFinite}
-use Rattle.mesh.proofs.Counting.{all-at}
-use Rattle.mesh.proofs.Sums.{one, count, sum-le, sum-eq, sum-grid, sum-mul, sum-none}
-use Rattle.mesh.proofs.Written.{joined-filter-le}
+use Rattle.lists.proofs.Counting.{all-at}
+use Rattle.lists.proofs.Sums.{one, count, sum-le, sum-eq, sum-grid, sum-mul, sum-none}
+use Rattle.lists.proofs.Written.{joined-filter-le}
 use Rattle.search.specs.Geometry.{vertexAt, cubeFaceProject}
 use Rattle.search.specs.Geometry as Geometry
 use Rattle.search.specs.Cells.{near, cellNumber, nearCell, inCell, cell}
 use Rattle.search.specs.declared.Vector3.{Vector3}
-use Rattle.locator.specs.Steps.{kept, nearKept}
+use Rattle.locator.specs.Internal.{kept, nearKept}
 use Rattle.locator.proofs.Keys.{near-kept}
 
 -- of n cells in a row, at most 3 are near a cell number

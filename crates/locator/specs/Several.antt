@@ -3,7 +3,7 @@ use mathlib.Core.List.{_++_}
 use Prim.Native.Nat.{ℕ, suc, _+_, _*_, _≤_}
 use lib.ListN.{length, drop}
 use lib.Seq.{slice}
-use Rattle.mesh.specs.Lists.{joined}
+use Rattle.lists.specs.Lists.{joined}
 use Rattle.mesh.specs.Levels.{verticesBelow, cellOffsetsBelow}
 use Rattle.mesh.specs.Mesh.{Mesh, levelPart}
 use Rattle.search.specs.Search.{Locator}
@@ -25,7 +25,7 @@ locatorPart m l =
 abbrev pub madeAt : Mesh → Locator → ℕ → Locator
 madeAt ms l m = locatorOut m (levelPart m ms) (locatorPart m l) .lists
 
--- "the locators that the locator call made of them, for each level from 0 to the top", one after another; what is behind them stays
+-- "the locators that the locator call made of them, for each level from 0 to the top", one after another; what is behind them stays (S14.6)
 unfoldable pub locators : ℕ → Mesh → Locator → Locator
 locators top ms l =
     let k = suc top in

@@ -3,9 +3,9 @@
 ghost use mathlib.Core.Path.{_≡_};
 ghost use Prim.Native.Nat.{_+_, _*_, _<_, _≤_, _/_, _%_};
 ghost use lib.ListN.{length, drop};
-ghost use Rattle.mesh.specs.Lists.{put, joined};
+ghost use Rattle.lists.specs.Lists.{put, joined};
 ghost use Rattle.search.specs.Cells.{cellNumber, cell};
-ghost use Rattle.locator.specs.Steps.{kept, keyOf, vertexKey, hit, Keyed, keyCell, CellsOut, cellsOut};
+ghost use Rattle.locator.specs.Internal.{kept, keyOf, vertexKey, hit, Keyed, keyCell, CellsOut, cellsOut};
 use search::Vector3;
 
 // A cell number as a natural number. No cell of a grid is near one that is left out.

@@ -4,11 +4,11 @@ ghost use mathlib.Core.Path.{_≡_};
 ghost use mathlib.Core.List.{[], _∷_};
 ghost use Prim.Native.Nat.{_+_, _*_, _<_, _≤_};
 ghost use lib.ListN.{length};
-ghost use Rattle.mesh.specs.Lists.{put, joined};
+ghost use Rattle.lists.specs.Lists.{put, joined};
 ghost use Rattle.mesh.specs.Faces.{face};
-ghost use Rattle.mesh.specs.Steps.{links};
+ghost use Rattle.mesh.specs.Internal.{links};
 ghost use Rattle.search.specs.Cells.{facesOf, flat};
-ghost use Rattle.locator.specs.Steps.{Graph, only, wanted, touches, block, Next, FacesOut, facesOut};
+ghost use Rattle.locator.specs.Internal.{Graph, only, wanted, touches, block, Next, FacesOut, facesOut};
 
 // i, j, k is a face, and v is a vertex of it.
 fn wanted(counts: &[u8], neighbours: &[u16], i: u32, j: u32, k: u32, v: u32) -> bool

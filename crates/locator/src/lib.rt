@@ -1,8 +1,10 @@
 // The locator call: the cells of a level's grid and the faces of each vertex, from the level's mesh.
 ghost use mathlib.Core.Path.{_≡_};
 ghost use Prim.Native.Nat.{_≤_};
+ghost use Rattle.mesh.specs.Mesh.{meshOf};
+ghost use Rattle.search.specs.Search.{locatorOf};
 ghost use Rattle.locator.specs.Locator.{locatorRoom, LocatorOut, locatorOut};
-ghost use Rattle.locator.specs.Steps.{refusal};
+ghost use Rattle.locator.specs.Internal.{refusal};
 
 mod cells;
 mod faces;
@@ -37,7 +39,7 @@ fn refusal(
     face_offsets: usize,
     faces: usize,
 ) -> u64
-    ensures { λ r. ⌜ r ≡ refusal level (record { vertices = now (vertices .entry); counts = now (counts .entry); neighbours = now (neighbours .entry); angles = now (angles .entry) })
+    ensures { λ r. ⌜ r ≡ refusal level (meshOf (now (vertices .entry)) (now (counts .entry)) (now (neighbours .entry)) (now (angles .entry)))
         «cell_offsets» «cell_vertices» «face_offsets» faces ⌝ }
 {
     if 15 < level {
@@ -83,9 +85,9 @@ pub fn locator(
     faces: &mut [u16],
 ) -> u64
     ensures { λ r. ⌜ _≡_ {A = LocatorOut}
-        (record { number = r; lists = record { cellOffsets = now («cell_offsets» .exit); cellVertices = now («cell_vertices» .exit); faceOffsets = now («face_offsets» .exit); faces = now (faces .exit) } })
-        (locatorOut level (record { vertices = now (vertices .entry); counts = now (counts .entry); neighbours = now (neighbours .entry); angles = now (angles .entry) })
-        (record { cellOffsets = now («cell_offsets» .entry); cellVertices = now («cell_vertices» .entry); faceOffsets = now («face_offsets» .entry); faces = now (faces .entry) })) ⌝ }
+        (record { number = r; lists = locatorOf (now («cell_offsets» .exit)) (now («cell_vertices» .exit)) (now («face_offsets» .exit)) (now (faces .exit)) })
+        (locatorOut level (meshOf (now (vertices .entry)) (now (counts .entry)) (now (neighbours .entry)) (now (angles .entry)))
+        (locatorOf (now («cell_offsets» .entry)) (now («cell_vertices» .entry)) (now («face_offsets» .entry)) (now (faces .entry)))) ⌝ }
 {
     let number = refusal(
         level,

@@ -4,7 +4,7 @@ use Prim.Native.Nat.{ℕ, zero, suc, _+_, _*_, _≤_, _<_}
 use mathlib.Core.Logic.{⊎-elim}
 use native.Mathlib.Nat.{mul-le-mul, eq-or-lt-of-le, le-of-suc-le-suc}
 use native.Mathlib.Omega.{arith}
-use Rattle.mesh.specs.Lists.{sum}
+use Rattle.lists.specs.Lists.{sum}
 use Rattle.mesh.specs.Levels.{vertexCount, per, verticesBelow}
 
 pub next-square : (m b : ℕ) → m < b → (m + 1) * (m + 1) ≤ b * b

@@ -1,6 +1,6 @@
 -- The tables of a level's sizes, by computation.
 use mathlib.Core.Path.{_≡_, refl, ap, _∙_}
-use mathlib.Core.Bool.{Bool, true, false, cond, _&&_}
+use mathlib.Core.Bool.{Bool, true, false, cond, _&&_, and-eq-true-iff}
 use mathlib.Core.List.{List, [], _∷_}
 use Prim.Native.Nat.{ℕ, zero, suc, _+_, _-_, _*_, _/_, _^_, _≤_, _<_}
 use native.Mathlib.Nat.{mul-le-mul, suc-ne-zero}
@@ -11,13 +11,12 @@ use lib.IntN.{pos}
 use lib.Ieee.{Float, nan, inf, fin, binary64, up, down, round, ofBits, ofInt, mul, div, toUnsigned}
 use borrow.Author.Tests.{eqb-true, leb-true, ltb-true, ne-eqb}
 use Rattle.ieee.specs.Root.{isqrt, rootOf, root}
-use Rattle.ieee.proofs.Fields.{both-true}
 use Rattle.ieee.proofs.Squares.{isqrt-cut, square-lt}
 use Rattle.float.specs.Whole.{ceiled, integral}
-use Rattle.mesh.specs.Lists.{allUpTo, sum}
+use Rattle.lists.specs.Lists.{allUpTo, sum}
 use Rattle.mesh.specs.Levels.{vertexCount, gridSize, cellCount, cellOffsetsBelow}
-use Rattle.mesh.proofs.Counting.{all-at}
-use Rattle.mesh.proofs.Sums.{sum-eq, sum-le, sum-more, sum-const}
+use Rattle.lists.proofs.Counting.{all-at}
+use Rattle.lists.proofs.Sums.{sum-eq, sum-le, sum-more, sum-const}
 
 abbrev sizes : List ℕ
 sizes = 2 ∷ 4 ∷ 5 ∷ 7 ∷ 8 ∷ 10 ∷ 11 ∷ 13 ∷ 14 ∷ 16 ∷ 18 ∷ 19 ∷ 21 ∷ 22 ∷ 24 ∷ 25 ∷ []
@@ -41,7 +40,7 @@ cut n r = leb (r * r) n && ltb n ((r + 1) * (r + 1))
 isqrt-is : (n r : ℕ) → cut n r ≡ true → isqrt n ≡ r
 unfolding cut
 isqrt-is n r e =
-    let h = both-true (leb (r * r) n) (ltb n ((r + 1) * (r + 1))) e in
+    let h = and-eq-true-iff (leb (r * r) n) (ltb n ((r + 1) * (r + 1))) .0 e in
     let a = leb-true (r * r) n (h .0) in
     let b = ltb-true n ((r + 1) * (r + 1)) (h .1) in
     let i = isqrt n in
@@ -91,7 +90,7 @@ found m = let x = sixth m in plain x && cut (scaled x) (guess (scaled x))
 grid-fast : (m : ℕ) → found m ≡ true → gridSize (vertexCount m) ≡ fast m
 unfolding found fast gridSize gridOf sixth
 grid-fast m e =
-    let h = both-true (plain (sixth m)) (cut (scaled (sixth m)) (guess (scaled (sixth m)))) e in
+    let h = and-eq-true-iff (plain (sixth m)) (cut (scaled (sixth m)) (guess (scaled (sixth m)))) .0 e in
     let r : root (sixth m) ≡ rooted (scaled (sixth m)) (guess (scaled (sixth m))) = root-is (sixth m) (guess (scaled (sixth m))) (h .0) (isqrt-is (scaled (sixth m)) (guess (scaled (sixth m))) (h .1)) in
     ap gridOf r
 
@@ -103,7 +102,7 @@ sizes-computed = refl
 
 pub grid-is : (m : ℕ) → m < 16 → gridSize (vertexCount m) ≡ getD sizes m 0
 grid-is m l =
-    let h = both-true (found m) (eqb (fast m) (getD sizes m 0)) (all-at (λ m. found m && eqb (fast m) (getD sizes m 0)) m 16 l sizes-computed) in
+    let h = and-eq-true-iff (found m) (eqb (fast m) (getD sizes m 0)) .0 (all-at (λ m. found m && eqb (fast m) (getD sizes m 0)) m 16 l sizes-computed) in
     grid-fast m (h .0) ∙ eqb-true (fast m) (getD sizes m 0) (h .1)
 
 offsetsOf : ℕ → ℕ
@@ -126,7 +125,7 @@ bounded = refl
 
 pub grid-le : (m : ℕ) → m < 256 → gridSize (vertexCount m) ≤ 400
 grid-le m l =
-    let h = both-true (found m) (leb (fast m) 400) (all-at (λ m. found m && leb (fast m) 400) m 256 l bounded) in
+    let h = and-eq-true-iff (found m) (leb (fast m) 400) .0 (all-at (λ m. found m && leb (fast m) 400) m 256 l bounded) in
     rw (grid-fast m (h .0)) (leb-true (fast m) 400 (h .1))
 
 -- the offsets below a level, level by level

@@ -3,7 +3,7 @@ use mathlib.Core.Bool.{Bool, cond, _&&_, _||_}
 use mathlib.Core.List.{List, [], _∷_}
 use Prim.Native.Nat.{ℕ}
 use lib.Dec.{ltb, eqb}
-use Rattle.mesh.specs.Lists.{joined}
+use Rattle.lists.specs.Lists.{joined}
 use Rattle.mesh.specs.Mesh.{Mesh, degree, neighbour, lists}
 use Rattle.mesh.specs.declared.Face.{Face}
 
@@ -23,7 +23,7 @@ facesFrom m i =
     joined (degree m i) (λ x. joined (degree m i) (λ y.
     only (isFace m i (neighbour m i x) (neighbour m i y)) (face i (neighbour m i x) (neighbour m i y))))
 
--- "Faces follow `extract_faces`, in its order"
+-- "Faces follow `extract_faces`, in its order" (S3.7)
 unfoldable pub extractFaces : Mesh → ℕ → List Face
 extractFaces m n = joined n (facesFrom m)
 

@@ -6,7 +6,7 @@ use lib.IntN.{pos}
 use lib.Ieee.{binary64, ofBits, ofInt, mul, div, toUnsigned}
 use Rattle.ieee.specs.Root.{root}
 use Rattle.float.specs.Whole.{ceiled}
-use Rattle.mesh.specs.Lists.{sum}
+use Rattle.lists.specs.Lists.{sum}
 
 -- "level m has n = 10(m+1)²+2 vertices"
 unfoldable pub vertexCount : ℕ → ℕ
@@ -17,13 +17,13 @@ unfoldable pub per : ℕ → ℕ
 unfolding vertexCount
 per m = vertexCount m * vertexCount m
 
--- "g = max(2, ceiling of root(n/6)·1.2)", of n vertices
+-- "g = max(2, ceiling of root(n/6)·1.2)", of n vertices (S3.2)
 unfoldable pub gridSize : ℕ → ℕ
 gridSize n =
     let x = toUnsigned 64 (ceiled (mul binary64 (root (div binary64 (ofInt binary64 (pos n)) (ofBits binary64 0x4018_0000_0000_0000))) (ofBits binary64 0x3FF3_3333_3333_3333))) in
     cond (leb 2 x) x 2
 
--- "6·g·g cells"
+-- "6·g·g cells" (S3.2)
 unfoldable pub cellCount : ℕ → ℕ
 cellCount g = 6 * (g * g)
 

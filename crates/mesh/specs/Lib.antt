@@ -1,6 +1,5 @@
-pub mod Questions
-pub mod Lists
+-- A reader has to believe `Levels`, `Mesh` and `Faces`. Only the code and the proofs need `Internal`.
 pub mod Levels
 pub mod Mesh
 pub mod Faces
-pub mod Steps
+pub mod Internal

@@ -7,15 +7,18 @@ use lib.Seq.{slice}
 use lib.Dec.{leb, ltb, eqb}
 use lib.Ieee.{Float, nan, binary64, ofBits, lt}
 use lib.Ieee.Scale.{finite}
-use Rattle.mesh.specs.Lists.{allUpTo, anyUpTo}
+use Rattle.lists.specs.Lists.{allUpTo, anyUpTo}
 use Rattle.mesh.specs.Levels.{vertexCount, verticesBelow}
 
--- "Lent: 3n f64, n neighbour counts (u8), 6n u16 and 6n angles, six places a vertex": of one level, or of several one after another
+-- "Lent: 3n f64, n neighbour counts (u8), 6n u16 and 6n angles, six places a vertex": of one level, or of several one after another (S3.3)
 pub record Mesh : Type 0 where
   pub vertices : List Float
   pub counts : List ℕ
   pub neighbours : List ℕ
   pub angles : List Float
+
+abbrev pub meshOf : List Float → List ℕ → List ℕ → List Float → Mesh
+meshOf vertices counts neighbours angles = record { vertices = vertices; counts = counts; neighbours = neighbours; angles = angles }
 
 -- how many neighbours v has, the neighbour at its place k, and the angle to it
 abbrev pub degree : Mesh → ℕ → ℕ
@@ -24,10 +27,11 @@ degree m v = getD (m .counts) v 0
 abbrev pub neighbour : Mesh → ℕ → ℕ → ℕ
 neighbour m v k = getD (m .neighbours) (6 * v + k) 0
 
+-- S3.3
 abbrev pub angleTo : Mesh → ℕ → ℕ → Float
 angleTo m v k = getD (m .angles) (6 * v + k) nan
 
--- w is among the first k neighbours of v; among all of them. "a sixth not read where the count is 5"
+-- w is among the first k neighbours of v; among all of them. "a sixth not read where the count is 5" (S3.3)
 unfoldable pub within : Mesh → ℕ → ℕ → ℕ → Bool
 within m v k w = anyUpTo k (λ j. eqb (neighbour m v j) w)
 
@@ -38,13 +42,13 @@ lists m v w = within m v (degree m v) w
 unfoldable pub angleKept : Float → Bool
 angleKept x = finite x && not (lt x (ofBits binary64 0))
 
--- of the neighbour at place k of v: "distinct neighbours below n, not itself, each listing it in turn", and its angle
+-- of the neighbour at place k of v: "distinct neighbours below n, not itself, each listing it in turn", and its angle (S3.4)
 unfoldable pub neighbourKept : ℕ → Mesh → ℕ → ℕ → Bool
 neighbourKept n m v k =
     let w = neighbour m v k in
     ltb w n && (not (eqb w v) && (not (within m v k w) && (lists m w v && angleKept (angleTo m v k))))
 
--- "each vertex has 5 or 6" of these
+-- "each vertex has 5 or 6" of these (S3.4)
 unfoldable pub vertexKept : ℕ → Mesh → ℕ → Bool
 vertexKept n m v = leb 5 (degree m v) && (leb (degree m v) 6 && allUpTo (degree m v) (neighbourKept n m v))
 
@@ -52,11 +56,11 @@ vertexKept n m v = leb 5 (degree m v) && (leb (degree m v) 6 && allUpTo (degree 
 unfoldable pub verticesFinite : ℕ → List Float → Bool
 verticesFinite n vs = allUpTo (3 * n) (λ i. finite (getD vs i nan))
 
--- the mesh rule, of one level's mesh of n vertices
+-- the mesh rule, of one level's mesh of n vertices (S5.7)
 unfoldable pub keepsRule : ℕ → Mesh → Bool
 keepsRule n m = verticesFinite n (m .vertices) && allUpTo n (vertexKept n m)
 
--- level m's part of meshes that are lent one after another
+-- level m's part of meshes that are lent one after another (S5.7)
 unfoldable pub levelPart : ℕ → Mesh → Mesh
 levelPart m l =
     let a = verticesBelow m in
@@ -68,13 +72,14 @@ levelPart m l =
       angles = slice (6 * a) (6 * b) (l .angles);
     }
 
--- 6, of the mesh lists: the lengths that n vertices need
+-- 6, of the mesh lists: the lengths that n vertices need (S5.6, S3.3)
 unfoldable pub meshRoom : ℕ → ℕ → ℕ → ℕ → ℕ → Bool
 meshRoom n vertices counts neighbours angles = leb (3 * n) vertices && (leb n counts && (leb (6 * n) neighbours && leb (6 * n) angles))
 
-abbrev pub meshHeld : ℕ → Mesh → Bool
-meshHeld n m = meshRoom n (length (m .vertices)) (length (m .counts)) (length (m .neighbours)) (length (m .angles))
+-- S5.6
+abbrev pub meshLong : ℕ → Mesh → Bool
+meshLong n m = meshRoom n (length (m .vertices)) (length (m .counts)) (length (m .neighbours)) (length (m .angles))
 
--- 7: "Does every lent mesh keep the mesh rule?", of the levels from 0 to the top
+-- 7: "Does every lent mesh keep the mesh rule?", of the levels from 0 to the top (S5.7)
 unfoldable pub meshesKeep : ℕ → Mesh → Bool
 meshesKeep top l = allUpTo (suc top) (λ m. keepsRule (vertexCount m) (levelPart m l))

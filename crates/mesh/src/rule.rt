@@ -6,8 +6,8 @@ ghost use Prim.Native.Nat.{_+_, _*_};
 ghost use lib.ListN.{getD};
 ghost use lib.Ieee.{nan};
 ghost use Rattle.mesh.specs.Levels.{vertexCount};
-ghost use Rattle.mesh.specs.Mesh.{within, lists, angleKept, neighbourKept, vertexKept, verticesFinite, keepsRule, meshRoom, meshHeld};
-ghost use Rattle.mesh.specs.Steps.{links};
+ghost use Rattle.mesh.specs.Mesh.{within, lists, angleKept, neighbourKept, vertexKept, verticesFinite, keepsRule, meshRoom, meshLong, meshOf};
+ghost use Rattle.mesh.specs.Internal.{links};
 use crate::levels::vertex_count;
 
 // How many neighbours v has; 0 where no count was lent.
@@ -71,7 +71,7 @@ fn angle_kept(x: f64) -> bool
 
 // The neighbour at place k of v keeps the rule.
 fn neighbour_kept(n: u32, counts: &[u8], neighbours: &[u16], angles: &[f64], v: u32, k: u32) -> bool
-    ensures { λ r. ⌜ r ≡ neighbourKept n (record { vertices = []; counts = now (counts .entry); neighbours = now (neighbours .entry); angles = now (angles .entry) }) v k ⌝ }
+    ensures { λ r. ⌜ r ≡ neighbourKept n (meshOf [] (now (counts .entry)) (now (neighbours .entry)) (now (angles .entry))) v k ⌝ }
 {
     let w = neighbour(neighbours, v, k);
     if n <= w {
@@ -90,7 +90,7 @@ fn neighbour_kept(n: u32, counts: &[u8], neighbours: &[u16], angles: &[f64], v: 
 }
 
 fn vertex_kept(n: u32, counts: &[u8], neighbours: &[u16], angles: &[f64], v: u32) -> bool
-    ensures { λ r. ⌜ r ≡ vertexKept n (record { vertices = []; counts = now (counts .entry); neighbours = now (neighbours .entry); angles = now (angles .entry) }) v ⌝ }
+    ensures { λ r. ⌜ r ≡ vertexKept n (meshOf [] (now (counts .entry)) (now (neighbours .entry)) (now (angles .entry))) v ⌝ }
 {
     let d = degree(counts, v);
     if d < 5 {
@@ -131,7 +131,7 @@ pub(crate) fn keeps_rule(
     neighbours: &[u16],
     angles: &[f64],
 ) -> bool
-    ensures { λ r. ⌜ r ≡ keepsRule n (record { vertices = now (vertices .entry); counts = now (counts .entry); neighbours = now (neighbours .entry); angles = now (angles .entry) }) ⌝ }
+    ensures { λ r. ⌜ r ≡ keepsRule n (meshOf (now (vertices .entry)) (now (counts .entry)) (now (neighbours .entry)) (now (angles .entry))) ⌝ }
 {
     if !vertices_finite(n, vertices) {
         return false;
@@ -162,8 +162,8 @@ pub fn mesh_keeps(
     neighbours: &[u16],
     angles: &[f64],
 ) -> bool
-    ensures { λ r. ⌜ r ≡ meshHeld (vertexCount level) (record { vertices = now (vertices .entry); counts = now (counts .entry); neighbours = now (neighbours .entry); angles = now (angles .entry) })
-        && keepsRule (vertexCount level) (record { vertices = now (vertices .entry); counts = now (counts .entry); neighbours = now (neighbours .entry); angles = now (angles .entry) }) ⌝ }
+    ensures { λ r. ⌜ r ≡ meshLong (vertexCount level) (meshOf (now (vertices .entry)) (now (counts .entry)) (now (neighbours .entry)) (now (angles .entry)))
+        && keepsRule (vertexCount level) (meshOf (now (vertices .entry)) (now (counts .entry)) (now (neighbours .entry)) (now (angles .entry))) ⌝ }
 {
     let n = vertex_count(level) as u32;
     if !mesh_room(

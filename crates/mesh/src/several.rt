@@ -4,7 +4,7 @@ ghost use mathlib.Core.Bool.{_&&_, true};
 ghost use Prim.Native.Nat.{suc, _+_, _*_, _≤_};
 ghost use lib.ListN.{length};
 ghost use Rattle.mesh.specs.Levels.{vertexCount, verticesBelow};
-ghost use Rattle.mesh.specs.Mesh.{keepsRule, levelPart, meshRoom, meshHeld, meshesKeep};
+ghost use Rattle.mesh.specs.Mesh.{keepsRule, levelPart, meshRoom, meshLong, meshesKeep, meshOf};
 use crate::levels::vertex_count;
 use crate::levels::vertices_below;
 use crate::rule::keeps_rule;
@@ -20,7 +20,7 @@ fn level_keeps(
 ) -> bool
     requires { ⌜ (3 * verticesBelow (suc level) ≤ length (now vertices)) × (verticesBelow (suc level) ≤ length (now counts))
         × (6 * verticesBelow (suc level) ≤ length (now neighbours)) × (6 * verticesBelow (suc level) ≤ length (now angles)) ⌝ }
-    ensures { λ r. ⌜ r ≡ keepsRule (vertexCount level) (levelPart level (record { vertices = now (vertices .entry); counts = now (counts .entry); neighbours = now (neighbours .entry); angles = now (angles .entry) })) ⌝ }
+    ensures { λ r. ⌜ r ≡ keepsRule (vertexCount level) (levelPart level (meshOf (now (vertices .entry)) (now (counts .entry)) (now (neighbours .entry)) (now (angles .entry)))) ⌝ }
 {
     let n = vertex_count(level);
     let a = vertices_below(level) as usize;
@@ -60,8 +60,8 @@ pub fn meshes_keep(
     neighbours: &[u16],
     angles: &[f64],
 ) -> bool
-    ensures { λ r. ⌜ r ≡ meshHeld (verticesBelow (suc top)) (record { vertices = now (vertices .entry); counts = now (counts .entry); neighbours = now (neighbours .entry); angles = now (angles .entry) })
-        && meshesKeep top (record { vertices = now (vertices .entry); counts = now (counts .entry); neighbours = now (neighbours .entry); angles = now (angles .entry) }) ⌝ }
+    ensures { λ r. ⌜ r ≡ meshLong (verticesBelow (suc top)) (meshOf (now (vertices .entry)) (now (counts .entry)) (now (neighbours .entry)) (now (angles .entry)))
+        && meshesKeep top (meshOf (now (vertices .entry)) (now (counts .entry)) (now (neighbours .entry)) (now (angles .entry))) ⌝ }
 {
     if !meshes_room(
         top,

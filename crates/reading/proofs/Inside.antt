@@ -1,6 +1,6 @@
 -- Which rows and energies are inside a file, and where a slab's row starts. Assumes nothing.
 use mathlib.Core.Path.{_≡_, refl, sym, ap, _∙_}
-use mathlib.Core.Bool.{Bool, true, false, not, cond, _&&_, _||_}
+use mathlib.Core.Bool.{Bool, true, false, not, cond, _&&_, _||_, and-eq-true-iff}
 use mathlib.Core.List.{List}
 use mathlib.Core.Logic.{⊎-elim}
 use Prim.Native.Nat.{ℕ, suc, _+_, _-_, _*_, _/_, _≤_, _<_, min}
@@ -11,16 +11,16 @@ use lib.Dec.{leb, ltb, eqb}
 use lib.Ieee.{Float, inf, binary32, ofBits}
 use borrow.Author.Tests.{lt-ltb, le-ltb, le-leb, lt-leb, leb-true, eqb-true, eqb-false, ne-eqb}
 use Rattle.ieee.proofs.Pack.{le-or-lt}
-use Rattle.mesh.proofs.Counting.{and-yes, or-none}
+use Rattle.lists.proofs.Counting.{or-none}
 use Rattle.rows.specs.Rows.{resolutionOf}
 use Rattle.rows.specs.declared.SlabResolution.{SlabResolution}
 use Rattle.rows.specs.declared.SlabResolution.the-variants.{Scalar, Mesh, Repulsive}
 use Rattle.search.specs.Search.{Locator}
 use Rattle.table.specs.File.{Entry}
 use Rattle.table.specs.declared.Table.{Table}
-use Rattle.reading.specs.Resolve.{readingValues, Query, Resolved, unresolved, beyond, slabAt, queryHeld, outside, resolve, widened}
+use Rattle.reading.specs.Resolve.{readingValues, Query, Resolved, unresolved, beyond, slabAt, queryValid, outside, resolve, widened}
 use Rattle.reading.specs.Reading.{rowInside, entryAt, readEntry, readSlab, readingOut, searchIn, readPicks}
-use Rattle.reading.specs.Steps.{itemsInside, slabOf, rowPlace, toward, readPlaced, readResolution}
+use Rattle.reading.specs.Internal.{itemsInside, slabOf, rowPlace, toward, readPlaced, readResolution}
 use Rattle.reading.specs.declared.Reading.the-variants.{Energy, Refused}
 use Rattle.reading.specs.declared.resolve.RowPlace.{RowPlace}
 use Rattle.reading.specs.declared.resolve.RowPlace.the-variants.{At, Outside, NoRow}
@@ -64,22 +64,22 @@ quite-past ri n oi limit N h l =
 -- ---- rows
 
 module _ (file : List ℕ) (t : Table) where
-  row-held : (s held : ℕ) → held ≡ itemsInside (t .«rows_start») 10 (t .rows) (length file) → rowInside file t s ≡ ltb s held
+  places-below : (s held : ℕ) → held ≡ itemsInside (t .«rows_start») 10 (t .rows) (length file) → rowInside file t s ≡ ltb s held
   unfolding rowInside
-  row-held s held h = rw h (items-inside (t .«rows_start») 10 (t .rows) (length file) (omega arith) s)
+  places-below s held h = rw h (items-inside (t .«rows_start») 10 (t .rows) (length file) (omega arith) s)
 
   pub row-at : (s r held : ℕ) → held ≡ itemsInside (t .«rows_start») 10 (t .rows) (length file) → r ≡ min s held → r < held
       → At (t .«rows_start» + r * 10) ≡ rowPlace file t (slabAt s)
-  row-at s r held h e l = let z : r ≡ s = omega arith in rw (row-held s held h, lt-ltb s held (omega arith), z)
+  row-at s r held h e l = let z : r ≡ s = omega arith in rw (places-below s held h, lt-ltb s held (omega arith), z)
 
   pub row-none : (s r held : ℕ) → held ≡ itemsInside (t .«rows_start») 10 (t .rows) (length file) → r ≡ min s held → held ≤ r
       → NoRow 19 ≡ rowPlace file t (slabAt s)
-  row-none s r held h e l = rw (row-held s held h, le-ltb s held (omega arith))
+  row-none s r held h e l = rw (places-below s held h, le-ltb s held (omega arith))
 
   -- the bytes of a row that was placed
   pub row-fits : (r held : ℕ) → held ≡ itemsInside (t .«rows_start») 10 (t .rows) (length file) → r < held → t .«rows_start» + r * 10 + 10 ≤ length file
   unfolding rowInside
-  row-fits r held h l = leb-true _ _ (and-yes (ltb r (t .rows)) (leb (t .«rows_start» + r * 10 + 10) (length file)) (row-held r held h ∙ lt-ltb r held l) .1)
+  row-fits r held h l = leb-true _ _ (and-eq-true-iff (ltb r (t .rows)) (leb (t .«rows_start» + r * 10 + 10) (length file)) .0 (places-below r held h ∙ lt-ltb r held l) .1)
 
   place : RowPlace → ℕ
   place (At a) = suc a
@@ -90,7 +90,7 @@ module _ (file : List ℕ) (t : Table) where
   unfolding rowInside place
   placed-fits (unresolved n) at e = absurd (let z : 0 ≡ suc at = ap place e in omega arith)
   placed-fits beyond at e = absurd (let z : 0 ≡ suc at = ap place e in omega arith)
-  placed-fits (slabAt s) at e = by (rowInside file t s) (λ h. leb-true _ _ (and-yes (ltb s (t .rows)) (leb (t .«rows_start» + s * 10 + 10) (length file)) h .1)) e
+  placed-fits (slabAt s) at e = by (rowInside file t s) (λ h. leb-true _ _ (and-eq-true-iff (ltb s (t .rows)) (leb (t .«rows_start» + s * 10 + 10) (length file)) .0 h .1)) e
     where
       by : (b : Bool) → (b ≡ true → t .«rows_start» + s * 10 + 10 ≤ length file) → cond b (At (t .«rows_start» + s * 10)) (NoRow 19) ≡ At at → at + 10 ≤ length file
       by true h e = let z : suc (t .«rows_start» + s * 10) ≡ suc at = ap place e in omega (arith, h refl)
@@ -153,11 +153,11 @@ bins-none a b h =
     (le-or-lt a 0)
 
 module _ (file : List ℕ) (t : Table) (q : Query) where
-  pub refused-18 : queryHeld q ≡ false → NoRow 18 ≡ rowPlace file t (resolve (t .grid) q)
+  pub refused-18 : queryValid q ≡ false → NoRow 18 ≡ rowPlace file t (resolve (t .grid) q)
   unfolding resolve
   refused-18 h = rw h
 
-  module _ (h : queryHeld q ≡ true) where
+  module _ (h : queryValid q ≡ true) where
     pub beyond-out : outside (t .grid) (q .r) ≡ true → Outside ≡ rowPlace file t (resolve (t .grid) q)
     unfolding resolve
     beyond-out k = rw (h, k)

@@ -15,7 +15,7 @@ use Rattle.search.specs.Search.{Locator, locatorFrom, verticesFrom, nearestInCe
 use Rattle.search.specs.declared.Vector3.{Vector3}
 use Rattle.reading.specs.Resolve.{nearestPick}
 use Rattle.reading.specs.Reading.{searchIn}
-use Rattle.reading.specs.Steps.{toward, partFrom}
+use Rattle.reading.specs.Internal.{toward, partFrom}
 
 module _ {A : Type 0} where
   whole : (l : List A) (i : ℕ) → take (length l - i) (drop i l) ≡ drop i l

@@ -1,6 +1,6 @@
 -- The energies that a search picked. Assumes nothing.
 use mathlib.Core.Path.{_≡_, refl, ap, _∙_}
-use mathlib.Core.Bool.{Bool, true, false, cond, _&&_, _||_}
+use mathlib.Core.Bool.{Bool, true, false, cond, _&&_, _||_, and-eq-true-iff, and-true}
 use mathlib.Core.List.{List, [], _∷_, map}
 use Prim.Native.Nat.{ℕ, _+_, _*_, _≤_, _<_}
 use native.Mathlib.Nat.{mul-le-mul}
@@ -8,9 +8,8 @@ use native.Mathlib.Omega.{arith}
 use lib.ListN.{length}
 use lib.Dec.{leb, ltb, eqb}
 use borrow.Author.Tests.{lt-ltb, le-ltb, ltb-true, leb-true, eqb-true, eqb-false, ne-eqb}
-use Rattle.mesh.specs.Lists.{every, forEach}
+use Rattle.lists.specs.Lists.{every, forEach}
 use Rattle.mesh.specs.declared.Face.{Face}
-use Rattle.mesh.proofs.Counting.{and-yes, and-true}
 use Rattle.search.specs.declared.Weights.{Weights}
 use Rattle.search.specs.declared.Nearest.{Nearest}
 use Rattle.search.specs.declared.Located.{Located}
@@ -18,7 +17,7 @@ use Rattle.table.specs.Bytes.{numberAt}
 use Rattle.table.specs.declared.Table.{Table}
 use Rattle.reading.specs.Resolve.{joint, nearestPick, facePick, combined, nineTerms, widened}
 use Rattle.reading.specs.Reading.{energyInside, energyAt, readPicks}
-use Rattle.reading.specs.Steps.{Small, itemsInside, rowHeld, faceHeld, PlaceInside, RowInside, rowTerms, faceTerms}
+use Rattle.reading.specs.Internal.{Small, itemsInside, placesBelow, facePlacesBelow, PlaceInside, RowInside, rowTerms, faceTerms}
 use Rattle.reading.specs.declared.Reading.the-variants.{Energy, Refused}
 use Rattle.reading.proofs.Inside.{items-inside}
 
@@ -46,19 +45,19 @@ module _ (file : List ℕ) (t : Table) (held : ℕ) (H : held ≡ itemsInside (t
 
   pub energy-fits : (k : ℕ) → k < held → PlaceInside file (t .«energies_start») k
   unfolding energyInside
-  energy-fits k l = leb-true _ _ (and-yes (ltb k (t .energies)) (leb (t .«energies_start» + k * 4 + 4) (length file)) (energy-held k ∙ lt-ltb k held l) .1)
+  energy-fits k l = leb-true _ _ (and-eq-true-iff (ltb k (t .energies)) (leb (t .«energies_start» + k * 4 + 4) (length file)) .0 (energy-held k ∙ lt-ltb k held l) .1)
 
-  row-fits : (o k : ℕ) (f : Face) → rowHeld held o k f ≡ true → RowInside file (t .«energies_start») o k f
+  row-fits : (o k : ℕ) (f : Face) → placesBelow held o k f ≡ true → RowInside file (t .«energies_start») o k f
   row-fits o k f h =
-      let x = and-yes (ltb (o + (k + f .a)) held) (ltb (o + (k + f .b)) held && ltb (o + (k + f .c)) held) h in
-      let y = and-yes (ltb (o + (k + f .b)) held) (ltb (o + (k + f .c)) held) (x .1) in
+      let x = and-eq-true-iff (ltb (o + (k + f .a)) held) (ltb (o + (k + f .b)) held && ltb (o + (k + f .c)) held) .0 h in
+      let y = and-eq-true-iff (ltb (o + (k + f .b)) held) (ltb (o + (k + f .c)) held) .0 (x .1) in
       (energy-fits _ (ltb-true _ _ (x .0)), energy-fits _ (ltb-true _ _ (y .0)), energy-fits _ (ltb-true _ _ (y .1)))
 
-  pub face-fits : (o n : ℕ) (f g : Face) → faceHeld held o n f g ≡ true
+  pub face-fits : (o n : ℕ) (f g : Face) → facePlacesBelow held o n f g ≡ true
       → RowInside file (t .«energies_start») o (f .a * n) g × RowInside file (t .«energies_start») o (f .b * n) g × RowInside file (t .«energies_start») o (f .c * n) g
   face-fits o n f g h =
-      let x = and-yes (rowHeld held o (f .a * n) g) (rowHeld held o (f .b * n) g && rowHeld held o (f .c * n) g) h in
-      let y = and-yes (rowHeld held o (f .b * n) g) (rowHeld held o (f .c * n) g) (x .1) in
+      let x = and-eq-true-iff (placesBelow held o (f .a * n) g) (placesBelow held o (f .b * n) g && placesBelow held o (f .c * n) g) .0 h in
+      let y = and-eq-true-iff (placesBelow held o (f .b * n) g) (placesBelow held o (f .c * n) g) .0 (x .1) in
       (row-fits o (f .a * n) g (x .0), row-fits o (f .b * n) g (y .0), row-fits o (f .c * n) g (y .1))
 
   -- ---- nearest
@@ -96,25 +95,25 @@ module _ (file : List ℕ) (t : Table) (held : ℕ) (H : held ≡ itemsInside (t
     abbrev low : ℕ → ℕ → Bool
     low i j = ltb (o + place i j) held
 
-    nine-held : every (λ k. energyInside file t (o + k)) places ≡ faceHeld held o n f g
+    nine-held : every (λ k. energyInside file t (o + k)) places ≡ facePlacesBelow held o n f g
     unfolding every
     nine-held =
         every-same (λ k. energyInside file t (o + k)) (λ k. ltb (o + k) held) (λ k. energy-held (o + k)) places
         ∙ three (low (f .a) (g .a)) (low (f .a) (g .b)) (low (f .a) (g .c)) _
-        ∙ ap (λ (z : Bool). rowHeld held o (f .a * n) g && z)
+        ∙ ap (λ (z : Bool). placesBelow held o (f .a * n) g && z)
         (three (low (f .b) (g .a)) (low (f .b) (g .b)) (low (f .b) (g .c)) _
-        ∙ ap (λ (z : Bool). rowHeld held o (f .b * n) g && z) (three (low (f .c) (g .a)) (low (f .c) (g .b)) (low (f .c) (g .c)) true ∙ and-true (rowHeld held o (f .c * n) g)))
+        ∙ ap (λ (z : Bool). placesBelow held o (f .b * n) g && z) (three (low (f .c) (g .a)) (low (f .c) (g .b)) (low (f .c) (g .c)) true ∙ and-true (placesBelow held o (f .c * n) g)))
 
     nine-sum : (p q : Weights) → combined true p q (map (λ k. energyAt file t (o + k)) places) ≡ faceTerms file (t .«energies_start») o n f g p q
     unfolding combined nineTerms forEach energyAt faceTerms rowTerms
     nine-sum p q = refl
 
   module _ (o n : ℕ) (x y : Located) (e : joint (x .number) (y .number) ≡ 0) where
-    pub face-out : faceHeld held o n (x .face) (y .face) ≡ false → Refused 19 ≡ readPicks file t true o (facePick n x y)
+    pub face-out : facePlacesBelow held o n (x .face) (y .face) ≡ false → Refused 19 ≡ readPicks file t true o (facePick n x y)
     unfolding facePick
     face-out h = rw (e, nine-held o n (x .face) (y .face), h)
 
-    pub face-in : faceHeld held o n (x .face) (y .face) ≡ true
+    pub face-in : facePlacesBelow held o n (x .face) (y .face) ≡ true
         → Energy (faceTerms file (t .«energies_start») o n (x .face) (y .face) (x .weights) (y .weights)) ≡ readPicks file t true o (facePick n x y)
     unfolding facePick
     face-in h = rw (e, nine-held o n (x .face) (y .face), h, nine-sum o n (x .face) (y .face) (x .weights) (y .weights))

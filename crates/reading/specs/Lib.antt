@@ -1,4 +1,5 @@
+-- A reader has to believe `Resolve`, `Reading` and `Rule`. Only the code and the proofs need `Internal`.
 pub mod Resolve
 pub mod Reading
 pub mod Rule
-pub mod Steps
+pub mod Internal

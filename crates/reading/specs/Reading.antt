@@ -5,7 +5,7 @@ use Prim.Native.Nat.{ℕ, _+_, _*_}
 use lib.ListN.{length, take, drop}
 use lib.Dec.{leb, ltb, eqb}
 use lib.Ieee.{Float, inf, binary64, ofBits}
-use Rattle.mesh.specs.Lists.{every}
+use Rattle.lists.specs.Lists.{every}
 use Rattle.mesh.specs.Levels.{vertexCount, gridSize}
 use Rattle.search.specs.Geometry.{unit}
 use Rattle.search.specs.Search.{Locator, locatorFrom, verticesFrom, nearestIn, locateIn}

@@ -6,7 +6,7 @@ use lib.ListN.{getD}
 use lib.Dec.{ltb, eqb}
 use lib.Ieee.{Float, nan, binary32, binary64, ofBits, add, mul, lt, isNan}
 use lib.Ieee.Scale.{finite}
-use Rattle.mesh.specs.Lists.{forEach}
+use Rattle.lists.specs.Lists.{forEach}
 use Rattle.mesh.specs.declared.Face.{Face}
 use Rattle.grid.specs.Bins.{tableRmax, distanceBin, dihedralBin}
 use Rattle.grid.specs.Settings.{above}
@@ -19,7 +19,7 @@ use Rattle.search.specs.declared.Located.{Located}
 use Rattle.reading.specs.declared.Reading.{Reading}
 use Rattle.reading.specs.declared.Reading.the-variants.{Energy, Refused}
 
--- 01's number and value for each case of the answer: "reading returns the energy"; beside a number that refuses stands 0
+-- 01's number and value for each case of the answer: "reading returns the energy"; beside a number that refuses stands 0 (S12.10)
 pub record ReadingValues : Type 0 where
   pub number : ℕ
   pub energy : Float
@@ -35,11 +35,11 @@ pub record Query : Type 0 where
   pub a : Vector3
   pub b : Vector3
 
--- 18: "is r not a NaN, omega finite, and the length of each direction finite and above 0?"
-unfoldable pub queryHeld : Query → Bool
-queryHeld q = not (isNan (q .r)) && (finite (q .omega) && (above (norm (q .a)) && above (norm (q .b))))
+-- 18: "is r not a NaN, omega finite, and the length of each direction finite and above 0?" (S5.18)
+unfoldable pub queryValid : Query → Bool
+queryValid q = not (isNan (q .r)) && (finite (q .omega) && (above (norm (q .a)) && above (norm (q .b))))
 
--- "A distance below rmin or above rmax"; "a reading's rmax is this one, not the settings'"
+-- "A distance below rmin or above rmax"; "a reading's rmax is this one, not the settings'" (S12.2)
 unfoldable pub outside : Grid → Float → Bool
 outside g r = lt r (g .rmin) || lt (tableRmax (g .«n_r») (g .dr) (g .rmin)) r
 
@@ -48,10 +48,10 @@ pub data Resolved : Type 0 where
   beyond : Resolved
   slabAt : ℕ → Resolved
 
--- `resolve_slab_idx`, after 18; of 19: "Are bin counts above 0"
+-- `resolve_slab_idx`, after 18; of 19: "Are bin counts above 0" (S12.2)
 unfoldable pub resolve : Grid → Query → Resolved
 resolve g q =
-    cond (queryHeld q)
+    cond (queryValid q)
     (cond (outside g (q .r)) beyond
     (cond (ltb 0 (g .«n_r») && ltb 0 (g .«n_omega»))
     (slabAt (distanceBin (q .r) (g .rmin) (g .dr) (g .«n_r») * g .«n_omega» + dihedralBin (q .omega) (g .«omega_step») (g .«n_omega»)))
@@ -69,8 +69,8 @@ pub data Picks : Type 0 where
 unfoldable pub joint : ℕ → ℕ → ℕ
 joint a b = cond (eqb a 19 || eqb b 19) 19 (cond (eqb a 0) b a)
 
-abbrev noWeights : Weights
-noWeights = record { a = nan; b = nan; c = nan }
+abbrev unusedWeights : Weights
+unusedWeights = record { a = nan; b = nan; c = nan }
 
 -- the place of a pair of vertices in a slab: `va * n_v + vb`
 abbrev pub pairPlace : ℕ → ℕ → ℕ → ℕ
@@ -79,7 +79,7 @@ pairPlace n va vb = va * n + vb
 unfoldable pub nearestPick : ℕ → Nearest → Nearest → Picks
 nearestPick n a b =
     let r = joint (a .number) (b .number) in
-    cond (eqb r 0) (picked (pairPlace n (a .vertex) (b .vertex) ∷ []) noWeights noWeights) (unpicked r)
+    cond (eqb r 0) (picked (pairPlace n (a .vertex) (b .vertex) ∷ []) unusedWeights unusedWeights) (unpicked r)
 
 -- nine places: `face_a[i]` against `face_b[j]`
 abbrev rowPlaces : ℕ → ℕ → Face → List ℕ
@@ -103,7 +103,7 @@ widened x = ofBits binary32 x
 weightAt : Weights → ℕ → Float
 weightAt w i = cond (eqb i 0) (w .a) (cond (eqb i 1) (w .b) (w .c))
 
--- "nine-term sum as `lookup` has them": bary_a[i] * vals[i * 3 + j] * bary_b[j], from +0.0
+-- "nine-term sum as `lookup` has them": bary_a[i] * vals[i * 3 + j] * bary_b[j], from +0.0 (S2.15)
 unfoldable pub nineTerms : Weights → Weights → List ℕ → Float
 unfolding weightAt
 nineTerms a b es =

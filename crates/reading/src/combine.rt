@@ -6,7 +6,7 @@ ghost use lib.ListN.{length};
 ghost use Rattle.table.specs.Bytes.{numberAt};
 ghost use Rattle.reading.specs.Resolve.{joint, nearestPick, facePick, widened};
 ghost use Rattle.reading.specs.Reading.{readPicks};
-ghost use Rattle.reading.specs.Steps.{NearestBelow, LocatedBelow, Small, RowInside, rowHeld, faceHeld, rowTerms, faceTerms};
+ghost use Rattle.reading.specs.Internal.{NearestBelow, LocatedBelow, Small, RowInside, placesBelow, facePlacesBelow, rowTerms, faceTerms};
 use crate::Reading;
 use crate::places::items_inside;
 use mesh::Face;
@@ -57,9 +57,9 @@ pub(crate) fn nearest(t: Table, file: &[u8], offset: u64, n: u64, x: Nearest, y:
 }
 
 // The energies of a vertex, whose places begin at k, against those of a face are among the first ones held.
-fn row_held(held: u64, offset: u64, k: u64, f: Face) -> bool
+fn places_below(held: u64, offset: u64, k: u64, f: Face) -> bool
     requires { ⌜ (offset < 4294967296) × (k ≤ 429499351044) × Small f ⌝ }
-    ensures { λ r. ⌜ r ≡ rowHeld held offset k f ⌝ }
+    ensures { λ r. ⌜ r ≡ placesBelow held offset k f ⌝ }
 {
     let a = f.a;
     let b = f.b;
@@ -67,15 +67,15 @@ fn row_held(held: u64, offset: u64, k: u64, f: Face) -> bool
     (offset + (k + a) < held) & ((offset + (k + b) < held) & (offset + (k + c) < held))
 }
 
-fn face_held(held: u64, offset: u64, n: u64, f: Face, g: Face) -> bool
+fn face_places_below(held: u64, offset: u64, n: u64, f: Face, g: Face) -> bool
     requires { ⌜ (offset < 4294967296) × (n ≤ 655362) × Small f × Small g ⌝ }
-    ensures { λ r. ⌜ r ≡ faceHeld held offset n f g ⌝ }
+    ensures { λ r. ⌜ r ≡ facePlacesBelow held offset n f g ⌝ }
 {
     let a = f.a;
     let b = f.b;
     let c = f.c;
-    row_held(held, offset, a * n, g)
-        & (row_held(held, offset, b * n, g) & row_held(held, offset, c * n, g))
+    places_below(held, offset, a * n, g)
+        & (places_below(held, offset, b * n, g) & places_below(held, offset, c * n, g))
 }
 
 // A vertex's three terms of the sum, added to x.
@@ -146,7 +146,7 @@ pub(crate) fn interpolated(
         return Reading::Refused(number);
     }
     let held = items_inside(start, 4, count, file.len() as u64);
-    if !face_held(held, offset, n, f, g) {
+    if !face_places_below(held, offset, n, f, g) {
         return Reading::Refused(19);
     }
     Reading::Energy(face_terms(file, start, offset, n, f, g, p, q))

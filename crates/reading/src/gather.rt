@@ -5,10 +5,10 @@ ghost use Prim.Native.Nat.{_*_, _≤_, _<_};
 ghost use lib.ListN.{drop};
 ghost use Rattle.mesh.specs.Levels.{vertexCount, gridSize, verticesBelow, cellOffsetsBelow};
 ghost use Rattle.search.specs.Geometry.{unit};
-ghost use Rattle.search.specs.Search.{nearestInCells, locateIn, verticesFrom};
+ghost use Rattle.search.specs.Search.{nearestInCells, locateIn, verticesFrom, locatorOf};
 ghost use Rattle.reading.specs.Resolve.{nearestPick, facePick};
 ghost use Rattle.reading.specs.Reading.{readPicks, searchIn};
-ghost use Rattle.reading.specs.Steps.{toward, partFrom};
+ghost use Rattle.reading.specs.Internal.{toward, partFrom};
 use crate::Reading;
 use crate::combine::interpolated;
 use crate::combine::nearest;
@@ -55,8 +55,8 @@ fn interpolated_in(
 ) -> Reading
     requires { ⌜ offset < 4294967296 ⌝ }
     ensures { λ r. ⌜ r ≡ readPicks (now (file .entry)) t true offset (facePick (vertexCount level)
-        (locateIn (record { cellOffsets = now («cell_offsets» .entry); cellVertices = now («cell_vertices» .entry); faceOffsets = now («face_offsets» .entry); faces = now (faces .entry) }) (now (vertices .entry)) (vertexCount level) (gridSize (vertexCount level)) (unit a))
-        (locateIn (record { cellOffsets = now («cell_offsets» .entry); cellVertices = now («cell_vertices» .entry); faceOffsets = now («face_offsets» .entry); faces = now (faces .entry) }) (now (vertices .entry)) (vertexCount level) (gridSize (vertexCount level)) (unit b))) ⌝ }
+        (locateIn (locatorOf (now («cell_offsets» .entry)) (now («cell_vertices» .entry)) (now («face_offsets» .entry)) (now (faces .entry))) (now (vertices .entry)) (vertexCount level) (gridSize (vertexCount level)) (unit a))
+        (locateIn (locatorOf (now («cell_offsets» .entry)) (now («cell_vertices» .entry)) (now («face_offsets» .entry)) (now (faces .entry))) (now (vertices .entry)) (vertexCount level) (gridSize (vertexCount level)) (unit b))) ⌝ }
 {
     let n = mesh::vertex_count(level);
     let p = search::unit(a);
@@ -140,7 +140,7 @@ pub(crate) fn read_interpolated(
 ) -> Reading
     requires { ⌜ offset < 4294967296 ⌝ }
     ensures { λ r. ⌜ r ≡ readPicks (now (file .entry)) t true offset
-        (searchIn (now (vertices .entry)) (record { cellOffsets = now («cell_offsets» .entry); cellVertices = now («cell_vertices» .entry); faceOffsets = now («face_offsets» .entry); faces = now (faces .entry) }) (toward a b) level true) ⌝ }
+        (searchIn (now (vertices .entry)) (locatorOf (now («cell_offsets» .entry)) (now («cell_vertices» .entry)) (now («face_offsets» .entry)) (now (faces .entry))) (toward a b) level true) ⌝ }
 {
     let below = mesh::vertices_below(level);
     let i = part_from(cell_offsets.len(), mesh::cell_offsets_below(level));

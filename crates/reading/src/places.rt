@@ -1,7 +1,7 @@
 // Places of rows and energies in a file. Counts and starts are any numbers that a host hands in, so nothing is added up before it is known to fit.
 ghost use mathlib.Core.Path.{_≡_};
 ghost use Prim.Native.Nat.{_+_, _*_, _≤_, min};
-ghost use Rattle.reading.specs.Steps.{itemsInside};
+ghost use Rattle.reading.specs.Internal.{itemsInside};
 
 // How many of `count` items, w bytes each from byte `start` on, are inside a file of `length` bytes.
 pub(crate) fn items_inside(start: u64, w: u64, count: u64, length: u64) -> u64

@@ -1,8 +1,8 @@
 // The first stage: question 18, the distance, and the place of the slab's row.
 ghost use mathlib.Core.Path.{_≡_};
 ghost use Prim.Native.Nat.{_≤_};
-ghost use Rattle.reading.specs.Resolve.{queryHeld, outside, slabAt, resolve};
-ghost use Rattle.reading.specs.Steps.{slabOf, rowPlace};
+ghost use Rattle.reading.specs.Resolve.{queryValid, outside, slabAt, resolve};
+ghost use Rattle.reading.specs.Internal.{slabOf, rowPlace};
 use crate::places::items_inside;
 use crate::places::slab_below;
 use search::Vector3;
@@ -16,10 +16,10 @@ pub(crate) enum RowPlace {
 }
 
 // Question 18.
-fn query_held(r: f64, omega: f64, a: Vector3, b: Vector3) -> bool
-    ensures { λ z. ⌜ z ≡ queryHeld (record { r = r; omega = omega; a = a; b = b }) ⌝ }
+fn query_valid(r: f64, omega: f64, a: Vector3, b: Vector3) -> bool
+    ensures { λ z. ⌜ z ≡ queryValid (record { r = r; omega = omega; a = a; b = b }) ⌝ }
 {
-    !(r != r) & (ieee::is_finite(omega) & (search::length_held(a) & search::length_held(b)))
+    !(r != r) & (ieee::is_finite(omega) & (search::length_valid(a) & search::length_valid(b)))
 }
 
 fn outside(t: Table, r: f64) -> bool
@@ -68,7 +68,7 @@ pub(crate) fn row_place(
     let g = t.grid;
     let n_r = g.n_r;
     let n_omega = g.n_omega;
-    if !query_held(r, omega, a, b) {
+    if !query_valid(r, omega, a, b) {
         return RowPlace::NoRow(18);
     }
     if outside(t, r) {

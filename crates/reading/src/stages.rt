@@ -2,10 +2,11 @@
 ghost use mathlib.Core.Path.{_≡_};
 ghost use Prim.Native.Nat.{_+_, _≤_, _<_};
 ghost use lib.ListN.{length, take, drop};
+ghost use Rattle.search.specs.Search.{locatorOf};
 ghost use Rattle.table.specs.File.{entryOf};
 ghost use Rattle.reading.specs.Resolve.{readingValues};
 ghost use Rattle.reading.specs.Reading.{readEntry, readingOut};
-ghost use Rattle.reading.specs.Steps.{toward, readResolution};
+ghost use Rattle.reading.specs.Internal.{toward, readResolution};
 use crate::Reading;
 use crate::gather::read_interpolated;
 use crate::gather::read_nearest;
@@ -32,7 +33,7 @@ fn read_resolution(
 ) -> Reading
     requires { ⌜ offset < 4294967296 ⌝ }
     ensures { λ r. ⌜ r ≡ readResolution (now (file .entry)) t (now (vertices .entry))
-        (record { cellOffsets = now («cell_offsets» .entry); cellVertices = now («cell_vertices» .entry); faceOffsets = now («face_offsets» .entry); faces = now (faces .entry) })
+        (locatorOf (now («cell_offsets» .entry)) (now («cell_vertices» .entry)) (now («face_offsets» .entry)) (now (faces .entry)))
         (toward a b) kind offset row ⌝ }
 {
     let levels = t.levels;
@@ -88,7 +89,7 @@ fn read_row(
 ) -> Reading
     requires { ⌜ at + 10 ≤ length (now file) ⌝ }
     ensures { λ r. ⌜ r ≡ readEntry (now (file .entry)) t (now (vertices .entry))
-        (record { cellOffsets = now («cell_offsets» .entry); cellVertices = now («cell_vertices» .entry); faceOffsets = now («face_offsets» .entry); faces = now (faces .entry) })
+        (locatorOf (now («cell_offsets» .entry)) (now («cell_vertices» .entry)) (now («face_offsets» .entry)) (now (faces .entry)))
         (toward a b) (entryOf (take 10 (drop at (now (file .entry))))) ⌝ }
 {
     let i = at as usize;
@@ -128,7 +129,7 @@ pub fn lookup(
     b: Vector3,
 ) -> Reading
     ensures { λ z. ⌜ readingValues z ≡ readingOut (now (file .entry)) t (now (vertices .entry))
-        (record { cellOffsets = now («cell_offsets» .entry); cellVertices = now («cell_vertices» .entry); faceOffsets = now («face_offsets» .entry); faces = now (faces .entry) })
+        (locatorOf (now («cell_offsets» .entry)) (now («cell_vertices» .entry)) (now («face_offsets» .entry)) (now (faces .entry)))
         (record { r = r; omega = omega; a = a; b = b }) ⌝ }
 {
     match row_place(t, file, r, omega, a, b) {

@@ -1,6 +1,7 @@
 -- Rows as they compare: the bits of narrowed energies. Assumes nothing.
 use mathlib.Core.Path.{_≡_, refl, ap, _∙_}
-use mathlib.Core.Bool.{Bool, true, false, cond}
+use Rattle.lists.proofs.Counting.{chosen}
+use mathlib.Core.Bool.{Bool, false}
 use Prim.Native.Nat.{ℕ, zero, suc, _+_, _*_, _^_, _<_}
 use lib.Dec.{T, ltb}
 use lib.Ieee.{Float, nan, inf, fin, Format, binary32, prec, emax, low, up, down, odd, units, round, isNan, fits, nanBits, toBits}
@@ -16,13 +17,9 @@ unfolding odd isNan
 odd-number d s zero k l = refl
 odd-number d s (suc q) k l = refl
 
-either-number : (t : Bool) (x y : Float) → isNan x ≡ false → isNan y ≡ false → isNan (cond t x y) ≡ false
-either-number true x y a b = a
-either-number false x y a b = b
-
 units-number : (f : Format) (s : Bool) (q k : ℕ) → isNan (units f s q k) ≡ false
 unfolding units isNan
-units-number f s q k = either-number (ltb (q * 2 ^ k) (2 ^ (low f + suc (emax f)))) (odd (suc (prec f)) s q k (low f)) (inf s) (odd-number (suc (prec f)) s q k (low f)) refl
+units-number f s q k = chosen (λ x. isNan x ≡ false) (ltb (q * 2 ^ k) (2 ^ (low f + suc (emax f)))) (odd (suc (prec f)) s q k (low f)) (inf s) (λ _. odd-number (suc (prec f)) s q k (low f)) refl
 
 round-number : (f : Format) (s : Bool) (n d : ℕ) → isNan (round f s n d) ≡ false
 unfolding round

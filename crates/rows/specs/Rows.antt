@@ -17,6 +17,9 @@ pub record Rows : Type 0 where
   pub levels : List ℕ
   pub values : List ℕ
 
+abbrev pub rowsOf : List ℕ → List ℕ → List ℕ → Rows
+rowsOf kinds levels values = record { kinds = kinds; levels = levels; values = values }
+
 -- "kind u8 (0 Scalar, 1 Repulsive, 2 Mesh nearest, 3 Mesh interpolated)"
 abbrev pub kindOf : SlabResolution → ℕ
 kindOf (Scalar x) = 0
@@ -52,13 +55,13 @@ known top k v = leb k 1 || (leb k 3 && leb v top)
 abbrev pub rowKnown : ℕ → Rows → ℕ → Bool
 rowKnown top r s = known top (getD (r .kinds) s 0) (getD (r .levels) s 0)
 
--- 6, of the three lists
+-- 6, of the three lists (S5.6)
 unfoldable pub rowRoom : ℕ → ℕ → ℕ → ℕ → Bool
 rowRoom n kinds levels values = leb n kinds && (leb n levels && leb n values)
 
 -- ---- with its energies
 
--- "a row per slab: Scalar with an f32, Repulsive, or Mesh with level, interpolate flag and n·n energies"; in numbers of type A
+-- "a row per slab: Scalar with an f32, Repulsive, or Mesh with level, interpolate flag and n·n energies"; in numbers of type A (S13.2)
 pub data Row (A : Type 0) : Type 0 where
   scalar : A → Row A
   repulsive : Row A
@@ -73,7 +76,7 @@ rowWith Repulsive e = repulsive
 abbrev pub narrowBits : Float → ℕ
 narrowBits e = toBits binary32 (narrowed e)
 
--- "Rows compare by kind, level, flag, scalar bits and each energy's bits after narrowing to f32": what is compared
+-- "Rows compare by kind, level, flag, scalar bits and each energy's bits after narrowing to f32": what is compared (S4.15)
 abbrev pub compared : Row Float → Row ℕ
 compared (scalar x) = scalar (toBits binary32 x)
 compared repulsive = repulsive

@@ -1,7 +1,7 @@
 // A slab's row: an enum, and three numbers in lent lists.
 ghost use mathlib.Core.Path.{_≡_};
 ghost use lib.ListN.{getD, set};
-ghost use Rattle.rows.specs.Rows.{Rows, kindOf, levelOf, valueOf, resolutionOf, resolutionAt, replaced, known};
+ghost use Rattle.rows.specs.Rows.{Rows, kindOf, levelOf, valueOf, resolutionOf, resolutionAt, replaced, known, rowsOf};
 
 // What is known of a slab: one energy for all directions, a mesh of energies (its level, and whether a reading interpolates), or nothing but
 // that it is strongly repulsive.
@@ -84,7 +84,7 @@ fn word_at(list: &[u32], s: u64) -> u32
 
 // The row of slab s; beyond the lists their entries count as 0.
 pub fn resolution_at(kinds: &[u8], levels: &[u8], values: &[u32], s: u64) -> SlabResolution
-    ensures { λ r. ⌜ r ≡ resolutionAt (record { kinds = now (kinds .entry); levels = now (levels .entry); values = now (values .entry) }) s ⌝ }
+    ensures { λ r. ⌜ r ≡ resolutionAt (rowsOf (now (kinds .entry)) (now (levels .entry)) (now (values .entry))) s ⌝ }
 {
     resolution_of(byte_at(kinds, s), byte_at(levels, s), word_at(values, s))
 }
@@ -110,8 +110,8 @@ fn put_word(list: &mut [u32], s: u64, x: u32)
 // Replaces the row of slab s; nothing is written beyond the lists.
 pub fn replace(kinds: &mut [u8], levels: &mut [u8], values: &mut [u32], s: u64, x: SlabResolution)
     ensures { λ _. ⌜ _≡_ {A = Rows}
-        (record { kinds = now (kinds .exit); levels = now (levels .exit); values = now (values .exit) })
-        (replaced (record { kinds = now (kinds .entry); levels = now (levels .entry); values = now (values .entry) }) s x) ⌝ }
+        (rowsOf (now (kinds .exit)) (now (levels .exit)) (now (values .exit)))
+        (replaced (rowsOf (now (kinds .entry)) (now (levels .entry)) (now (values .entry))) s x) ⌝ }
 {
     put_byte(kinds, s, kind_of(x));
     put_byte(levels, s, level_of(x));

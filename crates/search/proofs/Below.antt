@@ -1,6 +1,6 @@
 -- The vertices that a search answers are below n. Assumes nothing.
 use mathlib.Core.Path.{_≡_, refl}
-use mathlib.Core.Bool.{Bool, true, false, cond, _&&_, _||_}
+use mathlib.Core.Bool.{Bool, true, false, cond, _&&_, _||_, and-eq-true-iff}
 use mathlib.Core.List.{List, [], _∷_}
 use Prim.Native.Nat.{ℕ, _+_, _*_, _<_}
 use native.Mathlib.Omega.{arith}
@@ -9,10 +9,9 @@ use lib.Dec.{leb, ltb, eqb}
 use lib.Ieee.{Float, lt}
 use borrow.Author.Tests.{ltb-true, eqb-false}
 use Rattle.float.specs.Order.{ordered, smaller}
-use Rattle.mesh.specs.Lists.{every}
+use Rattle.lists.specs.Lists.{every}
 use Rattle.mesh.specs.Faces.{face}
 use Rattle.mesh.specs.declared.Face.{Face}
-use Rattle.mesh.proofs.Counting.{and-yes}
 use Rattle.search.specs.Geometry.{vertexAt, cellIndex, projectedBarycentric}
 use Rattle.search.specs.Cells.{triples}
 use Rattle.search.specs.Search.{squared, notNearest, nearer, nearestFrom, nearestAmong, noFit, notLocated, better, fitFrom, bestFace, Locator, vertexInside, entriesAt, entriesInside, nearestInCells, nearestIn, locateIn}
@@ -24,7 +23,7 @@ use Rattle.search.specs.declared.faces.Fit.{Fit}
 module _ (vs : List Float) (n : ℕ) (p : Vector3) where
   inside : (v : ℕ) → vertexInside vs n v ≡ true → v < n
   unfolding vertexInside
-  inside v h = ltb-true v n (and-yes (ltb v n) (leb (3 * v + 3) (length vs)) h .0)
+  inside v h = ltb-true v n (and-eq-true-iff (ltb v n) (leb (3 * v + 3) (length vs)) .0 h .0)
 
   -- ---- the nearest vertex
 
@@ -39,7 +38,7 @@ module _ (vs : List Float) (n : ℕ) (p : Vector3) where
   unfolding nearestFrom every nearer
   near-from best h [] e = h
   near-from best h (v ∷ l) e =
-      let k = and-yes (vertexInside vs n v) (every (vertexInside vs n) l) e in
+      let k = and-eq-true-iff (vertexInside vs n v) (every (vertexInside vs n) l) .0 e in
       near-from (nearer vs p best v)
       (either (eqb (best .number) 0 && ordered (best .distance) (squared p (vertexAt vs v))) best (record { number = 0; vertex = v; distance = squared p (vertexAt vs v) }) h (λ z. inside v (k .0)))
       l (k .1)
@@ -53,7 +52,7 @@ module _ (vs : List Float) (n : ℕ) (p : Vector3) where
       let x = every (vertexInside vs n) (entriesAt w offsets entries i) in
       let y = eqb (getD offsets i 0) (getD offsets (i + 1) 0) || leb (w * getD offsets (i + 1) 0) (length entries) in
       let z = leb (getD offsets i 0) (getD offsets (i + 1) 0) in
-      and-yes y x (and-yes z (y && x) (and-yes (ltb (i + 1) (length offsets)) (z && (y && x)) e .1) .1) .1
+      and-eq-true-iff y x .0 (and-eq-true-iff z (y && x) .0 (and-eq-true-iff (ltb (i + 1) (length offsets)) (z && (y && x)) .0 e .1) .1) .1
 
   pub nearest-below : (offsets entries : List ℕ) (g : ℕ) → Near (nearestInCells offsets entries vs n g p)
   unfolding nearestInCells nearestAmong
@@ -85,9 +84,9 @@ module _ (vs : List Float) (n : ℕ) (p : Vector3) where
   low-from best h (a ∷ []) e = h
   low-from best h (a ∷ b ∷ []) e = h
   low-from best h (a ∷ b ∷ c ∷ l) e =
-      let x = and-yes (vertexInside vs n a) (vertexInside vs n b && (vertexInside vs n c && every (vertexInside vs n) l)) e in
-      let y = and-yes (vertexInside vs n b) (vertexInside vs n c && every (vertexInside vs n) l) (x .1) in
-      let z = and-yes (vertexInside vs n c) (every (vertexInside vs n) l) (y .1) in
+      let x = and-eq-true-iff (vertexInside vs n a) (vertexInside vs n b && (vertexInside vs n c && every (vertexInside vs n) l)) .0 e in
+      let y = and-eq-true-iff (vertexInside vs n b) (vertexInside vs n c && every (vertexInside vs n) l) .0 (x .1) in
+      let z = and-eq-true-iff (vertexInside vs n c) (every (vertexInside vs n) l) .0 (y .1) in
       low-from (better vs p best (face a b c)) (low-better best (face a b c) h (inside a (x .0), inside b (y .0), inside c (z .0))) l (z .1)
 
   abbrev Located0 : Located → Type 0

@@ -1,8 +1,9 @@
 -- The turns of the search's loops, and its lists by their offsets.
 use mathlib.Core.Path.{_≡_, refl, sym, ap, _∙_}
-use mathlib.Core.Bool.{Bool, true, false, not, _&&_, _||_, cond, true≢false}
+use Rattle.lists.proofs.Written.{part, slice-none}
+use mathlib.Core.Bool.{Bool, true, false, _&&_, _||_, cond, true≢false, and-eq-true-iff}
 use mathlib.Core.List.{List, [], _∷_}
-use Prim.Native.Nat.{ℕ, zero, suc, _+_, _-_, _*_, _≤_, _<_}
+use Prim.Native.Nat.{ℕ, _+_, _-_, _*_, _≤_, _<_}
 use native.Mathlib.Nat.{mul-le-mul-left}
 use native.Mathlib.Numerals.{add-one}
 use native.Mathlib.Omega.{arith}
@@ -10,40 +11,17 @@ use lib.ListN.{length, getD, take, drop, drop-of-length-le}
 use lib.Seq.{slice, drop-cons}
 use lib.Dec.{leb, ltb, eqb}
 use lib.Ieee.{Float}
-use borrow.Author.Tests.{lt-ltb, le-ltb, le-leb, leb-true, not-true, not-false, eq-eqb, ne-eqb, eqb-true}
-use Rattle.ieee.proofs.Fields.{both-true}
-use Rattle.mesh.specs.Lists.{every}
+use borrow.Author.Tests.{lt-ltb, le-ltb, le-leb, leb-true, eq-eqb, ne-eqb, eqb-true}
+use Rattle.lists.specs.Lists.{every}
 use Rattle.mesh.specs.Faces.{face}
 use Rattle.search.specs.Geometry.{cellIndex}
 use Rattle.search.specs.Cells.{triples}
 use Rattle.search.specs.Search.{notNearest, nearer, nearestFrom, nearestAmong, nearestInCells, nearestIn, noFit, notLocated, better, fitFrom, bestFace, Locator, vertexInside, entriesAt, entriesInside, locateIn}
-use Rattle.search.specs.Steps.{spanOf, nearestOver, located, fitOver}
+use Rattle.search.specs.Internal.{spanOf, nearestOver, locatedFit, fitOver}
 use Rattle.search.specs.declared.Vector3.{Vector3}
 use Rattle.search.specs.declared.Nearest.{Nearest}
 use Rattle.search.specs.declared.cells.Span.{Span}
 use Rattle.search.specs.declared.faces.Fit.{Fit}
-
--- a test was made, with the answer r, and the branch on `!r` was passed by; or taken
-pub yes : {q r : Bool} → r ≡ q → not r ≡ false → q ≡ true
-yes {q} {r} e t = sym e ∙ not-false r t
-
-pub no : {q r : Bool} → r ≡ q → not r ≡ true → q ≡ false
-no {q} {r} e t = sym e ∙ not-true r t
-
--- a part of a list, as the code cuts it out and as `slice` says it
-pub part : {A : Type 0} (f t : ℕ) (l : List A) → take (t - f) (drop f l) ≡ slice f t l
-part zero t l = let e : t - 0 ≡ t = omega arith in rw e
-part (suc f) zero l = let e : 0 - suc f ≡ 0 = omega arith in rw e
-part (suc f) (suc t) [] = empty (suc t - suc f)
-  where
-    empty : {A : Type 0} (k : ℕ) → take {A = A} k [] ≡ []
-    empty zero = refl
-    empty (suc k) = refl
-part (suc f) (suc t) (x ∷ l) = let e : suc t - suc f ≡ t - f = omega arith in rw e (part f t l)
-
--- a part that ends where it starts
-slice-none : {A : Type 0} (f : ℕ) (l : List A) → slice f f l ≡ []
-slice-none f l = sym (part f f l) ∙ (let e : f - f ≡ 0 = omega arith in rw e)
 
 -- ---- the places between two offsets
 
@@ -183,8 +161,8 @@ module _ (vs : List Float) (n : ℕ) (p : Vector3) (l : List ℕ) where
       → fitOver vs n p best (drop i l) ≡ fitOver vs n p (better vs p best (face a b c)) (drop (i + 3) l)
   unfolding fitOver every triples fitFrom vertexInside
   fit-turn best i a b c h x y z t =
-      let k = both-true (inside vs n a) (inside vs n b && inside vs n c) t in
-      let m = both-true (inside vs n b) (inside vs n c) (k .1) in
+      let k = and-eq-true-iff (inside vs n a) (inside vs n b && inside vs n c) .0 t in
+      let m = and-eq-true-iff (inside vs n b) (inside vs n c) .0 (k .1) in
       rw (three l i a b c h x y z, k .0, m .0, m .1)
 
   pub fit-stop : (best : Fit) (i a b c : ℕ) → i + 3 ≤ length l → a ≡ getD l i 0 → b ≡ getD l (i + 1) 0 → c ≡ getD l (i + 2) 0
@@ -198,7 +176,7 @@ module _ (vs : List Float) (n : ℕ) (p : Vector3) (l : List ℕ) where
       stops true false r s h = refl
       stops false q r s h = refl
 
-  pub fit-end : (best : Fit) (i : ℕ) → length l ≤ i → fitOver vs n p best (drop i l) ≡ located best
+  pub fit-end : (best : Fit) (i : ℕ) → length l ≤ i → fitOver vs n p best (drop i l) ≡ locatedFit best
   unfolding fitOver every triples fitFrom
   fit-end best i h = rw (drop-of-length-le l h)
 

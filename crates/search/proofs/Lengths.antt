@@ -73,9 +73,9 @@ rooted-held (fin false (suc m) e) r f h =
     ∙ sym (positive-held (fin false (suc m) e) (lt→ltb 0 (suc m) (zero-lt-suc m)))
 
 -- ---- the law
-pub length-held : (a : Vector3) → held (norm a) ≡ held (dot a a)
+pub length-valid : (a : Vector3) → held (norm a) ≡ held (dot a a)
 unfolding norm dot
-length-held a = rooted-held (dot a a) (root (dot a a)) (add-fits binary64 (plus (times (a .x) (a .x)) (times (a .y) (a .y))) (times (a .z) (a .z))) (root-rounds (dot a a) (add-fits binary64 (plus (times (a .x) (a .x)) (times (a .y) (a .y))) (times (a .z) (a .z))))
+length-valid a = rooted-held (dot a a) (root (dot a a)) (add-fits binary64 (plus (times (a .x) (a .x)) (times (a .y) (a .y))) (times (a .z) (a .z))) (root-rounds (dot a a) (add-fits binary64 (plus (times (a .x) (a .x)) (times (a .y) (a .y))) (times (a .z) (a .z))))
 
 -- ---- the difference of a number and itself
 no-sum : (d : ℕ) → 0 < d → round binary64 false 0 d ≡ fin false 0 (pos 0)

@@ -5,7 +5,7 @@ use Prim.Native.Nat.{ℕ, _+_, _*_, _/_, _%_}
 use lib.Dec.{leb, eqb}
 use lib.IntN.{ℤ, pos, negsuc}
 use lib.Ieee.{Float, le, toSigned}
-use Rattle.mesh.specs.Lists.{below, filter}
+use Rattle.lists.specs.Lists.{below, filter}
 use Rattle.mesh.specs.Mesh.{Mesh}
 use Rattle.mesh.specs.Faces.{face, extractFaces, has}
 use Rattle.mesh.specs.declared.Face.{Face}

@@ -35,15 +35,15 @@ half = ofBits binary64 0x3FE0_0000_0000_0000
 abbrev pub one : Float
 one = ofBits binary64 0x3FF0_0000_0000_0000
 
--- "A dot product is (a1·b1 + a2·b2) + a3·b3"
+-- "A dot product is (a1·b1 + a2·b2) + a3·b3" (S2.14)
 unfoldable pub dot : Vector3 → Vector3 → Float
 dot a b = plus (plus (times (a .x) (b .x)) (times (a .y) (b .y))) (times (a .z) (b .z))
 
--- "length is its root"
+-- "length is its root" (S2.14)
 unfoldable pub norm : Vector3 → Float
 norm a = root (dot a a)
 
--- "a direction is divided by its length"
+-- "a direction is divided by its length" (S2.14)
 unfoldable pub unit : Vector3 → Vector3
 unit a = let l = norm a in record { x = over (a .x) l; y = over (a .y) l; z = over (a .z) l }
 
@@ -89,7 +89,7 @@ clamp low high x = cond (lt x low) low (cond (lt high x) high x)
 unfoldable pub cellCoordinate : ℕ → Float → ℕ
 cellCoordinate g u = toUnsigned 64 (clamp zero (minus (ofInt binary64 (pos g)) one) (inCells g u))
 
--- `cell_index`: "cell choice"
+-- `cell_index`: "cell choice" (S11.3)
 unfoldable pub cellIndex : ℕ → Vector3 → ℕ
 cellIndex g v = let p = cubeProject v in p .face * (g * g) + cellCoordinate g (p .u) * g + cellCoordinate g (p .w)
 
@@ -106,7 +106,7 @@ inFace va vb vc =
     let w = times vc denom in
     weights (minus (minus one v) w) v w
 
--- `projected_barycentric` of p over the triangle a, b, c, region by region as the Rust has it; va, vb and vc are fused
+-- `projected_barycentric` of p over the triangle a, b, c, region by region as the Rust has it; va, vb and vc are fused (S11.5)
 unfoldable pub projectedBarycentric : Vector3 → Vector3 → Vector3 → Vector3 → Weights
 unfolding inFace
 projectedBarycentric p a b c =

@@ -7,7 +7,7 @@ use lib.Seq.{slice}
 use lib.Dec.{leb, ltb, eqb}
 use lib.Ieee.{Float, inf, lt}
 use Rattle.float.specs.Order.{ordered, smaller}
-use Rattle.mesh.specs.Lists.{every}
+use Rattle.lists.specs.Lists.{every}
 use Rattle.mesh.specs.Levels.{verticesBelow, cellOffsetsBelow}
 use Rattle.mesh.specs.Mesh.{Mesh}
 use Rattle.mesh.specs.Faces.{face}
@@ -22,7 +22,7 @@ use Rattle.search.specs.declared.faces.Fit.{Fit}
 
 -- ---- the nearest vertex (`nearest_in_cell`)
 
--- the square of the distance: "`powi(2)` is one product"
+-- the square of the distance: "`powi(2)` is one product" (S2.14)
 unfoldable pub squared : Vector3 → Vector3 → Float
 squared p v = let d = difference p v in dot d d
 
@@ -45,14 +45,14 @@ nearestAmong vs p l = nearestFrom vs p (notNearest 20) l
 
 -- ---- the face (`locate`)
 
-abbrev pub noWeights : Weights
-noWeights = record { a = zero; b = zero; c = zero }
+abbrev pub zeroWeights : Weights
+zeroWeights = record { a = zero; b = zero; c = zero }
 
 abbrev pub notLocated : ℕ → Located
-notLocated number = record { number = number; face = face 0 0 0; weights = noWeights }
+notLocated number = record { number = number; face = face 0 0 0; weights = zeroWeights }
 
 abbrev pub noFit : Fit
-noFit = record { face = face 0 0 0; weights = noWeights; least = inf true }
+noFit = record { face = face 0 0 0; weights = zeroWeights; least = inf true }
 
 unfoldable pub better : List Float → Vector3 → Fit → Face → Fit
 better vs p best f =
@@ -73,6 +73,7 @@ bestFace vs p l = let b = fitFrom vs p noFit l in record { number = 0; face = b 
 unfoldable pub nearestOf : Mesh → ℕ → ℕ → Vector3 → Nearest
 nearestOf m n g p = nearestAmong (m .vertices) p (cell (m .vertices) n g (cellIndex g p))
 
+-- S11.6 to S11.8
 unfoldable pub locate : Mesh → ℕ → ℕ → Vector3 → Located
 locate m n g p =
     let v = nearestOf m n g p in
@@ -86,6 +87,10 @@ pub record Locator : Type 0 where
   pub cellVertices : List ℕ
   pub faceOffsets : List ℕ
   pub faces : List ℕ
+
+abbrev pub locatorOf : List ℕ → List ℕ → List ℕ → List ℕ → Locator
+locatorOf cellOffsets cellVertices faceOffsets faces =
+    record { cellOffsets = cellOffsets; cellVertices = cellVertices; faceOffsets = faceOffsets; faces = faces }
 
 -- the lists from level m's first entries on, to the end of what was lent
 unfoldable pub locatorFrom : ℕ → Locator → Locator
@@ -130,6 +135,7 @@ unfoldable pub nearestIn : Locator → List Float → ℕ → ℕ → Vector3 �
 unfolding nearestInCells
 nearestIn l = nearestInCells (l .cellOffsets) (l .cellVertices)
 
+-- S11.6 to S11.8
 unfoldable pub locateIn : Locator → List Float → ℕ → ℕ → Vector3 → Located
 locateIn l vs n g p =
     let v = nearestIn l vs n g p in

@@ -7,7 +7,7 @@ ghost use lib.Dec.{leb, ltb};
 ghost use Rattle.mesh.specs.Levels.{vertexCount, gridSize};
 ghost use Rattle.search.specs.Geometry.{vertexAt};
 ghost use Rattle.search.specs.Search.{notNearest, nearer, nearestInCells};
-ghost use Rattle.search.specs.Steps.{spanOf, nearestOver};
+ghost use Rattle.search.specs.Internal.{spanOf, nearestOver};
 use crate::Nearest;
 use crate::Vector3;
 use crate::geometry::cell_index;

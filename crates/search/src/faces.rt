@@ -5,8 +5,8 @@ ghost use lib.ListN.{length};
 ghost use Rattle.mesh.specs.Levels.{vertexCount, gridSize};
 ghost use Rattle.mesh.specs.Faces.{face};
 ghost use Rattle.search.specs.Geometry.{vertexAt, projectedBarycentric};
-ghost use Rattle.search.specs.Search.{noFit, notLocated, better, locateIn};
-ghost use Rattle.search.specs.Steps.{located, fitOver};
+ghost use Rattle.search.specs.Search.{noFit, notLocated, better, locateIn, locatorOf};
+ghost use Rattle.search.specs.Internal.{locatedFit, fitOver};
 use crate::Located;
 use crate::Vector3;
 use crate::Weights;
@@ -64,7 +64,7 @@ fn not_located(number: u64) -> Located
 }
 
 fn fitted(best: Fit) -> Located
-    ensures { λ r. ⌜ r ≡ located best ⌝ }
+    ensures { λ r. ⌜ r ≡ locatedFit best ⌝ }
 {
     let face = best.face;
     let weights = best.weights;
@@ -139,7 +139,7 @@ pub fn locate(
     vertices: &[f64],
     p: Vector3,
 ) -> Located
-    ensures { λ r. ⌜ r ≡ locateIn (record { cellOffsets = now («cell_offsets» .entry); cellVertices = now («cell_vertices» .entry); faceOffsets = now («face_offsets» .entry); faces = now (faces .entry) }) (now (vertices .entry)) (vertexCount level) (gridSize (vertexCount level)) p ⌝ }
+    ensures { λ r. ⌜ r ≡ locateIn (locatorOf (now («cell_offsets» .entry)) (now («cell_vertices» .entry)) (now («face_offsets» .entry)) (now (faces .entry))) (now (vertices .entry)) (vertexCount level) (gridSize (vertexCount level)) p ⌝ }
 {
     let nearest = find_nearest_vertex(level, cell_offsets, cell_vertices, vertices, p);
     let number = nearest.number;

@@ -22,7 +22,7 @@ pub fn norm(a: Vector3) -> f64
 }
 
 // A length that is finite and above 0. It is so where its square is, so no root is taken; d - d is 0 for a finite d alone.
-pub fn length_held(a: Vector3) -> bool
+pub fn length_valid(a: Vector3) -> bool
     ensures { λ r. ⌜ r ≡ (finite (norm a) && lt zero (norm a)) ⌝ }
 {
     let d = dot(a, a);

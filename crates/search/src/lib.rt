@@ -14,7 +14,7 @@ pub use geometry::cube_project;
 pub use geometry::difference;
 pub use geometry::dot;
 pub use geometry::in_cells;
-pub use geometry::length_held;
+pub use geometry::length_valid;
 pub use geometry::norm;
 pub use geometry::unit;
 pub use triangle::projected_barycentric;

@@ -1,8 +1,9 @@
 // The search and the locator call for a caller in C or Rust. A direction is given by three numbers, and divided by its length here.
 ghost use mathlib.Core.Path.{_≡_};
+ghost use Rattle.mesh.specs.Mesh.{meshOf};
 ghost use Rattle.mesh.specs.Levels.{vertexCount, gridSize};
 ghost use Rattle.search.specs.Geometry.{unit};
-ghost use Rattle.search.specs.Search.{nearestInCells, locateIn};
+ghost use Rattle.search.specs.Search.{nearestInCells, locateIn, locatorOf};
 ghost use Rattle.locator.specs.Locator.{LocatorOut, locatorOut};
 use search::Located;
 use search::Nearest;
@@ -36,7 +37,7 @@ pub extern "C" fn search_locate(
     y: f64,
     z: f64,
 ) -> Located
-    ensures { λ r. ⌜ r ≡ locateIn (record { cellOffsets = now («cell_offsets» .entry); cellVertices = now («cell_vertices» .entry); faceOffsets = now («face_offsets» .entry); faces = now (faces .entry) }) (now (vertices .entry)) (vertexCount level) (gridSize (vertexCount level)) (unit (record { x = x; y = y; z = z })) ⌝ }
+    ensures { λ r. ⌜ r ≡ locateIn (locatorOf (now («cell_offsets» .entry)) (now («cell_vertices» .entry)) (now («face_offsets» .entry)) (now (faces .entry))) (now (vertices .entry)) (vertexCount level) (gridSize (vertexCount level)) (unit (record { x = x; y = y; z = z })) ⌝ }
 {
     let p = search::unit(Vector3 { x, y, z });
     search::locate(
@@ -63,9 +64,9 @@ pub extern "C" fn search_locator(
     faces: &mut [u16],
 ) -> u64
     ensures { λ r. ⌜ _≡_ {A = LocatorOut}
-        (record { number = r; lists = record { cellOffsets = now («cell_offsets» .exit); cellVertices = now («cell_vertices» .exit); faceOffsets = now («face_offsets» .exit); faces = now (faces .exit) } })
-        (locatorOut level (record { vertices = now (vertices .entry); counts = now (counts .entry); neighbours = now (neighbours .entry); angles = now (angles .entry) })
-        (record { cellOffsets = now («cell_offsets» .entry); cellVertices = now («cell_vertices» .entry); faceOffsets = now («face_offsets» .entry); faces = now (faces .entry) })) ⌝ }
+        (record { number = r; lists = locatorOf (now («cell_offsets» .exit)) (now («cell_vertices» .exit)) (now («face_offsets» .exit)) (now (faces .exit)) })
+        (locatorOut level (meshOf (now (vertices .entry)) (now (counts .entry)) (now (neighbours .entry)) (now (angles .entry)))
+        (locatorOf (now («cell_offsets» .entry)) (now («cell_vertices» .entry)) (now («face_offsets» .entry)) (now (faces .entry)))) ⌝ }
 {
     locator::locator(
         level,

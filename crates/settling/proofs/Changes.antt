@@ -1,6 +1,6 @@
 -- What a verdict makes of a row. Assumes nothing.
 use mathlib.Core.Path.{_≡_, refl, sym}
-use mathlib.Core.Bool.{true, false}
+use mathlib.Core.Bool.{true, false, true≢false}
 use mathlib.Core.List.{List}
 use Prim.Native.Nat.{ℕ}
 use lib.Ieee.{Float}
@@ -8,24 +8,23 @@ use Rattle.rows.specs.declared.SlabResolution.{SlabResolution}
 use Rattle.rows.specs.declared.SlabResolution.the-variants.{Scalar, Mesh, Repulsive}
 use Rattle.rows.specs.Rows.{Rows, replaced, rowWith}
 use Rattle.settling.specs.Settling.{newRow, inPlaceOf, notRepulsive, replacedBy}
-use Rattle.settling.specs.Steps.{stays, becomes, leftRow, isClear}
+use Rattle.settling.specs.Internal.{stays, becomes, leftRow, isClear}
 use Rattle.settling.specs.declared.Verdict.{Verdict}
 use Rattle.settling.specs.declared.Verdict.the-variants.{Empty, Blocked, Isotropic, Smooth, Rough}
-use Rattle.grid.proofs.Reaches.{clash}
 
 pub row-stays : (r : Rows) (s c : ℕ) (v : Verdict) → stays v ≡ true → r ≡ replacedBy r s (newRow c v)
 row-stays r s c Empty e = refl
-row-stays r s c Blocked e = clash (sym e)
-row-stays r s c (Isotropic x) e = clash (sym e)
-row-stays r s c (Smooth x) e = clash (sym e)
+row-stays r s c Blocked e = absurd (true≢false (sym e))
+row-stays r s c (Isotropic x) e = absurd (true≢false (sym e))
+row-stays r s c (Smooth x) e = absurd (true≢false (sym e))
 row-stays r s c (Rough x) e = refl
 
 pub row-becomes : (r : Rows) (s c : ℕ) (v : Verdict) → stays v ≡ false → replaced r s (becomes c v) ≡ replacedBy r s (newRow c v)
-row-becomes r s c Empty e = clash e
+row-becomes r s c Empty e = absurd (true≢false e)
 row-becomes r s c Blocked e = refl
 row-becomes r s c (Isotropic x) e = refl
 row-becomes r s c (Smooth x) e = refl
-row-becomes r s c (Rough x) e = clash e
+row-becomes r s c (Rough x) e = absurd (true≢false e)
 
 same-clear : (x : SlabResolution) (e : List Float) → isClear x ≡ notRepulsive (rowWith x e)
 same-clear (Scalar y) e = refl

@@ -1,6 +1,6 @@
 -- The largest of numbers that are not below +0 does not depend on their order. Assumes nothing.
 use mathlib.Core.Path.{_≡_, refl, sym, ap, _∙_}
-use mathlib.Core.Bool.{Bool, true, false, cond}
+use mathlib.Core.Bool.{Bool, true, false, cond, true≢false}
 use Prim.Native.Nat.{_*_, _^_, _-_}
 use native.Mathlib.Omega.{arith}
 use lib.Dec.{T}
@@ -10,8 +10,7 @@ use borrow.Author.Tests.{ltb-false}
 use Rattle.float.specs.Order.{farther, larger}
 use Rattle.float.proofs.Fields.{units-of}
 use Rattle.float.proofs.Values.{other-scale, same-value}
-use Rattle.grid.proofs.Reaches.{clash}
-use Rattle.grid.proofs.Order.{clear, lt-trans, lt-asym}
+use Rattle.float.proofs.Order.{clear, lt-trans, lt-asym}
 
 -- a value of the format that is not below +0, or the NaN
 pub record Slope (v : Float) : Type 0 where
@@ -22,18 +21,18 @@ pub record Slope (v : Float) : Type 0 where
 
 neither : (v w : Float) → Slope v → Slope w → isNan v ≡ false → isNan w ≡ false → lt v w ≡ false → lt w v ≡ false → v ≡ w
 unfolding lt isNan
-neither nan w hv hw a b p q = clash a
-neither (inf s) nan hv hw a b p q = clash b
+neither nan w hv hw a b p q = absurd (true≢false a)
+neither (inf s) nan hv hw a b p q = absurd (true≢false b)
 neither (inf true) (inf t) hv hw a b p q = absurd (hv .clear)
 neither (inf false) (inf true) hv hw a b p q = absurd (hw .clear)
 neither (inf false) (inf false) hv hw a b p q = refl
 neither (inf s) (fin true n d) hv hw a b p q = absurd (hw .clear)
 neither (inf true) (fin false n d) hv hw a b p q = absurd (hv .clear)
-neither (inf false) (fin false n d) hv hw a b p q = clash q
-neither (fin s m e) nan hv hw a b p q = clash b
+neither (inf false) (fin false n d) hv hw a b p q = absurd (true≢false q)
+neither (fin s m e) nan hv hw a b p q = absurd (true≢false b)
 neither (fin true m e) (inf t) hv hw a b p q = absurd (hv .clear)
 neither (fin false m e) (inf true) hv hw a b p q = absurd (hw .clear)
-neither (fin false m e) (inf false) hv hw a b p q = clash p
+neither (fin false m e) (inf false) hv hw a b p q = absurd (true≢false p)
 neither (fin true m e) (fin t n d) hv hw a b p q = absurd (hv .clear)
 neither (fin false m e) (fin true n d) hv hw a b p q = absurd (hw .clear)
 neither (fin false m e) (fin false n d) hv hw a b p q =
@@ -57,14 +56,14 @@ below-nan (fin s m e) = refl
 
 pick-pick : (v w : Float) (r t : Bool) → lt v w ≡ r → lt w v ≡ t → Slope v → Slope w → isNan v ≡ false → isNan w ≡ false → pick v w ≡ pick w v
 unfolding pick
-pick-pick v w true true p q hv hw a b = clash (sym q ∙ lt-asym v w p)
+pick-pick v w true true p q hv hw a b = absurd (true≢false (sym q ∙ lt-asym v w p))
 pick-pick v w true false p q hv hw a b = rw (p, q)
 pick-pick v w false true p q hv hw a b = rw (p, q)
 pick-pick v w false false p q hv hw a b = rw (p, q) (neither v w hv hw a b p q)
 
 not-between : (s v w : Float) (r : Bool) → lt v w ≡ r → lt s v ≡ true → lt s w ≡ false → lt v w ≡ false
 not-between s v w false e p q = e
-not-between s v w true e p q = clash (sym (lt-trans s v w p e) ∙ q)
+not-between s v w true e p q = absurd (true≢false (sym (lt-trans s v w p e) ∙ q))
 
 pick-swap : (s v w : Float) (p q : Bool) → lt s v ≡ p → lt s w ≡ q → Slope v → Slope w → isNan v ≡ false → isNan w ≡ false → pick (pick s v) w ≡ pick (pick s w) v
 unfolding pick
@@ -94,8 +93,8 @@ of-nan s v e = rw e
 nan-is : (v : Float) → isNan v ≡ true → v ≡ nan
 unfolding isNan
 nan-is nan e = refl
-nan-is (inf s) e = clash (sym e)
-nan-is (fin s m d) e = clash (sym e)
+nan-is (inf s) e = absurd (true≢false (sym e))
+nan-is (fin s m d) e = absurd (true≢false (sym e))
 
 -- beside a NaN the other operand stays
 past-nan : (s v : Float) (t : Bool) → isNan s ≡ t → isNan v ≡ true → larger s v ≡ cond t v s

@@ -9,10 +9,10 @@ use lib.ListN.{length, getD, set, take, drop, length-append, List·getD-append}
 use lib.Seq.{take-at, getD-at}
 use lib.Ieee.{Float, nan}
 use Rattle.ieee.proofs.Pack.{le-or-lt}
-use Rattle.mesh.specs.Lists.{put}
-use Rattle.mesh.proofs.Written.{put-push}
+use Rattle.lists.specs.Lists.{put}
+use Rattle.lists.proofs.Written.{put-push}
 use Rattle.settling.specs.Gradient.{weight}
-use Rattle.settling.specs.Steps.{lineWeights}
+use Rattle.settling.specs.Internal.{lineWeights}
 
 module _ (beta : Float) (e : List Float) (from step : ℕ) where
   pub length-line : (n : ℕ) → length (lineWeights beta e from step n) ≡ n

@@ -7,10 +7,10 @@ use native.Mathlib.Nat.{one-mul}
 use lib.ListN.{getD}
 use lib.Ieee.{Float, nan, binary64, ofBits, sub, div, lt, isNan}
 use Rattle.float.specs.Order.{magnitude, larger}
-use Rattle.mesh.proofs.Loops.{each-turn}
+use Rattle.lists.proofs.Loops.{each-turn}
 use Rattle.mesh.specs.Mesh.{Mesh, degree, neighbour, angleTo}
 use Rattle.settling.specs.Gradient.{zero, steeper, alongNeighbours}
-use Rattle.settling.specs.Steps.{lineWeights, lineGradient, columnGradient, fourColumns, firstColumns, linesGradient}
+use Rattle.settling.specs.Internal.{lineWeights, lineGradient, columnGradient, fourColumns, firstColumns, linesGradient}
 use Rattle.settling.proofs.Largest.{larger-number}
 use Rattle.settling.proofs.Orders.{each-same, each-keeps, each-four}
 

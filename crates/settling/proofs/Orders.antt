@@ -2,8 +2,8 @@
 use mathlib.Core.Path.{_≡_, refl, sym, ap, _∙_}
 use Prim.Native.Nat.{ℕ, zero, suc, _+_, _<_}
 use native.Mathlib.Omega.{arith}
-use Rattle.mesh.specs.Lists.{forEach}
-use Rattle.mesh.proofs.Loops.{each-turn}
+use Rattle.lists.specs.Lists.{forEach}
+use Rattle.lists.proofs.Loops.{each-turn}
 
 module _ {S : Type 0} where
   abbrev pub Commute : (S → S) → (S → S) → Type 0

@@ -1,6 +1,7 @@
 -- The gradient along columns and rows is that of `compute_gradient`. Assumes nothing.
 use mathlib.Core.Path.{_≡_, refl, sym, ap, _∙_}
-use mathlib.Core.Bool.{Bool, true, false, cond}
+use Rattle.lists.proofs.Counting.{chosen}
+use mathlib.Core.Bool.{Bool, true, false, cond, true≢false}
 use mathlib.Core.Logic.{_⊎_, inl, inr}
 use mathlib.Core.List.{List, [], _∷_, map}
 use Prim.Native.Nat.{ℕ, zero as none, suc, _+_, _*_, _≤_, _<_}
@@ -14,21 +15,16 @@ use borrow.Author.Tests.{lt-ltb, le-ltb}
 use Rattle.ieee.proofs.Pack.{le-or-lt}
 use Rattle.float.specs.Order.{magnitude}
 use Rattle.float.specs.Exp.{exponential}
-use Rattle.mesh.specs.Lists.{forEach}
-use Rattle.mesh.specs.Mesh.{Mesh, degree, neighbour, angleTo}
-use Rattle.grid.proofs.Reaches.{clash}
-use Rattle.grid.proofs.Order.{clear, round-clear}
+use Rattle.lists.specs.Lists.{forEach}
+use Rattle.mesh.specs.Mesh.{Mesh, degree, neighbour, angleTo, meshOf}
+use Rattle.float.proofs.Order.{clear, round-clear}
 use Rattle.settling.specs.Gradient.{zero, weight, steeper, alongNeighbours, pairWeight, gradientOf, gradient}
-use Rattle.settling.specs.Steps.{lineWeights, lineGradient, linesGradient}
+use Rattle.settling.specs.Internal.{lineWeights, lineGradient, linesGradient}
 use Rattle.settling.proofs.Largest.{Slope, larger-swap}
 use Rattle.settling.proofs.Orders.{Commute, loops-commute, each-split, each-swap, each-same}
 use Rattle.settling.proofs.Lines.{length-line, line-at}
 
 -- ---- what a step of the gradient is is a slope
-
-clear-by : (b : Bool) (x y : Float) → T (clear x) → T (clear y) → T (clear (cond b x y))
-clear-by true x y h k = h
-clear-by false x y h k = k
 
 -- the least angle that is not passed over
 abbrev least : Float
@@ -39,15 +35,16 @@ unfolding lt ofBits div magnitude
 quotient-clear nan angle h = tt
 quotient-clear (inf s) nan h = tt
 quotient-clear (inf s) (inf t) h = tt
-quotient-clear (inf s) (fin true n d) h = clash (sym h)
+quotient-clear (inf s) (fin true n d) h = absurd (true≢false (sym h))
 quotient-clear (inf s) (fin false n d) h = tt
 quotient-clear (fin s m e) nan h = tt
-quotient-clear (fin s m e) (inf true) h = clash (sym h)
+quotient-clear (fin s m e) (inf true) h = absurd (true≢false (sym h))
 quotient-clear (fin s m e) (inf false) h = tt
-quotient-clear (fin s m e) (fin true n d) h = clash (sym h)
+quotient-clear (fin s m e) (fin true n d) h = absurd (true≢false (sym h))
 quotient-clear (fin s m e) (fin false n d) h =
-    clear-by (eqb n 0) (cond (eqb m 0) nan (inf false)) (round binary64 false (m * up e * down d) (n * up d * down e))
-    (clear-by (eqb m 0) nan (inf false) tt tt)
+    let P : Float → Type 0 = λ x. T (clear x) in
+    chosen P (eqb n 0) (cond (eqb m 0) nan (inf false)) (round binary64 false (m * up e * down d) (n * up d * down e))
+    (λ _. chosen P (eqb m 0) nan (inf false) (λ _. tt) tt)
     (round-clear binary64 (m * up e * down d) (n * up d * down e))
 
 slope : (z angle : Float) → lt least angle ≡ true → Slope (div binary64 (magnitude z) angle)
@@ -161,6 +158,6 @@ module _ (m : Mesh) (n : ℕ) (beta : Float) (e : List Float) where
 
 -- a gradient looks at the links alone
 pub gradient-links : (m : Mesh) (n : ℕ) (beta : Float) (e : List Float)
-    → gradient (record { vertices = []; counts = m .counts; neighbours = m .neighbours; angles = m .angles }) n beta e ≡ gradient m n beta e
+    → gradient (meshOf [] (m .counts) (m .neighbours) (m .angles)) n beta e ≡ gradient m n beta e
 unfolding gradient gradientOf alongNeighbours
 gradient-links m n beta e = refl

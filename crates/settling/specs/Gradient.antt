@@ -9,7 +9,7 @@ use lib.Ieee.{Float, nan, binary64, ofBits, ofInt, neg, add, sub, mul, div, lt}
 use Rattle.ieee.specs.Narrow.{narrowed}
 use Rattle.float.specs.Order.{magnitude, larger}
 use Rattle.float.specs.Exp.{exponential}
-use Rattle.mesh.specs.Lists.{forEach, every}
+use Rattle.lists.specs.Lists.{forEach, every}
 use Rattle.mesh.specs.Mesh.{Mesh, degree, neighbour, angleTo}
 
 abbrev pub zero : Float
@@ -19,17 +19,17 @@ zero = ofBits binary64 0
 unfoldable pub weight : Float → Float → Float
 weight beta e = exponential (mul binary64 (neg beta) e)
 
--- "E(-beta·e) - 1 below 1e-4 - 1"
+-- "E(-beta·e) - 1 below 1e-4 - 1" (S2.13)
 unfoldable pub repulsive : Float → Float → Bool
 repulsive beta x =
     let one = ofBits binary64 0x3FF0_0000_0000_0000 in
     lt (sub binary64 (weight beta x) one) (sub binary64 (ofBits binary64 0x3F1A_36E2_EB1C_432D) one)
 
--- "All energies e with" this
+-- "All energies e with" this (S7.3)
 unfoldable pub allRepulsive : Float → List Float → Bool
 allRepulsive beta e = every (repulsive beta) e
 
--- the larger of g and |x - y| over the angle; "a pair at angle 1e-12 or less is passed over"
+-- the larger of g and |x - y| over the angle; "a pair at angle 1e-12 or less is passed over" (S7.4)
 unfoldable pub steeper : Float → Float → Float → Float → Float
 steeper x y angle g =
     cond (lt (ofBits binary64 0x3D71_9799_812D_EA11) angle) (larger g (div binary64 (magnitude (sub binary64 x y)) angle)) g
@@ -51,11 +51,11 @@ gradientOf m n ws =
 unfoldable pub gradient : Mesh → ℕ → Float → List Float → Float
 gradient m n beta e = gradientOf m n (map (weight beta) e)
 
--- "Sums run in index order; the mean's .. starts at -0.0"
+-- "Sums run in index order; the mean's .. starts at -0.0" (S2.15)
 unfoldable pub sumFrom : Float → List Float → Float
 sumFrom x [] = x
 sumFrom x (y ∷ ys) = sumFrom (add binary64 x y) ys
 
--- "the mean narrowed to f32"
+-- "the mean narrowed to f32" (S2.15)
 unfoldable pub meanNarrowed : List Float → Float
 meanNarrowed e = narrowed (div binary64 (sumFrom (ofBits binary64 0x8000_0000_0000_0000) e) (ofInt binary64 (pos (length e))))

@@ -6,7 +6,7 @@ use Prim.Native.Nat.{ℕ, _-_}
 use lib.Dec.{ltb, eqb}
 use lib.Ieee.{Float, binary64, ofBits, div, lt}
 use Rattle.float.specs.Order.{larger}
-use Rattle.mesh.specs.Lists.{every}
+use Rattle.lists.specs.Lists.{every}
 use Rattle.mesh.specs.Levels.{vertexCount}
 use Rattle.mesh.specs.Mesh.{Mesh, levelPart}
 use Rattle.grid.specs.declared.Grid.{Grid}
@@ -22,11 +22,11 @@ unfoldable pub byGradient : Float → List Float → Float → Verdict
 byGradient threshold e x =
     cond (lt x (div binary64 threshold (ofBits binary64 0x4024_0000_0000_0000))) (isotropic (meanNarrowed e)) (cond (lt x threshold) (smooth x) (rough x))
 
--- of n·n energies at the level of a mesh of n vertices
+-- of n·n energies at the level of a mesh of n vertices (S7.3)
 unfoldable pub verdict : Float → Float → Mesh → ℕ → List Float → Verdict
 verdict threshold beta m n e = cond (allRepulsive beta e) blocked (byGradient threshold e (gradient m n beta e))
 
--- "A slab holds energies exactly while its row is Mesh."
+-- "A slab holds energies exactly while its row is Mesh." (S4.10)
 abbrev pub verdictOf : Float → Float → Mesh → ℕ → Row Float → Verdict
 verdictOf threshold beta m n (scalar x) = empty
 verdictOf threshold beta m n repulsive = empty
@@ -49,14 +49,14 @@ abbrev pub replacedBy : Rows → ℕ → Option SlabResolution → Rows
 replacedBy r s none = r
 replacedBy r s (some x) = replaced r s x
 
-abbrev pub energiesOf : Row Float → List Float
-energiesOf (scalar x) = []
-energiesOf repulsive = []
-energiesOf (mesh v b e) = e
+abbrev pub rowEnergies : Row Float → List Float
+rowEnergies (scalar x) = []
+rowEnergies repulsive = []
+rowEnergies (mesh v b e) = e
 
 abbrev pub inPlaceOf : Row Float → Option SlabResolution → Row Float
 inPlaceOf r none = r
-inPlaceOf r (some x) = rowWith x (energiesOf r)
+inPlaceOf r (some x) = rowWith x (rowEnergies r)
 
 unfoldable pub settledRows : ℕ → List (Row Float) → List Verdict → List (Row Float)
 settledRows c [] vs = []
@@ -93,7 +93,7 @@ notRepulsive repulsive = false
 notRepulsive (mesh v b e) = true
 
 -- "The level drops by one exactly when some slab of the slice had energies and was not made Repulsive in this call, no row of the slice is Repulsive,
--- the largest gradient .. is below the threshold and the level is above 0."
+-- the largest gradient .. is below the threshold and the level is above 0." (S7.8)
 unfoldable pub drops : Float → ℕ → List Verdict → List (Row Float) → Bool
 drops threshold c vs rows = someSettle vs && (every notRepulsive rows && (lt (largestFrom zero vs) threshold && ltb 0 c))
 

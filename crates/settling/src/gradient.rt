@@ -5,9 +5,10 @@ ghost use Prim.Native.Nat.{_+_, _*_, _/_, _≤_};
 ghost use lib.ListN.{length, getD};
 ghost use mathlib.Core.Bool.{false};
 ghost use lib.Ieee.{nan, isNan};
-ghost use Rattle.mesh.specs.Lists.{put};
+ghost use Rattle.mesh.specs.Mesh.{meshOf};
+ghost use Rattle.lists.specs.Lists.{put};
 ghost use Rattle.settling.specs.Gradient.{weight, steeper, alongNeighbours};
-ghost use Rattle.settling.specs.Steps.{lineWeights, lineGradient, fourColumns, firstColumns, linesGradient, byLines};
+ghost use Rattle.settling.specs.Internal.{lineWeights, lineGradient, fourColumns, firstColumns, linesGradient, byLines};
 
 // The Boltzmann weight of an energy.
 pub(crate) fn weight(beta: f64, e: f64) -> f64
@@ -88,7 +89,7 @@ fn along_neighbours(
     g: f64,
 ) -> f64
     requires { ⌜ isNan g ≡ false ⌝ }
-    ensures { λ r. ⌜ r ≡ alongNeighbours (record { vertices = []; counts = now (counts .entry); neighbours = now (neighbours .entry); angles = now (angles .entry) }) v
+    ensures { λ r. ⌜ r ≡ alongNeighbours (meshOf [] (now (counts .entry)) (now (neighbours .entry)) (now (angles .entry))) v
         (λ k. getD (now (weights .entry)) k nan) (getD (now (weights .entry)) v nan) g ⌝ }
 {
     let d = mesh::degree(counts, v);
@@ -113,7 +114,7 @@ fn line_gradient(
     g: f64,
 ) -> f64
     requires { ⌜ isNan g ≡ false ⌝ }
-    ensures { λ r. ⌜ r ≡ lineGradient (record { vertices = []; counts = now (counts .entry); neighbours = now (neighbours .entry); angles = now (angles .entry) }) n (now (weights .entry)) g ⌝ }
+    ensures { λ r. ⌜ r ≡ lineGradient (meshOf [] (now (counts .entry)) (now (neighbours .entry)) (now (angles .entry))) n (now (weights .entry)) g ⌝ }
 {
     let mut h = g;
     let mut v: u32 = 0;
@@ -137,7 +138,7 @@ fn line(
     g: f64,
 ) -> f64
     requires { ⌜ (n ≤ 2562) × (step ≤ 2562) × (from ≤ 6563844) × (isNan g ≡ false) ⌝ }
-    ensures { λ r. ⌜ r ≡ lineGradient (record { vertices = []; counts = now (counts .entry); neighbours = now (neighbours .entry); angles = now (angles .entry) }) n
+    ensures { λ r. ⌜ r ≡ lineGradient (meshOf [] (now (counts .entry)) (now (neighbours .entry)) (now (angles .entry))) n
         (lineWeights beta (now (energies .entry)) from step n) g ⌝ }
 {
     let mut weights = [0.0; 2562];
@@ -158,7 +159,7 @@ fn four_columns(
     g: f64,
 ) -> f64
     requires { ⌜ (n ≤ 2562) × (from ≤ 2562) × (isNan g ≡ false) ⌝ }
-    ensures { λ r. ⌜ r ≡ fourColumns (record { vertices = []; counts = now (counts .entry); neighbours = now (neighbours .entry); angles = now (angles .entry) }) n beta (now (energies .entry)) from g ⌝ }
+    ensures { λ r. ⌜ r ≡ fourColumns (meshOf [] (now (counts .entry)) (now (neighbours .entry)) (now (angles .entry))) n beta (now (energies .entry)) from g ⌝ }
 {
     let mut first = [0.0; 2562];
     let mut second = [0.0; 2562];
@@ -192,7 +193,7 @@ fn fours(
     n: u32,
 ) -> f64
     requires { ⌜ n ≤ 2562 ⌝ }
-    ensures { λ r. ⌜ r ≡ firstColumns (record { vertices = []; counts = now (counts .entry); neighbours = now (neighbours .entry); angles = now (angles .entry) }) n beta (now (energies .entry)) (n / 4 * 4) ⌝ }
+    ensures { λ r. ⌜ r ≡ firstColumns (meshOf [] (now (counts .entry)) (now (neighbours .entry)) (now (angles .entry))) n beta (now (energies .entry)) (n / 4 * 4) ⌝ }
 {
     let mut h = 0.0;
     let mut i: u32 = 0;
@@ -222,7 +223,7 @@ fn columns(
     n: u32,
 ) -> f64
     requires { ⌜ n ≤ 2562 ⌝ }
-    ensures { λ r. ⌜ r ≡ firstColumns (record { vertices = []; counts = now (counts .entry); neighbours = now (neighbours .entry); angles = now (angles .entry) }) n beta (now (energies .entry)) n ⌝ }
+    ensures { λ r. ⌜ r ≡ firstColumns (meshOf [] (now (counts .entry)) (now (neighbours .entry)) (now (angles .entry))) n beta (now (energies .entry)) n ⌝ }
 {
     let m = n as usize;
     let mut h = fours(counts, neighbours, angles, energies, beta, n);
@@ -257,7 +258,7 @@ fn lines(
     g: f64,
 ) -> f64
     requires { ⌜ (n ≤ 2562) × (step ≤ 2562) × (apart ≤ 2562) × (isNan g ≡ false) ⌝ }
-    ensures { λ r. ⌜ r ≡ linesGradient (record { vertices = []; counts = now (counts .entry); neighbours = now (neighbours .entry); angles = now (angles .entry) }) n beta (now (energies .entry)) apart step g ⌝ }
+    ensures { λ r. ⌜ r ≡ linesGradient (meshOf [] (now (counts .entry)) (now (neighbours .entry)) (now (angles .entry))) n beta (now (energies .entry)) apart step g ⌝ }
 {
     let mut h = g;
     let mut t: u32 = 0;
@@ -288,7 +289,7 @@ pub(crate) fn gradient(
     n: u32,
 ) -> f64
     requires { ⌜ n ≤ 2562 ⌝ }
-    ensures { λ r. ⌜ r ≡ byLines (record { vertices = []; counts = now (counts .entry); neighbours = now (neighbours .entry); angles = now (angles .entry) }) n beta (now (energies .entry)) ⌝ }
+    ensures { λ r. ⌜ r ≡ byLines (meshOf [] (now (counts .entry)) (now (neighbours .entry)) (now (angles .entry))) n beta (now (energies .entry)) ⌝ }
 {
     let m = n as usize;
     let h = columns(counts, neighbours, angles, energies, beta, n);

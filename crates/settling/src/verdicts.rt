@@ -4,12 +4,13 @@ ghost use mathlib.Core.Bool.{cond, _&&_, _||_};
 ghost use mathlib.Core.List.{[]};
 ghost use lib.Dec.{leb};
 ghost use lib.Ieee.{binary64, ofBits};
+ghost use Rattle.mesh.specs.Mesh.{meshOf};
 ghost use Rattle.mesh.specs.Levels.{vertexCount};
-ghost use Rattle.rows.specs.Rows.{Rows, rowWith};
+ghost use Rattle.rows.specs.Rows.{Rows, rowWith, rowsOf};
 ghost use Rattle.settling.specs.Gradient.{repulsive, allRepulsive, sumFrom, meanNarrowed};
 ghost use Rattle.settling.specs.Settling.{byGradient, verdict, verdictOf, newRow, replacedBy, steeperOf, settles};
 ghost use Rattle.settling.specs.declared.Verdict.the-variants.{Empty};
-ghost use Rattle.settling.specs.Steps.{stays, becomes, leftRow, isClear};
+ghost use Rattle.settling.specs.Internal.{stays, becomes, leftRow, isClear};
 use crate::Tally;
 use crate::Verdict;
 use crate::gradient;
@@ -99,7 +100,7 @@ fn verdict(
     energies: &[f64],
     level: u8,
 ) -> Verdict
-    ensures { λ r. ⌜ r ≡ cond (leb level 15) (verdict threshold beta (record { vertices = []; counts = now (counts .entry); neighbours = now (neighbours .entry); angles = now (angles .entry) }) (vertexCount level) (now (energies .entry))) Empty ⌝ }
+    ensures { λ r. ⌜ r ≡ cond (leb level 15) (verdict threshold beta (meshOf [] (now (counts .entry)) (now (neighbours .entry)) (now (angles .entry))) (vertexCount level) (now (energies .entry))) Empty ⌝ }
 {
     if 15 < level {
         return Verdict::Empty;
@@ -123,7 +124,7 @@ pub fn verdict_of(
     level: u8,
     row: SlabResolution,
 ) -> Verdict
-    ensures { λ r. ⌜ r ≡ cond (leb level 15) (verdictOf threshold beta (record { vertices = []; counts = now (counts .entry); neighbours = now (neighbours .entry); angles = now (angles .entry) }) (vertexCount level) (rowWith row (now (energies .entry)))) Empty ⌝ }
+    ensures { λ r. ⌜ r ≡ cond (leb level 15) (verdictOf threshold beta (meshOf [] (now (counts .entry)) (now (neighbours .entry)) (now (angles .entry))) (vertexCount level) (rowWith row (now (energies .entry)))) Empty ⌝ }
 {
     match row {
         SlabResolution::Scalar(_) => Verdict::Empty,
@@ -209,8 +210,8 @@ pub fn replace_by(
     v: Verdict,
 )
     ensures { λ _. ⌜ _≡_ {A = Rows}
-        (record { kinds = now (kinds .exit); levels = now (levels .exit); values = now (values .exit) })
-        (replacedBy (record { kinds = now (kinds .entry); levels = now (levels .entry); values = now (values .entry) }) s (newRow level v)) ⌝ }
+        (rowsOf (now (kinds .exit)) (now (levels .exit)) (now (values .exit)))
+        (replacedBy (rowsOf (now (kinds .entry)) (now (levels .entry)) (now (values .entry))) s (newRow level v)) ⌝ }
 {
     if stays(v) {
         return;

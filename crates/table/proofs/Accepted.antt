@@ -1,37 +1,36 @@
 -- What the questions of read, answered yes, say of the file; and read's outcome by the answers. Assumes nothing.
 use mathlib.Core.Path.{_≡_, sym}
-use mathlib.Core.Bool.{true, false}
+use mathlib.Core.Bool.{true, false, and-eq-true-iff}
 use mathlib.Core.List.{List}
 use Prim.Native.Nat.{ℕ, _-_}
 use native.Mathlib.Omega.{arith}
 use lib.ListN.{length}
 use lib.Dec.{eqb}
 use borrow.Author.Tests.{eqb-true, eq-eqb, ne-eqb}
-use Rattle.ieee.proofs.Fields.{both-true}
-use Rattle.mesh.specs.Questions.{ask}
-use Rattle.grid.specs.Settings.{gridRange, gridHeld, slabsHeld}
+use Rattle.lists.specs.Questions.{ask}
+use Rattle.grid.specs.Settings.{gridRange, gridValid, slabsFit}
 use Rattle.grid.specs.declared.Grid.{Grid}
 use Rattle.grid.proofs.Laws.{Ranged, ranged}
 use Rattle.table.specs.Read.{countAt, layout, laidOut, tableOf, readValues, readRefusal, readOut}
-use Rattle.table.specs.Steps.{Placed, Inside, tableQuestion}
+use Rattle.table.specs.Internal.{SectionsInside, Inside, tableQuestion}
 use Rattle.table.specs.declared.Layout.{Layout}
 use Rattle.table.specs.declared.ReadAnswer.the-variants.{Accepted as Reads, Refused as NotRead}
 
-by-layout : (file : List ℕ) → laidOut file (layout file) ≡ true → Placed file (layout file)
+by-layout : (file : List ℕ) → laidOut file (layout file) ≡ true → SectionsInside file (layout file)
 unfolding laidOut layout
 by-layout file h =
     let p = layout file in
-    let a = both-true (eqb (countAt file 0) 3) _ h in
-    let b = both-true (eqb (countAt file (p .bins)) 2) _ (a .1) in
+    let a = and-eq-true-iff (eqb (countAt file 0) 3) _ .0 h in
+    let b = and-eq-true-iff (eqb (countAt file (p .bins)) 2) _ .0 (a .1) in
     let three = eqb-true (countAt file 0) 3 (a .0) in
     let two = eqb-true (countAt file (p .bins)) 2 (b .0) in
     let last = eqb-true (p .end) (length file) (b .1) in
     record { bins = omega (arith, three); levels = omega (arith, three, two); rows = omega arith; energies = omega arith; end = sym last }
 
-pub laid : (file : List ℕ) (p : Layout) → p ≡ layout file → laidOut file p ≡ true → Placed file p
+pub laid : (file : List ℕ) (p : Layout) → p ≡ layout file → laidOut file p ≡ true → SectionsInside file p
 laid file p e h = rw e (by-layout file (rw e at h))
 
-pub inside : (file : List ℕ) (p : Layout) → Placed file p → Inside file (tableOf file p)
+pub inside : (file : List ℕ) (p : Layout) → SectionsInside file p → Inside file (tableOf file p)
 unfolding tableOf
 inside file p h = record {
   levels = omega (arith, h .rows, h .energies, h .end);
@@ -39,9 +38,9 @@ inside file p h = record {
   energies = omega (arith, h .end);
 }
 
-pub held-ranged : (g : Grid) (levels : ℕ) → gridHeld g levels ≡ true → Ranged g levels
-unfolding gridHeld
-held-ranged g levels h = ranged g levels (both-true (gridRange g levels) (slabsHeld (g .«n_r») (g .«n_omega») (levels - 1)) h .0)
+pub held-ranged : (g : Grid) (levels : ℕ) → gridValid g levels ≡ true → Ranged g levels
+unfolding gridValid
+held-ranged g levels h = ranged g levels (and-eq-true-iff (gridRange g levels) (slabsFit (g .«n_r») (g .«n_omega») (levels - 1)) .0 h .0)
 
 -- ---- the outcome
 

@@ -9,16 +9,16 @@ use lib.ListN.{length, getD}
 use lib.Dec.{eqb}
 use lib.Ieee.{binary32, binary64, ofBits, nanBits}
 use borrow.Author.Tests.{eq-eqb}
-use Rattle.mesh.specs.Questions.{ask}
-use Rattle.mesh.specs.Lists.{allUpTo, every}
+use Rattle.lists.specs.Questions.{ask}
+use Rattle.lists.specs.Lists.{allUpTo, every}
 use Rattle.mesh.specs.Levels.{vertexCount}
 use Rattle.grid.specs.Bins.{tableRmax}
-use Rattle.grid.specs.Settings.{gridHeld}
+use Rattle.grid.specs.Settings.{gridValid}
 use Rattle.grid.specs.declared.Grid.{Grid}
 use Rattle.table.specs.Bytes.{numberOf, numberAt}
 use Rattle.table.specs.File.{Entry}
-use Rattle.table.specs.Read.{layout, tableOf, tableHeld, entryHeld, tiled, readValues, readOut}
-use Rattle.table.specs.Steps.{tableQuestion}
+use Rattle.table.specs.Read.{layout, tableOf, tableValid, entryValid, tiled, readValues, readOut}
+use Rattle.table.specs.Internal.{tableQuestion}
 use Rattle.table.specs.declared.Table.{Table}
 use Rattle.table.specs.declared.ReadAnswer.the-variants.{Accepted as Reads}
 use Rattle.table.proofs.Accepted.{read-accepted}
@@ -74,8 +74,8 @@ module _ (x y z n m : ℕ) (ls : List ℕ) (rs : List Entry) (es : List ℕ)
       )
 
   module _ (counts : (k : ℕ) → k < length ls → getD ls k 0 ≡ vertexCount k) (fitLevels : All (λ k. k < 256 ^ 4) ls) (fitRows : All Fitting rs) (fitEnergies : All (λ k. k < 256 ^ 4) es)
-      (q14 : gridHeld gridFound (length ls) ≡ true) (product : length rs ≡ n * m)
-      (q15 : every (entryHeld (length ls)) rs ≡ true) (q16 : tiled 0 (length es) rs ≡ true) (q17 : every (λ k. not (nanBits binary32 k)) es ≡ true) where
+      (q14 : gridValid gridFound (length ls) ≡ true) (product : length rs ≡ n * m)
+      (q15 : every (entryValid (length ls)) rs ≡ true) (q16 : tiled 0 (length es) rs ≡ true) (q17 : every (λ k. not (nanBits binary32 k)) es ≡ true) where
     level : (k : ℕ) → k < length ls → eqb (numberAt 4 written (40 + 4 + 4 * k)) (vertexCount k) ≡ true
     unfolding numberAt
     level k l =
@@ -83,8 +83,8 @@ module _ (x y z n m : ℕ) (ls : List ℕ) (rs : List Entry) (es : List ℕ)
         (rw (mul-comm 4 k) (sym (item-at numberOf 4 written 0 (40 + 4) (length ls) k l)
         ∙ ap (λ (q : List ℕ). getD q k 0) (levels-back x y z n m ls rs es fewLevels fewRows fewEnergies fitLevels) ∙ counts k l))
 
-    held : tableHeld written tableFound ≡ true
-    unfolding tableHeld
+    held : tableValid written tableFound ≡ true
+    unfolding tableValid
     held = rw (q14, eq-eqb (length rs) (n * m) product, all-is (λ k. eqb (numberAt 4 written (40 + 4 + 4 * k)) (vertexCount k)) (length ls) level)
 
     asked : 0 ≡ tableQuestion written (tableOf written (layout written))

@@ -1,6 +1,6 @@
 -- A file that the reader accepts passes the Rust's own checks. Assumes nothing.
 use mathlib.Core.Path.{_≡_, refl, ap, _∙_}
-use mathlib.Core.Bool.{Bool, true, false}
+use mathlib.Core.Bool.{Bool, true, false, and-eq-true-iff}
 use mathlib.Core.List.{List, [], _∷_}
 use Prim.Native.Nat.{ℕ, zero, suc, _+_, _*_, _-_, _≤_, _<_}
 use native.Mathlib.Nat.{suc-mul, mul-le-mul, mul-pos}
@@ -9,20 +9,19 @@ use lib.ListN.{length}
 use lib.Dec.{leb, ltb, eqb, lit<}
 use lib.Ieee.Scale.{finite}
 use borrow.Author.Tests.{leb-true, leb-false, ltb-true, eqb-true, eqb-false, le-leb, lt-ltb, ne-eqb}
-use Rattle.ieee.proofs.Fields.{both-true}
-use Rattle.mesh.specs.Lists.{every}
+use Rattle.lists.specs.Lists.{every}
 use Rattle.mesh.specs.Levels.{vertexCount, per}
-use Rattle.mesh.proofs.Asking.{ask-yes}
-use Rattle.mesh.proofs.Counting.{all-at}
+use Rattle.lists.proofs.Asking.{ask-yes}
+use Rattle.lists.proofs.Counting.{all-at}
 use Rattle.mesh.proofs.Sizes.{per-mono}
 use Rattle.grid.specs.Bins.{distanceCount, dihedralCount, tableRmax}
-use Rattle.grid.specs.Settings.{above, binsInRange, ownCount, slabsHeld, gridRange, gridHeld}
+use Rattle.grid.specs.Settings.{above, binsInRange, ownCount, slabsFit, gridRange, gridValid}
 use Rattle.grid.specs.declared.Grid.{Grid}
 use Rattle.grid.proofs.Tables.{some-bins}
 use Rattle.grid.proofs.Reaches.{reaches}
 use Rattle.table.specs.Bytes.{numberAt, items}
 use Rattle.table.specs.File.{Entry, entryOf}
-use Rattle.table.specs.Read.{layout, laidOut, gridOf, tableOf, rowItems, tableHeld, entryHeld, tiled, ReadValues, readValues, readRefusal, readOut}
+use Rattle.table.specs.Read.{layout, laidOut, gridOf, tableOf, rowItems, tableValid, entryValid, tiled, ReadValues, readValues, readRefusal, readOut}
 use Rattle.table.specs.Checks.{checkGrid, slabChecked, checkSlabs}
 use Rattle.table.specs.declared.Layout.{Layout}
 use Rattle.table.specs.declared.Table.{Table}
@@ -31,15 +30,15 @@ use Rattle.table.proofs.Accepted.{held-ranged}
 
 -- ---- the grid
 
-grid-checked : (g : Grid) (levels : ℕ) → gridHeld g levels ≡ true → g .rmax ≡ tableRmax (g .«n_r») (g .dr) (g .rmin) → checkGrid g ≡ true
-unfolding gridHeld ownCount checkGrid
+grid-checked : (g : Grid) (levels : ℕ) → gridValid g levels ≡ true → g .rmax ≡ tableRmax (g .«n_r») (g .dr) (g .rmin) → checkGrid g ≡ true
+unfolding gridValid ownCount checkGrid
 grid-checked g levels h e =
-    let a = both-true (finite (g .rmin)) _ (both-true _ (slabsHeld (g .«n_r») (g .«n_omega») (levels - 1)) h .0) in
-    let b = both-true (above (g .dr)) _ (a .1) in
-    let d = both-true (above (g .«omega_step»)) _ (b .1) in
-    let l = both-true (leb levels 16) _ (both-true (leb 1 levels) _ (d .1) .1) in
-    let n = both-true (binsInRange (g .«n_r») (g .«n_omega»)) _ (l .1) in
-    let o = both-true (eqb (g .«n_omega») (dihedralCount (g .«omega_step»))) _ (n .1) in
+    let a = and-eq-true-iff (finite (g .rmin)) _ .0 (and-eq-true-iff _ (slabsFit (g .«n_r») (g .«n_omega») (levels - 1)) .0 h .0) in
+    let b = and-eq-true-iff (above (g .dr)) _ .0 (a .1) in
+    let d = and-eq-true-iff (above (g .«omega_step»)) _ .0 (b .1) in
+    let l = and-eq-true-iff (leb levels 16) _ .0 (and-eq-true-iff (leb 1 levels) _ .0 (d .1) .1) in
+    let n = and-eq-true-iff (binsInRange (g .«n_r») (g .«n_omega»)) _ .0 (l .1) in
+    let o = and-eq-true-iff (eqb (g .«n_omega») (dihedralCount (g .«omega_step»))) _ .0 (n .1) in
     let some = some-bins g levels h in
     let own = rw (← e) at (o .1) in
     let reach = reaches (g .rmin) (g .rmax) (g .dr) (a .0) (b .0) (omega (arith, some .0, eqb-true (g .«n_r») (distanceCount (g .rmin) (g .rmax) (g .dr)) own)) in
@@ -48,19 +47,19 @@ grid-checked g levels h e =
 -- ---- the rows
 
 -- what 15 says of a row with energies
-mesh-held : (levels : ℕ) (r : Entry) → leb (r .kind) 1 ≡ false → entryHeld levels r ≡ true → r .level < levels
-unfolding entryHeld
+mesh-held : (levels : ℕ) (r : Entry) → leb (r .kind) 1 ≡ false → entryValid levels r ≡ true → r .level < levels
+unfolding entryValid
 mesh-held levels r k e =
     let n = leb-false (r .kind) 1 k in
     let a = rw (ne-eqb (r .kind) 0 (λ z. omega (arith, z)), ne-eqb (r .kind) 1 (λ z. omega (arith, z))) at e in
-    ltb-true (r .level) levels (both-true (ltb (r .level) levels) _ (both-true (leb (r .kind) 3) _ a .1) .0)
+    ltb-true (r .level) levels (and-eq-true-iff (ltb (r .level) levels) _ .0 (and-eq-true-iff (leb (r .kind) 3) _ .0 a .1) .0)
 
 module _ (levels n : ℕ) where
   -- what 16 says of a row and of those after it
   tiled-step : (o : ℕ) (r : Entry) (rs : List Entry) → leb (r .kind) 1 ≡ false → tiled o n (r ∷ rs) ≡ true → (r .offset ≡ o) × (tiled (o + per (r .level)) n rs ≡ true)
   unfolding tiled
   tiled-step o r rs k e =
-      let a = both-true (eqb (r .offset) o) (tiled (o + per (r .level)) n rs) (rw k at e) in
+      let a = and-eq-true-iff (eqb (r .offset) o) (tiled (o + per (r .level)) n rs) .0 (rw k at e) in
       (eqb-true (r .offset) o (a .0), a .1)
 
   tiled-pass : (o : ℕ) (r : Entry) (rs : List Entry) → leb (r .kind) 1 ≡ true → tiled o n (r ∷ rs) ≡ true → tiled o n rs ≡ true
@@ -76,13 +75,13 @@ module _ (levels n : ℕ) where
       by true k p q = p (tiled-pass o r rs k e)
       by false k p q = omega (arith, q (tiled-step o r rs k e .1))
 
-  tiled-few : (o : ℕ) (rs : List Entry) → every (entryHeld levels) rs ≡ true → tiled o n rs ≡ true → n ≤ o + length rs * per (levels - 1)
+  tiled-few : (o : ℕ) (rs : List Entry) → every (entryValid levels) rs ≡ true → tiled o n rs ≡ true → n ≤ o + length rs * per (levels - 1)
   unfolding tiled every
   tiled-few o [] h e = omega (arith, eqb-true o n e)
   tiled-few o (r ∷ rs) h e = rw suc-mul (by (leb (r .kind) 1) refl (tiled-few o rs (a .1)) (tiled-few (o + per (r .level)) rs (a .1)))
     where
-      a : (entryHeld levels r ≡ true) × (every (entryHeld levels) rs ≡ true)
-      a = both-true (entryHeld levels r) (every (entryHeld levels) rs) h
+      a : (entryValid levels r ≡ true) × (every (entryValid levels) rs ≡ true)
+      a = and-eq-true-iff (entryValid levels r) (every (entryValid levels) rs) .0 h
 
       by : (t : Bool) → leb (r .kind) 1 ≡ t → (tiled o n rs ≡ true → n ≤ o + length rs * per (levels - 1))
           → (tiled (o + per (r .level)) n rs ≡ true → n ≤ o + per (r .level) + length rs * per (levels - 1)) → n ≤ o + (length rs * per (levels - 1) + per (levels - 1))
@@ -96,7 +95,7 @@ unfolding per vertexCount
 some-energies v = mul-pos (omega arith) (omega arith)
 
 module _ (file : List ℕ) (t : Table) (few : t .energies ≤ 4294967295) (counts : (k : ℕ) → k < t .levels → numberAt 4 file (t .«levels_start» + 4 * k) ≡ vertexCount k) where
-  row-checked : (o : ℕ) (r : Entry) (rs : List Entry) (x : Bool) → leb (r .kind) 1 ≡ x → entryHeld (t .levels) r ≡ true → tiled o (t .energies) (r ∷ rs) ≡ true → slabChecked file t r ≡ true
+  row-checked : (o : ℕ) (r : Entry) (rs : List Entry) (x : Bool) → leb (r .kind) 1 ≡ x → entryValid (t .levels) r ≡ true → tiled o (t .energies) (r ∷ rs) ≡ true → slabChecked file t r ≡ true
   unfolding slabChecked per
   row-checked o r rs true k h e = rw k
   row-checked o r rs false k h e =
@@ -111,13 +110,13 @@ module _ (file : List ℕ) (t : Table) (few : t .energies ≤ 4294967295) (count
         le-leb (per (r .level) + r .offset) (t .energies) (omega (arith, i)),
       )
 
-  rows-checked : (o : ℕ) (rs : List Entry) → every (entryHeld (t .levels)) rs ≡ true → tiled o (t .energies) rs ≡ true → every (slabChecked file t) rs ≡ true
+  rows-checked : (o : ℕ) (rs : List Entry) → every (entryValid (t .levels)) rs ≡ true → tiled o (t .energies) rs ≡ true → every (slabChecked file t) rs ≡ true
   unfolding every
   rows-checked o [] h e = refl
   rows-checked o (r ∷ rs) h e = rw (row-checked o r rs _ refl (a .0) e) (by (leb (r .kind) 1) refl (rows-checked o rs (a .1)) (rows-checked (o + per (r .level)) rs (a .1)))
     where
-      a : (entryHeld (t .levels) r ≡ true) × (every (entryHeld (t .levels)) rs ≡ true)
-      a = both-true (entryHeld (t .levels) r) (every (entryHeld (t .levels)) rs) h
+      a : (entryValid (t .levels) r ≡ true) × (every (entryValid (t .levels)) rs ≡ true)
+      a = and-eq-true-iff (entryValid (t .levels) r) (every (entryValid (t .levels)) rs) .0 h
 
       by : (x : Bool) → leb (r .kind) 1 ≡ x → (tiled o (t .energies) rs ≡ true → every (slabChecked file t) rs ≡ true)
           → (tiled (o + per (r .level)) (t .energies) rs ≡ true → every (slabChecked file t) rs ≡ true) → every (slabChecked file t) rs ≡ true
@@ -143,16 +142,16 @@ unfolding tableOf gridOf
 own-rmax file p = refl
 
 found-checked : (file : List ℕ) (p : Layout) → readRefusal file p (tableOf file p) ≡ 0 → (checkGrid (tableOf file p .grid) ≡ true) × (checkSlabs file (tableOf file p) ≡ true)
-unfolding readRefusal tableHeld checkSlabs gridHeld slabsHeld
+unfolding readRefusal tableValid checkSlabs gridValid slabsFit
 found-checked file p e =
     let t = tableOf file p in
     let n = t .grid .«n_r» * t .grid .«n_omega» in
-    let q14 = ask-yes (tableHeld file t) 14 _ (lit< tt) (ask-yes (laidOut file p) 13 _ (lit< tt) e .1) in
-    let q15 = ask-yes (every (entryHeld (t .levels)) (rowItems file t)) 15 _ (lit< tt) (q14 .1) in
-    let q16 = ask-yes (tiled 0 (t .energies) (rowItems file t)) 16 _ (lit< tt) (q15 .1) in
-    let g = both-true (gridHeld (t .grid) (t .levels)) _ (q14 .0) in
-    let c = both-true (eqb (t .rows) n) _ (g .1) in
-    let room = leb-true (n * per (t .levels - 1)) 4294967295 (both-true (gridRange (t .grid) (t .levels)) _ (g .0) .1) in
+    let q14 = ask-yes {q = tableValid file t} (lit< tt) (ask-yes {q = laidOut file p} (lit< tt) e .1) in
+    let q15 = ask-yes {q = every (entryValid (t .levels)) (rowItems file t)} (lit< tt) (q14 .1) in
+    let q16 = ask-yes {q = tiled 0 (t .energies) (rowItems file t)} (lit< tt) (q15 .1) in
+    let g = and-eq-true-iff (gridValid (t .grid) (t .levels)) _ .0 (q14 .0) in
+    let c = and-eq-true-iff (eqb (t .rows) n) _ .0 (g .1) in
+    let room = leb-true (n * per (t .levels - 1)) 4294967295 (and-eq-true-iff (gridRange (t .grid) (t .levels)) _ .0 (g .0) .1) in
     let sizes = held-ranged (t .grid) (t .levels) (g .0) in
     let many : length (rowItems file t) ≡ n = items-many entryOf 10 file (t .«rows_start») (t .rows) ∙ eqb-true (t .rows) n (c .0) in
     let few : t .energies ≤ 4294967295 = omega (arith, room, rw many at (tiled-few (t .levels) (t .energies) 0 (rowItems file t) (q15 .0) (q16 .0))) in

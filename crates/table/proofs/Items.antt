@@ -9,13 +9,13 @@ use lib.ListN.{getD, take, drop}
 use lib.Seq.{drop-drop}
 use lib.Dec.{leb, eqb}
 use borrow.Author.Tests.{eqb-true}
-use Rattle.mesh.specs.Lists.{every}
+use Rattle.lists.specs.Lists.{every}
 use Rattle.mesh.specs.Levels.{per}
 use Rattle.table.specs.Bytes.{numberOf, numberAt, items}
 use Rattle.table.specs.File.{Entry, entryOf}
 use Rattle.table.specs.Read.{tiled}
-use Rattle.table.specs.Steps.{placedAt, nextPlace}
-use Rattle.table.proofs.Numbers.{number-suc, none}
+use Rattle.table.specs.Internal.{placedAt, nextPlace}
+use Rattle.table.proofs.Numbers.{number-suc, no-bytes}
 
 module _ {A : Type 0} (dec : List ℕ → A) (w : ℕ) (file : List ℕ) where
   pub items-cons : (at n : ℕ) → 0 < n → items dec w file at n ≡ dec (take w (drop at file)) ∷ items dec w file (at + w) (n - 1)
@@ -52,7 +52,7 @@ unfolding numberAt
 part-at a w n file at h = rw (window a w n (drop at file) h, drop-drop)
 
 byte-is : (file : List ℕ) (at : ℕ) → numberAt 1 file at ≡ getD file at 0
-byte-is file at = omega (arith, number-suc 0 file at (at + 1) (omega arith), none file (at + 1))
+byte-is file at = omega (arith, number-suc 0 file at (at + 1) (omega arith), no-bytes file (at + 1))
 
 -- the row at a byte
 abbrev pub entryAt : List ℕ → ℕ → Entry

@@ -5,7 +5,7 @@ use Prim.Native.Nat.{ℕ, zero, suc, _+_, _*_, _/_}
 use native.Mathlib.Nat.{zero-mul, suc-mul}
 use native.Mathlib.Omega.{arith}
 use lib.ListN.{length, length-append, length-map}
-use Rattle.mesh.specs.Lists.{below}
+use Rattle.lists.specs.Lists.{below}
 use Rattle.mesh.specs.Levels.{vertexCount}
 use Rattle.table.specs.Bytes.{bytesOf, packed, section}
 use Rattle.table.specs.File.{Entry, entryBytes}

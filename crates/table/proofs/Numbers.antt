@@ -13,9 +13,9 @@ use Rattle.table.specs.Bytes.{numberOf, numberAt}
 pub beyond : (file : List ℕ) (i : ℕ) → length file ≤ i → getD file i 0 ≡ 0
 beyond file i h = List·getD-eq-default file 0 h
 
-pub none : (file : List ℕ) (at : ℕ) → numberAt 0 file at ≡ 0
+pub no-bytes : (file : List ℕ) (at : ℕ) → numberAt 0 file at ≡ 0
 unfolding numberAt numberOf
-none file at = refl
+no-bytes file at = refl
 
 -- the lowest byte, and the others
 first : (w : ℕ) (file : List ℕ) (at : ℕ) → numberAt (suc w) file at ≡ numberAt w file (at + 1) * 256 + getD file at 0
@@ -43,7 +43,7 @@ above w file at =
     )
 
 pub four : (file : List ℕ) (at : ℕ) → numberAt 4 file at ≡ ((getD file (at + 3) 0 * 256 + getD file (at + 2) 0) * 256 + getD file (at + 1) 0) * 256 + getD file at 0
-four file at = above 0 file at ∙ omega (arith, none file (at + 4))
+four file at = above 0 file at ∙ omega (arith, no-bytes file (at + 4))
 
 pub eight : (file : List ℕ) (at : ℕ) → numberAt 8 file at ≡ numberAt 4 file (at + 4) * 4294967296 + numberAt 4 file at
 eight file at = above 4 file at ∙ omega (arith, four file at)

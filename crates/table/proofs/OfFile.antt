@@ -1,6 +1,6 @@
 -- The file of a grid and rows: the reader accepts it, what stands where in it, and that it is one to one. Assumes nothing.
 use mathlib.Core.Path.{_≡_, refl, sym, ap, _∙_}
-use mathlib.Core.Bool.{true}
+use mathlib.Core.Bool.{true, and-eq-true-iff}
 use mathlib.Core.List.{List, map}
 use Prim.Native.Nat.{ℕ, _+_, _*_, _-_, _^_, _≤_, _<_}
 use native.Mathlib.Nat.{mul-le-mul, zero-add}
@@ -10,22 +10,21 @@ use lib.Dec.{T, leb, eqb}
 use lib.Ieee.{binary64, fits, toBits, ofBits}
 use lib.Ieee.Bits.{ofBits-toBits, toBits-lt}
 use borrow.Author.Tests.{leb-true, eqb-true}
-use Rattle.mesh.specs.Lists.{below}
+use Rattle.lists.specs.Lists.{below}
 use Rattle.mesh.specs.Levels.{vertexCount, per}
-use Rattle.mesh.proofs.Counting.{and-yes}
 use Rattle.grid.specs.Bins.{tableRmax}
-use Rattle.grid.specs.Settings.{gridRange, slabsHeld, gridHeld}
+use Rattle.grid.specs.Settings.{gridRange, slabsFit, gridValid}
 use Rattle.grid.specs.declared.Grid.{Grid}
 use Rattle.grid.proofs.Laws.{Ranged, ranged}
 use Rattle.rows.specs.Rows.{Row, repulsive}
 use Rattle.table.specs.Bytes.{numberOf, numberAt, items}
-use Rattle.table.specs.File.{Entry, entryOf, entry, entries, energiesIn, energiesOf, fileOf}
+use Rattle.table.specs.File.{Entry, entryOf, entry, entries, energiesIn, packedEnergies, fileOf}
 use Rattle.table.specs.Read.{layout, laidOut, countAt, ReadValues, readValues, readOut}
 use Rattle.table.specs.declared.Table.{Table}
 use Rattle.table.specs.declared.ReadAnswer.the-variants.{Accepted as Reads}
 use Rattle.table.proofs.Back.{All, Fitting, item-at}
 use Rattle.table.proofs.Parsed.{laid, laid-out, rows-back, energies-back}
-use Rattle.table.proofs.Sound.{Fine, entries-length, entries-held, entries-tiled, entries-fit, numbers, energies-held}
+use Rattle.table.proofs.Sound.{Fine, entries-length, entries-held, entries-tiled, entries-fit, numbers, energies-valid}
 use Rattle.table.proofs.Accepts.{written, tableFound, accepts}
 use Rattle.table.proofs.OfRows.{before, counts-many, counts-at, counts-fit, numbers-fit, energies-le, entry-is, energies-in, energy-is, same-rows}
 
@@ -34,7 +33,7 @@ pub record Filable (g : Grid) (levels : ℕ) (rows : List (Row ℕ)) : Type 0 wh
   pub rmin : T (fits binary64 (g .rmin))
   pub dr : T (fits binary64 (g .dr))
   pub step : T (fits binary64 (g .«omega_step»))
-  pub held : gridHeld g levels ≡ true
+  pub held : gridValid g levels ≡ true
   pub many : length rows ≡ g .«n_r» * g .«n_omega»
   pub fine : All (Fine levels) rows
 
@@ -57,7 +56,7 @@ module _ (g : Grid) (levels : ℕ) (rows : List (Row ℕ)) where
     grid = gridIn;
     levels = levels;
     rows = length rows;
-    energies = length (energiesOf rows);
+    energies = length (packedEnergies rows);
     «grid_start» = 4;
     «bins_start» = 28 + 4;
     «levels_start» = 40 + 4;
@@ -82,12 +81,12 @@ module _ (g : Grid) (levels : ℕ) (rows : List (Row ℕ)) (ok : Filable g level
   rs = entries 0 rows
 
   abbrev es : List ℕ
-  es = energiesOf rows
+  es = packedEnergies rows
 
   sizes : Ranged g levels × (g .«n_r» * g .«n_omega» * per (levels - 1) ≤ 4294967295)
-  unfolding gridHeld slabsHeld
+  unfolding gridValid slabsFit
   sizes =
-      let a = and-yes (gridRange g levels) (leb (g .«n_r» * g .«n_omega» * per (levels - 1)) 4294967295) (ok .held) in
+      let a = and-eq-true-iff (gridRange g levels) (leb (g .«n_r» * g .«n_omega» * per (levels - 1)) 4294967295) .0 (ok .held) in
       (ranged g levels (a .0), leb-true (g .«n_r» * g .«n_omega» * per (levels - 1)) 4294967295 (a .1))
 
   few-levels : length ls < 256 ^ 4
@@ -140,8 +139,8 @@ module _ (g : Grid) (levels : ℕ) (rows : List (Row ℕ)) (ok : Filable g level
         entries-length 0 rows,
       )
 
-  q14 : gridHeld (tableFound x y z (g .«n_r») (g .«n_omega») ls rs es few-levels few-rows few-energies hx hy hz hn hm .grid) (length ls) ≡ true
-  unfolding gridHeld
+  q14 : gridValid (tableFound x y z (g .«n_r») (g .«n_omega») ls rs es few-levels few-rows few-energies hx hy hz hn hm .grid) (length ls) ≡ true
+  unfolding gridValid
   q14 =
       rw (
         ofBits-toBits binary64 (g .rmin) (ok .rmin),
@@ -156,7 +155,7 @@ module _ (g : Grid) (levels : ℕ) (rows : List (Row ℕ)) (ok : Filable g level
       rw file-is
       (accepts x y z (g .«n_r») (g .«n_omega») ls rs es few-levels few-rows few-energies hx hy hz hn hm
       (λ k l. counts-at levels k (omega (arith, counts-many levels))) (counts-fit levels (sizes .0 .few)) fit-rows fit-energies q14 (entries-length 0 rows ∙ ok .many)
-      (rw (counts-many levels) (entries-held levels 0 rows (ok .fine))) (entries-tiled levels 0 (length es) rows (ok .fine) (zero-add (length es))) (energies-held es (numbers levels rows (ok .fine))))
+      (rw (counts-many levels) (entries-held levels 0 rows (ok .fine))) (entries-tiled levels 0 (length es) rows (ok .fine) (zero-add (length es))) (energies-valid es (numbers levels rows (ok .fine))))
       ∙ ap (λ (t : Table). readValues (Reads t)) found-is
 
   -- ---- what stands in it
@@ -165,8 +164,8 @@ module _ (g : Grid) (levels : ℕ) (rows : List (Row ℕ)) (ok : Filable g level
   unfolding laidOut
   file-length =
       let h = laid-out x y z (g .«n_r») (g .«n_omega») ls rs es few-levels few-rows few-energies in
-      let a = and-yes (eqb (countAt file 0) 3) _ h .1 in
-      let b = and-yes (eqb (countAt file (layout file .bins)) 2) (eqb (layout file .end) (length file)) a .1 in
+      let a = and-eq-true-iff (eqb (countAt file 0) 3) _ .0 h .1 in
+      let b = and-eq-true-iff (eqb (countAt file (layout file .bins)) 2) (eqb (layout file .end) (length file)) .0 a .1 in
       let e = eqb-true (layout file .end) (length file) b in
       let w = rw (laid x y z (g .«n_r») (g .«n_omega») ls rs es few-levels few-rows few-energies) at e in
       rw file-is (sym w ∙ rw (counts-many levels, entries-length 0 rows))
@@ -220,8 +219,8 @@ file-holds g h m n a b p q e =
     let rows : entries 0 a ≡ entries 0 b =
     sym (entries-are g m a p) ∙ ap (λ (f : List ℕ). items entryOf 10 f (tableIn g m a .«rows_start») (length a)) e
     ∙ ap (λ (k : Table). items entryOf 10 (fileOf h n b) (k .«rows_start») (k .rows)) t ∙ entries-are h n b q in
-    let energies : energiesOf a ≡ energiesOf b =
-    sym (energies-are g m a p) ∙ ap (λ (f : List ℕ). items numberOf 4 f (tableIn g m a .«energies_start») (length (energiesOf a))) e
+    let energies : packedEnergies a ≡ packedEnergies b =
+    sym (energies-are g m a p) ∙ ap (λ (f : List ℕ). items numberOf 4 f (tableIn g m a .«energies_start») (length (packedEnergies a))) e
     ∙ ap (λ (k : Table). items numberOf 4 (fileOf h n b) (k .«energies_start») (k .energies)) t ∙ energies-are h n b q in
     record {
       rmin = ap (λ (k : Table). k .grid .rmin) t;

@@ -1,6 +1,6 @@
 -- Rows in a file: which a table can hold, where each stands, and that they can be told from their entries and energies. Assumes nothing.
 use mathlib.Core.Path.{_≡_, refl, sym, ap, _∙_}
-use mathlib.Core.Bool.{true, false, cond, not}
+use mathlib.Core.Bool.{true, false, cond, not, and-eq-true-iff}
 use mathlib.Core.List.{List, [], _∷_, _++_, map, map-append}
 use mathlib.Core.Logic.{_⊎_, inl, inr}
 use Prim.Native.Nat.{ℕ, zero, suc, _+_, _*_, _-_, _^_, _≤_, _<_}
@@ -12,15 +12,14 @@ use lib.Dec.{T, leb, eqb}
 use lib.Ieee.{Float, nan, inf, fin, binary32, isNan, fits, toBits}
 use borrow.Author.Tests.{not-true}
 use Rattle.ieee.proofs.Pack.{le-or-lt}
-use Rattle.mesh.specs.Lists.{below, every}
+use Rattle.lists.specs.Lists.{below, every}
 use Rattle.mesh.specs.Levels.{vertexCount, per}
 use Rattle.mesh.proofs.Laws.{count-le}
-use Rattle.mesh.proofs.Counting.{and-yes}
 use Rattle.mesh.proofs.Sizes.{per-mono}
 use Rattle.rows.specs.Rows.{Row, scalar, repulsive, mesh, narrowBits, compared}
 use Rattle.rows.proofs.Compared.{bits-lt, bits-nan, narrow-lt, narrow-nan}
-use Rattle.table.specs.File.{Entry, energyCount, energiesIn, entry, entries, energiesOf}
-use Rattle.table.specs.Read.{scalarHeld}
+use Rattle.table.specs.File.{Entry, energyCount, energiesIn, entry, entries, packedEnergies}
+use Rattle.table.specs.Read.{scalarValid}
 use Rattle.table.proofs.Back.{All}
 use Rattle.table.proofs.Lengths.{below-length}
 use Rattle.table.proofs.Sound.{Number, Fine, all-append, count-is}
@@ -39,19 +38,19 @@ one-nan nan = refl
 one-nan (inf s) = refl
 one-nan (fin s m e) = refl
 
-pub scalar-held : (x : Float) → T (fits binary32 x) → scalarHeld (toBits binary32 x) ≡ true
-unfolding scalarHeld
-scalar-held x h = rw (bits-nan x h) (one-nan x)
+pub scalar-valid : (x : Float) → T (fits binary32 x) → scalarValid (toBits binary32 x) ≡ true
+unfolding scalarValid
+scalar-valid x h = rw (bits-nan x h) (one-nan x)
 
 pub narrow-numbers : (e : List Float) → every (λ x. not (isNan x)) e ≡ true → All Number (map narrowBits e)
 unfolding every
 narrow-numbers [] h = tt
 narrow-numbers (x ∷ e) h =
-    let a = and-yes (not (isNan x)) (every (λ y. not (isNan y)) e) h in
+    let a = and-eq-true-iff (not (isNan x)) (every (λ y. not (isNan y)) e) .0 h in
     ((narrow-lt x, narrow-nan x ∙ not-true (isNan x) (a .0)), narrow-numbers e (a .1))
 
 fine-row : (top : ℕ) (r : Row Float) → Good top r → Fine (suc top) (compared r)
-fine-row top (scalar x) h = (bits-lt x h, scalar-held x h)
+fine-row top (scalar x) h = (bits-lt x h, scalar-valid x h)
 fine-row top repulsive h = tt
 fine-row top (mesh v b e) h = (omega (arith, h .0), length-map e narrowBits ∙ h .1, narrow-numbers e (h .2))
 
@@ -95,8 +94,8 @@ module _ (levels : ℕ) where
   size-le repulsive f = omega arith
   size-le (mesh v b e) f = omega (arith, f .1, per-mono v (levels - 1) (omega (arith, f .0)))
 
-  pub energies-le : (rows : List (Row ℕ)) → All (Fine levels) rows → length (energiesOf rows) ≤ length rows * per (levels - 1)
-  unfolding energiesOf
+  pub energies-le : (rows : List (Row ℕ)) → All (Fine levels) rows → length (packedEnergies rows) ≤ length rows * per (levels - 1)
+  unfolding packedEnergies
   energies-le [] f = omega arith
   energies-le (r ∷ rows) f = rw (length-append, suc-mul) (omega (arith, size-le r (f .0), energies-le rows (f .1)))
 
@@ -113,20 +112,20 @@ module _ (levels : ℕ) where
   entry-is o (r ∷ rows) (suc s) d h = entry-is (o + energyCount r) rows s d (omega arith) ∙ rw add-assoc
 
   pub energies-in : (rows : List (Row ℕ)) (s : ℕ) → All (Fine levels) rows → s < length rows
-      → before rows s + length (energiesIn (getD rows s repulsive)) ≤ length (energiesOf rows)
-  unfolding energiesOf
+      → before rows s + length (energiesIn (getD rows s repulsive)) ≤ length (packedEnergies rows)
+  unfolding packedEnergies
   energies-in [] s f h = absurd (omega arith)
   energies-in (r ∷ rows) zero f h = rw length-append (omega arith)
   energies-in (r ∷ rows) (suc s) f h = rw length-append (omega (arith, count-is levels r (f .0), energies-in rows s (f .1) (omega arith)))
 
   pub energy-is : (rows : List (Row ℕ)) (s k : ℕ) → All (Fine levels) rows → s < length rows → k < length (energiesIn (getD rows s repulsive))
-      → getD (energiesOf rows) (before rows s + k) 0 ≡ getD (energiesIn (getD rows s repulsive)) k 0
-  unfolding energiesOf
+      → getD (packedEnergies rows) (before rows s + k) 0 ≡ getD (energiesIn (getD rows s repulsive)) k 0
+  unfolding packedEnergies
   energy-is [] s k f h i = absurd (omega arith)
-  energy-is (r ∷ rows) zero k f h i = rw zero-add (List·getD-append (energiesIn r) (energiesOf rows) 0 k i)
+  energy-is (r ∷ rows) zero k f h i = rw zero-add (List·getD-append (energiesIn r) (packedEnergies rows) 0 k i)
   energy-is (r ∷ rows) (suc s) k f h i =
       rw (add-assoc, ← count-is levels r (f .0))
-      (getD-append-add (energiesIn r) (energiesOf rows) (before rows s + k) 0 ∙ energy-is rows s k (f .1) (omega arith) i)
+      (getD-append-add (energiesIn r) (packedEnergies rows) (before rows s + k) 0 ∙ energy-is rows s k (f .1) (omega arith) i)
 
 -- ---- rows from entries and energies
 
@@ -137,15 +136,15 @@ abbrev rebuilt : List Entry → List ℕ → List (Row ℕ)
 rebuilt [] es = []
 rebuilt (r ∷ rs) es = rowFrom r es ∷ rebuilt rs (cond (leb (r .kind) 1) es (drop (per (r .level)) es))
 
-rebuilt-is : (levels o : ℕ) (rows : List (Row ℕ)) → All (Fine levels) rows → rebuilt (entries o rows) (energiesOf rows) ≡ rows
-unfolding entries energiesOf rowFrom
+rebuilt-is : (levels o : ℕ) (rows : List (Row ℕ)) → All (Fine levels) rows → rebuilt (entries o rows) (packedEnergies rows) ≡ rows
+unfolding entries packedEnergies rowFrom
 rebuilt-is levels o [] f = refl
 rebuilt-is levels o (scalar x ∷ rows) f = ap (λ (l : List (Row ℕ)). scalar x ∷ l) (rebuilt-is levels (o + 0) rows (f .1))
 rebuilt-is levels o (repulsive ∷ rows) f = ap (λ (l : List (Row ℕ)). repulsive ∷ l) (rebuilt-is levels (o + 0) rows (f .1))
 rebuilt-is levels o (mesh v true e ∷ rows) f =
-    rw (take-at e (energiesOf rows) (per v) (f .0 .1), drop-at e (energiesOf rows) (per v) (f .0 .1), rebuilt-is levels (o + per v) rows (f .1))
+    rw (take-at e (packedEnergies rows) (per v) (f .0 .1), drop-at e (packedEnergies rows) (per v) (f .0 .1), rebuilt-is levels (o + per v) rows (f .1))
 rebuilt-is levels o (mesh v false e ∷ rows) f =
-    rw (take-at e (energiesOf rows) (per v) (f .0 .1), drop-at e (energiesOf rows) (per v) (f .0 .1), rebuilt-is levels (o + per v) rows (f .1))
+    rw (take-at e (packedEnergies rows) (per v) (f .0 .1), drop-at e (packedEnergies rows) (per v) (f .0 .1), rebuilt-is levels (o + per v) rows (f .1))
 
-pub same-rows : (m n : ℕ) (a b : List (Row ℕ)) → All (Fine m) a → All (Fine n) b → entries 0 a ≡ entries 0 b → energiesOf a ≡ energiesOf b → a ≡ b
+pub same-rows : (m n : ℕ) (a b : List (Row ℕ)) → All (Fine m) a → All (Fine n) b → entries 0 a ≡ entries 0 b → packedEnergies a ≡ packedEnergies b → a ≡ b
 same-rows m n a b f g e h = sym (rebuilt-is m 0 a f) ∙ rw (e, h) (rebuilt-is n 0 b g)

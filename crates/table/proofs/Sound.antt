@@ -9,11 +9,11 @@ use lib.ListN.{length, length-append}
 use lib.Dec.{lit<}
 use lib.Ieee.{binary32, nanBits}
 use borrow.Author.Tests.{lt-ltb, eq-eqb}
-use Rattle.mesh.specs.Lists.{every}
+use Rattle.lists.specs.Lists.{every}
 use Rattle.mesh.specs.Levels.{per}
 use Rattle.rows.specs.Rows.{Row, scalar, repulsive, mesh}
-use Rattle.table.specs.File.{energyCount, energiesIn, entry, entries, energiesOf}
-use Rattle.table.specs.Read.{scalarHeld, entryHeld, tiled}
+use Rattle.table.specs.File.{energyCount, energiesIn, entry, entries, packedEnergies}
+use Rattle.table.specs.Read.{scalarValid, entryValid, tiled}
 use Rattle.table.proofs.Back.{All, Fitting}
 
 -- an energy's bits: of 32 bits, and no NaN's
@@ -22,7 +22,7 @@ Number k = (k < 256 ^ 4) × (nanBits binary32 k ≡ false)
 
 -- a row of a table of so many levels, 256 at most
 abbrev pub Fine : ℕ → Row ℕ → Type 0
-Fine levels (scalar x) = (x < 256 ^ 4) × (scalarHeld x ≡ true)
+Fine levels (scalar x) = (x < 256 ^ 4) × (scalarValid x ≡ true)
 Fine levels repulsive = Unit
 Fine levels (mesh v b e) = (v < levels) × (length e ≡ per v) × All Number e
 
@@ -41,39 +41,39 @@ all-append P [] m a b = b
 all-append P (x ∷ l) m a b = (a .0, all-append P l m (a .1) b)
 
 module _ (levels : ℕ) where
-  entry-held : (o : ℕ) (r : Row ℕ) → Fine levels r → entryHeld levels (entry o r) ≡ true
-  unfolding entryHeld
-  entry-held o (scalar x) f = f .1
-  entry-held o repulsive f = refl
-  entry-held o (mesh v true e) f = rw (lt-ltb v levels (f .0))
-  entry-held o (mesh v false e) f = rw (lt-ltb v levels (f .0))
+  entry-valid : (o : ℕ) (r : Row ℕ) → Fine levels r → entryValid levels (entry o r) ≡ true
+  unfolding entryValid
+  entry-valid o (scalar x) f = f .1
+  entry-valid o repulsive f = refl
+  entry-valid o (mesh v true e) f = rw (lt-ltb v levels (f .0))
+  entry-valid o (mesh v false e) f = rw (lt-ltb v levels (f .0))
 
   -- 15
-  pub entries-held : (o : ℕ) (rows : List (Row ℕ)) → All (Fine levels) rows → every (entryHeld levels) (entries o rows) ≡ true
+  pub entries-held : (o : ℕ) (rows : List (Row ℕ)) → All (Fine levels) rows → every (entryValid levels) (entries o rows) ≡ true
   unfolding entries every
   entries-held o [] f = refl
-  entries-held o (r ∷ rows) f = rw (entry-held o r (f .0)) (entries-held (o + energyCount r) rows (f .1))
+  entries-held o (r ∷ rows) f = rw (entry-valid o r (f .0)) (entries-held (o + energyCount r) rows (f .1))
 
   -- 16
-  pub entries-tiled : (o n : ℕ) (rows : List (Row ℕ)) → All (Fine levels) rows → o + length (energiesOf rows) ≡ n → tiled o n (entries o rows) ≡ true
-  unfolding entries energiesOf tiled
+  pub entries-tiled : (o n : ℕ) (rows : List (Row ℕ)) → All (Fine levels) rows → o + length (packedEnergies rows) ≡ n → tiled o n (entries o rows) ≡ true
+  unfolding entries packedEnergies tiled
   entries-tiled o n [] f h = eq-eqb o n (omega arith)
   entries-tiled o n (scalar x ∷ rows) f h = rw add-zero (entries-tiled o n rows (f .1) h)
   entries-tiled o n (repulsive ∷ rows) f h = rw add-zero (entries-tiled o n rows (f .1) h)
   entries-tiled o n (mesh v true e ∷ rows) f h =
-      rw (eq-eqb o o refl) (entries-tiled (o + per v) n rows (f .1) (omega (arith, f .0 .1, length-append e (energiesOf rows))))
+      rw (eq-eqb o o refl) (entries-tiled (o + per v) n rows (f .1) (omega (arith, f .0 .1, length-append e (packedEnergies rows))))
   entries-tiled o n (mesh v false e ∷ rows) f h =
-      rw (eq-eqb o o refl) (entries-tiled (o + per v) n rows (f .1) (omega (arith, f .0 .1, length-append e (energiesOf rows))))
+      rw (eq-eqb o o refl) (entries-tiled (o + per v) n rows (f .1) (omega (arith, f .0 .1, length-append e (packedEnergies rows))))
 
   numbers-in : (r : Row ℕ) → Fine levels r → All Number (energiesIn r)
   numbers-in (scalar x) f = tt
   numbers-in repulsive f = tt
   numbers-in (mesh v b e) f = f .2
 
-  pub numbers : (rows : List (Row ℕ)) → All (Fine levels) rows → All Number (energiesOf rows)
-  unfolding energiesOf
+  pub numbers : (rows : List (Row ℕ)) → All (Fine levels) rows → All Number (packedEnergies rows)
+  unfolding packedEnergies
   numbers [] f = tt
-  numbers (r ∷ rows) f = all-append Number (energiesIn r) (energiesOf rows) (numbers-in r (f .0)) (numbers rows (f .1))
+  numbers (r ∷ rows) f = all-append Number (energiesIn r) (packedEnergies rows) (numbers-in r (f .0)) (numbers rows (f .1))
 
   -- the rows' fields fit, as long as the last offset does
   fitting : (o : ℕ) (r : Row ℕ) → levels < 257 → Fine levels r → o < 256 ^ 4 → Fitting (entry o r)
@@ -82,16 +82,16 @@ module _ (levels : ℕ) where
   fitting o (mesh v true e) l f h = record { kind = lit< tt; level = omega (arith, f .0); offset = h; scalar = lit< tt }
   fitting o (mesh v false e) l f h = record { kind = lit< tt; level = omega (arith, f .0); offset = h; scalar = lit< tt }
 
-  pub entries-fit : (o : ℕ) (rows : List (Row ℕ)) → levels < 257 → All (Fine levels) rows → o + length (energiesOf rows) < 256 ^ 4 → All Fitting (entries o rows)
-  unfolding entries energiesOf
+  pub entries-fit : (o : ℕ) (rows : List (Row ℕ)) → levels < 257 → All (Fine levels) rows → o + length (packedEnergies rows) < 256 ^ 4 → All Fitting (entries o rows)
+  unfolding entries packedEnergies
   entries-fit o [] l f h = tt
   entries-fit o (r ∷ rows) l f h =
-      let n = length-append (energiesIn r) (energiesOf rows) in
+      let n = length-append (energiesIn r) (packedEnergies rows) in
       let c = count-is levels r (f .0) in
       (fitting o r l (f .0) (omega (arith, n)), entries-fit (o + energyCount r) rows l (f .1) (omega (arith, n, c)))
 
 -- 17
-pub energies-held : (l : List ℕ) → All Number l → every (λ k. not (nanBits binary32 k)) l ≡ true
+pub energies-valid : (l : List ℕ) → All Number l → every (λ k. not (nanBits binary32 k)) l ≡ true
 unfolding every
-energies-held [] a = refl
-energies-held (k ∷ l) a = rw (a .0 .1) (energies-held l (a .1))
+energies-valid [] a = refl
+energies-valid (k ∷ l) a = rw (a .0 .1) (energies-valid l (a .1))

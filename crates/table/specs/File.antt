@@ -4,7 +4,7 @@ use mathlib.Core.List.{List, [], _∷_, _++_, map}
 use Prim.Native.Nat.{ℕ, _+_}
 use lib.ListN.{take, drop}
 use lib.Ieee.{binary64, toBits}
-use Rattle.mesh.specs.Lists.{below}
+use Rattle.lists.specs.Lists.{below}
 use Rattle.mesh.specs.Levels.{vertexCount, per}
 use Rattle.grid.specs.declared.Grid.{Grid}
 use Rattle.rows.specs.Rows.{Row, scalar, repulsive, mesh}
@@ -24,7 +24,7 @@ unfoldable pub entryOf : List ℕ → Entry
 entryOf bs =
     record { kind = numberOf (take 1 bs); level = numberOf (take 1 (drop 1 bs)); offset = numberOf (take 4 (drop 2 bs)); scalar = numberOf (take 4 (drop 6 bs)) }
 
--- "Unused: level 0, offset FFFFFFFF (hexadecimal), scalar 0." The energies of a Mesh row start at place o.
+-- "Unused: level 0, offset FFFFFFFF (hexadecimal), scalar 0." The energies of a Mesh row start at place o. (S8.2)
 abbrev pub entry : ℕ → Row ℕ → Entry
 entry o (scalar x) = record { kind = 0; level = 0; offset = 0xFFFF_FFFF; scalar = x }
 entry o repulsive = record { kind = 1; level = 0; offset = 0xFFFF_FFFF; scalar = 0 }
@@ -46,15 +46,15 @@ energiesIn (scalar x) = []
 energiesIn repulsive = []
 energiesIn (mesh v b e) = e
 
-unfoldable pub energiesOf : List (Row ℕ) → List ℕ
-energiesOf [] = []
-energiesOf (r ∷ rs) = energiesIn r ++ energiesOf rs
+unfoldable pub packedEnergies : List (Row ℕ) → List ℕ
+packedEnergies [] = []
+packedEnergies (r ∷ rs) = energiesIn r ++ packedEnergies rs
 
--- "(1) count 3: rmin, dr, omega step, f64; (2) count 2: distance and dihedral bins, u32; (3) levels: each n, u32, from level 0; (4) rows ..; (5) energies, f32"
+-- "(1) count 3: rmin, dr, omega step, f64; (2) count 2: distance and dihedral bins, u32; (3) levels: each n, u32, from level 0; (4) rows ..; (5) energies, f32" (S8.1)
 unfoldable pub fileOf : Grid → ℕ → List (Row ℕ) → List ℕ
 fileOf g levels rows =
     section (bytesOf 8) (toBits binary64 (g .rmin) ∷ toBits binary64 (g .dr) ∷ toBits binary64 (g .«omega_step») ∷ [])
     ++ (section (bytesOf 4) (g .«n_r» ∷ g .«n_omega» ∷ [])
     ++ (section (bytesOf 4) (map vertexCount (below levels))
     ++ (section entryBytes (entries 0 rows)
-    ++ section (bytesOf 4) (energiesOf rows))))
+    ++ section (bytesOf 4) (packedEnergies rows))))

@@ -1,5 +1,6 @@
+-- A reader has to believe `Bytes`, `File`, `Read` and `Checks`. Only the code and the proofs need `Internal`.
 pub mod Bytes
 pub mod File
 pub mod Read
-pub mod Steps
+pub mod Internal
 pub mod Checks

@@ -5,11 +5,11 @@ use Prim.Native.Nat.{ℕ, _+_, _*_}
 use lib.ListN.{length}
 use lib.Dec.{leb, ltb, eqb}
 use lib.Ieee.{Float, binary32, binary64, ofBits, nanBits}
-use Rattle.mesh.specs.Questions.{ask}
-use Rattle.mesh.specs.Lists.{allUpTo, every}
+use Rattle.lists.specs.Questions.{ask}
+use Rattle.lists.specs.Lists.{allUpTo, every}
 use Rattle.mesh.specs.Levels.{vertexCount, per}
 use Rattle.grid.specs.Bins.{tableRmax}
-unfoldable pub use Rattle.grid.specs.Settings.{gridHeld}
+unfoldable pub use Rattle.grid.specs.Settings.{gridValid}
 use Rattle.grid.specs.declared.Grid.{Grid}
 use Rattle.table.specs.Bytes.{numberOf, numberAt, items}
 use Rattle.table.specs.File.{Entry, entryOf}
@@ -78,6 +78,7 @@ gridOf file p =
       «n_omega» = numberAt 4 file (p .bins + 8);
     }
 
+-- S9.2
 unfoldable pub tableOf : List ℕ → Layout → Table
 tableOf file p =
     record {
@@ -100,41 +101,41 @@ energyItems file t = items numberOf 4 file (t .«energies_start») (t .energies)
 
 -- ---- 14, grid and levels
 
--- "the row count the product of the bin counts, and each vertex count its level's"
-unfoldable pub tableHeld : List ℕ → Table → Bool
-tableHeld file t =
-    gridHeld (t .grid) (t .levels)
+-- "the row count the product of the bin counts, and each vertex count its level's" (S5.14)
+unfoldable pub tableValid : List ℕ → Table → Bool
+tableValid file t =
+    gridValid (t .grid) (t .levels)
     && (eqb (t .rows) (t .grid .«n_r» * t .grid .«n_omega»)
     && allUpTo (t .levels) (λ m. eqb (numberAt 4 file (t .«levels_start» + 4 * m)) (vertexCount m)))
 
 -- ---- 15, rows
 
--- "no scalar NaN but 0x7FC00000"
-unfoldable pub scalarHeld : ℕ → Bool
-scalarHeld x = cond (nanBits binary32 x) (eqb x 0x7FC0_0000) true
+-- "no scalar NaN but 0x7FC00000" (S5.15)
+unfoldable pub scalarValid : ℕ → Bool
+scalarValid x = cond (nanBits binary32 x) (eqb x 0x7FC0_0000) true
 
--- "Has each row a known kind, a held level if it is Mesh, its unused fields as below": of n levels
-unfoldable pub entryHeld : ℕ → Entry → Bool
-entryHeld n r =
-    cond (eqb (r .kind) 0) (eqb (r .level) 0 && (eqb (r .offset) 0xFFFF_FFFF && scalarHeld (r .scalar)))
+-- "Has each row a known kind, a held level if it is Mesh, its unused fields as below": of n levels (S5.15)
+unfoldable pub entryValid : ℕ → Entry → Bool
+entryValid n r =
+    cond (eqb (r .kind) 0) (eqb (r .level) 0 && (eqb (r .offset) 0xFFFF_FFFF && scalarValid (r .scalar)))
     (cond (eqb (r .kind) 1) (eqb (r .level) 0 && (eqb (r .offset) 0xFFFF_FFFF && eqb (r .scalar) 0))
     (leb (r .kind) 3 && (ltb (r .level) n && eqb (r .scalar) 0)))
 
 -- ---- 16, tiling
 
--- "Do offsets tile the energies in row order?": from place o on, ending at n
+-- "Do offsets tile the energies in row order?": from place o on, ending at n (S5.16)
 unfoldable pub tiled : ℕ → ℕ → List Entry → Bool
 tiled o n [] = eqb o n
 tiled o n (r ∷ rs) = cond (leb (r .kind) 1) (tiled o n rs) (eqb (r .offset) o && tiled (o + per (r .level)) n rs)
 
 -- ---- 17, energies, and the whole
 
--- "Read": 13 to 17, each put to the whole file before the next
+-- "Read": 13 to 17, each put to the whole file before the next (S5.17)
 unfoldable pub readRefusal : List ℕ → Layout → Table → ℕ
 readRefusal file p t =
     ask (laidOut file p) 13
-    (ask (tableHeld file t) 14
-    (ask (every (entryHeld (t .levels)) (rowItems file t)) 15
+    (ask (tableValid file t) 14
+    (ask (every (entryValid (t .levels)) (rowItems file t)) 15
     (ask (tiled 0 (t .energies) (rowItems file t)) 16
     (ask (every (λ x. not (nanBits binary32 x)) (energyItems file t)) 17 0))))
 

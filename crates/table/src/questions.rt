@@ -5,17 +5,17 @@ ghost use Prim.Native.Nat.{_+_, _*_, _≤_};
 ghost use lib.ListN.{length, take, drop};
 ghost use lib.Dec.{eqb};
 ghost use lib.Ieee.{binary32, nanBits};
-ghost use Rattle.mesh.specs.Lists.{allUpTo, every};
+ghost use Rattle.lists.specs.Lists.{allUpTo, every};
 ghost use Rattle.mesh.specs.Levels.{vertexCount};
 ghost use Rattle.table.specs.Bytes.{numberOf, numberAt, items};
 ghost use Rattle.table.specs.File.{entryOf};
-ghost use Rattle.table.specs.Read.{tableHeld, scalarHeld, entryHeld, tiled};
-ghost use Rattle.table.specs.Steps.{Inside, tableQuestion, placedAt, nextPlace};
+ghost use Rattle.table.specs.Read.{tableValid, scalarValid, entryValid, tiled};
+ghost use Rattle.table.specs.Internal.{Inside, tableQuestion, placedAt, nextPlace};
 use crate::Table;
 use crate::bytes::u32_in;
 
 // Each vertex count is its level's.
-fn levels_held(file: &[u8], start: u64, levels: u64) -> bool
+fn levels_valid(file: &[u8], start: u64, levels: u64) -> bool
     requires { ⌜ (start + levels * 4 ≤ length (now file)) × (levels ≤ 16) ⌝ }
     ensures { λ r. ⌜ r ≡ allUpTo levels (λ m. eqb (numberAt 4 (now (file .entry)) (start + 4 * m)) (vertexCount m)) ⌝ }
 {
@@ -30,9 +30,9 @@ fn levels_held(file: &[u8], start: u64, levels: u64) -> bool
 }
 
 // Question 14.
-fn table_held(file: &[u8], t: Table) -> bool
+fn table_valid(file: &[u8], t: Table) -> bool
     requires { ⌜ t .«levels_start» + t .levels * 4 ≤ length (now file) ⌝ }
-    ensures { λ r. ⌜ r ≡ tableHeld (now (file .entry)) t ⌝ }
+    ensures { λ r. ⌜ r ≡ tableValid (now (file .entry)) t ⌝ }
 {
     let g = t.grid;
     let n_r = t.grid.n_r;
@@ -40,13 +40,13 @@ fn table_held(file: &[u8], t: Table) -> bool
     let levels = t.levels;
     let rows = t.rows;
     let start = t.levels_start;
-    if !grid::grid_held(g, levels) {
+    if !grid::grid_valid(g, levels) {
         return false;
     }
     if rows != n_r * n_omega {
         return false;
     }
-    levels_held(file, start, levels)
+    levels_valid(file, start, levels)
 }
 
 // The bits of a NaN: above those of infinity, apart from the sign.
@@ -56,8 +56,8 @@ fn nan_bits(x: u32) -> bool
     x % 0x8000_0000 > 0x7f80_0000
 }
 
-fn scalar_held(x: u32) -> bool
-    ensures { λ r. ⌜ r ≡ scalarHeld x ⌝ }
+fn scalar_valid(x: u32) -> bool
+    ensures { λ r. ⌜ r ≡ scalarValid x ⌝ }
 {
     if nan_bits(x) {
         return x == 0x7fc0_0000;
@@ -66,11 +66,11 @@ fn scalar_held(x: u32) -> bool
 }
 
 // Question 15, of the four numbers of a row.
-fn entry_held(n: u64, kind: u8, level: u8, offset: u32, scalar: u32) -> bool
-    ensures { λ r. ⌜ r ≡ entryHeld n (record { kind = kind; level = level; offset = offset; scalar = scalar }) ⌝ }
+fn entry_valid(n: u64, kind: u8, level: u8, offset: u32, scalar: u32) -> bool
+    ensures { λ r. ⌜ r ≡ entryValid n (record { kind = kind; level = level; offset = offset; scalar = scalar }) ⌝ }
 {
     if kind == 0 {
-        return (level == 0) & ((offset == 0xffff_ffff) & scalar_held(scalar));
+        return (level == 0) & ((offset == 0xffff_ffff) & scalar_valid(scalar));
     }
     if kind == 1 {
         return (level == 0) & ((offset == 0xffff_ffff) & (scalar == 0));
@@ -79,27 +79,27 @@ fn entry_held(n: u64, kind: u8, level: u8, offset: u32, scalar: u32) -> bool
 }
 
 // Question 15, of the row at a byte.
-fn row_held(file: &[u8], at: u64, n: u64) -> bool
+fn row_valid(file: &[u8], at: u64, n: u64) -> bool
     requires { ⌜ at + 10 ≤ length (now file) ⌝ }
-    ensures { λ r. ⌜ r ≡ entryHeld n (entryOf (take 10 (drop at (now (file .entry))))) ⌝ }
+    ensures { λ r. ⌜ r ≡ entryValid n (entryOf (take 10 (drop at (now (file .entry))))) ⌝ }
 {
     let i = at as usize;
     let kind = file[i];
     let level = file[i + 1];
     let offset = u32_in(file, at + 2);
     let scalar = u32_in(file, at + 6);
-    entry_held(n, kind, level, offset, scalar)
+    entry_valid(n, kind, level, offset, scalar)
 }
 
 // Question 15.
-fn rows_held(file: &[u8], start: u64, rows: u64, levels: u64) -> bool
+fn rows_valid(file: &[u8], start: u64, rows: u64, levels: u64) -> bool
     requires { ⌜ start + rows * 10 ≤ length (now file) ⌝ }
-    ensures { λ r. ⌜ r ≡ every (entryHeld levels) (items entryOf 10 (now (file .entry)) start rows) ⌝ }
+    ensures { λ r. ⌜ r ≡ every (entryValid levels) (items entryOf 10 (now (file .entry)) start rows) ⌝ }
 {
     let mut at = start;
     let mut left = rows;
     while 0 < left {
-        if !row_held(file, at, levels) {
+        if !row_valid(file, at, levels) {
             return false;
         }
         at += 10;
@@ -150,7 +150,7 @@ fn rows_tiled(file: &[u8], start: u64, rows: u64, energies: u64) -> bool
 }
 
 // Question 17.
-fn energies_held(file: &[u8], start: u64, energies: u64) -> bool
+fn energies_valid(file: &[u8], start: u64, energies: u64) -> bool
     requires { ⌜ start + energies * 4 ≤ length (now file) ⌝ }
     ensures { λ r. ⌜ r ≡ every (λ x. not (nanBits binary32 x)) (items numberOf 4 (now (file .entry)) start energies) ⌝ }
 {
@@ -176,16 +176,16 @@ pub(crate) fn table_question(file: &[u8], t: Table) -> u64
     let energies = t.energies;
     let rows_start = t.rows_start;
     let energies_start = t.energies_start;
-    if !table_held(file, t) {
+    if !table_valid(file, t) {
         return 14;
     }
-    if !rows_held(file, rows_start, rows, levels) {
+    if !rows_valid(file, rows_start, rows, levels) {
         return 15;
     }
     if !rows_tiled(file, rows_start, rows, energies) {
         return 16;
     }
-    if !energies_held(file, energies_start, energies) {
+    if !energies_valid(file, energies_start, energies) {
         return 17;
     }
     0

@@ -3,7 +3,7 @@ ghost use mathlib.Core.Path.{_≡_};
 ghost use Prim.Native.Nat.{_+_, _*_, _≤_};
 ghost use lib.ListN.{length};
 ghost use Rattle.table.specs.Read.{past, layout, laidOut, f64At, gridOf, tableOf};
-ghost use Rattle.table.specs.Steps.{Placed};
+ghost use Rattle.table.specs.Internal.{SectionsInside};
 use crate::Layout;
 use crate::Table;
 use crate::bytes::u32_at;
@@ -54,7 +54,7 @@ fn f64_in(file: &[u8], at: u64) -> f64
 
 // The grid that a file holds. It has neither threshold nor beta.
 fn grid_of(file: &[u8], p: Layout) -> Grid
-    requires { ⌜ Placed (now file) p ⌝ }
+    requires { ⌜ SectionsInside (now file) p ⌝ }
     ensures { λ r. ⌜ r ≡ gridOf (now (file .entry)) p ⌝ }
 {
     let bins = p.bins;
@@ -74,7 +74,7 @@ fn grid_of(file: &[u8], p: Layout) -> Grid
 }
 
 pub(crate) fn table_of(file: &[u8], p: Layout) -> Table
-    requires { ⌜ Placed (now file) p ⌝ }
+    requires { ⌜ SectionsInside (now file) p ⌝ }
     ensures { λ r. ⌜ r ≡ tableOf (now (file .entry)) p ⌝ }
 {
     let bins = p.bins;

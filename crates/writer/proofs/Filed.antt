@@ -8,13 +8,13 @@ use native.Mathlib.Omega.{arith}
 use lib.ListN.{length, getD, take, drop, length-append, length-map, length-drop}
 use lib.Seq.{drop-cons, length-take-le}
 use lib.Ieee.{Float, nan}
-use Rattle.mesh.specs.Lists.{below, put}
+use Rattle.lists.specs.Lists.{below, put}
 use Rattle.mesh.specs.Levels.{vertexCount}
 use Rattle.rows.specs.declared.SlabResolution.{SlabResolution}
 use Rattle.rows.specs.Rows.{Rows, resolutionAt, narrowBits}
 use Rattle.table.specs.Bytes.{bytesOf, packed}
 use Rattle.table.specs.File.{Entry, entryBytes}
-use Rattle.writer.specs.Steps.{heldBy, entryFor, resolutions, entriesFor, total, energiesFor, Bounded}
+use Rattle.writer.specs.Internal.{heldBy, entryFor, resolutions, entriesFor, total, energiesFor, Bounded}
 use Rattle.table.proofs.Lengths.{bytes-length, packed-length, packed-append, entry-length}
 use Rattle.writer.proofs.Puts.{puts-three}
 

@@ -1,5 +1,6 @@
 -- Write's outcome by the answers to its questions, and what they say of builder and lists. Assumes nothing.
 use mathlib.Core.Path.{_≡_, refl, sym, _∙_}
+use Rattle.lists.proofs.Asking.{ask-yes, first-yes}
 use mathlib.Core.Bool.{Bool, true, false, cond}
 use mathlib.Core.List.{List}
 use Prim.Native.Nat.{ℕ, _+_, _*_, _≤_}
@@ -7,16 +8,16 @@ use native.Mathlib.Omega.{arith}
 use lib.ListN.{length}
 use lib.Dec.{leb, eqb, lit<}
 use borrow.Author.Tests.{eq-eqb, ne-eqb}
-use Rattle.mesh.specs.Questions.{ask, first}
-use Rattle.mesh.specs.Lists.{put}
+use Rattle.lists.specs.Questions.{ask, first}
+use Rattle.lists.specs.Lists.{put}
 use Rattle.mesh.specs.Levels.{per}
 use Rattle.mesh.specs.Mesh.{Mesh}
-use Rattle.questions.specs.Lists.{Lists, slabs, rowsKnown}
-use Rattle.questions.specs.Refusals.{meshedRefusal}
-use Rattle.questions.specs.declared.Builder.{Builder}
-use Rattle.questions.proofs.Laws.{ask-yes, first-yes, meshed}
+use Rattle.builder.specs.BuilderLists.{BuilderLists, slabs, rowsKnown}
+use Rattle.builder.specs.Refusals.{meshedRefusal}
+use Rattle.builder.specs.declared.Builder.{Builder}
+use Rattle.builder.proofs.Laws.{meshed}
 use Rattle.writer.specs.Write.{writtenValues, fileFrom, writeRefusal, writeOut}
-use Rattle.writer.specs.Steps.{resolutions, total, Bounded, writeQuestion, Ready}
+use Rattle.writer.specs.Internal.{resolutions, total, Bounded, writeQuestion, WriteReady}
 use Rattle.writer.specs.declared.Written.the-variants.{Accepted as Writes, Refused as NotWritten}
 use Rattle.writer.proofs.Filed.{res-length}
 use Rattle.writer.proofs.Whole.{bounded, total-le}
@@ -43,7 +44,7 @@ refused m x r h = refused-by (eqb m 0) r m x h
 
 -- ---- what the answers say
 
-pub record Sure (b : Builder) (l : Lists) : Type 0 where
+pub record Sure (b : Builder) (l : BuilderLists) : Type 0 where
   pub top-le : b .top ≤ 15
   pub rs : b .grid .«n_r» ≤ 65535
   pub omegas : b .grid .«n_omega» ≤ 65535
@@ -52,7 +53,7 @@ pub record Sure (b : Builder) (l : Lists) : Type 0 where
   pub few : total (resolutions (l .rows) 0 (slabs (b .grid))) ≤ 4294967295
   pub slabs-few : slabs (b .grid) ≤ length (l .rows .kinds)
 
-pub sure : (b : Builder) (m : Mesh) (l : Lists) → writeQuestion b m l ≡ 0 → Sure b l
+pub sure : (b : Builder) (m : Mesh) (l : BuilderLists) → writeQuestion b m l ≡ 0 → Sure b l
 unfolding meshedRefusal
 sure b m l h =
     let f = first-yes h in
@@ -72,8 +73,8 @@ sure b m l h =
       slabs-few = q .room .kinds-le;
     }
 
-pub ready : (b : Builder) (l : Lists) (e room : ℕ) → Sure b l → e ≡ total (resolutions (l .rows) 0 (slabs (b .grid)))
-    → 56 + 4 * b .top + 10 * slabs (b .grid) + 4 * e ≤ room → Ready b l e room
+pub ready : (b : Builder) (l : BuilderLists) (e room : ℕ) → Sure b l → e ≡ total (resolutions (l .rows) 0 (slabs (b .grid)))
+    → 56 + 4 * b .top + 10 * slabs (b .grid) + 4 * e ≤ room → WriteReady b l e room
 ready b l e room s same fits = record {
   top-le = s .top-le;
   rs = s .rs;
@@ -87,7 +88,7 @@ ready b l e room s same fits = record {
 
 -- ---- the outcome
 
-module _ (b : Builder) (m : Mesh) (l : Lists) (out : List ℕ) where
+module _ (b : Builder) (m : Mesh) (l : BuilderLists) (out : List ℕ) where
   pub write-refused : (k : ℕ) → k ≡ writeQuestion b m l → (k ≡ 0 → ⊥)
       → writeOut b m l out ≡ record { answer = writtenValues (NotWritten k); builder = b; lists = l; output = out }
   unfolding writeOut writeRefusal

@@ -4,8 +4,8 @@ use mathlib.Core.List.{List, [], _∷_, _++_, append-assoc, append-nil}
 use Prim.Native.Nat.{ℕ, _+_, _-_, _/_, _%_, _≤_}
 use native.Mathlib.Omega.{arith}
 use lib.ListN.{length, set, length-append}
-use Rattle.mesh.specs.Lists.{put}
-use Rattle.mesh.proofs.Written.{Written, nothing, pushed, put-nil, put-put, length-put}
+use Rattle.lists.specs.Lists.{put}
+use Rattle.lists.proofs.Written.{Written, nothing, pushed, put-nil, put-put, length-put}
 use Rattle.table.specs.Bytes.{bytesOf, packed, section}
 use Rattle.table.proofs.Lengths.{bytes-length}
 

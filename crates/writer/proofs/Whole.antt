@@ -1,6 +1,6 @@
 -- The file of a builder's rows, as the code writes it. Assumes nothing.
 use mathlib.Core.Path.{_≡_, refl, sym, ap, _∙_}
-use mathlib.Core.Bool.{Bool, true, false, cond, _&&_}
+use mathlib.Core.Bool.{Bool, true, false, cond, _&&_, and-eq-true-iff}
 use mathlib.Core.List.{List, [], _∷_, _++_, map, append-assoc}
 use Prim.Native.Nat.{ℕ, zero, suc, _+_, _*_, _≤_, _<_}
 use native.Mathlib.Nat.{suc-mul, zero-mul, add-zero}
@@ -10,21 +10,20 @@ use lib.ListN.{length, getD, take, drop, length-append, length-map}
 use lib.Dec.{leb, eqb}
 use lib.Ieee.{Float, binary32, binary64, ofBits, toBits}
 use borrow.Author.Tests.{leb-true, eqb-false, lt-leb}
-use Rattle.ieee.proofs.Fields.{both-true}
-use Rattle.mesh.specs.Lists.{below, put}
+use Rattle.lists.specs.Lists.{below, put}
 use Rattle.mesh.specs.Levels.{vertexCount, per}
-use Rattle.mesh.proofs.Counting.{all-at}
+use Rattle.lists.proofs.Counting.{all-at}
 use Rattle.mesh.proofs.Sizes.{per-mono}
 use Rattle.grid.specs.declared.Grid.{Grid}
 use Rattle.rows.specs.declared.SlabResolution.{SlabResolution}
 use Rattle.rows.specs.declared.SlabResolution.the-variants.{Scalar, Mesh, Repulsive}
 use Rattle.rows.specs.Rows.{Rows, resolutionOf, resolutionAt, known, rowWith, compared, narrowBits}
-use Rattle.questions.specs.Lists.{Lists, slabs, rowAt, rowsFrom, rowsKnown}
-use Rattle.questions.specs.declared.Builder.{Builder}
+use Rattle.builder.specs.BuilderLists.{BuilderLists, slabs, rowAt, rowsFrom, rowsKnown}
+use Rattle.builder.specs.declared.Builder.{Builder}
 use Rattle.table.specs.Bytes.{bytesOf, section}
-use Rattle.table.specs.File.{entryBytes, entry, energyCount, energiesIn, entries, energiesOf, fileOf}
+use Rattle.table.specs.File.{entryBytes, entry, energyCount, energiesIn, entries, packedEnergies, fileOf}
 use Rattle.writer.specs.Write.{fileFrom}
-use Rattle.writer.specs.Steps.{heldBy, entryFor, resolutions, entriesFor, total, energiesFor, Bounded, headBytes, Ready}
+use Rattle.writer.specs.Internal.{heldBy, entryFor, resolutions, entriesFor, total, energiesFor, Bounded, headBytes, WriteReady}
 use Rattle.table.proofs.Lengths.{bytes-length, section-length, below-length, entry-length}
 use Rattle.writer.proofs.Puts.{puts-three}
 use Rattle.writer.proofs.Filed.{entriesFor-length, res-length, energies-length}
@@ -41,7 +40,7 @@ count-is (Scalar y) e = refl
 count-is (Mesh v b) e = refl
 count-is Repulsive e = refl
 
-pub entries-are : (top : ℕ) (l : Lists) (o s n : ℕ) → entries o (map compared (rowsFrom top l s n)) ≡ entriesFor o (resolutions (l .rows) s n)
+pub entries-are : (top : ℕ) (l : BuilderLists) (o s n : ℕ) → entries o (map compared (rowsFrom top l s n)) ≡ entriesFor o (resolutions (l .rows) s n)
 unfolding entries rowsFrom rowAt entriesFor resolutions
 entries-are top l o s zero = refl
 entries-are top l o s (suc n) =
@@ -55,9 +54,9 @@ energies-by true b y v f d = refl
 energies-by false true y v f d = refl
 energies-by false false y v f d = refl
 
-pub energies-are : (top : ℕ) (l : Lists) (s n : ℕ)
-    → energiesOf (map compared (rowsFrom top l s n)) ≡ energiesFor (per top) (l .store) (s * per top) (resolutions (l .rows) s n)
-unfolding energiesOf rowsFrom rowAt energiesFor resolutions resolutionAt resolutionOf
+pub energies-are : (top : ℕ) (l : BuilderLists) (s n : ℕ)
+    → packedEnergies (map compared (rowsFrom top l s n)) ≡ energiesFor (per top) (l .store) (s * per top) (resolutions (l .rows) s n)
+unfolding packedEnergies rowsFrom rowAt energiesFor resolutions resolutionAt resolutionOf
 energies-are top l s zero = refl
 energies-are top l s (suc n) =
     let r = l .rows in
@@ -74,7 +73,7 @@ held-by top k v y false true ea eb h = omega arith
 held-by top k v y false false ea eb h =
     let no : 1 < k = more k (eqb-false k 0 ea) (eqb-false k 1 eb) in
     let z : leb k 3 && leb v top ≡ true = rw (lt-leb k 1 no) at h in
-    per-mono v top (leb-true v top (both-true (leb k 3) (leb v top) z .1))
+    per-mono v top (leb-true v top (and-eq-true-iff (leb k 3) (leb v top) .0 z .1))
   where
     more : (k : ℕ) → (k ≡ 0 → ⊥) → (k ≡ 1 → ⊥) → 1 < k
     more zero p q = absurd (p refl)
@@ -137,7 +136,7 @@ head-bytes g levels =
       levels-bytes levels,
     )
 
-module _ (b : Builder) (l : Lists) where
+module _ (b : Builder) (l : BuilderLists) where
   rows : List SlabResolution
   rows = resolutions (l .rows) 0 (slabs (b .grid))
 
@@ -176,7 +175,7 @@ module _ (b : Builder) (l : Lists) where
         ∙ length-append (headBytes (b .grid) (suc (b .top))) (rowBytes ++ energyBytes)
         ∙ omega (arith, head-bytes (b .grid) (suc (b .top)), length-append rowBytes energyBytes, row-bytes, energy-bytes)
 
-  pub file-put : (d : List ℕ) (e : ℕ) → Ready b l e (length d)
+  pub file-put : (d : List ℕ) (e : ℕ) → WriteReady b l e (length d)
       → put (put (put d 0 (headBytes (b .grid) (b .top + 1))) (48 + 4 * b .top) (section entryBytes (entriesFor 0 (resolutions (l .rows) 0 (slabs (b .grid))))))
       (52 + 4 * b .top + 10 * slabs (b .grid)) (section (bytesOf 4) (energiesFor (per (b .top)) (l .store) 0 (resolutions (l .rows) 0 (slabs (b .grid)))))
       ≡ put d 0 (fileFrom b l)

@@ -1,2 +1,3 @@
+-- A reader has to believe `Write`. Only the code and the proofs need `Internal`.
 pub mod Write
-pub mod Steps
+pub mod Internal

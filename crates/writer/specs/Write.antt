@@ -4,13 +4,13 @@ use mathlib.Core.List.{List, map}
 use Prim.Native.Nat.{ℕ, suc}
 use lib.ListN.{length}
 use lib.Dec.{leb, eqb}
-use Rattle.mesh.specs.Questions.{ask, first}
-use Rattle.mesh.specs.Lists.{put}
+use Rattle.lists.specs.Questions.{ask, first}
+use Rattle.lists.specs.Lists.{put}
 use Rattle.mesh.specs.Mesh.{Mesh}
 use Rattle.rows.specs.Rows.{compared}
-use Rattle.questions.specs.declared.Builder.{Builder}
-use Rattle.questions.specs.Lists.{Lists, slabs, rowsFrom, rowsKnown}
-use Rattle.questions.specs.Refusals.{meshedRefusal}
+use Rattle.builder.specs.declared.Builder.{Builder}
+use Rattle.builder.specs.BuilderLists.{BuilderLists, slabs, rowsFrom, rowsKnown}
+use Rattle.builder.specs.Refusals.{meshedRefusal}
 use Rattle.table.specs.File.{fileOf}
 use Rattle.writer.specs.declared.Written.{Written}
 use Rattle.writer.specs.declared.Written.the-variants.{Accepted as Writes, Refused as NotWritten}
@@ -25,11 +25,11 @@ writtenValues (Writes n) = record { number = 0; length = n }
 writtenValues (NotWritten n) = record { number = n; length = 0 }
 
 -- the file of a builder and the lists that it holds. "The level count is the top level plus one."
-unfoldable pub fileFrom : Builder → Lists → List ℕ
+unfoldable pub fileFrom : Builder → BuilderLists → List ℕ
 fileFrom b l = fileOf (b .grid) (suc (b .top)) (map compared (rowsFrom (b .top) l 0 (slabs (b .grid))))
 
 -- "write before 12, put the kind and level part of 15 to each row touched"; "is the output at least as long as the file? 12"
-unfoldable pub writeRefusal : Builder → Mesh → Lists → ℕ → ℕ
+unfoldable pub writeRefusal : Builder → Mesh → BuilderLists → ℕ → ℕ
 writeRefusal b m l room =
     first (meshedRefusal b m l)
     (ask (rowsKnown (b .top) (l .rows) 0 (slabs (b .grid))) 15
@@ -39,11 +39,11 @@ writeRefusal b m l room =
 pub record WriteOut : Type 0 where
   pub answer : WrittenValues
   pub builder : Builder
-  pub lists : Lists
+  pub lists : BuilderLists
   pub output : List ℕ
 
 -- "Bytes beyond the file stay."
-unfoldable pub writeOut : Builder → Mesh → Lists → List ℕ → WriteOut
+unfoldable pub writeOut : Builder → Mesh → BuilderLists → List ℕ → WriteOut
 writeOut b m l out =
     let r = writeRefusal b m l (length out) in
     cond (eqb r 0)

@@ -3,7 +3,7 @@ ghost use mathlib.Core.Path.{_≡_};
 ghost use Prim.Native.Nat.{_+_, _≤_};
 ghost use lib.ListN.{length};
 ghost use lib.Ieee.{binary64, toBits};
-ghost use Rattle.mesh.specs.Lists.{put};
+ghost use Rattle.lists.specs.Lists.{put};
 ghost use Rattle.table.specs.Bytes.{bytesOf};
 
 pub(crate) fn put_u32(out: &mut [u8], at: u64, x: u32)

@@ -4,14 +4,15 @@ ghost use mathlib.Core.Bool.{_&&_};
 ghost use mathlib.Core.List.{[]};
 ghost use Prim.Native.Nat.{suc, _+_, _*_, _≤_};
 ghost use lib.ListN.{length};
-ghost use Rattle.mesh.specs.Questions.{ask, first};
-ghost use Rattle.mesh.specs.Lists.{put};
+ghost use Rattle.rows.specs.Rows.{rowsOf};
+ghost use Rattle.lists.specs.Questions.{ask, first};
+ghost use Rattle.lists.specs.Lists.{put};
 ghost use Rattle.mesh.specs.Levels.{verticesBelow};
-ghost use Rattle.mesh.specs.Mesh.{meshHeld, meshesKeep};
-ghost use Rattle.questions.specs.Lists.{slabs, listRoom, rowsKnown};
-ghost use Rattle.questions.specs.Refusals.{builderQuestion};
+ghost use Rattle.mesh.specs.Mesh.{meshLong, meshesKeep, meshOf};
+ghost use Rattle.builder.specs.BuilderLists.{slabs, listRoom, rowsKnown, listsOf};
+ghost use Rattle.builder.specs.Refusals.{builderQuestion};
 ghost use Rattle.writer.specs.Write.{WriteOut, writtenValues, fileFrom, writeOut};
-ghost use Rattle.writer.specs.Steps.{headBytes, Ready};
+ghost use Rattle.writer.specs.Internal.{headBytes, WriteReady};
 use crate::Written;
 use crate::sections::energy_total;
 use crate::sections::put_bins;
@@ -19,12 +20,12 @@ use crate::sections::put_grid;
 use crate::sections::put_levels;
 use crate::sections::put_rows;
 use crate::sections::put_tail;
+use builder::Builder;
 use grid::Grid;
-use questions::Builder;
 
 // The kind and level part of question 15, of every row.
 fn rows_known(top: u64, kinds: &[u8], levels: &[u8], n: u64) -> bool
-    ensures { λ r. ⌜ r ≡ rowsKnown top (record { kinds = now (kinds .entry); levels = now (levels .entry); values = [] }) 0 n ⌝ }
+    ensures { λ r. ⌜ r ≡ rowsKnown top (rowsOf (now (kinds .entry)) (now (levels .entry)) []) 0 n ⌝ }
 {
     let mut s: u64 = 0;
     while s < n {
@@ -49,14 +50,14 @@ fn write_question(
     angles: &[f64],
 ) -> u64
     ensures { λ r. ⌜ r ≡ first (first (builderQuestion b)
-        (ask (listRoom (b .grid) (b .top) store (length (now (kinds .entry))) (length (now (levels .entry))) values && meshHeld (verticesBelow (suc (b .top))) (record { vertices = now (vertices .entry); counts = now (counts .entry); neighbours = now (neighbours .entry); angles = now (angles .entry) })) 6
-        (ask (meshesKeep (b .top) (record { vertices = now (vertices .entry); counts = now (counts .entry); neighbours = now (neighbours .entry); angles = now (angles .entry) })) 7 0)))
-        (ask (rowsKnown (b .top) (record { kinds = now (kinds .entry); levels = now (levels .entry); values = [] }) 0 (slabs (b .grid))) 15 0) ⌝ }
+        (ask (listRoom (b .grid) (b .top) store (length (now (kinds .entry))) (length (now (levels .entry))) values && meshLong (verticesBelow (suc (b .top))) (meshOf (now (vertices .entry)) (now (counts .entry)) (now (neighbours .entry)) (now (angles .entry)))) 6
+        (ask (meshesKeep (b .top) (meshOf (now (vertices .entry)) (now (counts .entry)) (now (neighbours .entry)) (now (angles .entry)))) 7 0)))
+        (ask (rowsKnown (b .top) (rowsOf (now (kinds .entry)) (now (levels .entry)) []) 0 (slabs (b .grid))) 15 0) ⌝ }
 {
     let n_r = b.grid.n_r;
     let n_omega = b.grid.n_omega;
     let top = b.top;
-    let no = questions::meshed_refusal(
+    let no = builder::meshed_refusal(
         b,
         store,
         kinds.len() as u64,
@@ -101,8 +102,8 @@ fn put_file(
     e: u64,
     out: &mut [u8],
 )
-    requires { ⌜ Ready b (record { store = now store; rows = record { kinds = now kinds; levels = now levels; values = now values } }) e (length (now out)) ⌝ }
-    ensures { λ _. ⌜ now (out .exit) ≡ put (now (out .entry)) 0 (fileFrom b (record { store = now (store .entry); rows = record { kinds = now (kinds .entry); levels = now (levels .entry); values = now (values .entry) } })) ⌝ }
+    requires { ⌜ WriteReady b (listsOf (now store) (now kinds) (now levels) (now values)) e (length (now out)) ⌝ }
+    ensures { λ _. ⌜ now (out .exit) ≡ put (now (out .entry)) 0 (fileFrom b (listsOf (now (store .entry)) (now (kinds .entry)) (now (levels .entry)) (now (values .entry)))) ⌝ }
 {
     let g = b.grid;
     let n_r = b.grid.n_r;
@@ -139,9 +140,9 @@ pub fn write(
     output: &mut [u8],
 ) -> Written
     ensures { λ r. ⌜ _≡_ {A = WriteOut}
-        (record { answer = writtenValues r; builder = b; lists = record { store = now (store .entry); rows = record { kinds = now (kinds .entry); levels = now (levels .entry); values = now (values .entry) } }; output = now (output .exit) })
-        (writeOut b (record { vertices = now (vertices .entry); counts = now (counts .entry); neighbours = now (neighbours .entry); angles = now (angles .entry) })
-        (record { store = now (store .entry); rows = record { kinds = now (kinds .entry); levels = now (levels .entry); values = now (values .entry) } }) (now (output .entry))) ⌝ }
+        (record { answer = writtenValues r; builder = b; lists = listsOf (now (store .entry)) (now (kinds .entry)) (now (levels .entry)) (now (values .entry)); output = now (output .exit) })
+        (writeOut b (meshOf (now (vertices .entry)) (now (counts .entry)) (now (neighbours .entry)) (now (angles .entry)))
+        (listsOf (now (store .entry)) (now (kinds .entry)) (now (levels .entry)) (now (values .entry))) (now (output .entry))) ⌝ }
 {
     let n_r = b.grid.n_r;
     let n_omega = b.grid.n_omega;

@@ -4,12 +4,12 @@ ghost use mathlib.Core.List.{[], _∷_, map};
 ghost use Prim.Native.Nat.{_+_, _*_, _≤_};
 ghost use lib.ListN.{length, take, drop};
 ghost use lib.Ieee.{binary64, toBits};
-ghost use Rattle.mesh.specs.Lists.{put, below};
+ghost use Rattle.lists.specs.Lists.{put, below};
 ghost use Rattle.mesh.specs.Levels.{vertexCount};
-ghost use Rattle.rows.specs.Rows.{narrowBits};
+ghost use Rattle.rows.specs.Rows.{narrowBits, rowsOf};
 ghost use Rattle.table.specs.Bytes.{bytesOf, packed, section};
 ghost use Rattle.table.specs.File.{entryBytes};
-ghost use Rattle.writer.specs.Steps.{heldBy, offsetOf, resolutions, entriesFor, total, energiesFor, Bounded};
+ghost use Rattle.writer.specs.Internal.{heldBy, offsetOf, resolutions, entriesFor, total, energiesFor, Bounded};
 use crate::bytes::put_f64;
 use crate::bytes::put_u32;
 use rows::SlabResolution;
@@ -95,8 +95,8 @@ fn put_row(out: &mut [u8], at: u64, kind: u8, level: u8, offset: u32, value: u32
 // The rows, one after another; their energies are packed in row order.
 fn put_entries(out: &mut [u8], at: u64, kinds: &[u8], levels: &[u8], values: &[u32], n: u64)
     requires { ⌜ (at + n * 10 ≤ length (now out))
-        × (total (resolutions (record { kinds = now kinds; levels = now levels; values = now values }) 0 n) ≤ 4294967295) ⌝ }
-    ensures { λ _. ⌜ now (out .exit) ≡ put (now (out .entry)) at (packed entryBytes (entriesFor 0 (resolutions (record { kinds = now (kinds .entry); levels = now (levels .entry); values = now (values .entry) }) 0 n))) ⌝ }
+        × (total (resolutions (rowsOf (now kinds) (now levels) (now values)) 0 n) ≤ 4294967295) ⌝ }
+    ensures { λ _. ⌜ now (out .exit) ≡ put (now (out .entry)) at (packed entryBytes (entriesFor 0 (resolutions (rowsOf (now (kinds .entry)) (now (levels .entry)) (now (values .entry))) 0 n))) ⌝ }
 {
     let mut s: u64 = 0;
     let mut left = n;
@@ -122,8 +122,8 @@ fn put_entries(out: &mut [u8], at: u64, kinds: &[u8], levels: &[u8], values: &[u
 
 // The energies of all rows together.
 pub(crate) fn energy_total(kinds: &[u8], levels: &[u8], values: &[u32], n: u64) -> u64
-    requires { ⌜ total (resolutions (record { kinds = now kinds; levels = now levels; values = now values }) 0 n) ≤ 4294967295 ⌝ }
-    ensures { λ r. ⌜ r ≡ total (resolutions (record { kinds = now (kinds .entry); levels = now (levels .entry); values = now (values .entry) }) 0 n) ⌝ }
+    requires { ⌜ total (resolutions (rowsOf (now kinds) (now levels) (now values)) 0 n) ≤ 4294967295 ⌝ }
+    ensures { λ r. ⌜ r ≡ total (resolutions (rowsOf (now (kinds .entry)) (now (levels .entry)) (now (values .entry))) 0 n) ⌝ }
 {
     let mut s: u64 = 0;
     let mut left = n;
@@ -164,9 +164,9 @@ fn put_slabs(
     values: &[u32],
     n: u64,
 )
-    requires { ⌜ (at + total (resolutions (record { kinds = now kinds; levels = now levels; values = now values }) 0 n) * 4 ≤ length (now out))
-        × (n * z ≤ length (now store)) × (Bounded z (resolutions (record { kinds = now kinds; levels = now levels; values = now values }) 0 n)) ⌝ }
-    ensures { λ _. ⌜ now (out .exit) ≡ put (now (out .entry)) at (packed (bytesOf 4) (energiesFor z (now (store .entry)) 0 (resolutions (record { kinds = now (kinds .entry); levels = now (levels .entry); values = now (values .entry) }) 0 n))) ⌝ }
+    requires { ⌜ (at + total (resolutions (rowsOf (now kinds) (now levels) (now values)) 0 n) * 4 ≤ length (now out))
+        × (n * z ≤ length (now store)) × (Bounded z (resolutions (rowsOf (now kinds) (now levels) (now values)) 0 n)) ⌝ }
+    ensures { λ _. ⌜ now (out .exit) ≡ put (now (out .entry)) at (packed (bytesOf 4) (energiesFor z (now (store .entry)) 0 (resolutions (rowsOf (now (kinds .entry)) (now (levels .entry)) (now (values .entry))) 0 n))) ⌝ }
 {
     let mut s: u64 = 0;
     let mut left = n;
@@ -185,8 +185,8 @@ fn put_slabs(
 // The section of rows.
 pub(crate) fn put_rows(out: &mut [u8], at: u64, kinds: &[u8], levels: &[u8], values: &[u32], n: u64)
     requires { ⌜ (at + 4 + n * 10 ≤ length (now out)) × (n ≤ 4294967295)
-        × (total (resolutions (record { kinds = now kinds; levels = now levels; values = now values }) 0 n) ≤ 4294967295) ⌝ }
-    ensures { λ _. ⌜ now (out .exit) ≡ put (now (out .entry)) at (section entryBytes (entriesFor 0 (resolutions (record { kinds = now (kinds .entry); levels = now (levels .entry); values = now (values .entry) }) 0 n))) ⌝ }
+        × (total (resolutions (rowsOf (now kinds) (now levels) (now values)) 0 n) ≤ 4294967295) ⌝ }
+    ensures { λ _. ⌜ now (out .exit) ≡ put (now (out .entry)) at (section entryBytes (entriesFor 0 (resolutions (rowsOf (now (kinds .entry)) (now (levels .entry)) (now (values .entry))) 0 n))) ⌝ }
 {
     put_u32(out, at, n as u32);
     put_entries(out, at + 4, kinds, levels, values, n);
@@ -205,9 +205,9 @@ pub(crate) fn put_tail(
     n: u64,
 )
     requires { ⌜ (at + 4 + e * 4 ≤ length (now out)) × (e ≤ 4294967295)
-        × (e ≡ total (resolutions (record { kinds = now kinds; levels = now levels; values = now values }) 0 n))
-        × (n * z ≤ length (now store)) × (Bounded z (resolutions (record { kinds = now kinds; levels = now levels; values = now values }) 0 n)) ⌝ }
-    ensures { λ _. ⌜ now (out .exit) ≡ put (now (out .entry)) at (section (bytesOf 4) (energiesFor z (now (store .entry)) 0 (resolutions (record { kinds = now (kinds .entry); levels = now (levels .entry); values = now (values .entry) }) 0 n))) ⌝ }
+        × (e ≡ total (resolutions (rowsOf (now kinds) (now levels) (now values)) 0 n))
+        × (n * z ≤ length (now store)) × (Bounded z (resolutions (rowsOf (now kinds) (now levels) (now values)) 0 n)) ⌝ }
+    ensures { λ _. ⌜ now (out .exit) ≡ put (now (out .entry)) at (section (bytesOf 4) (energiesFor z (now (store .entry)) 0 (resolutions (rowsOf (now (kinds .entry)) (now (levels .entry)) (now (values .entry))) 0 n))) ⌝ }
 {
     put_u32(out, at, e as u32);
     put_slabs(out, at + 4, z, store, kinds, levels, values, n);

@@ -1,4 +1,4 @@
-/* Tools for table files: icotable inspect FILE, verify FILE.., diff A B, map [-o OUT] FILE [FILE]. */
+/* Tools for table files: icotable inspect FILE, verify FILE.., diff A B, map [-o OUT] FILE [FILE], --version. */
 #include "tools.h"
 
 #include "environment.h"
@@ -11,12 +11,19 @@ typedef struct tool {
     int (*run)(int count, char **names);
 } tool;
 
+static int version_tool(int count, char **names) {
+    (void)count, (void)names;
+    puts("icotable " ICOTABLE_VERSION);
+    return GOOD;
+}
+
 static const tool tools[] = {
     {"inspect", "inspect FILE            what a table holds, or what refuses it", 1, 1, inspect_tool},
     {"verify", "verify FILE..           accepted, or the number, its words and the byte", 1, 1 << 20, verify_tool},
     {"diff", "diff FILE FILE          why two tables differ", 2, 2, diff_tool},
     {"map", "map [-o OUT] FILE       a picture of the slabs (SVG) to OUT or to standard output;\n"
             "  icotable map [-o OUT] FILE FILE  two tables side by side, the slabs that differ marked", 1, 4, map_tool},
+    {"--version", "--version               the version", 0, 0, version_tool},
 };
 
 static int usage(void) {

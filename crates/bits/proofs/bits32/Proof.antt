@@ -15,8 +15,6 @@ returns : tie.Need-returns
 unfolding toBits
 returns c = rw (differs-from-itself (c .before .args .x) (subst T (sym (c .if1 .taken)) tt))
 
-returns-2 : tie.Need-returns-2
-returns-2 c = search needs
-
 pub bits32-spec : {M : Type 1} → statement M
-bits32-spec = tie.close (tie.spec float-to-bits-result returns returns-2)
+bits32-spec = tie.close
+    (tie.spec float-to-bits-result returns (λ c. search needs))

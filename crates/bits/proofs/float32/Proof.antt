@@ -12,8 +12,6 @@ returns : tie.Need-returns
 unfolding div ofBits
 returns c = above binary32 (c .before .args .b) (c .if1 .taken)
 
-returns-2 : tie.Need-returns-2
-returns-2 c = search needs
-
 pub float32-spec : {M : Type 1} → statement M
-float32-spec = tie.close (tie.spec float-from-bits-result returns returns-2)
+float32-spec = tie.close
+    (tie.spec float-from-bits-result returns (λ c. search needs))

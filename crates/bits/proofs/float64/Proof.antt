@@ -12,8 +12,6 @@ returns : tie.Need-returns
 unfolding div ofBits
 returns c = above binary64 (c .before .args .b) (c .if1 .taken)
 
-returns-2 : tie.Need-returns-2
-returns-2 c = search needs
-
 pub float64-spec : {M : Type 1} → statement M
-float64-spec = tie.close (tie.spec float-from-bits-result returns returns-2)
+float64-spec = tie.close
+    (tie.spec float-from-bits-result returns (λ c. search needs))

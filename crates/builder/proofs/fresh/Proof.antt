@@ -4,23 +4,18 @@ use native.Mathlib.Omega.{arith}
 use lib.ListN.{length}
 use borrow.Author.Needs.{needs}
 use borrow.Author.Tests.{eq-eqb, ne-eqb}
+use Rattle.mesh.specs.Mesh.{meshOf}
 use Rattle.builder.specs.Calls.{freshOut, filled}
-use Rattle.questions.specs.Refusals.{meshedRefusal}
-use Rattle.questions.proofs.Laws.{Meshed, meshed}
+use Rattle.builder.specs.Refusals.{meshedRefusal}
+use Rattle.builder.proofs.Laws.{Meshed, meshed}
 use Rattle.builder.proofs.fresh.Statement.{statement}
 use Rattle.builder.proofs.fresh.Tie as tie
 
 -- where no question was answered no
 facts : (c : tie.Else1) → let a = c .before .before .before .before .before .before .before .before .before .before .before .args in
-    Meshed (c .before .before .fresh-builder .result) (record { vertices = a .vertices .now; counts = a .counts .now; neighbours = a .neighbours .now; angles = a .angles .now })
+    Meshed (c .before .before .fresh-builder .result) (meshOf (a .vertices .now) (a .counts .now) (a .neighbours .now) (a .angles .now))
     (length (a .store .now)) (length (a .kinds .now)) (length (a .levels .now)) (length (a .values .now))
 facts c = meshed _ _ _ _ _ _ (sym (c .before .meshed-refusal .ensures) ∙ c .if1 .left)
-
-fresh-builder-requires : tie.Need-fresh-builder-requires
-fresh-builder-requires c κs = search needs
-
-meshed-refusal-requires : tie.Need-meshed-refusal-requires
-meshed-refusal-requires c κs = search needs
 
 returns : tie.Need-returns
 unfolding freshOut meshedRefusal
@@ -32,9 +27,6 @@ mul-n c = let f = facts c in omega (arith, f .room .kinds-le)
 cast-per-level : tie.Need-cast-per-level
 cast-per-level c = let f = facts (c .before) in omega (arith, f .asked .top-le)
 
-per-level-requires : tie.Need-per-level-requires
-per-level-requires c κs = search needs
-
 mul-clear-store : tie.Need-mul-clear-store
 mul-clear-store c = let f = facts (c .before .before) in rw (c .per-level .ensures) (omega (arith, f .room .store-le))
 
@@ -43,18 +35,6 @@ clear-store-requires c κs = let f = facts (c .before .before) in rw (c .per-lev
 
 clear-rows-requires : tie.Need-clear-rows-requires
 clear-rows-requires c κs = let f = facts (c .before .before .before .before .before .before .before .before) in (f .room .kinds-le, f .room .levels-le, f .room .values-le)
-
-same-length : tie.Need-same-length
-same-length c = search needs
-
-same-length-2 : tie.Need-same-length-2
-same-length-2 c = search needs
-
-same-length-3 : tie.Need-same-length-3
-same-length-3 c = search needs
-
-same-length-4 : tie.Need-same-length-4
-same-length-4 c = search needs
 
 returns-2 : tie.Need-returns-2
 unfolding freshOut meshedRefusal filled
@@ -66,18 +46,4 @@ returns-2 c =
 pub fresh-spec : {M : Type 1} → statement M
 fresh-spec =
     tie.close
-    (tie.spec
-    fresh-builder-requires
-    meshed-refusal-requires
-    returns
-    mul-n
-    cast-per-level
-    per-level-requires
-    mul-clear-store
-    clear-store-requires
-    clear-rows-requires
-    same-length
-    same-length-2
-    same-length-3
-    same-length-4
-    returns-2)
+    (tie.spec (λ c κs. search needs) (λ c κs. search needs) returns mul-n cast-per-level (λ c κs. search needs) mul-clear-store clear-store-requires clear-rows-requires (λ c. search needs) (λ c. search needs) (λ c. search needs) (λ c. search needs) returns-2)

@@ -4,8 +4,8 @@ use native.Mathlib.Omega.{arith}
 use lib.ListN.{length}
 use borrow.Author.Tests.{eq-eqb, ne-eqb}
 use Rattle.builder.specs.Calls.{setOut, setLists}
-use Rattle.questions.specs.Refusals.{setRefusal}
-use Rattle.questions.proofs.Laws.{Set, accepted}
+use Rattle.builder.specs.Refusals.{setRefusal}
+use Rattle.builder.proofs.Laws.{Set, accepted}
 use borrow.Author.Needs.{needs}
 use Rattle.builder.proofs.set.Statement.{statement}
 use Rattle.builder.proofs.set.Tie as tie
@@ -14,9 +14,6 @@ use Rattle.builder.proofs.set.Tie as tie
 facts : (c : tie.Else1) → let a = c .before .before .before .before .before .before .before .args in
     Set (a .b) (a .ri) (a .oi) (a .energies .now) (length (a .store .now)) (length (a .kinds .now)) (length (a .levels .now)) (length (a .values .now))
 facts c = accepted _ _ _ _ _ _ _ _ (sym (c .before .set-refusal .ensures) ∙ c .if1 .left)
-
-set-refusal-requires : tie.Need-set-refusal-requires
-set-refusal-requires c κs = search needs
 
 returns : tie.Need-returns
 unfolding setOut setRefusal
@@ -31,9 +28,6 @@ add-s c = let f = facts c in omega (arith, f .row, f .room .kinds-le)
 cast-per-level : tie.Need-cast-per-level
 cast-per-level c = let f = facts (c .before) in omega (arith, f .asked .top-le)
 
-per-level-requires : tie.Need-per-level-requires
-per-level-requires c κs = search needs
-
 mul-copy-at : tie.Need-mul-copy-at
 mul-copy-at c = let f = facts (c .before .before) in rw (c .per-level .ensures) (omega (arith, f .energies))
 
@@ -42,21 +36,6 @@ copy-at-requires c κs = let f = facts (c .before .before) in rw (c .per-level .
 
 cast-t26 : tie.Need-cast-t26
 cast-t26 c = let f = facts (c .before .before .before .before .before .before .before .before) in omega (arith, f .asked .top-le, f .asked .level-le)
-
-replace-requires : tie.Need-replace-requires
-replace-requires c κs = search needs
-
-same-length : tie.Need-same-length
-same-length c = search needs
-
-same-length-2 : tie.Need-same-length-2
-same-length-2 c = search needs
-
-same-length-3 : tie.Need-same-length-3
-same-length-3 c = search needs
-
-same-length-4 : tie.Need-same-length-4
-same-length-4 c = search needs
 
 returns-2 : tie.Need-returns-2
 unfolding setOut setRefusal setLists
@@ -67,19 +46,4 @@ returns-2 c =
 pub set-spec : {M : Type 1} → statement M
 set-spec =
     tie.close
-    (tie.spec
-    set-refusal-requires
-    returns
-    mul-s
-    add-s
-    cast-per-level
-    per-level-requires
-    mul-copy-at
-    copy-at-requires
-    cast-t26
-    replace-requires
-    same-length
-    same-length-2
-    same-length-3
-    same-length-4
-    returns-2)
+    (tie.spec (λ c κs. search needs) returns mul-s add-s cast-per-level (λ c κs. search needs) mul-copy-at copy-at-requires cast-t26 (λ c κs. search needs) (λ c. search needs) (λ c. search needs) (λ c. search needs) (λ c. search needs) returns-2)

@@ -1,25 +1,13 @@
 -- `settle` meets its contract. Assumes nothing.
 use mathlib.Core.Path.{sym, _∙_}
 use borrow.Author.Tests.{eq-eqb, ne-eqb}
-use Rattle.mesh.specs.Mesh.{Mesh}
-use Rattle.questions.specs.Lists.{Lists}
+use Rattle.mesh.specs.Mesh.{Mesh, meshOf}
+use Rattle.builder.specs.BuilderLists.{BuilderLists, listsOf}
 use Rattle.builder.specs.Calls.{settleOut}
-use Rattle.builder.proofs.Accepted.{ready, given}
+use Rattle.builder.proofs.Accepted.{ready, settle-is}
 use borrow.Author.Needs.{needs}
 use Rattle.builder.proofs.settle.Statement.{statement}
 use Rattle.builder.proofs.settle.Tie as tie
-
-settle-refusal-requires : tie.Need-settle-refusal-requires
-settle-refusal-requires c κs = search needs
-
-same-length : tie.Need-same-length
-same-length c = search needs
-
-same-length-2 : tie.Need-same-length-2
-same-length-2 c = search needs
-
-same-length-3 : tie.Need-same-length-3
-same-length-3 c = search needs
 
 returns : tie.Need-returns
 unfolding settleOut
@@ -28,45 +16,22 @@ returns c = rw (← c .before .settle-refusal .ensures, ne-eqb _ _ (c .if1 .take
 settle-slice-requires : tie.Need-settle-slice-requires
 settle-slice-requires c κs =
     let a = c .before .before .before .before .before .before .before .before .before .before .before .before .before .before .before .before .args in
-    let m : Mesh = record { vertices = a .vertices .now; counts = a .counts .now; neighbours = a .neighbours .now; angles = a .angles .now } in
-    let l : Lists = record { store = a .store .now; rows = record { kinds = a .kinds .now; levels = a .levels .now; values = a .values .now } } in
+    let m : Mesh = meshOf (a .vertices .now) (a .counts .now) (a .neighbours .now) (a .angles .now) in
+    let l : BuilderLists = listsOf (a .store .now) (a .kinds .now) (a .levels .now) (a .values .now) in
     let e = c .before .before .before in
     ready (a .b) m l (a .ri) (sym (e .before .settle-refusal .ensures) ∙ e .if1 .left)
-
-dropped-requires : tie.Need-dropped-requires
-dropped-requires c κs = search needs
-
-same-length-4 : tie.Need-same-length-4
-same-length-4 c = search needs
-
-same-length-5 : tie.Need-same-length-5
-same-length-5 c = search needs
-
-same-length-6 : tie.Need-same-length-6
-same-length-6 c = search needs
 
 returns-2 : tie.Need-returns-2
 unfolding settleOut
 returns-2 c =
     let a = c .before .before .before .before .before .before .before .before .before .before .before .before .before .before .before .before .before .before .before .before .before .before .before .before .args in
-    let m : Mesh = record { vertices = a .vertices .now; counts = a .counts .now; neighbours = a .neighbours .now; angles = a .angles .now } in
-    let l : Lists = record { store = a .store .now; rows = record { kinds = a .kinds .now; levels = a .levels .now; values = a .values .now } } in
+    let m : Mesh = meshOf (a .vertices .now) (a .counts .now) (a .neighbours .now) (a .angles .now) in
+    let l : BuilderLists = listsOf (a .store .now) (a .kinds .now) (a .levels .now) (a .values .now) in
     let e = c .before .before .before .before .before .before .before .before .before .before .before in
     rw (← e .before .settle-refusal .ensures, eq-eqb _ _ (e .if1 .left), c .dropped .ensures)
-    (given (a .b) m l (a .ri) _ _ (c .before .before .before .before .before .before .before .settle-slice .ensures))
+    (settle-is (a .b) m l (a .ri) _ _ (c .before .before .before .before .before .before .before .settle-slice .ensures))
 
 pub settle-spec : {M : Type 1} → statement M
 settle-spec =
     tie.close
-    (tie.spec
-    settle-refusal-requires
-    same-length
-    same-length-2
-    same-length-3
-    returns
-    settle-slice-requires
-    dropped-requires
-    same-length-4
-    same-length-5
-    same-length-6
-    returns-2)
+    (tie.spec (λ c κs. search needs) (λ c. search needs) (λ c. search needs) (λ c. search needs) returns settle-slice-requires (λ c κs. search needs) (λ c. search needs) (λ c. search needs) (λ c. search needs) returns-2)

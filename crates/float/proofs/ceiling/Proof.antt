@@ -6,9 +6,6 @@ use Rattle.float.proofs.Steps.{directed}
 use Rattle.float.proofs.ceiling.Statement.{statement}
 use Rattle.float.proofs.ceiling.Tie as tie
 
-truncated-requires : tie.Need-truncated-requires
-truncated-requires c κs = tt
-
 returns : tie.Need-returns
 unfolding ofBits neg sub
 returns c =
@@ -21,4 +18,5 @@ returns-2 c =
     rw (c .before .truncated .ensures) (directed true (s .args .x) (passes _ (s .good .0 .1)) false (rw (c .before .truncated .ensures) at (c .if1 .left)))
 
 pub ceiling-spec : {M : Type 1} → statement M
-ceiling-spec = tie.close (tie.spec truncated-requires returns returns-2)
+ceiling-spec = tie.close
+    (tie.spec (λ c κs. tt) returns returns-2)

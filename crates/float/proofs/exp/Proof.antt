@@ -27,17 +27,8 @@ returns-3 : tie.Need-returns-3
 unfolding exponential ofBits neg div
 returns-3 c = rw (number (c .before .before), c .before .if2 .left, c .if3 .taken)
 
-floor-requires : tie.Need-floor-requires
-floor-requires c κs = tt
-
-series-requires : tie.Need-series-requires
-series-requires c κs = tt
-
 floor-to-i64-requires : tie.Need-floor-to-i64-requires
 floor-to-i64-requires c κs = c .before .floor .ensures
-
-power-of-two-requires : tie.Need-power-of-two-requires
-power-of-two-requires c κs = tt
 
 -- p * 2 ^ k
 answer : (c : tie.After-power-of-two) → let k = c .before .before .before in mul binary64 (c .before .before .series .result) (c .power-of-two .result) ≡ scaled (k .before .before .before .before .args .y) (k .floor .result)
@@ -55,12 +46,4 @@ returns-4 c =
 pub exp-spec : {M : Type 1} → statement M
 exp-spec =
     tie.close
-    (tie.spec
-    returns
-    returns-2
-    returns-3
-    floor-requires
-    series-requires
-    floor-to-i64-requires
-    power-of-two-requires
-    returns-4)
+    (tie.spec returns returns-2 returns-3 (λ c κs. tt) (λ c κs. tt) floor-to-i64-requires (λ c κs. tt) returns-4)

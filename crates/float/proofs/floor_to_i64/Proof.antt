@@ -19,11 +19,6 @@ float-to-int-result c =
 returns : tie.Need-returns
 returns c = let k = c .before .before .before .before .args .k in read (toSigned 63 k) (record { sfits = toSigned-in 63 k })
 
-to-i64-requires : tie.Need-to-i64-requires
-to-i64-requires c κs = search needs
-
-returns-2 : tie.Need-returns-2
-returns-2 c = search needs
-
 pub floor-to-i64-spec : {M : Type 1} → statement M
-floor-to-i64-spec = tie.close (tie.spec float-to-int-result returns to-i64-requires returns-2)
+floor-to-i64-spec = tie.close
+    (tie.spec float-to-int-result returns (λ c κs. search needs) (λ c. search needs))

@@ -6,9 +6,6 @@ use native.Mathlib.Omega.{arith}
 use Rattle.float.proofs.fraction_digits.Statement.{statement}
 use Rattle.float.proofs.fraction_digits.Tie as tie
 
-sub-result : tie.Need-sub-result
-sub-result c = search needs
-
 returns : tie.Need-returns
 returns c = rw (lt-ltb _ _ (c .if1 .taken)) (refl, omega arith)
 
@@ -16,4 +13,5 @@ returns-2 : tie.Need-returns-2
 returns-2 c = rw (le-ltb _ _ (c .if1 .left)) (refl, omega arith)
 
 pub fraction-digits-spec : {M : Type 1} → statement M
-fraction-digits-spec = tie.close (tie.spec sub-result returns returns-2)
+fraction-digits-spec = tie.close
+    (tie.spec (λ c. search needs) returns returns-2)

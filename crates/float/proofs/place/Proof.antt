@@ -18,9 +18,6 @@ returns c = rw (differs-from-itself (c .before .args .x) (passes _ (c .if1 .take
 float-to-bits-b : tie.Need-float-to-bits-b
 float-to-bits-b c = no-nan-of-same (c .before .args .x) (c .if1 .left)
 
-add-result : tie.Need-add-result
-add-result c = search needs
-
 returns-2 : tie.Need-returns-2
 unfolding rank
 returns-2 c = rw (lt-ltb _ _ (c .if2 .taken))
@@ -33,4 +30,5 @@ unfolding rank
 returns-3 c = rw (le-ltb _ _ (c .if2 .left))
 
 pub place-spec : {M : Type 1} → statement M
-place-spec = tie.close (tie.spec returns float-to-bits-b add-result returns-2 sub-result returns-3)
+place-spec = tie.close
+    (tie.spec returns float-to-bits-b (λ c. search needs) returns-2 sub-result returns-3)

@@ -8,9 +8,6 @@ use Rattle.float.proofs.Powers.{low-power, high-power, power-no-nan}
 use Rattle.float.proofs.power_of_least.Statement.{statement}
 use Rattle.float.proofs.power_of_least.Tie as tie
 
-shl-result : tie.Need-shl-result
-shl-result c = search needs
-
 returns : tie.Need-returns
 returns c =
     let j = c .before .args .j in
@@ -20,12 +17,6 @@ returns c =
 float-from-bits-result : tie.Need-float-from-bits-result
 float-from-bits-result c = power-no-nan binary64 _ (c .before .args .j) (c .before .pre) (returns c)
 
-sub-result : tie.Need-sub-result
-sub-result c = search needs
-
-mul-result : tie.Need-mul-result
-mul-result c = search needs
-
 returns-2 : tie.Need-returns-2
 returns-2 c = high-power binary64 (c .before .args .j) (c .before .pre) (c .if1 .left)
 
@@ -34,4 +25,5 @@ float-from-bits-result-2 c = power-no-nan binary64 _ (c .before .args .j) (c .be
 
 pub power-of-least-spec : {M : Type 1} → statement M
 power-of-least-spec =
-    tie.close (tie.spec shl-result float-from-bits-result returns sub-result mul-result float-from-bits-result-2 returns-2)
+    tie.close
+    (tie.spec (λ c. search needs) float-from-bits-result returns (λ c. search needs) (λ c. search needs) float-from-bits-result-2 returns-2)

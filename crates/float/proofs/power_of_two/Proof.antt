@@ -60,15 +60,6 @@ below c =
     let e = read (s .args .k) (s .fits .k) in
     far-below (s .args .k) (rw e at (c .before .if1 .left)) ∙ ap negsuc (sym (c .distance .ensures ∙ ap mag e))
 
-distance-requires : tie.Need-distance-requires
-distance-requires c κs = tt
-
-sub-power-of-least : tie.Need-sub-power-of-least
-sub-power-of-least c = search needs
-
-power-of-least-requires-2 : tie.Need-power-of-least-requires-2
-power-of-least-requires-2 c κs = search needs
-
 returns-3 : tie.Need-returns-3
 unfolding twoTo
 returns-3 c =
@@ -83,14 +74,4 @@ returns-4 c = sym (ap twoTo (below (c .before)) ∙ underflows _ (c .if3 .left))
 pub power-of-two-spec : {M : Type 1} → statement M
 power-of-two-spec =
     tie.close
-    (tie.spec
-    add-power-of-least
-    cast-power-of-least
-    power-of-least-requires
-    returns
-    returns-2
-    distance-requires
-    sub-power-of-least
-    power-of-least-requires-2
-    returns-3
-    returns-4)
+    (tie.spec add-power-of-least cast-power-of-least power-of-least-requires returns returns-2 (λ c κs. tt) (λ c. search needs) (λ c κs. search needs) returns-3 returns-4)

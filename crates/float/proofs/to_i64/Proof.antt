@@ -12,9 +12,6 @@ truncating-f64-to-i64-requires : tie.Need-truncating-f64-to-i64-requires
 unfolding ofBits neg
 truncating-f64-to-i64-requires c κs = (passes _ (c .before .if1 .taken), passes _ (c .if2 .taken))
 
-returns : tie.Need-returns
-returns c = search needs
-
 returns-2 : tie.Need-returns-2
 unfolding ofBits neg
 returns-2 c = sym (signed-top 63 (c .before .before .args .x) (c .before .if1 .taken) (c .if2 .left))
@@ -28,4 +25,5 @@ unfolding ofBits neg
 returns-4 c = sym (signed-low 63 (c .before .before .args .x) (c .before .if1 .left) (c .if3 .left))
 
 pub to-i64-spec : {M : Type 1} → statement M
-to-i64-spec = tie.close (tie.spec truncating-f64-to-i64-requires returns returns-2 returns-3 returns-4)
+to-i64-spec = tie.close
+    (tie.spec truncating-f64-to-i64-requires (λ c. search needs) returns-2 returns-3 returns-4)

@@ -12,15 +12,6 @@ float-to-bits-b : tie.Need-float-to-bits-b
 unfolding ofBits
 float-to-bits-b c = above-no-nan (c .before .args .x) (c .if1 .taken)
 
-add-digits : tie.Need-add-digits
-add-digits c = search needs
-
-fraction-digits-requires : tie.Need-fraction-digits-requires
-fraction-digits-requires c κs = search needs
-
-shr-result : tie.Need-shr-result
-shr-result c = search needs
-
 returns : tie.Need-returns
 unfolding ofBits
 returns c =
@@ -30,9 +21,6 @@ returns c =
 truncating-f64-to-u64-requires : tie.Need-truncating-f64-to-u64-requires
 unfolding ofBits
 truncating-f64-to-u64-requires c κs = (passes _ (above-minus-one (c .before .before .before .args .x) (c .before .before .if1 .taken)), passes _ (c .if3 .taken))
-
-returns-2 : tie.Need-returns-2
-returns-2 c = search needs
 
 returns-3 : tie.Need-returns-3
 unfolding ofBits
@@ -45,13 +33,4 @@ returns-4 c = sym (unsigned-low 64 (c .before .args .x) (c .if1 .left))
 pub to-u64-spec : {M : Type 1} → statement M
 to-u64-spec =
     tie.close
-    (tie.spec
-    float-to-bits-b
-    add-digits
-    fraction-digits-requires
-    shr-result
-    returns
-    truncating-f64-to-u64-requires
-    returns-2
-    returns-3
-    returns-4)
+    (tie.spec float-to-bits-b (λ c. search needs) (λ c κs. search needs) (λ c. search needs) returns truncating-f64-to-u64-requires (λ c. search needs) returns-3 returns-4)

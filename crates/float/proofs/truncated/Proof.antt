@@ -29,15 +29,6 @@ returns c = rw (differs-from-itself (c .before .args .x) (passes _ (c .if1 .take
 returns-2 : tie.Need-returns-2
 returns-2 c = large (c .before .before .args .x) (held (c .before .before)) (c .if2 .taken)
 
-fraction-digits-requires : tie.Need-fraction-digits-requires
-fraction-digits-requires c κs = search needs
-
-shr-result : tie.Need-shr-result
-shr-result c = search needs
-
-shl-result : tie.Need-shl-result
-shl-result c = search needs
-
 returns-3 : tie.Need-returns-3
 returns-3 c =
     let k = c .before .before in
@@ -50,4 +41,5 @@ float-from-bits-result c = let k = c .before .before in no-nan-bits binary64 _ _
 
 pub truncated-spec : {M : Type 1} → statement M
 truncated-spec =
-    tie.close (tie.spec returns number returns-2 fraction-digits-requires shr-result shl-result float-from-bits-result returns-3)
+    tie.close
+    (tie.spec returns number returns-2 (λ c κs. search needs) (λ c. search needs) (λ c. search needs) float-from-bits-result returns-3)

@@ -5,18 +5,6 @@ use Rattle.grid.proofs.Short.{not-above}
 use Rattle.grid.proofs.above_rmax.Statement.{statement}
 use Rattle.grid.proofs.above_rmax.Tie as tie
 
-cast-of-u64 : tie.Need-cast-of-u64
-cast-of-u64 c = search needs
-
-cast-of-u64-2 : tie.Need-cast-of-u64-2
-cast-of-u64-2 c = search needs
-
-of-u64-requires : tie.Need-of-u64-requires
-of-u64-requires c κs = search needs
-
-is-finite-requires : tie.Need-is-finite-requires
-is-finite-requires c κs = search needs
-
 returns : tie.Need-returns
 returns c =
     let m = c .before .before in
@@ -24,20 +12,10 @@ returns c =
     let a = s .args in
     not-above (a .n) (a .r) (a .dr) (a .rmin) (m .of-u64 .result) (c .before .is-finite .result) (passes _ (s .good .1 .1 .0 .1)) (passes _ (s .good .1 .1 .1 .0 .1)) (m .before .if1 .taken) (m .of-u64 .ensures) (c .before .is-finite .ensures) (c .if2 .taken)
 
-table-rmax-requires : tie.Need-table-rmax-requires
-table-rmax-requires c κs = search needs
-
 returns-2 : tie.Need-returns-2
 returns-2 c = rw (c .table-rmax .ensures)
 
 pub above-rmax-spec : {M : Type 1} → statement M
 above-rmax-spec =
     tie.close
-    (tie.spec
-    cast-of-u64
-    cast-of-u64-2
-    of-u64-requires
-    is-finite-requires
-    returns
-    table-rmax-requires
-    returns-2)
+    (tie.spec (λ c. search needs) (λ c. search needs) (λ c κs. search needs) (λ c κs. search needs) returns (λ c κs. search needs) returns-2)

@@ -8,12 +8,6 @@ use borrow.Author.Needs.{needs}
 use Rattle.grid.proofs.dihedral_bin.Statement.{statement}
 use Rattle.grid.proofs.dihedral_bin.Tie as tie
 
-rem-tau-requires : tie.Need-rem-tau-requires
-rem-tau-requires c κs = search needs
-
-nearest-bin-requires : tie.Need-nearest-bin-requires
-nearest-bin-requires c κs = search needs
-
 -- once there are bins
 turned : (c : tie.Else1) → (let a = c .before .before .before .args in c .before .nearest-bin .result % a .n ≡ dihedralBin (a .omega) (a .step) (a .n))
 unfolding dihedralBin
@@ -32,20 +26,10 @@ returns-3 c =
     let n = e .before .before .before .args .n in
     sym (ap (λ (b : ℕ). b % n) (c .if3 .taken) ∙ mod-self n) ∙ turned e
 
-rem-result : tie.Need-rem-result
-rem-result c = search needs
-
 returns-4 : tie.Need-returns-4
 returns-4 c = turned (c .before .before)
 
 pub dihedral-bin-spec : {M : Type 1} → statement M
 dihedral-bin-spec =
     tie.close
-    (tie.spec
-    rem-tau-requires
-    nearest-bin-requires
-    returns
-    returns-2
-    returns-3
-    rem-result
-    returns-4)
+    (tie.spec (λ c κs. search needs) (λ c κs. search needs) returns returns-2 returns-3 (λ c. search needs) returns-4)

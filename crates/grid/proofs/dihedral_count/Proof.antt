@@ -4,12 +4,10 @@ use borrow.Author.Needs.{needs}
 use Rattle.grid.proofs.dihedral_count.Statement.{statement}
 use Rattle.grid.proofs.dihedral_count.Tie as tie
 
-nearest-bin-requires : tie.Need-nearest-bin-requires
-nearest-bin-requires c κs = search needs
-
 returns : tie.Need-returns
 unfolding dihedralCount
 returns c = c .nearest-bin .ensures
 
 pub dihedral-count-spec : {M : Type 1} → statement M
-dihedral-count-spec = tie.close (tie.spec nearest-bin-requires returns)
+dihedral-count-spec = tie.close
+    (tie.spec (λ c κs. search needs) returns)

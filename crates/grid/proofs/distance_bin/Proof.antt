@@ -4,15 +4,9 @@ use borrow.Author.Needs.{needs}
 use Rattle.grid.proofs.distance_bin.Statement.{statement}
 use Rattle.grid.proofs.distance_bin.Tie as tie
 
-nearest-bin-requires : tie.Need-nearest-bin-requires
-nearest-bin-requires c κs = search needs
-
 returns : tie.Need-returns
 unfolding distanceBin
 returns c = search needs
-
-sub-result : tie.Need-sub-result
-sub-result c = search needs
 
 returns-2 : tie.Need-returns-2
 unfolding distanceBin
@@ -24,4 +18,5 @@ returns-3 c = search needs
 
 pub distance-bin-spec : {M : Type 1} → statement M
 distance-bin-spec =
-    tie.close (tie.spec nearest-bin-requires returns sub-result returns-2 returns-3)
+    tie.close
+    (tie.spec (λ c κs. search needs) returns (λ c. search needs) returns-2 returns-3)

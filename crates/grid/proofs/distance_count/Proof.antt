@@ -4,12 +4,10 @@ use borrow.Author.Needs.{needs}
 use Rattle.grid.proofs.distance_count.Statement.{statement}
 use Rattle.grid.proofs.distance_count.Tie as tie
 
-nearest-bin-requires : tie.Need-nearest-bin-requires
-nearest-bin-requires c κs = search needs
-
 returns : tie.Need-returns
 unfolding distanceCount
 returns c = c .nearest-bin .ensures
 
 pub distance-count-spec : {M : Type 1} → statement M
-distance-count-spec = tie.close (tie.spec nearest-bin-requires returns)
+distance-count-spec = tie.close
+    (tie.spec (λ c κs. search needs) returns)

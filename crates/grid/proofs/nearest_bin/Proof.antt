@@ -4,12 +4,10 @@ use borrow.Author.Needs.{needs}
 use Rattle.grid.proofs.nearest_bin.Statement.{statement}
 use Rattle.grid.proofs.nearest_bin.Tie as tie
 
-to-u64-requires : tie.Need-to-u64-requires
-to-u64-requires c κs = search needs
-
 returns : tie.Need-returns
 unfolding nearestBin
 returns c = c .to-u64 .ensures
 
 pub nearest-bin-spec : {M : Type 1} → statement M
-nearest-bin-spec = tie.close (tie.spec to-u64-requires returns)
+nearest-bin-spec = tie.close
+    (tie.spec (λ c κs. search needs) returns)

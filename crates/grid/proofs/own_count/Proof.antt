@@ -4,15 +4,10 @@ use borrow.Author.Needs.{needs}
 use Rattle.grid.proofs.own_count.Statement.{statement}
 use Rattle.grid.proofs.own_count.Tie as tie
 
-table-rmax-requires : tie.Need-table-rmax-requires
-table-rmax-requires c κs = search needs
-
-distance-count-requires : tie.Need-distance-count-requires
-distance-count-requires c κs = search needs
-
 returns : tie.Need-returns
 unfolding ownCount
 returns c = rw (c .distance-count .ensures, c .before .table-rmax .ensures)
 
 pub own-count-spec : {M : Type 1} → statement M
-own-count-spec = tie.close (tie.spec table-rmax-requires distance-count-requires returns)
+own-count-spec = tie.close
+    (tie.spec (λ c κs. search needs) (λ c κs. search needs) returns)

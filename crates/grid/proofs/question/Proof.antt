@@ -1,9 +1,10 @@
 -- `question` meets its contract. Assumes nothing.
 use mathlib.Core.Path.{_≡_}
+use Rattle.lists.proofs.Counting.{yes, no}
 use mathlib.Core.Bool.{true}
-use Rattle.mesh.specs.Questions.{ask}
-use Rattle.grid.specs.Settings.{inRange, levelsHeld, countsHeld, question}
-use Rattle.grid.proofs.Laws.{yes, no, counts-le, top-le}
+use Rattle.lists.specs.Questions.{ask}
+use Rattle.grid.specs.Settings.{inRange, levelsValid, countsValid, question}
+use Rattle.grid.proofs.Laws.{counts-le, top-le}
 use borrow.Author.Needs.{needs}
 use Rattle.grid.proofs.question.Statement.{statement}
 use Rattle.grid.proofs.question.Tie as tie
@@ -12,35 +13,23 @@ use Rattle.grid.proofs.question.Tie as tie
 ranges : (c : tie.Else1) → inRange (c .before .before .args .g) ≡ true
 ranges c = yes (c .before .in-range .ensures) (c .if1 .left)
 
-levels : (c : tie.Else2) → levelsHeld (c .before .before .before .before .args .top) (c .before .before .before .before .args .level) ≡ true
-levels c = yes (c .before .levels-held .ensures) (c .if2 .left)
+levels : (c : tie.Else2) → levelsValid (c .before .before .before .before .args .top) (c .before .before .before .before .args .level) ≡ true
+levels c = yes (c .before .levels-valid .ensures) (c .if2 .left)
 
-counts : (c : tie.Else3) → countsHeld (c .before .before .before .before .before .before .args .g) ≡ true
-counts c = yes (c .before .counts-held .ensures) (c .if3 .left)
-
-in-range-requires : tie.Need-in-range-requires
-in-range-requires c κs = search needs
+counts : (c : tie.Else3) → countsValid (c .before .before .before .before .before .before .args .g) ≡ true
+counts c = yes (c .before .counts-valid .ensures) (c .if3 .left)
 
 returns : tie.Need-returns
 unfolding question ask
 returns c = rw (no (c .before .in-range .ensures) (c .if1 .taken))
 
-levels-held-requires : tie.Need-levels-held-requires
-levels-held-requires c κs = search needs
-
 returns-2 : tie.Need-returns-2
 unfolding question ask
-returns-2 c = rw (ranges (c .before .before), no (c .before .levels-held .ensures) (c .if2 .taken))
-
-counts-held-requires : tie.Need-counts-held-requires
-counts-held-requires c κs = search needs
+returns-2 c = rw (ranges (c .before .before), no (c .before .levels-valid .ensures) (c .if2 .taken))
 
 returns-3 : tie.Need-returns-3
 unfolding question ask
-returns-3 c = rw (ranges (c .before .before .before .before), levels (c .before .before), no (c .before .counts-held .ensures) (c .if3 .taken))
-
-own-count-requires : tie.Need-own-count-requires
-own-count-requires c κs = search needs
+returns-3 c = rw (ranges (c .before .before .before .before), levels (c .before .before), no (c .before .counts-valid .ensures) (c .if3 .taken))
 
 returns-4 : tie.Need-returns-4
 unfolding question ask
@@ -49,8 +38,8 @@ returns-4 c =
     let d = e .before .before in
     rw (ranges (d .before .before), levels d, counts e, no (c .before .own-count .ensures) (c .if4 .taken))
 
-slabs-held-requires : tie.Need-slabs-held-requires
-slabs-held-requires c κs =
+slabs-fit-requires : tie.Need-slabs-fit-requires
+slabs-fit-requires c κs =
     let e = c .before .before in
     let d = e .before .before in
     let s = d .before .before .before .before in
@@ -63,7 +52,7 @@ returns-5 c =
     let f = c .before .before in
     let e = f .before .before in
     let d = e .before .before in
-    rw (ranges (d .before .before), levels d, counts e, yes (f .before .own-count .ensures) (f .if4 .left), no (c .before .slabs-held .ensures) (c .if5 .taken))
+    rw (ranges (d .before .before), levels d, counts e, yes (f .before .own-count .ensures) (f .if4 .left), no (c .before .slabs-fit .ensures) (c .if5 .taken))
 
 returns-6 : tie.Need-returns-6
 unfolding question ask
@@ -71,20 +60,9 @@ returns-6 c =
     let f = c .before .before in
     let e = f .before .before in
     let d = e .before .before in
-    rw (ranges (d .before .before), levels d, counts e, yes (f .before .own-count .ensures) (f .if4 .left), yes (c .before .slabs-held .ensures) (c .if5 .left))
+    rw (ranges (d .before .before), levels d, counts e, yes (f .before .own-count .ensures) (f .if4 .left), yes (c .before .slabs-fit .ensures) (c .if5 .left))
 
 pub question-spec : {M : Type 1} → statement M
 question-spec =
     tie.close
-    (tie.spec
-    in-range-requires
-    returns
-    levels-held-requires
-    returns-2
-    counts-held-requires
-    returns-3
-    own-count-requires
-    returns-4
-    slabs-held-requires
-    returns-5
-    returns-6)
+    (tie.spec (λ c κs. search needs) returns (λ c κs. search needs) returns-2 (λ c κs. search needs) returns-3 (λ c κs. search needs) returns-4 slabs-fit-requires returns-5 returns-6)

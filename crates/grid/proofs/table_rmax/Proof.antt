@@ -4,15 +4,10 @@ use borrow.Author.Needs.{needs}
 use Rattle.grid.proofs.table_rmax.Statement.{statement}
 use Rattle.grid.proofs.table_rmax.Tie as tie
 
-of-u64-requires : tie.Need-of-u64-requires
-of-u64-requires c κs = search needs
-
-mul-add-requires : tie.Need-mul-add-requires
-mul-add-requires c κs = search needs
-
 returns : tie.Need-returns
 unfolding tableRmax
 returns c = rw (c .mul-add .ensures, c .before .of-u64 .ensures)
 
 pub table-rmax-spec : {M : Type 1} → statement M
-table-rmax-spec = tie.close (tie.spec of-u64-requires mul-add-requires returns)
+table-rmax-spec = tie.close
+    (tie.spec (λ c κs. search needs) (λ c κs. search needs) returns)

@@ -4,12 +4,6 @@ use borrow.Author.Needs.{needs}
 use Rattle.icotable.proofs.built_answer.Statement.{statement}
 use Rattle.icotable.proofs.built_answer.Tie as tie
 
-enum-known-a : tie.Need-enum-known-a
-enum-known-a c = search needs
-
-enum-known-a-2 : tie.Need-enum-known-a-2
-enum-known-a-2 c = search needs
-
 returns : tie.Need-returns
 unfolding builtIn
 returns c = rw (c .before .a .given .1)
@@ -19,4 +13,5 @@ unfolding builtIn
 returns-2 c = rw (c .before .a2 .given .1)
 
 pub built-answer-spec : {M : Type 1} → statement M
-built-answer-spec = tie.close (tie.spec enum-known-a enum-known-a-2 returns returns-2)
+built-answer-spec = tie.close
+    (tie.spec (λ c. search needs) (λ c. search needs) returns returns-2)

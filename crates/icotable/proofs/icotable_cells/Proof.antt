@@ -5,7 +5,7 @@ use native.Mathlib.Numerals.{add-one}
 use native.Mathlib.Omega.{arith}
 use borrow.Author.Needs.{needs}
 use borrow.Author.Tests.{le-leb, lt-leb}
-use Rattle.mesh.specs.Lists.{sum}
+use Rattle.lists.specs.Lists.{sum}
 use Rattle.mesh.specs.Levels.{vertexCount, gridSize, cellCount, cellOffsetsBelow}
 use Rattle.icotable.proofs.icotable_cells.Statement.{statement}
 use Rattle.icotable.proofs.icotable_cells.Tie as tie
@@ -19,18 +19,6 @@ more c =
     let m = c .before .before .before .args .level in
     c .before .cell-offsets-below .ensures ∙ next m ∙ ap (λ (x : ℕ). x + (cellCount (gridSize (vertexCount m)) + 1)) (sym (c .cell-offsets-below2 .ensures))
 
-cast-m : tie.Need-cast-m
-cast-m c = search needs
-
-add-cell-offsets-below : tie.Need-add-cell-offsets-below
-add-cell-offsets-below c = search needs
-
-cell-offsets-below-requires : tie.Need-cell-offsets-below-requires
-cell-offsets-below-requires c κs = search needs
-
-cell-offsets-below-requires-2 : tie.Need-cell-offsets-below-requires-2
-cell-offsets-below-requires-2 c κs = search needs
-
 sub-result : tie.Need-sub-result
 sub-result c = omega (arith, more c)
 
@@ -43,11 +31,4 @@ returns-2 c = rw (lt-leb _ 15 (c .if1 .left))
 pub icotable-cells-spec : {M : Type 1} → statement M
 icotable-cells-spec =
     tie.close
-    (tie.spec
-    cast-m
-    add-cell-offsets-below
-    cell-offsets-below-requires
-    cell-offsets-below-requires-2
-    sub-result
-    returns
-    returns-2)
+    (tie.spec (λ c. search needs) (λ c. search needs) (λ c κs. search needs) (λ c κs. search needs) sub-result returns returns-2)

@@ -4,12 +4,6 @@ use borrow.Author.Needs.{needs}
 use Rattle.icotable.proofs.icotable_vertices.Statement.{statement}
 use Rattle.icotable.proofs.icotable_vertices.Tie as tie
 
-cast-vertex-count : tie.Need-cast-vertex-count
-cast-vertex-count c = search needs
-
-vertex-count-requires : tie.Need-vertex-count-requires
-vertex-count-requires c κs = search needs
-
 returns : tie.Need-returns
 returns c = rw (le-leb _ 15 (c .before .if1 .taken)) (c .vertex-count .ensures)
 
@@ -18,4 +12,5 @@ returns-2 c = rw (lt-leb _ 15 (c .if1 .left))
 
 pub icotable-vertices-spec : {M : Type 1} → statement M
 icotable-vertices-spec =
-    tie.close (tie.spec cast-vertex-count vertex-count-requires returns returns-2)
+    tie.close
+    (tie.spec (λ c. search needs) (λ c κs. search needs) returns returns-2)

@@ -17,15 +17,6 @@ mul-result-2 c = let g = c .args .g in omega (arith, mul-le-mul {n₁ = g} {m₁
 add-result : tie.Need-add-result
 add-result c = let g = c .args .g in omega (arith, mul-le-mul {n₁ = g} {m₁ = g} {n₂ = 400} {m₂ = 400} (omega arith) (omega arith))
 
-mul-result-3 : tie.Need-mul-result-3
-mul-result-3 c = search needs
-
-add-result-2 : tie.Need-add-result-2
-add-result-2 c = search needs
-
-mul-result-4 : tie.Need-mul-result-4
-mul-result-4 c = search needs
-
 returns : tie.Need-returns
 unfolding locatorRoom cellCount
 returns c = refl
@@ -33,4 +24,4 @@ returns c = refl
 pub locator-room-spec : {M : Type 1} → statement M
 locator-room-spec =
     tie.close
-    (tie.spec mul-result mul-result-2 add-result mul-result-3 add-result-2 mul-result-4 returns)
+    (tie.spec mul-result mul-result-2 add-result (λ c. search needs) (λ c. search needs) (λ c. search needs) returns)

@@ -2,11 +2,11 @@
 use native.Mathlib.Omega.{arith}
 use borrow.Author.Tests.{le-leb, lt-leb}
 use borrow.Author.Needs.{needs}
-use Rattle.mesh.specs.Questions.{ask}
+use Rattle.lists.specs.Questions.{ask}
 use Rattle.mesh.proofs.Laws.{count-le}
 use Rattle.mesh.proofs.Tables.{grid-le}
-use Rattle.mesh.proofs.Counting.{yes, no}
-use Rattle.locator.specs.Steps.{refusal}
+use Rattle.lists.proofs.Counting.{yes, no}
+use Rattle.locator.specs.Internal.{refusal}
 use Rattle.locator.proofs.refusal.Statement.{statement}
 use Rattle.locator.proofs.refusal.Tie as tie
 
@@ -14,24 +14,12 @@ returns : tie.Need-returns
 unfolding refusal ask
 returns c = rw (lt-leb _ _ (c .if1 .taken))
 
-cast-k : tie.Need-cast-k
-cast-k c = search needs
-
-vertex-count-requires : tie.Need-vertex-count-requires
-vertex-count-requires c κs = search needs
-
 cast-mesh-room : tie.Need-cast-mesh-room
 cast-mesh-room c = omega (arith, count-le (c .before .before .before .before .before .before .args .level) 256 (omega arith))
-
-mesh-room-requires : tie.Need-mesh-room-requires
-mesh-room-requires c κs = search needs
 
 returns-2 : tie.Need-returns-2
 unfolding refusal ask
 returns-2 c = rw (le-leb _ _ (c .before .before .before .if1 .left), ← c .before .before .vertex-count .ensures, no (c .before .mesh-room .ensures) (c .if2 .taken))
-
-grid-size-requires : tie.Need-grid-size-requires
-grid-size-requires c κs = search needs
 
 locator-room-requires : tie.Need-locator-room-requires
 locator-room-requires c κs = (omega (arith, count-le (c .before .before .before .before .before .before .before .before .before .args .level) 16 (omega arith)), omega (arith, grid-le (c .before .before .before .before .before .before .before .before .before .args .level) (omega arith)))
@@ -39,9 +27,6 @@ locator-room-requires c κs = (omega (arith, count-le (c .before .before .before
 returns-3 : tie.Need-returns-3
 unfolding refusal ask
 returns-3 c = rw (le-leb _ _ (c .before .before .before .before .before .before .if1 .left), ← c .before .before .grid-size .ensures, ← c .before .before .before .before .before .vertex-count .ensures, yes (c .before .before .before .before .mesh-room .ensures) (c .before .before .before .if2 .left), no (c .before .locator-room .ensures) (c .if3 .taken))
-
-mesh-keeps-requires : tie.Need-mesh-keeps-requires
-mesh-keeps-requires c κs = search needs
 
 returns-4 : tie.Need-returns-4
 unfolding refusal ask
@@ -56,16 +41,4 @@ returns-5 c = let e = rw (← c .before .before .before .before .before .before 
 pub refusal-spec : {M : Type 1} → statement M
 refusal-spec =
     tie.close
-    (tie.spec
-    returns
-    cast-k
-    vertex-count-requires
-    cast-mesh-room
-    mesh-room-requires
-    returns-2
-    grid-size-requires
-    locator-room-requires
-    returns-3
-    mesh-keeps-requires
-    returns-4
-    returns-5)
+    (tie.spec returns (λ c. search needs) (λ c κs. search needs) cast-mesh-room (λ c κs. search needs) returns-2 (λ c κs. search needs) locator-room-requires returns-3 (λ c κs. search needs) returns-4 returns-5)

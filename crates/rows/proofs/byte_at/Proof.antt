@@ -6,11 +6,6 @@ use Rattle.rows.proofs.byte_at.Tie as tie
 returns : tie.Need-returns
 returns c = read-beyond (c .before .args .list .now) _ (c .if1 .taken)
 
-shared-slice-read-result : tie.Need-shared-slice-read-result
-shared-slice-read-result c = search needs
-
-returns-2 : tie.Need-returns-2
-returns-2 c = search needs
-
 pub byte-at-spec : {M : Type 1} → statement M
-byte-at-spec = tie.close (tie.spec returns shared-slice-read-result returns-2)
+byte-at-spec = tie.close
+    (tie.spec returns (λ c. search needs) (λ c. search needs))

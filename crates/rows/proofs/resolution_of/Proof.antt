@@ -4,9 +4,6 @@ use borrow.Author.Needs.{needs}
 use Rattle.rows.proofs.resolution_of.Statement.{statement}
 use Rattle.rows.proofs.resolution_of.Tie as tie
 
-float32-requires : tie.Need-float32-requires
-float32-requires c κs = search needs
-
 returns : tie.Need-returns
 unfolding resolutionOf
 returns c = rw (eq-eqb _ _ (c .before .if1 .taken), c .float32 .ensures)
@@ -20,4 +17,5 @@ unfolding resolutionOf
 returns-3 c = rw (ne-eqb _ _ (c .before .if1 .left), ne-eqb _ _ (c .if2 .left))
 
 pub resolution-of-spec : {M : Type 1} → statement M
-resolution-of-spec = tie.close (tie.spec float32-requires returns returns-2 returns-3)
+resolution-of-spec = tie.close
+    (tie.spec (λ c κs. search needs) returns returns-2 returns-3)

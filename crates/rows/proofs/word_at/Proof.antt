@@ -6,14 +6,6 @@ use Rattle.rows.proofs.word_at.Tie as tie
 returns : tie.Need-returns
 returns c = read-beyond (c .before .args .list .now) _ (c .if1 .taken)
 
-mul-result : tie.Need-mul-result
-mul-result c = search needs
-
-shared-slice-read-result : tie.Need-shared-slice-read-result
-shared-slice-read-result c = search needs
-
-returns-2 : tie.Need-returns-2
-returns-2 c = search needs
-
 pub word-at-spec : {M : Type 1} → statement M
-word-at-spec = tie.close (tie.spec returns mul-result shared-slice-read-result returns-2)
+word-at-spec = tie.close
+    (tie.spec returns (λ c. search needs) (λ c. search needs) (λ c. search needs))

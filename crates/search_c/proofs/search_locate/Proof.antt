@@ -3,14 +3,9 @@ use borrow.Author.Needs.{needs}
 use Rattle.search_c.proofs.search_locate.Statement.{statement}
 use Rattle.search_c.proofs.search_locate.Tie as tie
 
-unit-requires : tie.Need-unit-requires
-unit-requires c κs = search needs
-
-locate-requires : tie.Need-locate-requires
-locate-requires c κs = search needs
-
 returns : tie.Need-returns
 returns c = rw (← c .before .unit .ensures) (c .locate .ensures)
 
 pub search-locate-spec : {M : Type 1} → statement M
-search-locate-spec = tie.close (tie.spec unit-requires locate-requires returns)
+search-locate-spec = tie.close
+    (tie.spec (λ c κs. search needs) (λ c κs. search needs) returns)

@@ -4,9 +4,9 @@ use Prim.Native.Nat.{_-_, _≤_}
 use native.Mathlib.Omega.{arith}
 use lib.ListN.{length, replicate, length-set}
 use borrow.Author.Needs.{needs}
-use Rattle.mesh.specs.Lists.{put}
-use Rattle.mesh.proofs.Written.{put-nil}
-use Rattle.mesh.proofs.Loops.{fill-turn}
+use Rattle.lists.specs.Lists.{put}
+use Rattle.lists.proofs.Written.{put-nil}
+use Rattle.lists.proofs.Loops.{fill-turn}
 use Rattle.builder.proofs.copies.clear_rows.Statement.{statement}
 use Rattle.builder.proofs.copies.clear_rows.Tie as tie
 
@@ -52,15 +52,6 @@ loop-again c =
       fill-turn (a .values .now) 0 (l .loop .values) (l .loop .i) (v .6) (omega arith),
     )
 
-same-length : tie.Need-same-length Inv-loop μ-loop
-same-length c = search needs
-
-same-length-2 : tie.Need-same-length-2 Inv-loop μ-loop
-same-length-2 c = search needs
-
-same-length-3 : tie.Need-same-length-3 Inv-loop μ-loop
-same-length-3 c = search needs
-
 returns : tie.Need-returns Inv-loop μ-loop
 returns c =
     let l = c .before in
@@ -71,18 +62,4 @@ returns c =
 pub clear-rows-spec : {M : Type 1} → statement M
 clear-rows-spec =
     tie.close
-    (tie.spec
-    Inv-loop
-    μ-loop
-    loop-holds
-    slice-write-kinds
-    slice-write-levels
-    mul-values
-    slice-write-values
-    add-i
-    loop-less
-    loop-again
-    same-length
-    same-length-2
-    same-length-3
-    returns)
+    (tie.spec Inv-loop μ-loop loop-holds slice-write-kinds slice-write-levels mul-values slice-write-values add-i loop-less loop-again (λ c. search needs) (λ c. search needs) (λ c. search needs) returns)

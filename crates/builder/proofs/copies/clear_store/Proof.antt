@@ -4,10 +4,10 @@ use Prim.Native.Nat.{_-_, _≤_}
 use native.Mathlib.Omega.{arith}
 use lib.ListN.{length, replicate, length-set}
 use borrow.Author.Needs.{needs}
-use Rattle.mesh.specs.Lists.{put}
-use Rattle.mesh.proofs.Written.{put-nil}
+use Rattle.lists.specs.Lists.{put}
+use Rattle.lists.proofs.Written.{put-nil}
 use Rattle.settling.specs.Gradient.{zero}
-use Rattle.mesh.proofs.Loops.{fill-turn}
+use Rattle.lists.proofs.Loops.{fill-turn}
 use Rattle.builder.proofs.copies.clear_store.Statement.{statement}
 use Rattle.builder.proofs.copies.clear_store.Tie as tie
 
@@ -38,9 +38,6 @@ loop-again c =
     let a = l .before .args in
     (omega arith, simp length-set (l .loop .inv .1), fill-turn (a .store .now) zero (l .loop .store) (l .loop .i) (l .loop .inv .2) (omega arith))
 
-same-length : tie.Need-same-length Inv-loop μ-loop
-same-length c = search needs
-
 returns : tie.Need-returns Inv-loop μ-loop
 returns c =
     let l = c .before in
@@ -50,14 +47,4 @@ returns c =
 pub clear-store-spec : {M : Type 1} → statement M
 clear-store-spec =
     tie.close
-    (tie.spec
-    Inv-loop
-    μ-loop
-    loop-holds
-    mul-store
-    slice-write-store
-    add-i
-    loop-less
-    loop-again
-    same-length
-    returns)
+    (tie.spec Inv-loop μ-loop loop-holds mul-store slice-write-store add-i loop-less loop-again (λ c. search needs) returns)

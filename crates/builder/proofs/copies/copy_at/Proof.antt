@@ -6,7 +6,7 @@ use lib.ListN.{length, length-set}
 use lib.Seq.{paste, paste-zero}
 use lib.Ieee.{nan}
 use borrow.Author.Needs.{needs}
-use Rattle.mesh.proofs.Loops.{copy-turn, copy-all}
+use Rattle.lists.proofs.Loops.{copy-turn, copy-all}
 use Rattle.builder.proofs.copies.copy_at.Statement.{statement}
 use Rattle.builder.proofs.copies.copy_at.Tie as tie
 
@@ -18,12 +18,6 @@ abbrev μ-loop : tie.MeasureT-loop
 
 loop-holds : tie.Need-loop-holds Inv-loop μ-loop
 loop-holds c = (search needs, refl, paste-zero (c .args .dst .now) (c .args .at) (c .args .src .now))
-
-mul-dst : tie.Need-mul-dst Inv-loop μ-loop
-mul-dst c = search needs
-
-shared-slice-read-dst : tie.Need-shared-slice-read-dst Inv-loop μ-loop
-shared-slice-read-dst c = search needs
 
 add-dst : tie.Need-add-dst Inv-loop μ-loop
 add-dst c = omega arith
@@ -46,9 +40,6 @@ loop-again c =
     let a = l .before .args in
     (omega arith, simp length-set (l .loop .inv .1), copy-turn (a .dst .now) (a .at) (a .src .now) (l .loop .dst) (l .loop .j) nan (l .loop .inv .2) (omega arith) (omega arith))
 
-same-length : tie.Need-same-length Inv-loop μ-loop
-same-length c = search needs
-
 returns : tie.Need-returns Inv-loop μ-loop
 returns c =
     let l = c .before in
@@ -59,17 +50,4 @@ returns c =
 pub copy-at-spec : {M : Type 1} → statement M
 copy-at-spec =
     tie.close
-    (tie.spec
-    Inv-loop
-    μ-loop
-    loop-holds
-    mul-dst
-    shared-slice-read-dst
-    add-dst
-    mul-dst-2
-    slice-write-dst
-    add-j
-    loop-less
-    loop-again
-    same-length
-    returns)
+    (tie.spec Inv-loop μ-loop loop-holds (λ c. search needs) (λ c. search needs) add-dst mul-dst-2 slice-write-dst add-j loop-less loop-again (λ c. search needs) returns)

@@ -1,14 +1,11 @@
 -- `dropped` meets its contract. Assumes nothing.
 use mathlib.Core.Path.{sym, _∙_}
 use native.Mathlib.Omega.{arith}
-use Rattle.builder.specs.Steps.{droppedBy}
+use Rattle.builder.specs.Internal.{droppedBy}
 use Rattle.builder.proofs.Changes.{drops-above}
 use borrow.Author.Needs.{needs}
 use Rattle.builder.proofs.slices.dropped.Statement.{statement}
 use Rattle.builder.proofs.slices.dropped.Tie as tie
-
-drops-requires : tie.Need-drops-requires
-drops-requires c κs = search needs
 
 sub-t8 : tie.Need-sub-t8
 sub-t8 c = let a = c .before .before .before .args in omega (arith, drops-above (a .t) (a .b .grid .threshold) (a .b .level) (sym (c .before .drops .ensures) ∙ c .if1 .taken))
@@ -22,4 +19,5 @@ unfolding droppedBy
 returns-2 c = rw (← c .before .drops .ensures, c .if1 .left)
 
 pub dropped-spec : {M : Type 1} → statement M
-dropped-spec = tie.close (tie.spec drops-requires sub-t8 returns returns-2)
+dropped-spec = tie.close
+    (tie.spec (λ c κs. search needs) sub-t8 returns returns-2)

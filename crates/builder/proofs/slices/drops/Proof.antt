@@ -1,5 +1,5 @@
 -- `drops` meets its contract. Assumes nothing.
-use Rattle.builder.specs.Steps.{dropsBy}
+use Rattle.builder.specs.Internal.{dropsBy}
 use borrow.Author.Needs.{needs}
 use Rattle.builder.proofs.slices.drops.Statement.{statement}
 use Rattle.builder.proofs.slices.drops.Tie as tie

@@ -7,12 +7,14 @@ use native.Mathlib.Omega.{arith}
 use lib.ListN.{length}
 use lib.Ieee.{Float, ofBits}
 use borrow.Author.Needs.{needs}
+use Rattle.mesh.specs.Mesh.{meshOf}
 use Rattle.mesh.specs.Levels.{vertexCount, per}
-use Rattle.mesh.proofs.Sizes.{per-mono, place}
-use Rattle.rows.specs.Rows.{Rows, Row}
+use Rattle.mesh.proofs.Sizes.{per-mono}
+use Rattle.lists.proofs.Places.{place}
+use Rattle.rows.specs.Rows.{Rows, Row, rowsOf}
 use Rattle.settling.specs.Settling.{verdictOf, fromLevel}
-use Rattle.questions.specs.Lists.{Lists, slabs, rowAt}
-use Rattle.builder.specs.Steps.{start}
+use Rattle.builder.specs.BuilderLists.{BuilderLists, slabs, rowAt, listsOf}
+use Rattle.builder.specs.Internal.{start}
 use Rattle.settling.specs.declared.Verdict.{Verdict}
 use Rattle.builder.proofs.Turns.{After, begin, again, end, row-passes, read-row}
 use Rattle.builder.proofs.slices.settle_rows.Statement.{statement}
@@ -21,12 +23,12 @@ use Rattle.builder.proofs.slices.settle_rows.Tie as tie
 -- what settling finds of a row
 abbrev found : Float → Float → List ℕ → List ℕ → List Float → ℕ → Row Float → Verdict
 found threshold beta counts neighbours angles level =
-    verdictOf threshold beta (record { vertices = []; counts = counts; neighbours = neighbours; angles = angles }) (vertexCount level)
+    verdictOf threshold beta (meshOf [] counts neighbours angles) (vertexCount level)
 
 abbrev Inv-loop : tie.InvT-loop
 Inv-loop ri store counts neighbours angles kinds₀ levels₀ values₀ threshold beta n level top apart base t₀ i₀ kinds levels values t i =
-    After (found threshold beta counts neighbours angles level) level top base n (record { store = store; rows = record { kinds = kinds₀; levels = levels₀; values = values₀ } }) start i t
-    (record { kinds = kinds; levels = levels; values = values })
+    After (found threshold beta counts neighbours angles level) level top base n (listsOf store kinds₀ levels₀ values₀) start i t
+    (rowsOf kinds levels values)
 
 abbrev μ-loop : tie.MeasureT-loop
 μ-loop ri store counts neighbours angles kinds₀ levels₀ values₀ threshold beta n level top apart base t₀ i₀ kinds levels values t i =
@@ -46,9 +48,6 @@ cast-level c = let s = c .before .before .before .before .before .before .before
 
 cast-top : tie.Need-cast-top Inv-loop μ-loop
 cast-top c = let s = c .before .before .before .before .before .before .before .before .before in omega (arith, s .pre .top-le)
-
-per-level-requires : tie.Need-per-level-requires Inv-loop μ-loop
-per-level-requires c κs = search needs
 
 mul-base : tie.Need-mul-base Inv-loop μ-loop
 mul-base c = let s = c .before .before .before .before .before .before .before .before .before .before in omega (arith, s .pre .slice-le, s .pre .few)
@@ -80,8 +79,8 @@ loop-again c =
     let l = c .before .before .before .before .before .before .before .before .before .before .before in
     let s = l .before .before .before .before .before .before .before .before .before .before .before in
     let a = s .args in
-    let lent : Lists = record { store = a .store .now; rows = record { kinds = a .kinds .now; levels = a .levels .now; values = a .values .now } } in
-    let now : Rows = record { kinds = l .loop .kinds; levels = l .loop .levels; values = l .loop .values } in
+    let lent : BuilderLists = listsOf (a .store .now) (a .kinds .now) (a .levels .now) (a .values .now) in
+    let now : Rows = rowsOf (l .loop .kinds) (l .loop .levels) (l .loop .values) in
     let n = a .b .grid .«n_omega» in
     let base = a .ri * n in
     let i = l .loop .i in
@@ -112,21 +111,4 @@ returns c =
 pub settle-rows-spec : {M : Type 1} → statement M
 settle-rows-spec =
     tie.close
-    (tie.spec
-    Inv-loop
-    μ-loop
-    cast-level
-    cast-top
-    per-level-requires
-    mul-base
-    loop-holds
-    add-s
-    mul-settle-slab
-    settle-slab-requires
-    add-i
-    loop-less
-    loop-again
-    same-length
-    same-length-2
-    same-length-3
-    returns)
+    (tie.spec Inv-loop μ-loop cast-level cast-top (λ c κs. search needs) mul-base loop-holds add-s mul-settle-slab settle-slab-requires add-i loop-less loop-again same-length same-length-2 same-length-3 returns)

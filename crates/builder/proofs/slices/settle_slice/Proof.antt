@@ -5,10 +5,10 @@ use Prim.Native.Nat.{suc, _+_, _*_, _-_, _≤_}
 use native.Mathlib.Omega.{arith}
 use lib.ListN.{take, drop}
 use Rattle.mesh.specs.Levels.{verticesBelow}
-use Rattle.mesh.specs.Mesh.{Mesh, levelPart}
+use Rattle.mesh.specs.Mesh.{Mesh, levelPart, meshOf}
 use Rattle.mesh.proofs.Laws.{below-more, below-few}
-use Rattle.mesh.proofs.Written.{part}
-use Rattle.builder.specs.Steps.{partLinks}
+use Rattle.lists.proofs.Written.{part}
+use Rattle.builder.specs.Internal.{partLinks}
 use borrow.Author.Needs.{needs}
 use Rattle.builder.proofs.slices.settle_slice.Statement.{statement}
 use Rattle.builder.proofs.slices.settle_slice.Tie as tie
@@ -25,8 +25,8 @@ cut : (c : tie.After-vertex-count) → let a = c .before .before .before .before
     let from = c .before .vertices-below .result in
     let to = from + c .vertex-count .result in
     _≡_ {A = Mesh}
-    (record { vertices = []; counts = take (to - from) (drop from (a .counts .now)); neighbours = take (6 * to - 6 * from) (drop (6 * from) (a .neighbours .now)); angles = take (6 * to - 6 * from) (drop (6 * from) (a .angles .now)) })
-    (partLinks (a .b .level) (record { vertices = []; counts = a .counts .now; neighbours = a .neighbours .now; angles = a .angles .now }))
+    (meshOf [] (take (to - from) (drop from (a .counts .now))) (take (6 * to - 6 * from) (drop (6 * from) (a .neighbours .now))) (take (6 * to - 6 * from) (drop (6 * from) (a .angles .now))))
+    (partLinks (a .b .level) (meshOf [] (a .counts .now) (a .neighbours .now) (a .angles .now)))
 unfolding levelPart
 cut c =
     let s = c .before .before .before .before .before .before .before .before .before .before in
@@ -35,21 +35,15 @@ cut c =
     let to = from + c .vertex-count .result in
     let e = total c in
     rw (
-      part from to (a .counts .now) (omega arith) (omega (arith, e, s .pre .counts-le)),
-      part (6 * from) (6 * to) (a .neighbours .now) (omega arith) (omega (arith, e, s .pre .neighbours-le)),
-      part (6 * from) (6 * to) (a .angles .now) (omega arith) (omega (arith, e, s .pre .angles-le)),
+      part from to (a .counts .now),
+      part (6 * from) (6 * to) (a .neighbours .now),
+      part (6 * from) (6 * to) (a .angles .now),
       e,
       c .before .vertices-below .ensures,
     ) refl
 
 cast-level : tie.Need-cast-level
 cast-level c = let s = c .before .before .before .before .before .before .before .before in omega (arith, s .pre .ready .top-le, s .pre .ready .level-le)
-
-vertices-below-requires : tie.Need-vertices-below-requires
-vertices-below-requires c κs = search needs
-
-vertex-count-requires : tie.Need-vertex-count-requires
-vertex-count-requires c κs = search needs
 
 add-e : tie.Need-add-e
 add-e c = omega (arith, total c, few c)
@@ -60,35 +54,17 @@ mul-a6 c = omega (arith, total c, few c)
 mul-e6 : tie.Need-mul-e6
 mul-e6 c = omega (arith, total c, few c)
 
-sub-settle-rows : tie.Need-sub-settle-rows
-sub-settle-rows c = search needs
-
-part-settle-rows-start : tie.Need-part-settle-rows-start
-part-settle-rows-start c = search needs
-
 part-settle-rows-end : tie.Need-part-settle-rows-end
 part-settle-rows-end c = omega (arith, total c, few c, c .before .before .before .before .before .before .before .before .before .before .pre .counts-le)
 
 mul-settle-rows : tie.Need-mul-settle-rows
 mul-settle-rows c = omega (arith, total (c .before), few (c .before))
 
-sub-settle-rows-2 : tie.Need-sub-settle-rows-2
-sub-settle-rows-2 c = search needs
-
-part-settle-rows-start-2 : tie.Need-part-settle-rows-start-2
-part-settle-rows-start-2 c = search needs
-
 part-settle-rows-end-2 : tie.Need-part-settle-rows-end-2
 part-settle-rows-end-2 c = omega (arith, total (c .before), few (c .before), c .before .before .before .before .before .before .before .before .before .before .before .pre .neighbours-le)
 
 mul-settle-rows-2 : tie.Need-mul-settle-rows-2
 mul-settle-rows-2 c = omega (arith, total (c .before .before), few (c .before .before))
-
-sub-settle-rows-3 : tie.Need-sub-settle-rows-3
-sub-settle-rows-3 c = search needs
-
-part-settle-rows-start-3 : tie.Need-part-settle-rows-start-3
-part-settle-rows-start-3 c = search needs
 
 part-settle-rows-end-3 : tie.Need-part-settle-rows-end-3
 part-settle-rows-end-3 c = omega (arith, total (c .before .before), few (c .before .before), c .before .before .before .before .before .before .before .before .before .before .before .before .pre .angles-le)
@@ -97,41 +73,10 @@ settle-rows-requires : tie.Need-settle-rows-requires
 settle-rows-requires c κs =
     c .before .before .before .before .before .before .before .before .before .before .before .before .before .before .before .before .pre .ready
 
-same-length : tie.Need-same-length
-same-length c = search needs
-
-same-length-2 : tie.Need-same-length-2
-same-length-2 c = search needs
-
-same-length-3 : tie.Need-same-length-3
-same-length-3 c = search needs
-
 returns : tie.Need-returns
 returns c = rw (cut (c .before .before .before .before .before .before .before .before .before .before .before .before .before)) at (c .before .before .before .before .before .before .settle-rows .ensures)
 
 pub settle-slice-spec : {M : Type 1} → statement M
 settle-slice-spec =
     tie.close
-    (tie.spec
-    cast-level
-    vertices-below-requires
-    vertex-count-requires
-    add-e
-    mul-a6
-    mul-e6
-    sub-settle-rows
-    part-settle-rows-start
-    part-settle-rows-end
-    mul-settle-rows
-    sub-settle-rows-2
-    part-settle-rows-start-2
-    part-settle-rows-end-2
-    mul-settle-rows-2
-    sub-settle-rows-3
-    part-settle-rows-start-3
-    part-settle-rows-end-3
-    settle-rows-requires
-    same-length
-    same-length-2
-    same-length-3
-    returns)
+    (tie.spec cast-level (λ c κs. search needs) (λ c κs. search needs) add-e mul-a6 mul-e6 (λ c. search needs) (λ c. search needs) part-settle-rows-end mul-settle-rows (λ c. search needs) (λ c. search needs) part-settle-rows-end-2 mul-settle-rows-2 (λ c. search needs) (λ c. search needs) part-settle-rows-end-3 settle-rows-requires (λ c. search needs) (λ c. search needs) (λ c. search needs) returns)

@@ -22,9 +22,6 @@ sub-z c = norm c .0
 shl-t5 : tie.Need-shl-t5
 shl-t5 c = suc-le-suc (norm c .1 .room)
 
-add-t6 : tie.Need-add-t6
-add-t6 c = search needs
-
 sub-t7 : tie.Need-sub-t7
 sub-t7 c = omega (arith, norm c .1 .room)
 
@@ -32,4 +29,5 @@ returns : tie.Need-returns
 returns c = addend (c .args .k) (c .args .g) (leadingZeros 64 (c .args .k) - 2) (norm c .1) (c .pre .2)
 
 pub addend-term-spec : {M : Type 1} → statement M
-addend-term-spec = tie.close (tie.spec cast-z sub-z shl-t5 add-t6 sub-t7 returns)
+addend-term-spec = tie.close
+    (tie.spec cast-z sub-z shl-t5 (λ c. search needs) sub-t7 returns)

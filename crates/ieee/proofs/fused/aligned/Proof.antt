@@ -7,7 +7,7 @@ use native.Mathlib.Omega.{arith}
 use lib.Dec.{lit<}
 use lib.Pow.{pow-add}
 use lib.Ieee.{binary64}
-use Rattle.ieee.specs.Words.{wide}
+use Rattle.ieee.specs.Internal.{wide}
 use Rattle.ieee.proofs.Terms.{sum-exact}
 use borrow.Author.Needs.{needs}
 use Rattle.ieee.proofs.fused.aligned.Statement.{statement}
@@ -16,21 +16,6 @@ use Rattle.ieee.proofs.fused.aligned.Tie as tie
 -- d + 11 places above e are as many as g + 1074
 places : (e g d : ℕ) → e ≤ 4090 → g ≤ 2045 → d < 63 → (d + e) % 2 ^ 64 ≡ g + 1063 → d + 11 + (e + 3022) ≡ g + 4096
 places e g d E G l h = omega arith
-
-add-wrapping-sub-u64 : tie.Need-add-wrapping-sub-u64
-add-wrapping-sub-u64 c = search needs
-
-wrapping-sub-u64-requires : tie.Need-wrapping-sub-u64-requires
-wrapping-sub-u64-requires c κs = search needs
-
-product-requires : tie.Need-product-requires
-product-requires c κs = search needs
-
-shifted-requires : tie.Need-shifted-requires
-shifted-requires c κs = search needs
-
-add-t13 : tie.Need-add-t13
-add-t13 c = search needs
 
 returns : tie.Need-returns
 returns c =
@@ -56,21 +41,7 @@ returns c =
       places = omega arith;
     }
 
-aligned-far-requires : tie.Need-aligned-far-requires
-aligned-far-requires c κs = search needs
-
-returns-2 : tie.Need-returns-2
-returns-2 c = search needs
-
 pub aligned-spec : {M : Type 1} → statement M
 aligned-spec =
     tie.close
-    (tie.spec
-    add-wrapping-sub-u64
-    wrapping-sub-u64-requires
-    product-requires
-    shifted-requires
-    add-t13
-    returns
-    aligned-far-requires
-    returns-2)
+    (tie.spec (λ c. search needs) (λ c κs. search needs) (λ c κs. search needs) (λ c κs. search needs) (λ c. search needs) returns (λ c κs. search needs) (λ c. search needs))

@@ -6,14 +6,11 @@ use native.Mathlib.Nat.{zero-mul, zero-add, mul-one}
 use native.Mathlib.Omega.{arith}
 use lib.Dec.{lit<}
 use lib.Ieee.{binary64, sum}
-use Rattle.ieee.specs.Words.{wide}
+use Rattle.ieee.specs.Internal.{wide}
 use Rattle.ieee.proofs.Terms.{factors-zero, factors-some, sum-exact, sum-swap}
 use borrow.Author.Needs.{needs}
 use Rattle.ieee.proofs.fused.aligned_far.Statement.{statement}
 use Rattle.ieee.proofs.fused.aligned_far.Tie as tie
-
-add-t17 : tie.Need-add-t17
-add-t17 c = search needs
 
 returns : tie.Need-returns
 returns c =
@@ -33,12 +30,6 @@ returns c =
       second = omega arith;
       places = omega arith;
     }
-
-product-requires : tie.Need-product-requires
-product-requires c κs = search needs
-
-add-t19 : tie.Need-add-t19
-add-t19 c = search needs
 
 returns-2 : tie.Need-returns-2
 returns-2 c =
@@ -64,12 +55,6 @@ product-term-requires c κs =
     let f = factors-some (s .args .m) (s .args .n) (c .before .if1 .left) in
     (f .0, s .pre .0, f .1, s .pre .1, s .pre .2)
 
-addend-term-requires : tie.Need-addend-term-requires
-addend-term-requires c κs = search needs
-
-at-scale-requires : tie.Need-at-scale-requires
-at-scale-requires c κs = search needs
-
 returns-3 : tie.Need-returns-3
 returns-3 c =
     let q = c .before .before in
@@ -88,9 +73,6 @@ returns-3 c =
       second = a .second;
       places = a .places;
     }
-
-at-scale-requires-2 : tie.Need-at-scale-requires-2
-at-scale-requires-2 c κs = search needs
 
 returns-4 : tie.Need-returns-4
 returns-4 c =
@@ -115,15 +97,4 @@ returns-4 c =
 pub aligned-far-spec : {M : Type 1} → statement M
 aligned-far-spec =
     tie.close
-    (tie.spec
-    add-t17
-    returns
-    product-requires
-    add-t19
-    returns-2
-    product-term-requires
-    addend-term-requires
-    at-scale-requires
-    returns-3
-    at-scale-requires-2
-    returns-4)
+    (tie.spec (λ c. search needs) returns (λ c κs. search needs) (λ c. search needs) returns-2 product-term-requires (λ c κs. search needs) (λ c κs. search needs) returns-3 (λ c κs. search needs) returns-4)

@@ -7,22 +7,10 @@ use borrow.Author.Needs.{needs}
 use Rattle.ieee.proofs.fused.all_finite.Statement.{statement}
 use Rattle.ieee.proofs.fused.all_finite.Tie as tie
 
-is-finite-requires : tie.Need-is-finite-requires
-is-finite-requires c κs = search needs
-
 returns : tie.Need-returns
 returns c =
     let s = c .before .before in
     sym (finite-sum (s .args .x) (s .args .y) (s .args .z) (sym (c .before .is-finite .ensures) ∙ c .if1 .taken))
-
-is-finite-requires-2 : tie.Need-is-finite-requires-2
-is-finite-requires-2 c κs = search needs
-
-is-finite-requires-3 : tie.Need-is-finite-requires-3
-is-finite-requires-3 c κs = search needs
-
-is-finite-requires-4 : tie.Need-is-finite-requires-4
-is-finite-requires-4 c κs = search needs
 
 returns-2 : tie.Need-returns-2
 returns-2 c =
@@ -36,10 +24,4 @@ returns-2 c =
 pub all-finite-spec : {M : Type 1} → statement M
 all-finite-spec =
     tie.close
-    (tie.spec
-    is-finite-requires
-    returns
-    is-finite-requires-2
-    is-finite-requires-3
-    is-finite-requires-4
-    returns-2)
+    (tie.spec (λ c κs. search needs) returns (λ c κs. search needs) (λ c κs. search needs) (λ c κs. search needs) returns-2)

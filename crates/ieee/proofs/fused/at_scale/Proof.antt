@@ -4,7 +4,7 @@ use Prim.Native.Nat.{ℕ, _-_, _*_, _^_, _<_}
 use native.Mathlib.Omega.{arith}
 use lib.Pow.{pow-pos}
 use lib.Ieee.{binary64}
-use Rattle.ieee.specs.Words.{wide, Addable}
+use Rattle.ieee.specs.Internal.{wide, Addable}
 use Rattle.ieee.proofs.Sums.{addable, high-word}
 use Rattle.ieee.proofs.Terms.{joined}
 use borrow.Author.Needs.{needs}
@@ -13,12 +13,6 @@ use Rattle.ieee.proofs.fused.at_scale.Tie as tie
 
 low-b : (c : tie.Start) → c .args .b .lo < 2 ^ 64
 low-b c = search needs
-
-sub-jam : tie.Need-sub-jam
-sub-jam c = search needs
-
-jam-requires : tie.Need-jam-requires
-jam-requires c κs = search needs
 
 returns : tie.Need-returns
 returns c =
@@ -40,4 +34,5 @@ returns c =
     }
 
 pub at-scale-spec : {M : Type 1} → statement M
-at-scale-spec = tie.close (tie.spec sub-jam jam-requires returns)
+at-scale-spec = tie.close
+    (tie.spec (λ c. search needs) (λ c κs. search needs) returns)

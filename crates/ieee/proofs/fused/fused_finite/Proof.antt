@@ -4,19 +4,11 @@ use borrow.Author.Needs.{needs}
 use Rattle.ieee.proofs.fused.fused_finite.Statement.{statement}
 use Rattle.ieee.proofs.fused.fused_finite.Tie as tie
 
-add-aligned : tie.Need-add-aligned
-add-aligned c = search needs
-
-aligned-requires : tie.Need-aligned-requires
-aligned-requires c κs = search needs
-
-sum-sides-requires : tie.Need-sum-sides-requires
-sum-sides-requires c κs = search needs
-
 returns : tie.Need-returns
 returns c =
     let a = c .before .aligned .ensures in
     c .sum-sides .ensures (a .exact) (a .scale) (a .some) (a .fine) ∙ a .same
 
 pub fused-finite-spec : {M : Type 1} → statement M
-fused-finite-spec = tie.close (tie.spec add-aligned aligned-requires sum-sides-requires returns)
+fused-finite-spec = tie.close
+    (tie.spec (λ c. search needs) (λ c κs. search needs) (λ c κs. search needs) returns)

@@ -1,10 +1,9 @@
 -- `mul_add` meets its contract. Assumes nothing.
 use mathlib.Core.Path.{_≡_, refl, sym, ap, _∙_}
 use Prim.Native.Nat.{_+_, _*_, _^_}
-use mathlib.Core.Bool.{Bool, true, _&&_}
+use mathlib.Core.Bool.{Bool, true, _&&_, and-eq-true-iff}
 use lib.Pow.{pow-pos}
 use lib.Ieee.Scale.{finite}
-use Rattle.ieee.proofs.Fields.{both-true}
 use Rattle.ieee.proofs.Terms.{fused-outside, fused-addend, fused-finite, scale-product, scale-addend}
 use borrow.Author.Needs.{needs}
 use Rattle.ieee.proofs.fused.mul_add.Statement.{statement}
@@ -13,16 +12,13 @@ use Rattle.ieee.proofs.fused.mul_add.Tie as tie
 all : (c : tie.Then1) → (let a = c .before .before .args in (finite (a .x) ≡ true) × (finite (a .y) ≡ true) × (finite (a .z) ≡ true))
 all c =
     let a = c .before .before .args in
-    let h = both-true (finite (a .x)) (finite (a .y) && finite (a .z)) (sym (c .before .all-finite .ensures) ∙ c .if1 .taken) in
-    let k = both-true (finite (a .y)) (finite (a .z)) (h .1) in
+    let h = and-eq-true-iff (finite (a .x)) (finite (a .y) && finite (a .z)) .0 (sym (c .before .all-finite .ensures) ∙ c .if1 .taken) in
+    let k = and-eq-true-iff (finite (a .y)) (finite (a .z)) .0 (h .1) in
     (h .0, k .0, k .1)
 
 -- the test of both factors
 factors : (c : tie.After-is-finite2) → (c .before .is-finite .result && c .is-finite2 .result) ≡ (finite (c .before .before .before .before .args .x) && finite (c .before .before .before .before .args .y))
 factors c = ap (λ (b : Bool). b && c .is-finite2 .result) (c .before .is-finite .ensures) ∙ ap (λ (b : Bool). finite (c .before .before .before .before .args .x) && b) (c .is-finite2 .ensures)
-
-all-finite-requires : tie.Need-all-finite-requires
-all-finite-requires c κs = search needs
 
 unpack-requires : tie.Need-unpack-requires
 unpack-requires c κs = all c .0
@@ -32,9 +28,6 @@ unpack-requires-2 c κs = all (c .before) .1
 
 unpack-requires-3 : tie.Need-unpack-requires-3
 unpack-requires-3 c κs = all (c .before .before) .2
-
-fused-finite-requires : tie.Need-fused-finite-requires
-fused-finite-requires c κs = search needs
 
 returns : tie.Need-returns
 returns c =
@@ -49,12 +42,6 @@ returns c =
     ∙ fused-finite (a .x) (a .y) (a .z) (X .neg) (Y .neg) (Z .neg) (X .sig * 2 ^ X .exp) (Y .sig * 2 ^ Y .exp) (Z .sig * 2 ^ Z .exp) (2 ^ 1074)
     (X .sig * Y .sig * 2 ^ (X .exp + Y .exp + 3022)) (Z .sig * 2 ^ (Z .exp + 4096)) (2 ^ 5170) (u .unpack .ensures .value) (v .unpack2 .ensures .value) (w .unpack3 .ensures .value) (pow-pos 1074) (pow-pos 5170)
     (scale-product (X .sig) (Y .sig) (X .exp) (Y .exp) 3022 1074 5170 refl) (scale-addend (Z .sig) (Z .exp) 4096 1074 5170 refl)
-
-is-finite-requires : tie.Need-is-finite-requires
-is-finite-requires c κs = search needs
-
-is-finite-requires-2 : tie.Need-is-finite-requires-2
-is-finite-requires-2 c κs = search needs
 
 returns-2 : tie.Need-returns-2
 returns-2 c =
@@ -72,14 +59,4 @@ returns-3 c =
 pub mul-add-spec : {M : Type 1} → statement M
 mul-add-spec =
     tie.close
-    (tie.spec
-    all-finite-requires
-    unpack-requires
-    unpack-requires-2
-    unpack-requires-3
-    fused-finite-requires
-    returns
-    is-finite-requires
-    is-finite-requires-2
-    returns-2
-    returns-3)
+    (tie.spec (λ c κs. search needs) unpack-requires unpack-requires-2 unpack-requires-3 (λ c κs. search needs) returns (λ c κs. search needs) (λ c κs. search needs) returns-2 returns-3)

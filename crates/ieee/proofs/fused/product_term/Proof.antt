@@ -47,9 +47,6 @@ shl-product-2 c = suc-le-suc (norm-n c .1 .room)
 product-requires : tie.Need-product-requires
 product-requires c κs = (word (c .args .m * 2 ^ (leadingZeros 64 (c .args .m) - 1)) (norm-m c .1 .high), word (c .args .n * 2 ^ (leadingZeros 64 (c .args .n) - 1)) (norm-n c .1 .high))
 
-add-t8 : tie.Need-add-t8
-add-t8 c = search needs
-
 sub-t9 : tie.Need-sub-t9
 sub-t9 c = rest (c .before .args .e) (leadingZeros 64 (c .before .args .m) - 1) (leadingZeros 64 (c .before .args .n) - 1) (norm-m (c .before) .1 .room) (norm-n (c .before) .1 .room) .0
 
@@ -64,15 +61,4 @@ returns c =
 pub product-term-spec : {M : Type 1} → statement M
 product-term-spec =
     tie.close
-    (tie.spec
-    cast-y
-    sub-y
-    cast-z
-    sub-z
-    shl-product
-    shl-product-2
-    product-requires
-    add-t8
-    sub-t9
-    sub-t10
-    returns)
+    (tie.spec cast-y sub-y cast-z sub-z shl-product shl-product-2 product-requires (λ c. search needs) sub-t9 sub-t10 returns)

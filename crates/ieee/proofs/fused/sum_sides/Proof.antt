@@ -4,23 +4,11 @@ use Prim.Native.Nat.{ℕ, _+_, _-_, _*_, _^_}
 use mathlib.Core.Bool.{Bool, cond, not, _&&_, Bool·beq}
 use lib.Dec.{eqb}
 use lib.Ieee.{binary64, round}
-use Rattle.ieee.specs.Words.{wide, sumSize, sumSign}
+use Rattle.ieee.specs.Internal.{wide, sumSize, sumSign}
 use Rattle.ieee.proofs.Sums.{summed, sign-is}
 use borrow.Author.Needs.{needs}
 use Rattle.ieee.proofs.fused.sum_sides.Statement.{statement}
 use Rattle.ieee.proofs.fused.sum_sides.Tie as tie
-
-less-requires : tie.Need-less-requires
-less-requires c κs = search needs
-
-joined-requires : tie.Need-joined-requires
-joined-requires c κs = search needs
-
-sign-requires : tie.Need-sign-requires
-sign-requires c κs = search needs
-
-round-wide-requires : tie.Need-round-wide-requires
-round-wide-requires c κs = search needs
 
 returns : tie.Need-returns
 returns c =
@@ -42,4 +30,5 @@ returns c =
 
 pub sum-sides-spec : {M : Type 1} → statement M
 sum-sides-spec =
-    tie.close (tie.spec less-requires joined-requires sign-requires round-wide-requires returns)
+    tie.close
+    (tie.spec (λ c κs. search needs) (λ c κs. search needs) (λ c κs. search needs) (λ c κs. search needs) returns)

@@ -9,21 +9,6 @@ use borrow.Author.Needs.{needs}
 use Rattle.ieee.proofs.narrowing.narrow.Statement.{statement}
 use Rattle.ieee.proofs.narrowing.narrow.Tie as tie
 
-is-finite-requires : tie.Need-is-finite-requires
-is-finite-requires c κs = search needs
-
-unpack-requires : tie.Need-unpack-requires
-unpack-requires c κs = search needs
-
-add-pattern-of : tie.Need-add-pattern-of
-add-pattern-of c = search needs
-
-pattern-of-requires : tie.Need-pattern-of-requires
-pattern-of-requires c κs = search needs
-
-signed32-requires : tie.Need-signed32-requires
-signed32-requires c κs = search needs
-
 returns : tie.Need-returns
 returns c =
     let p = c .before .before in
@@ -34,9 +19,6 @@ returns-2 : tie.Need-returns-2
 unfolding ofBits div
 returns-2 c = sym (ap narrowed (differs-from-itself (c .before .before .before .args .x) (subst T (sym (c .if2 .taken)) tt)) ∙ narrowed-nan)
 
-signed32-requires-2 : tie.Need-signed32-requires-2
-signed32-requires-2 c κs = search needs
-
 returns-3 : tie.Need-returns-3
 returns-3 c =
     let e = c .before in
@@ -46,13 +28,4 @@ returns-3 c =
 pub narrow-spec : {M : Type 1} → statement M
 narrow-spec =
     tie.close
-    (tie.spec
-    is-finite-requires
-    unpack-requires
-    add-pattern-of
-    pattern-of-requires
-    signed32-requires
-    returns
-    returns-2
-    signed32-requires-2
-    returns-3)
+    (tie.spec (λ c κs. search needs) (λ c κs. search needs) (λ c. search needs) (λ c κs. search needs) (λ c κs. search needs) returns returns-2 (λ c κs. search needs) returns-3)

@@ -23,17 +23,11 @@ add-mid c = omega (arith, c .before .loop .inv .most, c .before .loop .inv .orde
 part-requires : tie.Need-part-requires Inv-loop μ-loop
 part-requires c κs = omega (arith, c .before .loop .inv .most, c .before .loop .inv .order)
 
-loop-less : tie.Need-loop-less Inv-loop μ-loop
-loop-less c = omega arith
-
 loop-again : tie.Need-loop-again Inv-loop μ-loop
 loop-again c =
     let p = c .before .before in
     let l = p .before .before .loop in
     lower (p .before .before .before .args .w) (l .lo) (l .hi) ((l .lo + l .hi) / 2) (p .part .result .high) (p .part .result .low) (l .inv) (omega arith) (p .part .ensures .0) (p .part .ensures .1) (c .if1 .taken)
-
-loop-less-2 : tie.Need-loop-less-2 Inv-loop μ-loop
-loop-less-2 c = omega arith
 
 loop-again-2 : tie.Need-loop-again-2 Inv-loop μ-loop
 loop-again-2 c =
@@ -47,15 +41,4 @@ returns c = at-last (c .before .loop .inv) (c .loop-test .left)
 pub bisect-spec : {M : Type 1} → statement M
 bisect-spec =
     tie.close
-    (tie.spec
-    Inv-loop
-    μ-loop
-    loop-holds
-    add-loop
-    add-mid
-    part-requires
-    loop-less
-    loop-again
-    loop-less-2
-    loop-again-2
-    returns)
+    (tie.spec Inv-loop μ-loop loop-holds add-loop add-mid part-requires (λ c. omega arith) loop-again (λ c. omega arith) loop-again-2 returns)

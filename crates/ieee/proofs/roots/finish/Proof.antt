@@ -11,12 +11,6 @@ use Rattle.ieee.proofs.roots.finish.Tie as tie
 small : (c : tie.After-near) → c .near .result ≤ 2 ^ 53
 small c = finished (c .before .args .m) (c .before .args .e) (c .near .result) (c .before .pre .0) (c .before .pre .1) (c .near .ensures) .0
 
-near-requires : tie.Need-near-requires
-near-requires c κs = search needs
-
-mul-result : tie.Need-mul-result
-mul-result c = search needs
-
 add-result : tie.Need-add-result
 add-result c = omega (arith, small c)
 
@@ -28,4 +22,5 @@ returns c = finished (c .before .args .m) (c .before .args .e) (c .near .result)
 
 pub finish-spec : {M : Type 1} → statement M
 finish-spec =
-    tie.close (tie.spec near-requires mul-result add-result float-from-bits-result returns)
+    tie.close
+    (tie.spec (λ c κs. search needs) (λ c. search needs) add-result float-from-bits-result returns)

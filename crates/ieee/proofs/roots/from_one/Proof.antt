@@ -9,8 +9,6 @@ returns : tie.Need-returns
 unfolding isNan ofBits
 returns c = refl
 
-returns-2 : tie.Need-returns-2
-returns-2 c = search needs
-
 pub from-one-spec : {M : Type 1} → statement M
-from-one-spec = tie.close (tie.spec returns returns-2)
+from-one-spec = tie.close
+    (tie.spec returns (λ c. search needs))

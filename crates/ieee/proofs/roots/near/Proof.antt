@@ -4,7 +4,7 @@ use native.Mathlib.Omega.{arith}
 use lib.Dec.{ltb, leb}
 use mir.Val.{boolByte}
 use Rattle.ieee.proofs.Steps.{flag-le}
-use Rattle.ieee.specs.Words.{NearestRoot}
+use Rattle.ieee.specs.Internal.{NearestRoot}
 use Rattle.ieee.proofs.RootSteps.{scaled-fits, high-le, shortfall, beside}
 use borrow.Author.Needs.{needs}
 use Rattle.ieee.proofs.roots.near.Statement.{statement}
@@ -28,59 +28,14 @@ settled c =
     let low = p .part .result .low in
     beside (w * 2 ^ 52) q ((high + 8 - w) * 2 ^ 52 + low) (p .before .seed .ensures .0) (shortfall w q high low (p .part .ensures .0) (c .before .before .before .if1 .taken)) (c .before .if3 .taken) (c .if4 .taken)
 
-add-w : tie.Need-add-w
-add-w c = search needs
-
 mul-w : tie.Need-mul-w
 mul-w c = omega (arith, w-fits c)
-
-seed-requires : tie.Need-seed-requires
-seed-requires c κs = search needs
-
-part-requires : tie.Need-part-requires
-part-requires c κs = search needs
 
 add-h : tie.Need-add-h
 add-h c = omega (arith, high (c .before))
 
 add-if2 : tie.Need-add-if2
 add-if2 c = omega (arith, w-fits (c .before .before .before .before))
-
-mul-d : tie.Need-mul-d
-mul-d c = search needs
-
-add-d : tie.Need-add-d
-add-d c = search needs
-
-mul-if3 : tie.Need-mul-if3
-mul-if3 c = search needs
-
-add-if3 : tie.Need-add-if3
-add-if3 c = search needs
-
-add-if3-2 : tie.Need-add-if3-2
-add-if3-2 c = search needs
-
-add-if4 : tie.Need-add-if4
-add-if4 c = search needs
-
-mul-if4 : tie.Need-mul-if4
-mul-if4 c = search needs
-
-add-if4-2 : tie.Need-add-if4-2
-add-if4-2 c = search needs
-
-cast-up : tie.Need-cast-up
-cast-up c = search needs
-
-mul-down : tie.Need-mul-down
-mul-down c = search needs
-
-add-down : tie.Need-add-down
-add-down c = search needs
-
-cast-down : tie.Need-cast-down
-cast-down c = search needs
 
 add-result : tie.Need-add-result
 add-result c =
@@ -96,33 +51,7 @@ returns c = settled c .1
 bisect-requires : tie.Need-bisect-requires
 bisect-requires c κs = w-fits (c .before .before .before .before)
 
-returns-2 : tie.Need-returns-2
-returns-2 c = search needs
-
 pub near-spec : {M : Type 1} → statement M
 near-spec =
     tie.close
-    (tie.spec
-    add-w
-    mul-w
-    seed-requires
-    part-requires
-    add-h
-    add-if2
-    mul-d
-    add-d
-    mul-if3
-    add-if3
-    add-if3-2
-    add-if4
-    mul-if4
-    add-if4-2
-    cast-up
-    mul-down
-    add-down
-    cast-down
-    add-result
-    sub-result
-    returns
-    bisect-requires
-    returns-2)
+    (tie.spec (λ c. search needs) mul-w (λ c κs. search needs) (λ c κs. search needs) add-h add-if2 (λ c. search needs) (λ c. search needs) (λ c. search needs) (λ c. search needs) (λ c. search needs) (λ c. search needs) (λ c. search needs) (λ c. search needs) (λ c. search needs) (λ c. search needs) (λ c. search needs) (λ c. search needs) add-result sub-result returns bisect-requires (λ c. search needs))

@@ -11,9 +11,6 @@ mul-low c = omega (arith, part-fits (c .args .q) (c .pre))
 add-low : tie.Need-add-low
 add-low c = omega (arith, part-fits (c .args .q) (c .pre))
 
-mul-mid : tie.Need-mul-mid
-mul-mid c = search needs
-
 mul-mid-2 : tie.Need-mul-mid-2
 mul-mid-2 c = omega (arith, part-fits (c .args .q) (c .pre))
 
@@ -26,16 +23,10 @@ mul-t6 c = omega (arith, part-fits (c .args .q) (c .pre))
 add-t7 : tie.Need-add-t7
 add-t7 c = omega (arith, part-fits (c .args .q) (c .pre))
 
-mul-t10 : tie.Need-mul-t10
-mul-t10 c = search needs
-
-add-t12 : tie.Need-add-t12
-add-t12 c = search needs
-
 returns : tie.Need-returns
 returns c = part-is (c .args .q)
 
 pub part-spec : {M : Type 1} → statement M
 part-spec =
     tie.close
-    (tie.spec mul-low add-low mul-mid mul-mid-2 add-mid mul-t6 add-t7 mul-t10 add-t12 returns)
+    (tie.spec mul-low add-low (λ c. search needs) mul-mid-2 add-mid mul-t6 add-t7 (λ c. search needs) (λ c. search needs) returns)

@@ -26,9 +26,6 @@ sub-z c = up c .0
 shl-t6 : tie.Need-shl-t6
 shl-t6 c = omega (arith, up c .1 .room)
 
-add-t7 : tie.Need-add-t7
-add-t7 c = search needs
-
 sub-t8 : tie.Need-sub-t8
 sub-t8 c = omega (arith, up c .1 .room)
 
@@ -45,4 +42,5 @@ returns c =
     )
 
 pub raised-spec : {M : Type 1} → statement M
-raised-spec = tie.close (tie.spec cast-z sub-z shl-t6 add-t7 sub-t8 returns)
+raised-spec = tie.close
+    (tie.spec cast-z sub-z shl-t6 (λ c. search needs) sub-t8 returns)

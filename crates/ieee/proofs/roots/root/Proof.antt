@@ -16,20 +16,11 @@ above : (c : tie.After-unpack) → (let u = c .unpack .result in (u .neg ≡ fal
 unfolding ofBits
 above c = above-zero (c .before .before .before .before .args .x) (c .unpack .result .neg) (c .unpack .result .sig * 2 ^ c .unpack .result .exp) (2 ^ 1074) (pow-pos 1074) (c .before .before .before .if1 .taken) (c .unpack .ensures .value)
 
-is-finite-requires : tie.Need-is-finite-requires
-is-finite-requires c κs = search needs
-
-unpack-requires : tie.Need-unpack-requires
-unpack-requires c κs = search needs
-
 raised-requires : tie.Need-raised-requires
 raised-requires c κs =
     let r = c .unpack .result in
     let u = c .unpack .ensures in
     (factor-pos (r .sig) (2 ^ r .exp) (above c .1), u .digits, u .scale)
-
-finish-requires : tie.Need-finish-requires
-finish-requires c κs = search needs
 
 returns : tie.Need-returns
 returns c =
@@ -55,12 +46,4 @@ returns-4 c = root-none (c .before .before .args .x) (c .before .if1 .left) (c .
 pub root-spec : {M : Type 1} → statement M
 root-spec =
     tie.close
-    (tie.spec
-    is-finite-requires
-    unpack-requires
-    raised-requires
-    finish-requires
-    returns
-    returns-2
-    returns-3
-    returns-4)
+    (tie.spec (λ c κs. search needs) (λ c κs. search needs) raised-requires (λ c κs. search needs) returns returns-2 returns-3 returns-4)

@@ -11,20 +11,8 @@ use borrow.Author.Needs.{needs}
 use Rattle.ieee.proofs.roots.seed.Statement.{statement}
 use Rattle.ieee.proofs.roots.seed.Tie as tie
 
-mul-b : tie.Need-mul-b
-mul-b c = search needs
-
-add-b : tie.Need-add-b
-add-b c = search needs
-
-add-b-2 : tie.Need-add-b-2
-add-b-2 c = search needs
-
 float-from-bits-u : tie.Need-float-from-bits-u
 float-from-bits-u c = plain-pattern binary64 _ (omega arith)
-
-sub-y0 : tie.Need-sub-y0
-sub-y0 c = search needs
 
 float-from-bits-y0 : tie.Need-float-from-bits-y0
 float-from-bits-y0 c = plain-pattern binary64 _ (omega arith)
@@ -35,27 +23,7 @@ from-one-requires c κs = is-false _ (less-no-nan _ _ (c .if1 .taken))
 float-to-bits-result : tie.Need-float-to-bits-result
 float-to-bits-result c = subst (λ (b : Bool). T (not b)) (sym (c .from-one .ensures)) tt
 
-add-result : tie.Need-add-result
-add-result c = search needs
-
-returns : tie.Need-returns
-returns c = search needs
-
-returns-2 : tie.Need-returns-2
-returns-2 c = search needs
-
 pub seed-spec : {M : Type 1} → statement M
 seed-spec =
     tie.close
-    (tie.spec
-    mul-b
-    add-b
-    add-b-2
-    float-from-bits-u
-    sub-y0
-    float-from-bits-y0
-    from-one-requires
-    float-to-bits-result
-    add-result
-    returns
-    returns-2)
+    (tie.spec (λ c. search needs) (λ c. search needs) (λ c. search needs) float-from-bits-u (λ c. search needs) float-from-bits-y0 from-one-requires float-to-bits-result (λ c. search needs) (λ c. search needs) (λ c. search needs))

@@ -29,29 +29,14 @@ odd-le c = le-trans (flag-le (c .args .some || eqb (c .args .w / 2 / 2 ^ c .args
 half : (c : tie.Start) → 1 * 2 ^ c .args .n % 2 ^ 64 ≡ 2 ^ c .args .n
 half c = one-shifted (c .args .n) (c .pre)
 
-shr-q : tie.Need-shr-q
-shr-q c = search needs
-
-shl-rest : tie.Need-shl-rest
-shl-rest c = search needs
-
 mul-rest : tie.Need-mul-rest
 mul-rest c = omega (arith, plain c, rest c .0)
 
 sub-rest : tie.Need-sub-rest
 sub-rest c = rw (plain c) (rest c .0)
 
-cast-odd : tie.Need-cast-odd
-cast-odd c = search needs
-
-shl-half : tie.Need-shl-half
-shl-half c = search needs
-
 sub-result : tie.Need-sub-result
 sub-result c = rw (half c) (odd-le c)
-
-cast-result : tie.Need-cast-result
-cast-result c = search needs
 
 add-result : tie.Need-add-result
 add-result c = omega (arith, shr-le (c .args .w / 2) (c .args .n), flag-le (ltb (1 * 2 ^ c .args .n % 2 ^ 64 - boolByte (c .args .some || eqb (c .args .w / 2 / 2 ^ c .args .n % 2) 1)) (c .args .w - c .args .w / 2 / 2 ^ c .args .n * 2 ^ c .args .n % 2 ^ 64 * 2)))
@@ -69,14 +54,4 @@ returns c =
 pub cut-spec : {M : Type 1} → statement M
 cut-spec =
     tie.close
-    (tie.spec
-    shr-q
-    shl-rest
-    mul-rest
-    sub-rest
-    cast-odd
-    shl-half
-    sub-result
-    cast-result
-    add-result
-    returns)
+    (tie.spec (λ c. search needs) (λ c. search needs) mul-rest sub-rest (λ c. search needs) (λ c. search needs) sub-result (λ c. search needs) add-result returns)

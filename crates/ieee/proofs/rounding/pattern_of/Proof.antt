@@ -26,9 +26,6 @@ cast-z c = record { fits = lt-of-le-of-lt (leading-le 64 (c .before .args .w)) (
 shl-pattern-top : tie.Need-shl-pattern-top
 shl-pattern-top c = suc-le-suc (norm c .room)
 
-add-pattern-top : tie.Need-add-pattern-top
-add-pattern-top c = search needs
-
 sub-pattern-top : tie.Need-sub-pattern-top
 sub-pattern-top c = omega (arith, leading-le 64 (c .before .args .w))
 
@@ -44,11 +41,4 @@ returns-2 c =
 pub pattern-of-spec : {M : Type 1} → statement M
 pattern-of-spec =
     tie.close
-    (tie.spec
-    returns
-    cast-z
-    shl-pattern-top
-    add-pattern-top
-    sub-pattern-top
-    pattern-top-requires
-    returns-2)
+    (tie.spec returns cast-z shl-pattern-top (λ c. search needs) sub-pattern-top pattern-top-requires returns-2)

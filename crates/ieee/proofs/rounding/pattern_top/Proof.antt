@@ -10,27 +10,6 @@ use Rattle.ieee.proofs.rounding.pattern_top.Tie as tie
 size : (c : tie.Start) → (2 ^ 64 ≤ 2 * c .args .n + boolByte (c .args .some)) × (2 * c .args .n + boolByte (c .args .some) < 2 ^ 65)
 size c = doubled (c .args .n) (c .args .some) (c .pre .0) (c .fits .n .fits)
 
-add-if1 : tie.Need-add-if1
-add-if1 c = search needs
-
-sub-result : tie.Need-sub-result
-sub-result c = search needs
-
-sub-result-2 : tie.Need-sub-result-2
-sub-result-2 c = search needs
-
-sub-result-3 : tie.Need-sub-result-3
-sub-result-3 c = search needs
-
-shl-result : tie.Need-shl-result
-shl-result c = search needs
-
-sub-cut : tie.Need-sub-cut
-sub-cut c = search needs
-
-cut-requires : tie.Need-cut-requires
-cut-requires c κs = search needs
-
 add-result : tie.Need-add-result
 add-result c =
     let s = c .before .before in
@@ -46,12 +25,6 @@ returns-2 c =
     let s = c .before .before in
     top-none (s .args .p) (2 * s .args .n + boolByte (s .args .some)) (s .args .t) (size s .0) (size s .1) (s .pre .2) (s .pre .3) (c .if2 .taken)
 
-sub-cut-2 : tie.Need-sub-cut-2
-sub-cut-2 c = search needs
-
-cut-requires-2 : tie.Need-cut-requires-2
-cut-requires-2 c κs = search needs
-
 returns-3 : tie.Need-returns-3
 returns-3 c =
     let s = c .before .before .before in
@@ -60,17 +33,4 @@ returns-3 c =
 pub pattern-top-spec : {M : Type 1} → statement M
 pattern-top-spec =
     tie.close
-    (tie.spec
-    add-if1
-    sub-result
-    sub-result-2
-    sub-result-3
-    shl-result
-    sub-cut
-    cut-requires
-    add-result
-    returns
-    returns-2
-    sub-cut-2
-    cut-requires-2
-    returns-3)
+    (tie.spec (λ c. search needs) (λ c. search needs) (λ c. search needs) (λ c. search needs) (λ c. search needs) (λ c. search needs) (λ c κs. search needs) add-result returns returns-2 (λ c. search needs) (λ c κs. search needs) returns-3)

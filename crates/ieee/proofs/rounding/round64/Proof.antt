@@ -7,16 +7,11 @@ use borrow.Author.Needs.{needs}
 use Rattle.ieee.proofs.rounding.round64.Statement.{statement}
 use Rattle.ieee.proofs.rounding.round64.Tie as tie
 
-pattern-of-requires : tie.Need-pattern-of-requires
-pattern-of-requires c κs = search needs
-
-signed64-requires : tie.Need-signed64-requires
-signed64-requires c κs = search needs
-
 returns : tie.Need-returns
 returns c =
     let s = c .before .before in
     c .signed64 .ensures ∙ float-law binary64 (s .args .neg) (s .args .w * 2 ^ s .args .e) 4096 (c .before .pattern-of .result) (c .before .pattern-of .ensures)
 
 pub round64-spec : {M : Type 1} → statement M
-round64-spec = tie.close (tie.spec pattern-of-requires signed64-requires returns)
+round64-spec = tie.close
+    (tie.spec (λ c κs. search needs) (λ c κs. search needs) returns)

@@ -6,20 +6,8 @@ use borrow.Author.Needs.{needs}
 use Rattle.ieee.proofs.rounding.signed32.Statement.{statement}
 use Rattle.ieee.proofs.rounding.signed32.Tie as tie
 
-capped-requires : tie.Need-capped-requires
-capped-requires c κs = search needs
-
-cast-b : tie.Need-cast-b
-cast-b c = search needs
-
-add-result : tie.Need-add-result
-add-result c = search needs
-
 float-from-bits-result : tie.Need-float-from-bits-result
 float-from-bits-result c = no-nan binary32 true (c .before .before .args .m) (c .before .capped .result) (c .before .capped .ensures)
-
-add-result-2 : tie.Need-add-result-2
-add-result-2 c = search needs
 
 float-from-bits-result-2 : tie.Need-float-from-bits-result-2
 float-from-bits-result-2 c = no-nan binary32 false (c .before .before .args .m) (c .before .capped .result) (c .before .capped .ensures)
@@ -33,12 +21,4 @@ returns-2 c = made binary32 (c .before .before .args .neg) false (c .before .bef
 pub signed32-spec : {M : Type 1} → statement M
 signed32-spec =
     tie.close
-    (tie.spec
-    capped-requires
-    cast-b
-    add-result
-    float-from-bits-result
-    add-result-2
-    float-from-bits-result-2
-    returns
-    returns-2)
+    (tie.spec (λ c κs. search needs) (λ c. search needs) (λ c. search needs) float-from-bits-result (λ c. search needs) float-from-bits-result-2 returns returns-2)

@@ -6,17 +6,8 @@ use borrow.Author.Needs.{needs}
 use Rattle.ieee.proofs.rounding.signed64.Statement.{statement}
 use Rattle.ieee.proofs.rounding.signed64.Tie as tie
 
-capped-requires : tie.Need-capped-requires
-capped-requires c κs = search needs
-
-add-result : tie.Need-add-result
-add-result c = search needs
-
 float-from-bits-result : tie.Need-float-from-bits-result
 float-from-bits-result c = no-nan binary64 true (c .before .before .args .m) (c .before .capped .result) (c .before .capped .ensures)
-
-add-result-2 : tie.Need-add-result-2
-add-result-2 c = search needs
 
 float-from-bits-result-2 : tie.Need-float-from-bits-result-2
 float-from-bits-result-2 c = no-nan binary64 false (c .before .before .args .m) (c .before .capped .result) (c .before .capped .ensures)
@@ -30,11 +21,4 @@ returns-2 c = made binary64 (c .before .before .args .neg) false (c .before .bef
 pub signed64-spec : {M : Type 1} → statement M
 signed64-spec =
     tie.close
-    (tie.spec
-    capped-requires
-    add-result
-    float-from-bits-result
-    add-result-2
-    float-from-bits-result-2
-    returns
-    returns-2)
+    (tie.spec (λ c κs. search needs) (λ c. search needs) float-from-bits-result (λ c. search needs) float-from-bits-result-2 returns returns-2)

@@ -42,12 +42,6 @@ returns c =
       scale = omega arith;
     }
 
-add-t6 : tie.Need-add-t6
-add-t6 c = search needs
-
-sub-t8 : tie.Need-sub-t8
-sub-t8 c = search needs
-
 returns-2 : tie.Need-returns-2
 returns-2 c =
     let x = c .before .args .x in
@@ -63,4 +57,5 @@ returns-2 c =
     }
 
 pub unpack-spec : {M : Type 1} → statement M
-unpack-spec = tie.close (tie.spec float-to-bits-b returns add-t6 sub-t8 returns-2)
+unpack-spec = tie.close
+    (tie.spec float-to-bits-b returns (λ c. search needs) (λ c. search needs) returns-2)

@@ -16,39 +16,12 @@ low-a c = search needs
 low-b : (c : tie.Start) → c .args .b .lo < 2 ^ 64
 low-b c = search needs
 
-flip-requires : tie.Need-flip-requires
-flip-requires c κs = search needs
-
-flip-requires-2 : tie.Need-flip-requires-2
-flip-requires-2 c κs = search needs
-
-cast-one : tie.Need-cast-one
-cast-one c = search needs
-
-wrapping-add-u64-requires : tie.Need-wrapping-add-u64-requires
-wrapping-add-u64-requires c κs = search needs
-
-wrapping-add-u64-requires-2 : tie.Need-wrapping-add-u64-requires-2
-wrapping-add-u64-requires-2 c κs = search needs
-
-cast-carry : tie.Need-cast-carry
-cast-carry c = search needs
-
-cast-carry-2 : tie.Need-cast-carry-2
-cast-carry-2 c = search needs
-
 add-carry : tie.Need-add-carry
 add-carry c =
     let l = c .wrapping-add-u642 .result in
     let s = c .before .wrapping-add-u64 .result in
     let f = c .before .before .before in
     omega (arith, flag-le (ltb s (f .flip .result)), flag-le (ltb l (boolByte (not (f .before .args .like)))))
-
-wrapping-add-u64-requires-3 : tie.Need-wrapping-add-u64-requires-3
-wrapping-add-u64-requires-3 c κs = search needs
-
-wrapping-add-u64-requires-4 : tie.Need-wrapping-add-u64-requires-4
-wrapping-add-u64-requires-4 c κs = search needs
 
 returns : tie.Need-returns
 returns c =
@@ -64,15 +37,4 @@ returns c =
 pub combined-spec : {M : Type 1} → statement M
 combined-spec =
     tie.close
-    (tie.spec
-    flip-requires
-    flip-requires-2
-    cast-one
-    wrapping-add-u64-requires
-    wrapping-add-u64-requires-2
-    cast-carry
-    cast-carry-2
-    add-carry
-    wrapping-add-u64-requires-3
-    wrapping-add-u64-requires-4
-    returns)
+    (tie.spec (λ c κs. search needs) (λ c κs. search needs) (λ c. search needs) (λ c κs. search needs) (λ c κs. search needs) (λ c. search needs) (λ c. search needs) add-carry (λ c κs. search needs) (λ c κs. search needs) returns)

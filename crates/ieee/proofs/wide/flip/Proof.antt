@@ -6,14 +6,9 @@ use borrow.Author.Needs.{needs}
 use Rattle.ieee.proofs.wide.flip.Statement.{statement}
 use Rattle.ieee.proofs.wide.flip.Tie as tie
 
-sub-result : tie.Need-sub-result
-sub-result c = search needs
-
-returns : tie.Need-returns
-returns c = search needs
-
 returns-2 : tie.Need-returns-2
 returns-2 c = ap (λ (b : Bool). cond b (c .before .args .x) (2 ^ 64 - 1 - c .before .args .x)) (sym (c .if1 .left))
 
 pub flip-spec : {M : Type 1} → statement M
-flip-spec = tie.close (tie.spec sub-result returns returns-2)
+flip-spec = tie.close
+    (tie.spec (λ c. search needs) (λ c. search needs) returns-2)

@@ -3,7 +3,7 @@ use mathlib.Core.Path.{_≡_, sym, ap, _∙_, subst}
 use Prim.Native.Nat.{ℕ, _+_, _-_, _*_, _/_, _%_, _^_, _<_, _≤_}
 use native.Mathlib.Omega.{arith}
 use lib.Pow.{pow-pos}
-use Rattle.ieee.specs.Words.{stuck}
+use Rattle.ieee.specs.Internal.{stuck}
 use Rattle.ieee.proofs.Words.{jam-none, jam-all, jam-high, jam-low, joined-lt, one-shifted}
 use borrow.Author.Needs.{needs}
 use Rattle.ieee.proofs.wide.jam.Statement.{statement}
@@ -21,33 +21,15 @@ under k a b = (omega arith, omega arith)
 returns : tie.Need-returns
 returns c = jam-none (c .before .args .w .hi * 2 ^ 64 + c .before .args .w .lo) (c .before .args .k) (c .if1 .taken)
 
-stick-requires : tie.Need-stick-requires
-stick-requires c κs = search needs
-
-stick-requires-2 : tie.Need-stick-requires-2
-stick-requires-2 c κs = search needs
-
 returns-2 : tie.Need-returns-2
 returns-2 c =
     let s = c .before .before .before .before in
     jam-all (s .args .w .hi) (s .args .w .lo) (s .args .k) (c .before .stick .result) (c .stick2 .result) (high s) (low s) (c .before .before .if2 .taken) (c .before .stick .ensures) (c .stick2 .ensures)
 
-shr-q : tie.Need-shr-q
-shr-q c = search needs
-
-shl-stick : tie.Need-shl-stick
-shl-stick c = search needs
-
 rem-stick : tie.Need-rem-stick
 rem-stick c =
     let k = c .before .before .before .args .k in
     subst (λ (x : ℕ). 0 < x) (sym (one-shifted (k - 64) (under k (c .before .if2 .left) (c .if3 .taken) .0))) (pow-pos (k - 64))
-
-stick-requires-3 : tie.Need-stick-requires-3
-stick-requires-3 c κs = search needs
-
-stick-requires-4 : tie.Need-stick-requires-4
-stick-requires-4 c κs = search needs
 
 returns-3 : tie.Need-returns-3
 returns-3 c =
@@ -59,29 +41,11 @@ returns-3 c =
     (c .before .stick3 .ensures ∙ ap (λ (x : ℕ). stuck (hi / 2 ^ (k - 64)) (hi % x)) (one-shifted (k - 64) (u .0)))
     (c .stick4 .ensures)
 
-sub-stick : tie.Need-sub-stick
-sub-stick c = search needs
-
-shl-stick-2 : tie.Need-shl-stick-2
-shl-stick-2 c = search needs
-
-shr-stick : tie.Need-shr-stick
-shr-stick c = search needs
-
 add-stick : tie.Need-add-stick
 add-stick c = record { fits = joined-lt (c .before .before .before .args .w .hi) (c .before .before .before .args .w .lo) (c .before .before .before .args .k) (high (c .before .before .before)) (low (c .before .before .before)) (c .if3 .left) }
 
-shl-stick-3 : tie.Need-shl-stick-3
-shl-stick-3 c = search needs
-
 rem-stick-2 : tie.Need-rem-stick-2
 rem-stick-2 c = subst (λ (x : ℕ). 0 < x) (sym (one-shifted (c .before .before .before .args .k) (c .if3 .left))) (pow-pos (c .before .before .before .args .k))
-
-stick-requires-5 : tie.Need-stick-requires-5
-stick-requires-5 c κs = search needs
-
-shr-t15 : tie.Need-shr-t15
-shr-t15 c = search needs
 
 returns-4 : tie.Need-returns-4
 returns-4 c =
@@ -95,23 +59,4 @@ returns-4 c =
 pub jam-spec : {M : Type 1} → statement M
 jam-spec =
     tie.close
-    (tie.spec
-    returns
-    stick-requires
-    stick-requires-2
-    returns-2
-    shr-q
-    shl-stick
-    rem-stick
-    stick-requires-3
-    stick-requires-4
-    returns-3
-    sub-stick
-    shl-stick-2
-    shr-stick
-    add-stick
-    shl-stick-3
-    rem-stick-2
-    stick-requires-5
-    shr-t15
-    returns-4)
+    (tie.spec returns (λ c κs. search needs) (λ c κs. search needs) returns-2 (λ c. search needs) (λ c. search needs) rem-stick (λ c κs. search needs) (λ c κs. search needs) returns-3 (λ c. search needs) (λ c. search needs) (λ c. search needs) add-stick (λ c. search needs) rem-stick-2 (λ c κs. search needs) (λ c. search needs) returns-4)

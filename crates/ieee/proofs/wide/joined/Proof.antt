@@ -2,7 +2,7 @@
 use mathlib.Core.Path.{_≡_, sym, ap, _∙_, subst}
 use Prim.Native.Nat.{ℕ, _+_, _-_, _^_, _≤_}
 use mathlib.Core.Bool.{cond}
-use Rattle.ieee.specs.Words.{wide}
+use Rattle.ieee.specs.Internal.{wide}
 use Rattle.ieee.proofs.Words.{picked-wide, picked-lt, picked-le, picked-size}
 use borrow.Author.Needs.{needs}
 use Rattle.ieee.proofs.wide.joined.Statement.{statement}
@@ -23,12 +23,6 @@ smaller : (c : tie.After-pick2) → wide (c .pick2 .result .hi) (c .pick2 .resul
 smaller c =
     let s = c .before .before .args in
     picked-wide (s .under) (s .a .hi) (s .a .lo) (s .b .hi) (s .b .lo) (c .pick2 .result .hi) (c .pick2 .result .lo) (c .pick2 .ensures .0) (c .pick2 .ensures .1)
-
-pick-requires : tie.Need-pick-requires
-pick-requires c κs = search needs
-
-pick-requires-2 : tie.Need-pick-requires-2
-pick-requires-2 c κs = search needs
 
 combined-requires : tie.Need-combined-requires
 combined-requires c κs =
@@ -52,4 +46,5 @@ returns c =
     ∙ picked-size like (s .args .under) (A s) (B s)
 
 pub joined-spec : {M : Type 1} → statement M
-joined-spec = tie.close (tie.spec pick-requires pick-requires-2 combined-requires returns)
+joined-spec = tie.close
+    (tie.spec (λ c κs. search needs) (λ c κs. search needs) combined-requires returns)

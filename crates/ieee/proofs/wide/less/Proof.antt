@@ -14,9 +14,6 @@ low-a c = search needs
 low-b : (c : tie.Start) → c .args .b .lo < 2 ^ 64
 low-b c = search needs
 
-cast-result : tie.Need-cast-result
-cast-result c = search needs
-
 add-result : tie.Need-add-result
 add-result c = omega (arith, flag-le (ltb (c .args .a .lo) (c .args .b .lo)))
 
@@ -24,4 +21,5 @@ returns : tie.Need-returns
 returns c = less-is (c .args .a .hi) (c .args .a .lo) (c .args .b .hi) (c .args .b .lo) (2 ^ 64) (low-a c) (low-b c)
 
 pub less-spec : {M : Type 1} → statement M
-less-spec = tie.close (tie.spec cast-result add-result returns)
+less-spec = tie.close
+    (tie.spec (λ c. search needs) add-result returns)

@@ -28,9 +28,6 @@ mul-t9 c = record { fits = all c .top }
 add-t11 : tie.Need-add-t11
 add-t11 c = record { fits = all c .high }
 
-add-t14 : tie.Need-add-t14
-add-t14 c = search needs
-
 returns : tie.Need-returns
 returns c =
     let p = product-is (c .args .a) (c .args .b) in
@@ -38,4 +35,5 @@ returns c =
 
 pub product-spec : {M : Type 1} → statement M
 product-spec =
-    tie.close (tie.spec mul-low mul-mid mul-mid-2 add-mid add-mid-2 mul-t9 add-t11 add-t14 returns)
+    tie.close
+    (tie.spec mul-low mul-mid mul-mid-2 add-mid add-mid-2 mul-t9 add-t11 (λ c. search needs) returns)

@@ -8,7 +8,7 @@ use lib.Dec.{eqb, lit<, lit≤}
 use mir.Val.{boolByte}
 use lib.Count.{leadingZeros, leading-le}
 use lib.Ieee.{binary64, round}
-use Rattle.ieee.specs.Words.{wide}
+use Rattle.ieee.specs.Internal.{wide}
 use Rattle.ieee.proofs.Steps.{float-law}
 use Rattle.ieee.proofs.Words.{lead-room, lead-fits, lead-top, wide-round}
 use borrow.Author.Needs.{needs}
@@ -27,9 +27,6 @@ some c = pos-of-ne-zero (c .if1 .left)
 room : (c : tie.Else1) → leadingZeros 64 (c .before .args .w .hi) < 64
 room c = lead-room (c .before .args .w .hi) (c .before .args .w .lo) (some c) (high (c .before)) (low (c .before))
 
-round64-requires : tie.Need-round64-requires
-round64-requires c κs = search needs
-
 returns : tie.Need-returns
 returns c =
     let s = c .before .before in
@@ -45,26 +42,17 @@ shl-n c = room c
 sub-n : tie.Need-sub-n
 sub-n c = omega (arith, room c)
 
-shr-n : tie.Need-shr-n
-shr-n c = search needs
-
 add-n : tie.Need-add-n
 add-n c = record { fits = lead-fits (c .before .args .w .hi) (c .before .args .w .lo) (some c) (high (c .before)) (low (c .before)) }
 
 shl-pattern-top : tie.Need-shl-pattern-top
 shl-pattern-top c = room c
 
-add-pattern-top : tie.Need-add-pattern-top
-add-pattern-top c = search needs
-
 sub-pattern-top : tie.Need-sub-pattern-top
 sub-pattern-top c = omega (arith, room c)
 
 pattern-top-requires : tie.Need-pattern-top-requires
 pattern-top-requires c κs = (lead-top (c .before .args .w .hi) (c .before .args .w .lo) (some c) (high (c .before)) (low (c .before)), omega arith, lit≤ tt, lit≤ tt)
-
-signed64-requires : tie.Need-signed64-requires
-signed64-requires c κs = search needs
 
 returns-2 : tie.Need-returns-2
 returns-2 c =
@@ -81,17 +69,4 @@ returns-2 c =
 pub round-wide-spec : {M : Type 1} → statement M
 round-wide-spec =
     tie.close
-    (tie.spec
-    round64-requires
-    returns
-    cast-z
-    shl-n
-    sub-n
-    shr-n
-    add-n
-    shl-pattern-top
-    add-pattern-top
-    sub-pattern-top
-    pattern-top-requires
-    signed64-requires
-    returns-2)
+    (tie.spec (λ c κs. search needs) returns cast-z shl-n sub-n (λ c. search needs) add-n shl-pattern-top (λ c. search needs) sub-pattern-top pattern-top-requires (λ c κs. search needs) returns-2)

@@ -9,18 +9,6 @@ use borrow.Author.Needs.{needs}
 use Rattle.ieee.proofs.wide.shifted.Statement.{statement}
 use Rattle.ieee.proofs.wide.shifted.Tie as tie
 
-mul-v : tie.Need-mul-v
-mul-v c = search needs
-
-sub-t5 : tie.Need-sub-t5
-sub-t5 c = search needs
-
-shr-t6 : tie.Need-shr-t6
-shr-t6 c = search needs
-
-shl-t7 : tie.Need-shl-t7
-shl-t7 c = search needs
-
 returns : tie.Need-returns
 returns c =
     let k = c .args .k in
@@ -28,4 +16,5 @@ returns c =
     (shifted-is (k * 2048) t (omega arith) ∙ mul-assoc k 2048 (2 ^ t) ∙ ap (λ (x : ℕ). k * x) (mul-comm 2048 (2 ^ t) ∙ sym (pow-add 2 t 11)), shifted-high (k * 2048) t (omega arith) (c .pre .1))
 
 pub shifted-spec : {M : Type 1} → statement M
-shifted-spec = tie.close (tie.spec mul-v sub-t5 shr-t6 shl-t7 returns)
+shifted-spec = tie.close
+    (tie.spec (λ c. search needs) (λ c. search needs) (λ c. search needs) (λ c. search needs) returns)

@@ -6,12 +6,6 @@ use borrow.Author.Needs.{needs}
 use Rattle.ieee.proofs.wide.stick.Statement.{statement}
 use Rattle.ieee.proofs.wide.stick.Tie as tie
 
-cast-some : tie.Need-cast-some
-cast-some c = search needs
-
-sub-result : tie.Need-sub-result
-sub-result c = search needs
-
 mul-result : tie.Need-mul-result
 mul-result c = record { fits = stick-fits (c .args .q) (not (eqb (c .args .rest) 0)) (c .fits .q .fits) .0 }
 
@@ -22,4 +16,5 @@ returns : tie.Need-returns
 returns c = stick-flat (c .args .q) (eqb (c .args .rest) 0)
 
 pub stick-spec : {M : Type 1} → statement M
-stick-spec = tie.close (tie.spec cast-some sub-result mul-result add-result returns)
+stick-spec = tie.close
+    (tie.spec (λ c. search needs) (λ c. search needs) mul-result add-result returns)

@@ -4,12 +4,6 @@ use borrow.Author.Needs.{needs}
 use Rattle.lent.proofs.calls.settle_done.Statement.{statement}
 use Rattle.lent.proofs.calls.settle_done.Tie as tie
 
-enum-known-a : tie.Need-enum-known-a
-enum-known-a c = search needs
-
-enum-known-a-2 : tie.Need-enum-known-a-2
-enum-known-a-2 c = search needs
-
 returns : tie.Need-returns
 returns c = rw (c .before .a .given .1) (refl, refl)
 
@@ -17,4 +11,5 @@ returns-2 : tie.Need-returns-2
 returns-2 c = rw (c .before .a2 .given .1) (refl, refl)
 
 pub settle-done-spec : {M : Type 1} → statement M
-settle-done-spec = tie.close (tie.spec enum-known-a enum-known-a-2 returns returns-2)
+settle-done-spec = tie.close
+    (tie.spec (λ c. search needs) (λ c. search needs) returns returns-2)

@@ -8,15 +8,6 @@ use Rattle.search.specs.Cells.{cellNumber}
 use Rattle.locator.proofs.cells.cell_number.Statement.{statement}
 use Rattle.locator.proofs.cells.cell_number.Tie as tie
 
-in-cells-requires : tie.Need-in-cells-requires
-in-cells-requires c κs = search needs
-
-to-i64-requires : tie.Need-to-i64-requires
-to-i64-requires c κs = search needs
-
-kept-requires : tie.Need-kept-requires
-kept-requires c κs = search needs
-
 returns : tie.Need-returns
 unfolding cellNumber
 returns c = let a = c .before .before .before .args in
@@ -24,4 +15,5 @@ returns c = let a = c .before .before .before .args in
     rw (c .kept .ensures, c .before .to-i64 .ensures, c .before .before .in-cells .ensures, read (toSigned 63 x) (record { sfits = toSigned-in 63 x }))
 
 pub cell-number-spec : {M : Type 1} → statement M
-cell-number-spec = tie.close (tie.spec in-cells-requires to-i64-requires kept-requires returns)
+cell-number-spec = tie.close
+    (tie.spec (λ c κs. search needs) (λ c κs. search needs) (λ c κs. search needs) returns)

@@ -6,7 +6,7 @@ use native.Mathlib.Omega.{arith}
 use lib.ListN.{length, getD, drop, length-set}
 use lib.Seq.{drop-set-lt}
 use borrow.Author.Needs.{needs}
-use Rattle.locator.specs.Steps.{vertexKey}
+use Rattle.locator.specs.Internal.{vertexKey}
 use Rattle.locator.proofs.Keys.{one-more}
 use Rattle.locator.proofs.cells.fresh_keys.Statement.{statement}
 use Rattle.locator.proofs.cells.fresh_keys.Tie as tie
@@ -50,28 +50,10 @@ loop-less c = omega arith
 loop-again : tie.Need-loop-again Inv-loop μ-loop
 loop-again c = let l = c .before .before in (omega arith, simp length-set (l .loop .inv .1), drop-set-lt (l .before .before .before .before .args .n) (l .loop .keys) (l .loop .v) (c .vertex-key .result) (omega arith) ∙ l .loop .inv .2, one-more _ (l .loop .keys) (l .loop .v) (c .vertex-key .result) (l .loop .inv .3) (omega arith) (c .vertex-key .ensures))
 
-same-length : tie.Need-same-length Inv-loop μ-loop
-same-length c = search needs
-
 returns-2 : tie.Need-returns-2 Inv-loop μ-loop
 returns-2 c = let l = c .before in (record { each = λ v hv. l .loop .inv .3 v (omega arith) }, l .loop .inv .2)
 
 pub fresh-keys-spec : {M : Type 1} → statement M
 fresh-keys-spec =
     tie.close
-    (tie.spec
-    Inv-loop
-    μ-loop
-    mul-a
-    rem-if1
-    returns
-    div-face
-    loop-holds
-    vertex-key-requires
-    mul-keys
-    slice-write-keys
-    add-v
-    loop-less
-    loop-again
-    same-length
-    returns-2)
+    (tie.spec Inv-loop μ-loop mul-a rem-if1 returns div-face loop-holds vertex-key-requires mul-keys slice-write-keys add-v loop-less loop-again (λ c. search needs) returns-2)

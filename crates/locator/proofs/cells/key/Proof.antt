@@ -2,7 +2,7 @@
 use native.Mathlib.Omega.{arith}
 use borrow.Author.Needs.{needs}
 use Rattle.search.specs.Cells.{cellNumber}
-use Rattle.locator.specs.Steps.{keyOf}
+use Rattle.locator.specs.Internal.{keyOf}
 use Rattle.locator.proofs.Keys.{kept-le}
 use Rattle.locator.proofs.cells.key.Statement.{statement}
 use Rattle.locator.proofs.cells.key.Tie as tie
@@ -11,14 +11,8 @@ returns : tie.Need-returns
 unfolding keyOf
 returns c = rw (c .if1 .taken)
 
-cell-number-requires : tie.Need-cell-number-requires
-cell-number-requires c κs = search needs
-
 mul-k : tie.Need-mul-k
 mul-k c = let a = c .before .before .args in rw (c .cell-number .ensures) (omega (arith, kept-le (cellNumber (a .g) (a .u) (a .d))))
-
-cell-number-requires-2 : tie.Need-cell-number-requires-2
-cell-number-requires-2 c κs = search needs
 
 add-k : tie.Need-add-k
 add-k c = let a = c .before .before .before .args in rw (c .before .cell-number .ensures, c .cell-number2 .ensures) (omega (arith, kept-le (cellNumber (a .g) (a .u) (a .d)), kept-le (cellNumber (a .g) (a .w) (a .d))))
@@ -33,11 +27,4 @@ returns-2 c = rw (c .before .before .if1 .left, c .before .cell-number .ensures,
 pub key-spec : {M : Type 1} → statement M
 key-spec =
     tie.close
-    (tie.spec
-    returns
-    cell-number-requires
-    mul-k
-    cell-number-requires-2
-    add-k
-    cast-result
-    returns-2)
+    (tie.spec returns (λ c κs. search needs) mul-k (λ c κs. search needs) add-k cast-result returns-2)

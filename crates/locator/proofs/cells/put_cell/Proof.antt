@@ -6,9 +6,9 @@ use native.Mathlib.Nat.{mul-le-mul, mul-pos}
 use native.Mathlib.Omega.{arith}
 use lib.ListN.{length, getD}
 use borrow.Author.Needs.{needs}
-use Rattle.mesh.specs.Lists.{filter, below}
-use Rattle.mesh.proofs.Written.{Written, nothing, found, kept, passed}
-use Rattle.locator.specs.Steps.{hit, keyCell}
+use Rattle.lists.specs.Lists.{filter, below}
+use Rattle.lists.proofs.Written.{Written, nothing, found, kept, passed}
+use Rattle.locator.specs.Internal.{hit, keyCell}
 use Rattle.locator.proofs.Keys.{spots}
 use Rattle.locator.proofs.cells.put_cell.Statement.{statement}
 use Rattle.locator.proofs.cells.put_cell.Tie as tie
@@ -32,14 +32,8 @@ mul-a c = let g = c .before .before .args .g in omega (arith, mul-le-mul {n₁ =
 rem-i : tie.Need-rem-i Inv-loop μ-loop
 rem-i c = let g = c .before .before .args .g in let h : 0 < g = omega arith in omega (arith, mul-pos {m = g} {n = g} h h)
 
-div-i : tie.Need-div-i Inv-loop μ-loop
-div-i c = search needs
-
 rem-j : tie.Need-rem-j Inv-loop μ-loop
 rem-j c = let g = c .before .before .args .g in let h : 0 < g = omega arith in omega (arith, mul-pos {m = g} {n = g} h h)
-
-rem-j-2 : tie.Need-rem-j-2 Inv-loop μ-loop
-rem-j-2 c = search needs
 
 loop-holds : tie.Need-loop-holds Inv-loop μ-loop
 unfolding filter below
@@ -54,9 +48,6 @@ shared-slice-read-hit c = omega arith
 hit-requires : tie.Need-hit-requires Inv-loop μ-loop
 hit-requires c κs = let a = c .before .before .before .before .before .args in omega (arith, spots (a .g) (a .c) (omega arith))
 
-cast-out : tie.Need-cast-out Inv-loop μ-loop
-cast-out c = search needs
-
 mul-out : tie.Need-mul-out Inv-loop μ-loop
 mul-out c = omega (arith, fits c)
 
@@ -65,12 +56,6 @@ slice-write-out c = omega (arith, fits c)
 
 add-to : tie.Need-add-to Inv-loop μ-loop
 add-to c = omega (arith, fits c)
-
-add-v : tie.Need-add-v Inv-loop μ-loop
-add-v c = search needs
-
-loop-less : tie.Need-loop-less Inv-loop μ-loop
-loop-less c = search needs
 
 loop-again : tie.Need-loop-again Inv-loop μ-loop
 loop-again c = let l = c .before .before .before .before in let h = l .loop .inv .1 in (
@@ -81,9 +66,6 @@ loop-again c = let l = c .before .before .before .before in let h = l .loop .inv
       (c .if1 .came),
 )
 
-same-length : tie.Need-same-length Inv-loop μ-loop
-same-length c = search needs
-
 returns : tie.Need-returns Inv-loop μ-loop
 unfolding keyCell
 returns c = let l = c .before in
@@ -93,24 +75,4 @@ returns c = let l = c .before in
 pub put-cell-spec : {M : Type 1} → statement M
 put-cell-spec =
     tie.close
-    (tie.spec
-    Inv-loop
-    μ-loop
-    mul-a
-    rem-i
-    div-i
-    rem-j
-    rem-j-2
-    loop-holds
-    mul-hit
-    shared-slice-read-hit
-    hit-requires
-    cast-out
-    mul-out
-    slice-write-out
-    add-to
-    add-v
-    loop-less
-    loop-again
-    same-length
-    returns)
+    (tie.spec Inv-loop μ-loop mul-a rem-i (λ c. search needs) rem-j (λ c. search needs) loop-holds mul-hit shared-slice-read-hit hit-requires (λ c. search needs) mul-out slice-write-out add-to (λ c. search needs) (λ c. search needs) loop-again (λ c. search needs) returns)

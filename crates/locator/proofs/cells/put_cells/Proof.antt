@@ -5,10 +5,10 @@ use native.Mathlib.Nat.{mul-pos, zero-mod}
 use native.Mathlib.Omega.{arith}
 use lib.ListN.{length, drop}
 use borrow.Author.Needs.{needs}
-use Rattle.mesh.specs.Lists.{joined, starts}
-use Rattle.mesh.proofs.Written.{Written, nothing, pushed, chunk, joined-more, joined-le, next-fits, starts-more}
+use Rattle.lists.specs.Lists.{joined, starts}
+use Rattle.lists.proofs.Written.{Written, nothing, pushed, chunk, joined-more, joined-le, next-fits, starts-more}
 use Rattle.search.specs.Cells.{cell}
-use Rattle.locator.specs.Steps.{Keyed, cellsOut}
+use Rattle.locator.specs.Internal.{Keyed, cellsOut}
 use Rattle.locator.proofs.Keys.{keyed-cell, same-face}
 use Rattle.locator.proofs.cells.put_cells.Statement.{statement}
 use Rattle.locator.proofs.cells.put_cells.Tie as tie
@@ -84,15 +84,6 @@ mul-offsets-2 c = omega arith
 slice-write-offsets-2 : tie.Need-slice-write-offsets-2 Inv-loop μ-loop
 slice-write-offsets-2 c = omega arith
 
-same-length : tie.Need-same-length Inv-loop μ-loop
-same-length c = search needs
-
-same-length-2 : tie.Need-same-length-2 Inv-loop μ-loop
-same-length-2 c = search needs
-
-same-length-3 : tie.Need-same-length-3 Inv-loop μ-loop
-same-length-3 c = search needs
-
 returns : tie.Need-returns Inv-loop μ-loop
 unfolding cellsOut
 returns c = let l = c .before in let a = l .before .before .before .before .before .args in let f = cell (a .vertices .now) (a .n) (a .g) in
@@ -105,22 +96,4 @@ returns c = let l = c .before in let a = l .before .before .before .before .befo
 pub put-cells-spec : {M : Type 1} → statement M
 put-cells-spec =
     tie.close
-    (tie.spec
-    Inv-loop
-    μ-loop
-    loop-holds
-    fresh-keys-requires
-    cast-offsets
-    mul-offsets
-    slice-write-offsets
-    put-cell-requires
-    add-c
-    loop-less
-    loop-again
-    cast-offsets-2
-    mul-offsets-2
-    slice-write-offsets-2
-    same-length
-    same-length-2
-    same-length-3
-    returns)
+    (tie.spec Inv-loop μ-loop loop-holds fresh-keys-requires cast-offsets mul-offsets slice-write-offsets put-cell-requires add-c loop-less loop-again cast-offsets-2 mul-offsets-2 slice-write-offsets-2 (λ c. search needs) (λ c. search needs) (λ c. search needs) returns)

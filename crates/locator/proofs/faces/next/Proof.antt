@@ -4,7 +4,7 @@ use native.Mathlib.Omega.{arith}
 use borrow.Author.Needs.{needs}
 use borrow.Author.Count.{below-more}
 use Rattle.mesh.specs.Mesh.{Mesh, neighbour}
-use Rattle.mesh.specs.Steps.{links}
+use Rattle.mesh.specs.Internal.{links}
 use Rattle.locator.proofs.Bound.{untouching}
 use Rattle.locator.proofs.faces.next.Statement.{statement}
 use Rattle.locator.proofs.faces.next.Tie as tie
@@ -15,26 +15,8 @@ Inv-loop counts neighbours n v from c best₀ k₀ best k = (k ≤ c) × (best �
 abbrev μ-loop : tie.MeasureT-loop
 μ-loop counts neighbours n v from c best₀ k₀ best k = c - k
 
-degree-requires : tie.Need-degree-requires Inv-loop μ-loop
-degree-requires c κs = search needs
-
-nearer-requires : tie.Need-nearer-requires Inv-loop μ-loop
-nearer-requires c κs = search needs
-
 loop-holds : tie.Need-loop-holds Inv-loop μ-loop
 loop-holds c = let e = c .nearer .ensures in (omega arith, e .0, e .2 (omega arith), e .1, λ j l. absurd (omega arith))
-
-neighbour-requires : tie.Need-neighbour-requires Inv-loop μ-loop
-neighbour-requires c κs = search needs
-
-nearer-requires-2 : tie.Need-nearer-requires-2 Inv-loop μ-loop
-nearer-requires-2 c κs = search needs
-
-add-k : tie.Need-add-k Inv-loop μ-loop
-add-k c = search needs
-
-loop-less : tie.Need-loop-less Inv-loop μ-loop
-loop-less c = search needs
 
 loop-again : tie.Need-loop-again Inv-loop μ-loop
 loop-again c = let l = c .before .before .before in let a = l .before .before .before .before .before .args in let e = c .nearer2 .ensures in
@@ -60,15 +42,4 @@ returns c = let l = c .before in let a = l .before .before .before .before .befo
 pub next-spec : {M : Type 1} → statement M
 next-spec =
     tie.close
-    (tie.spec
-    Inv-loop
-    μ-loop
-    degree-requires
-    nearer-requires
-    loop-holds
-    neighbour-requires
-    nearer-requires-2
-    add-k
-    loop-less
-    loop-again
-    returns)
+    (tie.spec Inv-loop μ-loop (λ c κs. search needs) (λ c κs. search needs) loop-holds (λ c κs. search needs) (λ c κs. search needs) (λ c. search needs) (λ c. search needs) loop-again returns)

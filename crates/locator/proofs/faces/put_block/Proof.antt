@@ -5,10 +5,10 @@ use native.Mathlib.Nat.{mul-le-mul}
 use native.Mathlib.Omega.{arith}
 use lib.ListN.{length}
 use borrow.Author.Needs.{needs}
-use Rattle.mesh.specs.Lists.{joined}
-use Rattle.mesh.specs.Steps.{links}
-use Rattle.mesh.proofs.Written.{Written, nothing, put-nil, next-fits}
-use Rattle.mesh.proofs.Counting.{no}
+use Rattle.lists.specs.Lists.{joined}
+use Rattle.mesh.specs.Internal.{links}
+use Rattle.lists.proofs.Written.{Written, nothing, put-nil, next-fits}
+use Rattle.lists.proofs.Counting.{no}
 use Rattle.search.specs.Cells.{flat}
 use Rattle.locator.proofs.Blocks.{pieceBy, pair, untouched, more-flat, come, block-by}
 use Rattle.locator.proofs.faces.put_block.Statement.{statement}
@@ -45,15 +45,9 @@ fits c =
       ap length (block-by (links (a .counts .now) (a .neighbours .now)) (a .v) (a .i) k (l .before .degree .ensures)),
     )
 
-touches-requires : tie.Need-touches-requires Inv-loop μ-loop
-touches-requires c κs = search needs
-
 returns : tie.Need-returns Inv-loop μ-loop
 unfolding flat
 returns c = rw (untouched _ _ _ (no (c .before .touches .ensures) (c .if1 .taken))) (omega arith, sym (put-nil _ _))
-
-degree-requires : tie.Need-degree-requires Inv-loop μ-loop
-degree-requires c κs = search needs
 
 mul-m : tie.Need-mul-m Inv-loop μ-loop
 mul-m c = let s = c .before .before .before .before .before .before in let k = c .degree .result in
@@ -67,14 +61,8 @@ loop-holds c = (omega arith, nothing (omega arith))
 div-neighbour : tie.Need-div-neighbour Inv-loop μ-loop
 div-neighbour c = omega (arith, facts c)
 
-neighbour-requires : tie.Need-neighbour-requires Inv-loop μ-loop
-neighbour-requires c κs = search needs
-
 rem-neighbour : tie.Need-rem-neighbour Inv-loop μ-loop
 rem-neighbour c = omega (arith, facts (c .before))
-
-neighbour-requires-2 : tie.Need-neighbour-requires-2 Inv-loop μ-loop
-neighbour-requires-2 c κs = search needs
 
 put-wanted-requires : tie.Need-put-wanted-requires Inv-loop μ-loop
 put-wanted-requires c κs = let t = c .before .before .before in let l = t .before in let s = l .before .before .before .before .before .before .before in let a = s .args in
@@ -89,17 +77,11 @@ put-wanted-requires c κs = let t = c .before .before .before in let l = t .befo
 add-q : tie.Need-add-q Inv-loop μ-loop
 add-q c = omega (arith, facts (c .before .before .before .before .before .before))
 
-loop-less : tie.Need-loop-less Inv-loop μ-loop
-loop-less c = search needs
-
 loop-again : tie.Need-loop-again Inv-loop μ-loop
 loop-again c = let t = c .before .before .before .before .before .before in let l = t .before in let a = l .before .before .before .before .before .before .before .args in let k = l .before .degree .result in
     let p = c .before .before .put-wanted in
     let h = rw (c .before .before .before .before .before .neighbour .ensures, c .before .before .before .before .neighbour2 .ensures) at (p .ensures) in
     (omega arith, more-flat (a .at) (l .loop .to) (pieceBy (links (a .counts .now) (a .neighbours .now)) (a .v) (a .i) k) (l .loop .q) _ (p .result) (l .loop .inv .1) (fits t) (h .0) (h .1))
-
-same-length : tie.Need-same-length Inv-loop μ-loop
-same-length c = search needs
 
 returns-2 : tie.Need-returns-2 Inv-loop μ-loop
 returns-2 c = let l = c .before in let a = l .before .before .before .before .before .before .before .args in let k = l .before .degree .result in
@@ -110,21 +92,4 @@ returns-2 c = let l = c .before in let a = l .before .before .before .before .be
 pub put-block-spec : {M : Type 1} → statement M
 put-block-spec =
     tie.close
-    (tie.spec
-    Inv-loop
-    μ-loop
-    touches-requires
-    returns
-    degree-requires
-    mul-m
-    loop-holds
-    div-neighbour
-    neighbour-requires
-    rem-neighbour
-    neighbour-requires-2
-    put-wanted-requires
-    add-q
-    loop-less
-    loop-again
-    same-length
-    returns-2)
+    (tie.spec Inv-loop μ-loop (λ c κs. search needs) returns (λ c κs. search needs) mul-m loop-holds div-neighbour (λ c κs. search needs) rem-neighbour (λ c κs. search needs) put-wanted-requires add-q (λ c. search needs) loop-again (λ c. search needs) returns-2)

@@ -4,11 +4,11 @@ use Prim.Native.Nat.{_+_, _-_, _*_, _≤_}
 use native.Mathlib.Omega.{arith}
 use lib.ListN.{length}
 use borrow.Author.Needs.{needs}
-use Rattle.mesh.specs.Lists.{joined, starts}
-use Rattle.mesh.specs.Steps.{links}
-use Rattle.mesh.proofs.Written.{Written, nothing, pushed, joined-le, next-fits, starts-more}
+use Rattle.lists.specs.Lists.{joined, starts}
+use Rattle.mesh.specs.Internal.{links}
+use Rattle.lists.proofs.Written.{Written, nothing, pushed, joined-le, next-fits, starts-more}
 use Rattle.search.specs.Cells.{facesOf, flat}
-use Rattle.locator.specs.Steps.{facesOut}
+use Rattle.locator.specs.Internal.{facesOut}
 use Rattle.locator.proofs.Blocks.{come, more-flat}
 use Rattle.locator.proofs.faces.put_faces.Statement.{statement}
 use Rattle.locator.proofs.faces.put_faces.Tie as tie
@@ -47,9 +47,6 @@ mul-offsets c = omega arith
 slice-write-offsets : tie.Need-slice-write-offsets Inv-loop μ-loop
 slice-write-offsets c = omega arith
 
-cast-put-faces-of : tie.Need-cast-put-faces-of Inv-loop μ-loop
-cast-put-faces-of c = search needs
-
 put-faces-of-requires : tie.Need-put-faces-of-requires Inv-loop μ-loop
 put-faces-of-requires c κs = let t = c .before in let s = c .before .before .before .before .before .before .before in (s .pre .0, omega arith, omega (arith, fits t, t .before .loop .inv .2 .size))
 
@@ -77,12 +74,6 @@ mul-offsets-2 c = omega arith
 slice-write-offsets-2 : tie.Need-slice-write-offsets-2 Inv-loop μ-loop
 slice-write-offsets-2 c = omega arith
 
-same-length : tie.Need-same-length Inv-loop μ-loop
-same-length c = search needs
-
-same-length-2 : tie.Need-same-length-2 Inv-loop μ-loop
-same-length-2 c = search needs
-
 returns : tie.Need-returns Inv-loop μ-loop
 unfolding facesOut
 returns c = let l = c .before in let a = l .before .before .before .before .before .args in let f = facesOf (links (a .counts .now) (a .neighbours .now)) (a .n) in
@@ -95,21 +86,4 @@ returns c = let l = c .before in let a = l .before .before .before .before .befo
 pub put-faces-spec : {M : Type 1} → statement M
 put-faces-spec =
     tie.close
-    (tie.spec
-    Inv-loop
-    μ-loop
-    loop-holds
-    cast-offsets
-    mul-offsets
-    slice-write-offsets
-    cast-put-faces-of
-    put-faces-of-requires
-    add-v
-    loop-less
-    loop-again
-    cast-offsets-2
-    mul-offsets-2
-    slice-write-offsets-2
-    same-length
-    same-length-2
-    returns)
+    (tie.spec Inv-loop μ-loop loop-holds cast-offsets mul-offsets slice-write-offsets (λ c. search needs) put-faces-of-requires add-v loop-less loop-again cast-offsets-2 mul-offsets-2 slice-write-offsets-2 (λ c. search needs) (λ c. search needs) returns)

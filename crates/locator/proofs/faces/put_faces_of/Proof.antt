@@ -4,12 +4,12 @@ use Prim.Native.Nat.{ℕ, _+_, _-_, _*_, _≤_}
 use native.Mathlib.Omega.{arith}
 use lib.ListN.{length}
 use borrow.Author.Needs.{needs}
-use Rattle.mesh.specs.Lists.{joined}
+use Rattle.lists.specs.Lists.{joined}
 use Rattle.mesh.specs.Mesh.{Mesh}
-use Rattle.mesh.specs.Steps.{links}
-use Rattle.mesh.proofs.Written.{Written, nothing, next-fits}
+use Rattle.mesh.specs.Internal.{links}
+use Rattle.lists.proofs.Written.{Written, nothing, next-fits}
 use Rattle.search.specs.Cells.{flat}
-use Rattle.locator.specs.Steps.{block, Next}
+use Rattle.locator.specs.Internal.{block, Next}
 use Rattle.locator.proofs.Blocks.{come, more-flat, faces-of-is, joined-skip, untouched}
 use Rattle.locator.proofs.faces.put_faces_of.Statement.{statement}
 use Rattle.locator.proofs.faces.put_faces_of.Tie as tie
@@ -65,9 +65,6 @@ loop-again c = let t = c .before .before .before .before .before in let l = t .b
       (more-flat (a .at) (l .loop .to) (block g (a .v)) (l .loop .i) _ (p .result) (l .loop .inv .1) (fits t) (p .ensures .0) (p .ensures .1)),
 )
 
-same-length : tie.Need-same-length Inv-loop μ-loop
-same-length c = search needs
-
 returns : tie.Need-returns Inv-loop μ-loop
 returns c = let l = c .before in let a = l .before .before .before .before .before .args in
     let full : l .loop .i ≡ a .n = omega arith in
@@ -77,15 +74,4 @@ returns c = let l = c .before in let a = l .before .before .before .before .befo
 pub put-faces-of-spec : {M : Type 1} → statement M
 put-faces-of-spec =
     tie.close
-    (tie.spec
-    Inv-loop
-    μ-loop
-    next-requires
-    loop-holds
-    put-block-requires
-    add-next
-    next-requires-2
-    loop-less
-    loop-again
-    same-length
-    returns)
+    (tie.spec Inv-loop μ-loop next-requires loop-holds put-block-requires add-next next-requires-2 loop-less loop-again (λ c. search needs) returns)

@@ -2,14 +2,11 @@
 use mathlib.Core.Path.{refl, sym}
 use native.Mathlib.Omega.{arith}
 use borrow.Author.Needs.{needs}
-use Rattle.mesh.proofs.Written.{put-nil}
-use Rattle.mesh.proofs.Counting.{yes, no}
+use Rattle.lists.proofs.Written.{put-nil}
+use Rattle.lists.proofs.Counting.{yes, no}
 use Rattle.search.specs.Cells.{flat}
 use Rattle.locator.proofs.faces.put_wanted.Statement.{statement}
 use Rattle.locator.proofs.faces.put_wanted.Tie as tie
-
-wanted-requires : tie.Need-wanted-requires
-wanted-requires c κs = search needs
 
 returns : tie.Need-returns
 unfolding flat
@@ -20,16 +17,11 @@ put-face-requires c κs = let s = c .before .before .before .before .before .bef
     let h = rw (yes (c .before .before .wanted .ensures) (c .before .if1 .left)) at (s .pre .3) in
     (omega arith, omega arith, omega arith, omega arith)
 
-add-result : tie.Need-add-result
-add-result c = search needs
-
-same-length : tie.Need-same-length
-same-length c = search needs
-
 returns-2 : tie.Need-returns-2
 unfolding flat
 returns-2 c = rw (yes (c .before .before .before .before .before .wanted .ensures) (c .before .before .before .before .if1 .left)) (refl, c .before .before .put-face .ensures)
 
 pub put-wanted-spec : {M : Type 1} → statement M
 put-wanted-spec =
-    tie.close (tie.spec wanted-requires returns put-face-requires add-result same-length returns-2)
+    tie.close
+    (tie.spec (λ c κs. search needs) returns put-face-requires (λ c. search needs) (λ c. search needs) returns-2)

@@ -1,7 +1,7 @@
 -- `touches` meets its contract. Assumes nothing.
 use borrow.Author.Tests.{eq-eqb, ne-eqb}
 use borrow.Author.Needs.{needs}
-use Rattle.locator.specs.Steps.{touches}
+use Rattle.locator.specs.Internal.{touches}
 use Rattle.locator.proofs.faces.touches.Statement.{statement}
 use Rattle.locator.proofs.faces.touches.Tie as tie
 
@@ -9,12 +9,10 @@ returns : tie.Need-returns
 unfolding touches
 returns c = rw (eq-eqb _ _ (c .if1 .taken))
 
-lists-requires : tie.Need-lists-requires
-lists-requires c κs = search needs
-
 returns-2 : tie.Need-returns-2
 unfolding touches
 returns-2 c = rw (ne-eqb _ _ (c .before .if1 .left), c .lists .ensures)
 
 pub touches-spec : {M : Type 1} → statement M
-touches-spec = tie.close (tie.spec returns lists-requires returns-2)
+touches-spec = tie.close
+    (tie.spec returns (λ c κs. search needs) returns-2)

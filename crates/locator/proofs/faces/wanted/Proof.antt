@@ -1,12 +1,13 @@
 -- `wanted` meets its contract. Assumes nothing.
 use mathlib.Core.Path.{sym}
+use mathlib.Core.Bool.{and-true}
 use borrow.Author.Tests.{lt-ltb, le-ltb, not-true, not-false}
 use borrow.Author.Needs.{needs}
-use Rattle.mesh.specs.Steps.{links}
+use Rattle.mesh.specs.Internal.{links}
 use Rattle.mesh.specs.Mesh.{lists}
 use Rattle.mesh.specs.Faces.{face, isFace, has}
-use Rattle.mesh.proofs.Counting.{and-no, and-true}
-use Rattle.locator.specs.Steps.{wanted}
+use Rattle.lists.proofs.Counting.{and-no}
+use Rattle.locator.specs.Internal.{wanted}
 use Rattle.locator.proofs.faces.wanted.Statement.{statement}
 use Rattle.locator.proofs.faces.wanted.Tie as tie
 
@@ -24,9 +25,6 @@ returns-3 c = let a = c .before .before .before .before .before .args in
     let h = has (a .v) (face (a .i) (a .j) (a .k)) in
     rw (lt-ltb _ _ (c .before .before .if1 .left), lt-ltb _ _ (c .before .if2 .left)) (sym (and-no (lists (links (a .counts .now) (a .neighbours .now)) (a .j) (a .k)) h (not-true h (c .if3 .taken))))
 
-lists-requires : tie.Need-lists-requires
-lists-requires c κs = search needs
-
 returns-4 : tie.Need-returns-4
 unfolding wanted isFace has
 returns-4 c = let a = c .before .before .before .before .before .before .args in
@@ -34,4 +32,5 @@ returns-4 c = let a = c .before .before .before .before .before .before .args in
     rw (lt-ltb _ _ (c .before .before .before .if1 .left), lt-ltb _ _ (c .before .before .if2 .left), not-false h (c .before .if3 .left), c .lists .ensures) (sym (and-true _))
 
 pub wanted-spec : {M : Type 1} → statement M
-wanted-spec = tie.close (tie.spec returns returns-2 returns-3 lists-requires returns-4)
+wanted-spec = tie.close
+    (tie.spec returns returns-2 returns-3 (λ c κs. search needs) returns-4)

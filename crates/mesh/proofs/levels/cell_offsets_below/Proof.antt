@@ -6,9 +6,6 @@ use Rattle.mesh.proofs.Tables.{offsets-are}
 use Rattle.mesh.proofs.levels.cell_offsets_below.Statement.{statement}
 use Rattle.mesh.proofs.levels.cell_offsets_below.Tie as tie
 
-cell-offsets-counted-requires : tie.Need-cell-offsets-counted-requires
-cell-offsets-counted-requires c κs = search needs
-
 returns : tie.Need-returns
 returns c = rw (c .match .keys1) (sym (offsets-are 0 (omega arith)))
 
@@ -63,22 +60,4 @@ returns-17 c = c .cell-offsets-counted .ensures
 pub cell-offsets-below-spec : {M : Type 1} → statement M
 cell-offsets-below-spec =
     tie.close
-    (tie.spec
-    cell-offsets-counted-requires
-    returns
-    returns-2
-    returns-3
-    returns-4
-    returns-5
-    returns-6
-    returns-7
-    returns-8
-    returns-9
-    returns-10
-    returns-11
-    returns-12
-    returns-13
-    returns-14
-    returns-15
-    returns-16
-    returns-17)
+    (tie.spec (λ c κs. search needs) returns returns-2 returns-3 returns-4 returns-5 returns-6 returns-7 returns-8 returns-9 returns-10 returns-11 returns-12 returns-13 returns-14 returns-15 returns-16 returns-17)

@@ -4,7 +4,7 @@ use Prim.Native.Nat.{_-_, _≤_}
 use native.Mathlib.Omega.{arith}
 use borrow.Author.Needs.{needs}
 use Rattle.mesh.specs.Levels.{cellCount, cellOffsetsBelow}
-use Rattle.mesh.specs.Lists.{sum}
+use Rattle.lists.specs.Lists.{sum}
 use Rattle.mesh.proofs.Tables.{cells-le, offsets-le, offsets-more}
 use Rattle.mesh.proofs.levels.cell_offsets_counted.Statement.{statement}
 use Rattle.mesh.proofs.levels.cell_offsets_counted.Tie as tie
@@ -19,9 +19,6 @@ loop-holds : tie.Need-loop-holds Inv-loop μ-loop
 unfolding cellOffsetsBelow sum
 loop-holds c = (omega arith, refl)
 
-grid-size-requires : tie.Need-grid-size-requires Inv-loop μ-loop
-grid-size-requires c κs = search needs
-
 mul-sum : tie.Need-mul-sum Inv-loop μ-loop
 mul-sum c = rw (c .grid-size .ensures) (omega (arith, cells-le (c .before .before .loop .m) (omega arith)))
 
@@ -34,12 +31,6 @@ add-sum c = rw (c .grid-size .ensures) (omega (arith, cells-le (c .before .befor
 add-sum-2 : tie.Need-add-sum-2 Inv-loop μ-loop
 add-sum-2 c = rw (c .grid-size .ensures) (omega (arith, cells-le (c .before .before .loop .m) (omega arith), offsets-le (c .before .before .loop .m) (omega arith)))
 
-add-m : tie.Need-add-m Inv-loop μ-loop
-add-m c = search needs
-
-loop-less : tie.Need-loop-less Inv-loop μ-loop
-loop-less c = search needs
-
 loop-again : tie.Need-loop-again Inv-loop μ-loop
 unfolding cellCount
 loop-again c = (omega arith, rw (c .grid-size .ensures, c .before .before .loop .inv .1) (sym (offsets-more (c .before .before .loop .m))))
@@ -50,16 +41,4 @@ returns c = let e : c .before .loop .m ≡ c .before .before .args .level = omeg
 pub cell-offsets-counted-spec : {M : Type 1} → statement M
 cell-offsets-counted-spec =
     tie.close
-    (tie.spec
-    Inv-loop
-    μ-loop
-    loop-holds
-    grid-size-requires
-    mul-sum
-    mul-sum-2
-    add-sum
-    add-sum-2
-    add-m
-    loop-less
-    loop-again
-    returns)
+    (tie.spec Inv-loop μ-loop loop-holds (λ c κs. search needs) mul-sum mul-sum-2 add-sum add-sum-2 (λ c. search needs) (λ c. search needs) loop-again returns)

@@ -6,12 +6,6 @@ use Rattle.mesh.proofs.Tables.{grid-is}
 use Rattle.mesh.proofs.levels.grid_size.Statement.{statement}
 use Rattle.mesh.proofs.levels.grid_size.Tie as tie
 
-vertex-count-requires : tie.Need-vertex-count-requires
-vertex-count-requires c κs = search needs
-
-grid-formula-requires : tie.Need-grid-formula-requires
-grid-formula-requires c κs = search needs
-
 returns : tie.Need-returns
 returns c = rw (c .match .keys1) (sym (grid-is 0 (omega arith)))
 
@@ -66,23 +60,4 @@ returns-17 c = rw (c .grid-formula .ensures, c .before .vertex-count .ensures)
 pub grid-size-spec : {M : Type 1} → statement M
 grid-size-spec =
     tie.close
-    (tie.spec
-    vertex-count-requires
-    grid-formula-requires
-    returns
-    returns-2
-    returns-3
-    returns-4
-    returns-5
-    returns-6
-    returns-7
-    returns-8
-    returns-9
-    returns-10
-    returns-11
-    returns-12
-    returns-13
-    returns-14
-    returns-15
-    returns-16
-    returns-17)
+    (tie.spec (λ c κs. search needs) (λ c κs. search needs) returns returns-2 returns-3 returns-4 returns-5 returns-6 returns-7 returns-8 returns-9 returns-10 returns-11 returns-12 returns-13 returns-14 returns-15 returns-16 returns-17)

@@ -6,9 +6,6 @@ use Rattle.mesh.proofs.Laws.{per-le}
 use Rattle.mesh.proofs.levels.per_level.Statement.{statement}
 use Rattle.mesh.proofs.levels.per_level.Tie as tie
 
-vertex-count-requires : tie.Need-vertex-count-requires
-vertex-count-requires c κs = search needs
-
 mul-result : tie.Need-mul-result
 unfolding per
 mul-result c = rw (c .vertex-count .ensures) (omega (arith, per-le (c .before .args .level) 256 (omega arith)))
@@ -18,4 +15,5 @@ unfolding per
 returns c = rw (c .vertex-count .ensures)
 
 pub per-level-spec : {M : Type 1} → statement M
-per-level-spec = tie.close (tie.spec vertex-count-requires mul-result returns)
+per-level-spec = tie.close
+    (tie.spec (λ c κs. search needs) mul-result returns)

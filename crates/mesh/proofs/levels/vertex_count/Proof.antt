@@ -11,9 +11,6 @@ use Rattle.mesh.proofs.levels.vertex_count.Tie as tie
 small : (c : tie.Start) → (let k = c .args .level + 1 in k * k ≤ 256 * 256)
 small c = next-square (c .args .level) 256 (omega arith)
 
-add-k : tie.Need-add-k
-add-k c = search needs
-
 mul-result : tie.Need-mul-result
 mul-result c = omega (arith, small c)
 
@@ -28,4 +25,5 @@ unfolding vertexCount
 returns c = refl
 
 pub vertex-count-spec : {M : Type 1} → statement M
-vertex-count-spec = tie.close (tie.spec add-k mul-result mul-result-2 add-result returns)
+vertex-count-spec = tie.close
+    (tie.spec (λ c. search needs) mul-result mul-result-2 add-result returns)

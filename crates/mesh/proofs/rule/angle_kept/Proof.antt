@@ -4,12 +4,10 @@ use Rattle.mesh.specs.Mesh.{angleKept}
 use Rattle.mesh.proofs.rule.angle_kept.Statement.{statement}
 use Rattle.mesh.proofs.rule.angle_kept.Tie as tie
 
-is-finite-requires : tie.Need-is-finite-requires
-is-finite-requires c κs = search needs
-
 returns : tie.Need-returns
 unfolding angleKept
 returns c = rw (c .is-finite .ensures)
 
 pub angle-kept-spec : {M : Type 1} → statement M
-angle-kept-spec = tie.close (tie.spec is-finite-requires returns)
+angle-kept-spec = tie.close
+    (tie.spec (λ c κs. search needs) returns)

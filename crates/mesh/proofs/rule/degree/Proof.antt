@@ -6,17 +6,12 @@ use lib.ListN.{List·getD-eq-default}
 use Rattle.mesh.proofs.rule.degree.Statement.{statement}
 use Rattle.mesh.proofs.rule.degree.Tie as tie
 
-shared-slice-read-result : tie.Need-shared-slice-read-result
-shared-slice-read-result c = search needs
-
 cast-result : tie.Need-cast-result
 cast-result c = omega (arith, c .shared-slice-known .given (c .before .before .args .v))
-
-returns : tie.Need-returns
-returns c = search needs
 
 returns-2 : tie.Need-returns-2
 returns-2 c = sym (List·getD-eq-default (c .before .args .counts .now) 0 (c .if1 .left))
 
 pub degree-spec : {M : Type 1} → statement M
-degree-spec = tie.close (tie.spec shared-slice-read-result cast-result returns returns-2)
+degree-spec = tie.close
+    (tie.spec (λ c. search needs) cast-result (λ c. search needs) returns-2)

@@ -2,24 +2,15 @@
 use native.Mathlib.Omega.{arith}
 use borrow.Author.Needs.{needs}
 use Rattle.mesh.proofs.Laws.{count-le}
-use Rattle.mesh.proofs.Counting.{yes, no}
+use Rattle.lists.proofs.Counting.{yes, no}
 use Rattle.mesh.proofs.rule.mesh_keeps.Statement.{statement}
 use Rattle.mesh.proofs.rule.mesh_keeps.Tie as tie
-
-vertex-count-requires : tie.Need-vertex-count-requires
-vertex-count-requires c κs = search needs
 
 cast-n : tie.Need-cast-n
 cast-n c = omega (arith, count-le (c .before .before .before .before .before .args .level) 256 (omega arith))
 
-mesh-room-requires : tie.Need-mesh-room-requires
-mesh-room-requires c κs = search needs
-
 returns : tie.Need-returns
 returns c = rw (← c .before .before .vertex-count .ensures, no (c .before .mesh-room .ensures) (c .if1 .taken))
-
-keeps-rule-requires : tie.Need-keeps-rule-requires
-keeps-rule-requires c κs = search needs
 
 returns-2 : tie.Need-returns-2
 returns-2 c = rw (← c .before .before .before .vertex-count .ensures, yes (c .before .before .mesh-room .ensures) (c .before .if1 .left), c .keeps-rule .ensures)
@@ -27,10 +18,4 @@ returns-2 c = rw (← c .before .before .before .vertex-count .ensures, yes (c .
 pub mesh-keeps-spec : {M : Type 1} → statement M
 mesh-keeps-spec =
     tie.close
-    (tie.spec
-    vertex-count-requires
-    cast-n
-    mesh-room-requires
-    returns
-    keeps-rule-requires
-    returns-2)
+    (tie.spec (λ c κs. search needs) cast-n (λ c κs. search needs) returns (λ c κs. search needs) returns-2)

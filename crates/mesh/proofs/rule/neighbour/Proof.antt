@@ -7,23 +7,8 @@ use lib.ListN.{List·getD-eq-default}
 use Rattle.mesh.proofs.rule.neighbour.Statement.{statement}
 use Rattle.mesh.proofs.rule.neighbour.Tie as tie
 
-mul-i : tie.Need-mul-i
-mul-i c = search needs
-
-add-i : tie.Need-add-i
-add-i c = search needs
-
-mul-result : tie.Need-mul-result
-mul-result c = search needs
-
-shared-slice-read-result : tie.Need-shared-slice-read-result
-shared-slice-read-result c = search needs
-
 cast-result : tie.Need-cast-result
 cast-result c = omega (arith, c .shared-slice-known .given (6 * c .before .before .args .v + c .before .before .args .k))
-
-returns : tie.Need-returns
-returns c = search needs
 
 returns-2 : tie.Need-returns-2
 returns-2 c = sym (List·getD-eq-default (c .before .args .neighbours .now) 0 (c .if1 .left))
@@ -31,4 +16,4 @@ returns-2 c = sym (List·getD-eq-default (c .before .args .neighbours .now) 0 (c
 pub neighbour-spec : {M : Type 1} → statement M
 neighbour-spec =
     tie.close
-    (tie.spec mul-i add-i mul-result shared-slice-read-result cast-result returns returns-2)
+    (tie.spec (λ c. search needs) (λ c. search needs) (λ c. search needs) (λ c. search needs) cast-result (λ c. search needs) returns-2)

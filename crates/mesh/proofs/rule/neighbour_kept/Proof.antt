@@ -5,9 +5,6 @@ use Rattle.mesh.specs.Mesh.{within, lists, neighbourKept}
 use Rattle.mesh.proofs.rule.neighbour_kept.Statement.{statement}
 use Rattle.mesh.proofs.rule.neighbour_kept.Tie as tie
 
-neighbour-requires : tie.Need-neighbour-requires
-neighbour-requires c κs = search needs
-
 returns : tie.Need-returns
 unfolding neighbourKept
 returns c = rw (← c .before .neighbour .ensures, le-ltb _ _ (c .if1 .taken))
@@ -16,31 +13,13 @@ returns-2 : tie.Need-returns-2
 unfolding neighbourKept
 returns-2 c = rw (← c .before .before .neighbour .ensures, lt-ltb _ _ (c .before .if1 .left), eq-eqb _ _ (c .if2 .taken))
 
-within-requires : tie.Need-within-requires
-within-requires c κs = search needs
-
 returns-3 : tie.Need-returns-3
 unfolding neighbourKept within lists
 returns-3 c = rw (← c .before .before .before .before .neighbour .ensures, lt-ltb _ _ (c .before .before .before .if1 .left), ne-eqb _ _ (c .before .before .if2 .left), ← c .before .within .ensures, c .if3 .taken)
 
-lists-requires : tie.Need-lists-requires
-lists-requires c κs = search needs
-
 returns-4 : tie.Need-returns-4
 unfolding neighbourKept within lists
 returns-4 c = rw (← c .before .before .before .before .before .before .neighbour .ensures, lt-ltb _ _ (c .before .before .before .before .before .if1 .left), ne-eqb _ _ (c .before .before .before .before .if2 .left), ← c .before .before .before .within .ensures, c .before .before .if3 .left, ← c .before .lists .ensures, not-true (c .before .lists .result) (c .if4 .taken))
-
-mul-entry : tie.Need-mul-entry
-mul-entry c = search needs
-
-add-entry : tie.Need-add-entry
-add-entry c = search needs
-
-entry-requires : tie.Need-entry-requires
-entry-requires c κs = search needs
-
-angle-kept-requires : tie.Need-angle-kept-requires
-angle-kept-requires c κs = search needs
 
 returns-5 : tie.Need-returns-5
 unfolding neighbourKept within lists
@@ -49,16 +28,4 @@ returns-5 c = rw (← c .before .before .before .before .before .before .before 
 pub neighbour-kept-spec : {M : Type 1} → statement M
 neighbour-kept-spec =
     tie.close
-    (tie.spec
-    neighbour-requires
-    returns
-    returns-2
-    within-requires
-    returns-3
-    lists-requires
-    returns-4
-    mul-entry
-    add-entry
-    entry-requires
-    angle-kept-requires
-    returns-5)
+    (tie.spec (λ c κs. search needs) returns returns-2 (λ c κs. search needs) returns-3 (λ c κs. search needs) returns-4 (λ c. search needs) (λ c. search needs) (λ c κs. search needs) (λ c κs. search needs) returns-5)

@@ -6,20 +6,17 @@ use Prim.Native.Nat.{_-_, _≤_}
 use native.Mathlib.Omega.{arith}
 use borrow.Author.Tests.{le-leb, lt-leb}
 use borrow.Author.Needs.{needs}
-use Rattle.mesh.specs.Lists.{allUpTo}
-use Rattle.mesh.specs.Mesh.{Mesh, neighbourKept, vertexKept}
-use Rattle.mesh.proofs.Counting.{all-turn, all-fails, yes, no}
+use Rattle.lists.specs.Lists.{allUpTo}
+use Rattle.mesh.specs.Mesh.{Mesh, neighbourKept, vertexKept, meshOf}
+use Rattle.lists.proofs.Counting.{all-turn, all-fails, yes, no}
 use Rattle.mesh.proofs.rule.vertex_kept.Statement.{statement}
 use Rattle.mesh.proofs.rule.vertex_kept.Tie as tie
 
 abbrev Inv-loop : tie.InvT-loop
-Inv-loop n counts neighbours angles v d k₀ k = (k ≤ d) × (allUpTo k (neighbourKept n (record { vertices = []; counts = counts; neighbours = neighbours; angles = angles }) v) ≡ true)
+Inv-loop n counts neighbours angles v d k₀ k = (k ≤ d) × (allUpTo k (neighbourKept n (meshOf [] counts neighbours angles) v) ≡ true)
 
 abbrev μ-loop : tie.MeasureT-loop
 μ-loop n counts neighbours angles v d k₀ k = d - k
-
-degree-requires : tie.Need-degree-requires Inv-loop μ-loop
-degree-requires c κs = search needs
 
 returns : tie.Need-returns Inv-loop μ-loop
 unfolding vertexKept
@@ -33,25 +30,16 @@ loop-holds : tie.Need-loop-holds Inv-loop μ-loop
 unfolding allUpTo
 loop-holds c = (omega arith, refl)
 
-neighbour-kept-requires : tie.Need-neighbour-kept-requires Inv-loop μ-loop
-neighbour-kept-requires c κs = search needs
-
 returns-3 : tie.Need-returns-3 Inv-loop μ-loop
 unfolding vertexKept
 returns-3 c = let l = c .before .before .before in let a = l .before .before .before .before .before .before .before .args in
-    let m : Mesh = record { vertices = []; counts = a .counts .now; neighbours = a .neighbours .now; angles = a .angles .now } in
+    let m : Mesh = meshOf [] (a .counts .now) (a .neighbours .now) (a .angles .now) in
     rw (← l .before .before .before .degree .ensures, le-leb _ _ (l .before .before .if1 .left), le-leb _ _ (l .before .if2 .left))
     (sym (all-fails (neighbourKept (a .n) m (a .v)) (l .loop .k) (l .before .before .before .degree .result) (omega arith) (no (c .before .neighbour-kept .ensures) (c .if3 .taken))))
 
-add-k : tie.Need-add-k Inv-loop μ-loop
-add-k c = search needs
-
-loop-less : tie.Need-loop-less Inv-loop μ-loop
-loop-less c = search needs
-
 loop-again : tie.Need-loop-again Inv-loop μ-loop
 loop-again c = let l = c .before .before .before in let a = l .before .before .before .before .before .before .before .args in
-    let m : Mesh = record { vertices = []; counts = a .counts .now; neighbours = a .neighbours .now; angles = a .angles .now } in
+    let m : Mesh = meshOf [] (a .counts .now) (a .neighbours .now) (a .angles .now) in
     (omega arith, all-turn (neighbourKept (a .n) m (a .v)) (l .loop .k) (l .loop .inv .1) (yes (c .before .neighbour-kept .ensures) (c .if3 .left)))
 
 returns-4 : tie.Need-returns-4 Inv-loop μ-loop
@@ -63,16 +51,4 @@ returns-4 c = let l = c .before in
 pub vertex-kept-spec : {M : Type 1} → statement M
 vertex-kept-spec =
     tie.close
-    (tie.spec
-    Inv-loop
-    μ-loop
-    degree-requires
-    returns
-    returns-2
-    loop-holds
-    neighbour-kept-requires
-    returns-3
-    add-k
-    loop-less
-    loop-again
-    returns-4)
+    (tie.spec Inv-loop μ-loop (λ c κs. search needs) returns returns-2 loop-holds (λ c κs. search needs) returns-3 (λ c. search needs) (λ c. search needs) loop-again returns-4)

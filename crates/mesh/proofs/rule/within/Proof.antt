@@ -8,10 +8,10 @@ use lib.ListN.{getD}
 use lib.Dec.{eqb}
 use borrow.Author.Tests.{eq-eqb, ne-eqb}
 use borrow.Author.Needs.{needs}
-use Rattle.mesh.specs.Lists.{anyUpTo}
+use Rattle.lists.specs.Lists.{anyUpTo}
 use Rattle.mesh.specs.Mesh.{within}
-use Rattle.mesh.specs.Steps.{links}
-use Rattle.mesh.proofs.Counting.{any-turn, any-found}
+use Rattle.mesh.specs.Internal.{links}
+use Rattle.lists.proofs.Counting.{any-turn, any-found}
 use Rattle.mesh.proofs.rule.within.Statement.{statement}
 use Rattle.mesh.proofs.rule.within.Tie as tie
 
@@ -25,19 +25,10 @@ loop-holds : tie.Need-loop-holds Inv-loop μ-loop
 unfolding within anyUpTo
 loop-holds c = (omega arith, refl)
 
-neighbour-requires : tie.Need-neighbour-requires Inv-loop μ-loop
-neighbour-requires c κs = search needs
-
 returns : tie.Need-returns Inv-loop μ-loop
 unfolding within
 returns c = let l = c .before .before .before in let a = l .before .before .args in
     sym (any-found (λ j. eqb (getD (a .neighbours .now) (6 * a .v + j) 0) (a .w)) (l .loop .j) (a .k) (omega arith) (eq-eqb _ _ (sym (c .before .neighbour .ensures) ∙ c .if1 .taken)))
-
-add-j : tie.Need-add-j Inv-loop μ-loop
-add-j c = search needs
-
-loop-less : tie.Need-loop-less Inv-loop μ-loop
-loop-less c = search needs
 
 loop-again : tie.Need-loop-again Inv-loop μ-loop
 unfolding within
@@ -51,13 +42,4 @@ returns-2 c = let l = c .before in
 pub within-spec : {M : Type 1} → statement M
 within-spec =
     tie.close
-    (tie.spec
-    Inv-loop
-    μ-loop
-    loop-holds
-    neighbour-requires
-    returns
-    add-j
-    loop-less
-    loop-again
-    returns-2)
+    (tie.spec Inv-loop μ-loop loop-holds (λ c κs. search needs) returns (λ c. search needs) (λ c. search needs) loop-again returns-2)

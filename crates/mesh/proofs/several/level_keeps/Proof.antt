@@ -6,15 +6,9 @@ use borrow.Author.Needs.{needs}
 use Rattle.mesh.specs.Levels.{vertexCount, verticesBelow}
 use Rattle.mesh.specs.Mesh.{levelPart}
 use Rattle.mesh.proofs.Laws.{below-more, below-few}
-use Rattle.mesh.proofs.Written.{part}
+use Rattle.lists.proofs.Written.{part}
 use Rattle.mesh.proofs.several.level_keeps.Statement.{statement}
 use Rattle.mesh.proofs.several.level_keeps.Tie as tie
-
-vertex-count-requires : tie.Need-vertex-count-requires
-vertex-count-requires c κs = search needs
-
-vertices-below-requires : tie.Need-vertices-below-requires
-vertices-below-requires c κs = search needs
 
 add-b : tie.Need-add-b
 add-b c = omega (arith, below-more (c .before .before .before .before .before .before .args .level), below-few (suc (c .before .before .before .before .before .before .args .level)) (omega arith))
@@ -37,20 +31,8 @@ cast-keeps-rule c = omega (arith, below-more (c .before .before .before .before 
 mul-keeps-rule : tie.Need-mul-keeps-rule
 mul-keeps-rule c = omega (arith, below-more (c .before .before .before .before .before .before .args .level), below-few (suc (c .before .before .before .before .before .before .args .level)) (omega arith))
 
-sub-keeps-rule : tie.Need-sub-keeps-rule
-sub-keeps-rule c = search needs
-
-part-keeps-rule-start : tie.Need-part-keeps-rule-start
-part-keeps-rule-start c = search needs
-
 part-keeps-rule-end : tie.Need-part-keeps-rule-end
 part-keeps-rule-end c = omega (arith, below-more (c .before .before .before .before .before .before .args .level), below-few (suc (c .before .before .before .before .before .before .args .level)) (omega arith))
-
-sub-keeps-rule-2 : tie.Need-sub-keeps-rule-2
-sub-keeps-rule-2 c = search needs
-
-part-keeps-rule-start-2 : tie.Need-part-keeps-rule-start-2
-part-keeps-rule-start-2 c = search needs
 
 part-keeps-rule-end-2 : tie.Need-part-keeps-rule-end-2
 part-keeps-rule-end-2 c = omega (arith, below-more (c .before .before .before .before .before .before .before .args .level), below-few (suc (c .before .before .before .before .before .before .before .args .level)) (omega arith))
@@ -58,29 +40,14 @@ part-keeps-rule-end-2 c = omega (arith, below-more (c .before .before .before .b
 mul-keeps-rule-2 : tie.Need-mul-keeps-rule-2
 mul-keeps-rule-2 c = omega (arith, below-more (c .before .before .before .before .before .before .before .before .args .level), below-few (suc (c .before .before .before .before .before .before .before .before .args .level)) (omega arith))
 
-sub-keeps-rule-3 : tie.Need-sub-keeps-rule-3
-sub-keeps-rule-3 c = search needs
-
-part-keeps-rule-start-3 : tie.Need-part-keeps-rule-start-3
-part-keeps-rule-start-3 c = search needs
-
 part-keeps-rule-end-3 : tie.Need-part-keeps-rule-end-3
 part-keeps-rule-end-3 c = omega (arith, below-more (c .before .before .before .before .before .before .before .before .args .level), below-few (suc (c .before .before .before .before .before .before .before .before .args .level)) (omega arith))
 
 mul-keeps-rule-3 : tie.Need-mul-keeps-rule-3
 mul-keeps-rule-3 c = omega (arith, below-more (c .before .before .before .before .before .before .before .before .before .args .level), below-few (suc (c .before .before .before .before .before .before .before .before .before .args .level)) (omega arith))
 
-sub-keeps-rule-4 : tie.Need-sub-keeps-rule-4
-sub-keeps-rule-4 c = search needs
-
-part-keeps-rule-start-4 : tie.Need-part-keeps-rule-start-4
-part-keeps-rule-start-4 c = search needs
-
 part-keeps-rule-end-4 : tie.Need-part-keeps-rule-end-4
 part-keeps-rule-end-4 c = omega (arith, below-more (c .before .before .before .before .before .before .before .before .before .args .level), below-few (suc (c .before .before .before .before .before .before .before .before .before .args .level)) (omega arith))
-
-keeps-rule-requires : tie.Need-keeps-rule-requires
-keeps-rule-requires c κs = search needs
 
 returns : tie.Need-returns
 unfolding levelPart
@@ -94,39 +61,14 @@ returns c =
       c .keeps-rule .ensures,
       c .before .before .before .before .before .before .vertex-count .ensures,
       c .before .before .before .before .before .vertices-below .ensures,
-      part (3 * a) (3 * b) (g .vertices .now) (omega arith) (omega arith),
-      part a b (g .counts .now) (omega arith) (omega arith),
-      part (6 * a) (6 * b) (g .neighbours .now) (omega arith) (omega arith),
-      part (6 * a) (6 * b) (g .angles .now) (omega arith) (omega arith),
+      part (3 * a) (3 * b) (g .vertices .now),
+      part a b (g .counts .now),
+      part (6 * a) (6 * b) (g .neighbours .now),
+      part (6 * a) (6 * b) (g .angles .now),
       below-more (g .level),
     )
 
 pub level-keeps-spec : {M : Type 1} → statement M
 level-keeps-spec =
     tie.close
-    (tie.spec
-    vertex-count-requires
-    vertices-below-requires
-    add-b
-    mul-a3
-    mul-b3
-    mul-a6
-    mul-b6
-    cast-keeps-rule
-    mul-keeps-rule
-    sub-keeps-rule
-    part-keeps-rule-start
-    part-keeps-rule-end
-    sub-keeps-rule-2
-    part-keeps-rule-start-2
-    part-keeps-rule-end-2
-    mul-keeps-rule-2
-    sub-keeps-rule-3
-    part-keeps-rule-start-3
-    part-keeps-rule-end-3
-    mul-keeps-rule-3
-    sub-keeps-rule-4
-    part-keeps-rule-start-4
-    part-keeps-rule-end-4
-    keeps-rule-requires
-    returns)
+    (tie.spec (λ c κs. search needs) (λ c κs. search needs) add-b mul-a3 mul-b3 mul-a6 mul-b6 cast-keeps-rule mul-keeps-rule (λ c. search needs) (λ c. search needs) part-keeps-rule-end (λ c. search needs) (λ c. search needs) part-keeps-rule-end-2 mul-keeps-rule-2 (λ c. search needs) (λ c. search needs) part-keeps-rule-end-3 mul-keeps-rule-3 (λ c. search needs) (λ c. search needs) part-keeps-rule-end-4 (λ c κs. search needs) returns)

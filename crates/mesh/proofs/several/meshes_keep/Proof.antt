@@ -4,41 +4,32 @@ use mathlib.Core.Bool.{true}
 use Prim.Native.Nat.{suc, _-_, _≤_}
 use native.Mathlib.Omega.{arith}
 use borrow.Author.Needs.{needs}
-use Rattle.mesh.specs.Lists.{allUpTo}
+use Rattle.lists.specs.Lists.{allUpTo}
 use Rattle.mesh.specs.Levels.{vertexCount, verticesBelow}
-use Rattle.mesh.specs.Mesh.{Mesh, keepsRule, levelPart, meshHeld, meshesKeep}
+use Rattle.mesh.specs.Mesh.{Mesh, keepsRule, levelPart, meshLong, meshesKeep, meshOf}
 use Rattle.mesh.proofs.Laws.{below-le}
-use Rattle.mesh.proofs.Counting.{all-turn, all-fails, yes, no}
+use Rattle.lists.proofs.Counting.{all-turn, all-fails, yes, no}
 use Rattle.mesh.proofs.Kept.{held}
 use Rattle.mesh.proofs.several.meshes_keep.Statement.{statement}
 use Rattle.mesh.proofs.several.meshes_keep.Tie as tie
 
 abbrev Inv-loop : tie.InvT-loop
-Inv-loop top vertices counts neighbours angles levels m₀ m = (m ≤ levels) × (allUpTo m (λ k. keepsRule (vertexCount k) (levelPart k (record { vertices = vertices; counts = counts; neighbours = neighbours; angles = angles }))) ≡ true)
+Inv-loop top vertices counts neighbours angles levels m₀ m = (m ≤ levels) × (allUpTo m (λ k. keepsRule (vertexCount k) (levelPart k (meshOf vertices counts neighbours angles))) ≡ true)
 
 abbrev μ-loop : tie.MeasureT-loop
 μ-loop top vertices counts neighbours angles levels m₀ m = levels - m
 
-meshes-room-requires : tie.Need-meshes-room-requires Inv-loop μ-loop
-meshes-room-requires c κs = search needs
-
 returns : tie.Need-returns Inv-loop μ-loop
 returns c = rw (no (c .before .meshes-room .ensures) (c .if1 .taken))
-
-add-levels : tie.Need-add-levels Inv-loop μ-loop
-add-levels c = search needs
 
 loop-holds : tie.Need-loop-holds Inv-loop μ-loop
 unfolding allUpTo
 loop-holds c = (omega arith, refl)
 
-cast-level-keeps : tie.Need-cast-level-keeps Inv-loop μ-loop
-cast-level-keeps c = search needs
-
 level-keeps-requires : tie.Need-level-keeps-requires Inv-loop μ-loop
 level-keeps-requires c κs = let l = c .before in let a = l .before .before .before .before .before .before .before .args in
-    let m : Mesh = record { vertices = a .vertices .now; counts = a .counts .now; neighbours = a .neighbours .now; angles = a .angles .now } in
-    let room : meshHeld (verticesBelow (suc (a .top))) m ≡ true = yes (l .before .before .meshes-room .ensures) (l .before .if1 .left) in
+    let m : Mesh = meshOf (a .vertices .now) (a .counts .now) (a .neighbours .now) (a .angles .now) in
+    let room : meshLong (verticesBelow (suc (a .top))) m ≡ true = yes (l .before .before .meshes-room .ensures) (l .before .if1 .left) in
     let h = held (verticesBelow (suc (a .top))) m room in
     let le : verticesBelow (suc (l .loop .m)) ≤ verticesBelow (suc (a .top)) = below-le (suc (l .loop .m)) (suc (a .top)) (omega arith) in
     (omega (arith, h .vertices), omega (arith, h .counts), omega (arith, h .neighbours), omega (arith, h .angles))
@@ -46,19 +37,13 @@ level-keeps-requires c κs = let l = c .before in let a = l .before .before .bef
 returns-2 : tie.Need-returns-2 Inv-loop μ-loop
 unfolding meshesKeep
 returns-2 c = let l = c .before .before .before in let a = l .before .before .before .before .before .before .before .args in
-    let m : Mesh = record { vertices = a .vertices .now; counts = a .counts .now; neighbours = a .neighbours .now; angles = a .angles .now } in
+    let m : Mesh = meshOf (a .vertices .now) (a .counts .now) (a .neighbours .now) (a .angles .now) in
     rw (yes (l .before .before .meshes-room .ensures) (l .before .if1 .left))
     (sym (all-fails (λ k. keepsRule (vertexCount k) (levelPart k m)) (l .loop .m) (suc (a .top)) (omega arith) (no (c .before .level-keeps .ensures) (c .if2 .taken))))
 
-add-m : tie.Need-add-m Inv-loop μ-loop
-add-m c = search needs
-
-loop-less : tie.Need-loop-less Inv-loop μ-loop
-loop-less c = search needs
-
 loop-again : tie.Need-loop-again Inv-loop μ-loop
 loop-again c = let l = c .before .before .before in let a = l .before .before .before .before .before .before .before .args in
-    let m : Mesh = record { vertices = a .vertices .now; counts = a .counts .now; neighbours = a .neighbours .now; angles = a .angles .now } in
+    let m : Mesh = meshOf (a .vertices .now) (a .counts .now) (a .neighbours .now) (a .angles .now) in
     (omega arith, all-turn (λ k. keepsRule (vertexCount k) (levelPart k m)) (l .loop .m) (l .loop .inv .1) (yes (c .before .level-keeps .ensures) (c .if2 .left)))
 
 returns-3 : tie.Need-returns-3 Inv-loop μ-loop
@@ -70,17 +55,4 @@ returns-3 c = let l = c .before in let a = l .before .before .before .before .be
 pub meshes-keep-spec : {M : Type 1} → statement M
 meshes-keep-spec =
     tie.close
-    (tie.spec
-    Inv-loop
-    μ-loop
-    meshes-room-requires
-    returns
-    add-levels
-    loop-holds
-    cast-level-keeps
-    level-keeps-requires
-    returns-2
-    add-m
-    loop-less
-    loop-again
-    returns-3)
+    (tie.spec Inv-loop μ-loop (λ c κs. search needs) returns (λ c. search needs) loop-holds (λ c. search needs) level-keeps-requires returns-2 (λ c. search needs) (λ c. search needs) loop-again returns-3)

@@ -6,20 +6,11 @@ use borrow.Author.Needs.{needs}
 use Rattle.mesh.proofs.several.meshes_room.Statement.{statement}
 use Rattle.mesh.proofs.several.meshes_room.Tie as tie
 
-vertices-below-requires : tie.Need-vertices-below-requires
-vertices-below-requires c κs = search needs
-
-vertex-count-requires : tie.Need-vertex-count-requires
-vertex-count-requires c κs = search needs
-
 add-n : tie.Need-add-n
 add-n c = let top = c .before .before .args .top in omega (arith, below-more top, below-few (suc top) (omega arith))
 
 cast-mesh-room : tie.Need-cast-mesh-room
 cast-mesh-room c = let top = c .before .before .args .top in omega (arith, below-more top, below-few (suc top) (omega arith))
-
-mesh-room-requires : tie.Need-mesh-room-requires
-mesh-room-requires c κs = search needs
 
 returns : tie.Need-returns
 returns c = let top = c .before .before .before .args .top in rw (c .mesh-room .ensures, c .before .before .vertices-below .ensures, c .before .vertex-count .ensures, below-more top)
@@ -27,10 +18,4 @@ returns c = let top = c .before .before .before .args .top in rw (c .mesh-room .
 pub meshes-room-spec : {M : Type 1} → statement M
 meshes-room-spec =
     tie.close
-    (tie.spec
-    vertices-below-requires
-    vertex-count-requires
-    add-n
-    cast-mesh-room
-    mesh-room-requires
-    returns)
+    (tie.spec (λ c κs. search needs) (λ c κs. search needs) add-n cast-mesh-room (λ c κs. search needs) returns)

@@ -18,9 +18,6 @@ pair c =
     let b = both-found (s .args .x .number) (s .args .y .number) (found c) in
     pair-le (s .args .x .vertex) (s .args .y .vertex) (s .args .n) (s .pre .2 (b .0)) (s .pre .3 (b .1)) (s .pre .1)
 
-joint-requires : tie.Need-joint-requires
-joint-requires c κs = search needs
-
 returns : tie.Need-returns
 returns c =
     let a = c .before .before .before .args in
@@ -34,9 +31,6 @@ add-k c = omega (arith, pair c)
 
 add-k-2 : tie.Need-add-k-2
 add-k-2 c = omega (arith, pair c, c .before .before .before .pre .0)
-
-items-inside-requires : tie.Need-items-inside-requires
-items-inside-requires c κs = search needs
 
 returns-2 : tie.Need-returns-2
 returns-2 c =
@@ -59,13 +53,4 @@ returns-3 c =
 pub nearest-spec : {M : Type 1} → statement M
 nearest-spec =
     tie.close
-    (tie.spec
-    joint-requires
-    returns
-    mul-k
-    add-k
-    add-k-2
-    items-inside-requires
-    returns-2
-    energy-requires
-    returns-3)
+    (tie.spec (λ c κs. search needs) returns mul-k add-k add-k-2 (λ c κs. search needs) returns-2 energy-requires returns-3)

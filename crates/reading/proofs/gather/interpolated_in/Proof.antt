@@ -4,32 +4,17 @@ use Prim.Native.Nat.{ℕ, _<_}
 use native.Mathlib.Omega.{arith}
 use Rattle.mesh.specs.Levels.{vertexCount, gridSize}
 use Rattle.mesh.proofs.Laws.{count-le}
-use Rattle.search.specs.Search.{Locator}
+use Rattle.search.specs.Search.{Locator, locatorOf}
 use Rattle.search.proofs.Below.{located-below}
 use Rattle.reading.proofs.gather.interpolated_in.Statement.{statement}
 use Rattle.reading.proofs.gather.interpolated_in.Tie as tie
 
 abbrev lists : tie.Start → Locator
-lists s = record { cellOffsets = s .args .cell-offsets .now; cellVertices = s .args .cell-vertices .now; faceOffsets = s .args .face-offsets .now; faces = s .args .faces .now }
+lists s = locatorOf (s .args .cell-offsets .now) (s .args .cell-vertices .now) (s .args .face-offsets .now) (s .args .faces .now)
 
 some : (m : ℕ) → 0 < vertexCount m
 unfolding vertexCount
 some m = omega arith
-
-vertex-count-requires : tie.Need-vertex-count-requires
-vertex-count-requires c κs = search needs
-
-unit-requires : tie.Need-unit-requires
-unit-requires c κs = search needs
-
-unit-requires-2 : tie.Need-unit-requires-2
-unit-requires-2 c κs = search needs
-
-locate-requires : tie.Need-locate-requires
-locate-requires c κs = search needs
-
-locate-requires-2 : tie.Need-locate-requires-2
-locate-requires-2 c κs = search needs
 
 interpolated-requires : tie.Need-interpolated-requires
 interpolated-requires c κs =
@@ -49,11 +34,4 @@ returns c = rw (c .interpolated .ensures, c .before .locate2 .ensures, c .before
 pub interpolated-in-spec : {M : Type 1} → statement M
 interpolated-in-spec =
     tie.close
-    (tie.spec
-    vertex-count-requires
-    unit-requires
-    unit-requires-2
-    locate-requires
-    locate-requires-2
-    interpolated-requires
-    returns)
+    (tie.spec (λ c κs. search needs) (λ c κs. search needs) (λ c κs. search needs) (λ c κs. search needs) (λ c κs. search needs) interpolated-requires returns)

@@ -7,21 +7,6 @@ use Rattle.search.proofs.Below.{nearest-below}
 use Rattle.reading.proofs.gather.nearest_in.Statement.{statement}
 use Rattle.reading.proofs.gather.nearest_in.Tie as tie
 
-vertex-count-requires : tie.Need-vertex-count-requires
-vertex-count-requires c κs = search needs
-
-unit-requires : tie.Need-unit-requires
-unit-requires c κs = search needs
-
-unit-requires-2 : tie.Need-unit-requires-2
-unit-requires-2 c κs = search needs
-
-find-nearest-vertex-requires : tie.Need-find-nearest-vertex-requires
-find-nearest-vertex-requires c κs = search needs
-
-find-nearest-vertex-requires-2 : tie.Need-find-nearest-vertex-requires-2
-find-nearest-vertex-requires-2 c κs = search needs
-
 nearest-requires : tie.Need-nearest-requires
 nearest-requires c κs =
     let x = c .before in
@@ -40,11 +25,4 @@ returns c = rw (c .nearest .ensures, c .before .find-nearest-vertex2 .ensures, c
 pub nearest-in-spec : {M : Type 1} → statement M
 nearest-in-spec =
     tie.close
-    (tie.spec
-    vertex-count-requires
-    unit-requires
-    unit-requires-2
-    find-nearest-vertex-requires
-    find-nearest-vertex-requires-2
-    nearest-requires
-    returns)
+    (tie.spec (λ c κs. search needs) (λ c κs. search needs) (λ c κs. search needs) (λ c κs. search needs) (λ c κs. search needs) nearest-requires returns)

@@ -1,6 +1,6 @@
 -- `part_from` meets its contract. Assumes nothing.
 use native.Mathlib.Omega.{arith}
-use Rattle.reading.specs.Steps.{partFrom}
+use Rattle.reading.specs.Internal.{partFrom}
 use Rattle.reading.proofs.gather.part_from.Statement.{statement}
 use Rattle.reading.proofs.gather.part_from.Tie as tie
 

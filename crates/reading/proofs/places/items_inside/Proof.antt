@@ -4,7 +4,7 @@ use native.Mathlib.Omega.{arith}
 use mathlib.Core.Path.{_≡_}
 use Prim.Native.Nat.{_-_, _/_}
 use native.Mathlib.Nat.{zero-div}
-use Rattle.reading.specs.Steps.{itemsInside}
+use Rattle.reading.specs.Internal.{itemsInside}
 use Rattle.reading.proofs.places.items_inside.Statement.{statement}
 use Rattle.reading.proofs.places.items_inside.Tie as tie
 
@@ -16,12 +16,6 @@ returns c =
     let z : (a .length - a .start) / a .w ≡ 0 = rw e (zero-div (a .w)) in
     omega (arith, z)
 
-sub-n : tie.Need-sub-n
-sub-n c = search needs
-
-div-n : tie.Need-div-n
-div-n c = search needs
-
 returns-2 : tie.Need-returns-2
 unfolding itemsInside
 returns-2 c = omega arith
@@ -31,4 +25,5 @@ unfolding itemsInside
 returns-3 c = omega arith
 
 pub items-inside-spec : {M : Type 1} → statement M
-items-inside-spec = tie.close (tie.spec returns sub-n div-n returns-2 returns-3)
+items-inside-spec = tie.close
+    (tie.spec returns (λ c. search needs) (λ c. search needs) returns-2 returns-3)

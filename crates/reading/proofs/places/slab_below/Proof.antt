@@ -1,44 +1,23 @@
 -- `slab_below` meets its contract. Assumes nothing.
 use borrow.Author.Needs.{needs}
+use mathlib.Core.Bool.{and-eq-true-iff}
 use native.Mathlib.Omega.{arith}
 use Prim.Native.Nat.{_*_, _≤_}
 use native.Mathlib.Nat.{mul-le-mul}
 use borrow.Author.Tests.{ltb-true}
-use Rattle.mesh.proofs.Counting.{and-yes}
 use lib.Dec.{ltb}
 use Rattle.reading.proofs.Inside.{not-past, quite-past}
 use Rattle.reading.proofs.places.slab_below.Statement.{statement}
 use Rattle.reading.proofs.places.slab_below.Tie as tie
 
-returns : tie.Need-returns
-returns c = search needs
-
-sub-left : tie.Need-sub-left
-sub-left c = search needs
-
 mul-p : tie.Need-mul-p
 mul-p c =
     let a = c .before .before .args in
-    let h = and-yes (ltb (a .ri) 4294967296) (ltb (a .n) 4294967296) (c .if2 .taken) in
+    let h = and-eq-true-iff (ltb (a .ri) 4294967296) (ltb (a .n) 4294967296) .0 (c .if2 .taken) in
     let x : a .ri ≤ 4294967295 = omega (arith, ltb-true (a .ri) 4294967296 (h .0)) in
     let y : a .n ≤ 4294967295 = omega (arith, ltb-true (a .n) 4294967296 (h .1)) in
     let z : a .ri * a .n ≤ 4294967295 * 4294967295 = mul-le-mul x y in
     omega (arith, z)
-
-add-result : tie.Need-add-result
-add-result c = search needs
-
-returns-2 : tie.Need-returns-2
-returns-2 c = search needs
-
-returns-3 : tie.Need-returns-3
-returns-3 c = search needs
-
-sub-if4 : tie.Need-sub-if4
-sub-if4 c = search needs
-
-div-if4 : tie.Need-div-if4
-div-if4 c = search needs
 
 returns-4 : tie.Need-returns-4
 returns-4 c = let a = c .before .before .before .args in omega (arith, quite-past (a .ri) (a .n) (a .oi) (a .limit) (c .before .before .before .pre) (omega arith) (c .if4 .taken))
@@ -55,16 +34,4 @@ returns-5 c = let a = c .before .before .before .args in omega (arith, not-past 
 pub slab-below-spec : {M : Type 1} → statement M
 slab-below-spec =
     tie.close
-    (tie.spec
-    returns
-    sub-left
-    mul-p
-    add-result
-    returns-2
-    returns-3
-    sub-if4
-    div-if4
-    returns-4
-    mul-result
-    add-result-2
-    returns-5)
+    (tie.spec (λ c. search needs) (λ c. search needs) mul-p (λ c. search needs) (λ c. search needs) (λ c. search needs) (λ c. search needs) (λ c. search needs) returns-4 mul-result add-result-2 returns-5)

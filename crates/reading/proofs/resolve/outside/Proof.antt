@@ -4,12 +4,10 @@ use Rattle.reading.specs.Resolve.{outside}
 use Rattle.reading.proofs.resolve.outside.Statement.{statement}
 use Rattle.reading.proofs.resolve.outside.Tie as tie
 
-above-rmax-requires : tie.Need-above-rmax-requires
-above-rmax-requires c κs = search needs
-
 returns : tie.Need-returns
 unfolding outside
 returns c = rw (c .above-rmax .ensures)
 
 pub outside-spec : {M : Type 1} → statement M
-outside-spec = tie.close (tie.spec above-rmax-requires returns)
+outside-spec = tie.close
+    (tie.spec (λ c κs. search needs) returns)

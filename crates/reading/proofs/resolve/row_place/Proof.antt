@@ -1,9 +1,9 @@
 -- `row_place` meets its contract. Assumes nothing.
 use borrow.Author.Needs.{needs}
 use mathlib.Core.Path.{_≡_, sym, _∙_}
-use Rattle.mesh.proofs.Counting.{yes, no}
+use Rattle.lists.proofs.Counting.{yes, no}
 use mathlib.Core.Bool.{true, false}
-use Rattle.reading.specs.Resolve.{Query, queryHeld, outside}
+use Rattle.reading.specs.Resolve.{Query, queryValid, outside}
 use Rattle.reading.proofs.Inside.{refused-18, beyond-out, no-bins, some-bins, bins-some}
 use Rattle.reading.proofs.resolve.row_place.Statement.{statement}
 use Rattle.reading.proofs.resolve.row_place.Tie as tie
@@ -11,22 +11,16 @@ use Rattle.reading.proofs.resolve.row_place.Tie as tie
 abbrev query : tie.Start → Query
 query s = record { r = s .args .r; omega = s .args .omega; a = s .args .a; b = s .args .b }
 
-asked : (c : tie.Else1) → queryHeld (query (c .before .before .before .before)) ≡ true
-asked c = yes (c .before .query-held .ensures) (c .if1 .left)
+asked : (c : tie.Else1) → queryValid (query (c .before .before .before .before)) ≡ true
+asked c = yes (c .before .query-valid .ensures) (c .if1 .left)
 
 inner : (c : tie.Else2) → outside (c .before .before .before .before .before .before .args .t .grid) (c .before .before .before .before .before .before .args .r) ≡ false
 inner c = sym (c .before .outside .ensures) ∙ c .if2 .left
 
-query-held-requires : tie.Need-query-held-requires
-query-held-requires c κs = search needs
-
 returns : tie.Need-returns
 returns c =
     let a = c .before .before .before .before .args in
-    refused-18 (a .file .now) (a .t) (query (c .before .before .before .before)) (no (c .before .query-held .ensures) (c .if1 .taken))
-
-outside-requires : tie.Need-outside-requires
-outside-requires c κs = search needs
+    refused-18 (a .file .now) (a .t) (query (c .before .before .before .before)) (no (c .before .query-valid .ensures) (c .if1 .taken))
 
 returns-2 : tie.Need-returns-2
 returns-2 c =
@@ -51,11 +45,4 @@ returns-4 c =
 pub row-place-spec : {M : Type 1} → statement M
 row-place-spec =
     tie.close
-    (tie.spec
-    query-held-requires
-    returns
-    outside-requires
-    returns-2
-    returns-3
-    slab-row-requires
-    returns-4)
+    (tie.spec (λ c κs. search needs) returns (λ c κs. search needs) returns-2 returns-3 slab-row-requires returns-4)

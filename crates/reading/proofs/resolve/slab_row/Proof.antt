@@ -4,7 +4,7 @@ use Prim.Native.Nat.{_+_, _*_, _≤_, min}
 use native.Mathlib.Omega.{arith}
 use lib.ListN.{length}
 use mathlib.Core.Path.{_≡_, _∙_}
-use Rattle.reading.specs.Steps.{slabOf}
+use Rattle.reading.specs.Internal.{slabOf}
 use Rattle.reading.proofs.Inside.{row-at, row-none, row-fits}
 use Rattle.reading.proofs.resolve.slab_row.Statement.{statement}
 use Rattle.reading.proofs.resolve.slab_row.Tie as tie
@@ -19,18 +19,6 @@ fits c =
     let h = c .before .before in
     let a = h .before .before .before .before .before .args in
     row-fits (a .file .now) (a .t) (c .before .slab-below .result) (h .items-inside .result) (h .items-inside .ensures) (c .if1 .taken)
-
-distance-bin-requires : tie.Need-distance-bin-requires
-distance-bin-requires c κs = search needs
-
-dihedral-bin-requires : tie.Need-dihedral-bin-requires
-dihedral-bin-requires c κs = search needs
-
-items-inside-requires : tie.Need-items-inside-requires
-items-inside-requires c κs = search needs
-
-slab-below-requires : tie.Need-slab-below-requires
-slab-below-requires c κs = search needs
 
 mul-t20 : tie.Need-mul-t20
 mul-t20 c = omega (arith, fits c)
@@ -53,12 +41,4 @@ returns-2 c =
 pub slab-row-spec : {M : Type 1} → statement M
 slab-row-spec =
     tie.close
-    (tie.spec
-    distance-bin-requires
-    dihedral-bin-requires
-    items-inside-requires
-    slab-below-requires
-    mul-t20
-    add-t21
-    returns
-    returns-2)
+    (tie.spec (λ c κs. search needs) (λ c κs. search needs) (λ c κs. search needs) (λ c κs. search needs) mul-t20 add-t21 returns returns-2)

@@ -1,29 +1,17 @@
 -- `lookup` meets its contract. Assumes nothing.
 use borrow.Author.Needs.{needs}
 use mathlib.Core.Path.{sym, ap, _∙_}
-use Rattle.search.specs.Search.{Locator}
+use Rattle.search.specs.Search.{Locator, locatorOf}
 use Rattle.reading.specs.Resolve.{readingValues, Query, resolve}
 use Rattle.reading.proofs.Inside.{placed-fits, reading-by, entry-toward}
 use Rattle.reading.proofs.stages.lookup.Statement.{statement}
 use Rattle.reading.proofs.stages.lookup.Tie as tie
 
 abbrev lists : tie.Start → Locator
-lists s = record { cellOffsets = s .args .cell-offsets .now; cellVertices = s .args .cell-vertices .now; faceOffsets = s .args .face-offsets .now; faces = s .args .faces .now }
+lists s = locatorOf (s .args .cell-offsets .now) (s .args .cell-vertices .now) (s .args .face-offsets .now) (s .args .faces .now)
 
 abbrev query : tie.Start → Query
 query s = record { r = s .args .r; omega = s .args .omega; a = s .args .a; b = s .args .b }
-
-row-place-requires : tie.Need-row-place-requires
-row-place-requires c κs = search needs
-
-enum-known-n : tie.Need-enum-known-n
-enum-known-n c = search needs
-
-enum-told : tie.Need-enum-told
-enum-told c = search needs
-
-enum-known-at : tie.Need-enum-known-at
-enum-known-at c = search needs
 
 read-row-requires : tie.Need-read-row-requires
 read-row-requires c κs =
@@ -53,12 +41,4 @@ returns-3 c =
 pub lookup-spec : {M : Type 1} → statement M
 lookup-spec =
     tie.close
-    (tie.spec
-    row-place-requires
-    enum-known-n
-    enum-told
-    enum-known-at
-    read-row-requires
-    returns
-    returns-2
-    returns-3)
+    (tie.spec (λ c κs. search needs) (λ c. search needs) (λ c. search needs) (λ c. search needs) read-row-requires returns returns-2 returns-3)

@@ -3,51 +3,30 @@ use borrow.Author.Needs.{needs}
 use mathlib.Core.Path.{ap, _∙_}
 use mathlib.Core.Bool.{true, false}
 use lib.Ieee.{ofBits, div}
-use Rattle.search.specs.Search.{Locator}
+use Rattle.search.specs.Search.{Locator, locatorOf}
 use Rattle.reading.specs.Resolve.{Picks}
 use Rattle.reading.specs.Reading.{readPicks}
-use Rattle.reading.specs.Steps.{toward}
+use Rattle.reading.specs.Internal.{toward}
 use Rattle.reading.proofs.Inside.{row-scalar, row-repulsive, row-unknown, row-mesh}
 use Rattle.reading.proofs.Parts.{nearest-search}
 use Rattle.reading.proofs.stages.read_resolution.Statement.{statement}
 use Rattle.reading.proofs.stages.read_resolution.Tie as tie
 
 abbrev lists : tie.Start → Locator
-lists s = record { cellOffsets = s .args .cell-offsets .now; cellVertices = s .args .cell-vertices .now; faceOffsets = s .args .face-offsets .now; faces = s .args .faces .now }
-
-enum-known-row : tie.Need-enum-known-row
-enum-known-row c = search needs
-
-widen-requires : tie.Need-widen-requires
-widen-requires c κs = search needs
+lists s = locatorOf (s .args .cell-offsets .now) (s .args .cell-vertices .now) (s .args .face-offsets .now) (s .args .faces .now)
 
 returns : tie.Need-returns
 returns c = let s = c .before .before .before .before .before .before .before .before .before .before in rw (c .widen .ensures) (row-scalar (s .args .file .now) (s .args .t) (s .args .vertices .now) (lists s) (toward (s .args .a) (s .args .b)) (s .args .kind) (s .args .offset) (s .args .row) _ (c .before .before .row .given .1))
-
-enum-told : tie.Need-enum-told
-enum-told c = search needs
 
 returns-2 : tie.Need-returns-2
 unfolding ofBits div
 returns-2 c = let s = c .before .before .before .before .before .before .before .before in row-repulsive (s .args .file .now) (s .args .t) (s .args .vertices .now) (lists s) (toward (s .args .a) (s .args .b)) (s .args .kind) (s .args .offset) (s .args .row) (c .enum-told .given .1)
 
-enum-known-row-2 : tie.Need-enum-known-row-2
-enum-known-row-2 c = search needs
-
-cast-if1 : tie.Need-cast-if1
-cast-if1 c = search needs
-
 returns-3 : tie.Need-returns-3
 returns-3 c = let s = c .before .before .before .before .before .before .before .before .before .before in row-unknown (s .args .file .now) (s .args .t) (s .args .vertices .now) (lists s) (toward (s .args .a) (s .args .b)) (s .args .kind) (s .args .offset) (s .args .row) _ _ (c .before .before .row2 .given .1) (c .if1 .taken)
 
-read-interpolated-requires : tie.Need-read-interpolated-requires
-read-interpolated-requires c κs = search needs
-
 returns-4 : tie.Need-returns-4
 returns-4 c = let s = c .before .before .before .before .before .before .before .before .before .before .before .before in c .read-interpolated .ensures ∙ row-mesh (s .args .file .now) (s .args .t) (s .args .vertices .now) (lists s) (toward (s .args .a) (s .args .b)) (s .args .kind) (s .args .offset) (s .args .row) _ _ true (c .before .before .before .before .row2 .given .1) (c .before .if2 .taken) (c .before .before .if1 .left)
-
-read-nearest-requires : tie.Need-read-nearest-requires
-read-nearest-requires c κs = search needs
 
 returns-5 : tie.Need-returns-5
 returns-5 c =
@@ -59,16 +38,4 @@ returns-5 c =
 pub read-resolution-spec : {M : Type 1} → statement M
 read-resolution-spec =
     tie.close
-    (tie.spec
-    enum-known-row
-    widen-requires
-    returns
-    enum-told
-    returns-2
-    enum-known-row-2
-    cast-if1
-    returns-3
-    read-interpolated-requires
-    returns-4
-    read-nearest-requires
-    returns-5)
+    (tie.spec (λ c. search needs) (λ c κs. search needs) returns (λ c. search needs) returns-2 (λ c. search needs) (λ c. search needs) returns-3 (λ c κs. search needs) returns-4 (λ c κs. search needs) returns-5)

@@ -1,44 +1,14 @@
 -- `read_row` meets its contract. Assumes nothing.
 use borrow.Author.Needs.{needs}
-use Rattle.search.specs.Search.{Locator}
-use Rattle.reading.specs.Steps.{toward}
+use Rattle.search.specs.Search.{Locator, locatorOf}
+use Rattle.reading.specs.Internal.{toward}
 use Rattle.table.proofs.Items.{entryAt, entry-at}
 use Rattle.reading.proofs.Inside.{entry-by}
 use Rattle.reading.proofs.stages.read_row.Statement.{statement}
 use Rattle.reading.proofs.stages.read_row.Tie as tie
 
 abbrev lists : tie.Start → Locator
-lists s = record { cellOffsets = s .args .cell-offsets .now; cellVertices = s .args .cell-vertices .now; faceOffsets = s .args .face-offsets .now; faces = s .args .faces .now }
-
-shared-slice-read-kind : tie.Need-shared-slice-read-kind
-shared-slice-read-kind c = search needs
-
-add-level : tie.Need-add-level
-add-level c = search needs
-
-shared-slice-read-level : tie.Need-shared-slice-read-level
-shared-slice-read-level c = search needs
-
-add-u32-at : tie.Need-add-u32-at
-add-u32-at c = search needs
-
-u32-at-requires : tie.Need-u32-at-requires
-u32-at-requires c κs = search needs
-
-cast-offset : tie.Need-cast-offset
-cast-offset c = search needs
-
-add-u32-at-2 : tie.Need-add-u32-at-2
-add-u32-at-2 c = search needs
-
-u32-at-requires-2 : tie.Need-u32-at-requires-2
-u32-at-requires-2 c κs = search needs
-
-resolution-of-requires : tie.Need-resolution-of-requires
-resolution-of-requires c κs = search needs
-
-read-resolution-requires : tie.Need-read-resolution-requires
-read-resolution-requires c κs = search needs
+lists s = locatorOf (s .args .cell-offsets .now) (s .args .cell-vertices .now) (s .args .face-offsets .now) (s .args .faces .now)
 
 returns : tie.Need-returns
 returns c =
@@ -49,15 +19,4 @@ returns c =
 pub read-row-spec : {M : Type 1} → statement M
 read-row-spec =
     tie.close
-    (tie.spec
-    shared-slice-read-kind
-    add-level
-    shared-slice-read-level
-    add-u32-at
-    u32-at-requires
-    cast-offset
-    add-u32-at-2
-    u32-at-requires-2
-    resolution-of-requires
-    read-resolution-requires
-    returns)
+    (tie.spec (λ c. search needs) (λ c. search needs) (λ c. search needs) (λ c. search needs) (λ c κs. search needs) (λ c. search needs) (λ c. search needs) (λ c κs. search needs) (λ c κs. search needs) (λ c κs. search needs) returns)

@@ -17,24 +17,12 @@ kept c =
     let a = s .before .before .before .before .before .args in
     held (a .vertices .now) (vertexCount (a .level)) 1 (a .cell-offsets .now) (a .cell-vertices .now) (s .before .cell-index .result) (s .span-of .result) (s .span-of .ensures) (not-false _ (c .before .if1 .left))
 
-cell-index-requires : tie.Need-cell-index-requires
-cell-index-requires c κs = tt
-
-span-of-requires : tie.Need-span-of-requires
-span-of-requires c κs = search needs
-
-not-nearest-requires : tie.Need-not-nearest-requires
-not-nearest-requires c κs = tt
-
 returns : tie.Need-returns
 returns c =
     let s = c .before .before in
     let a = s .before .before .before .before .before .args in
     c .not-nearest .ensures
     ∙ sym (cell-not-held (a .cell-offsets .now) (a .cell-vertices .now) (a .vertices .now) (vertexCount (a .level)) (gridSize (vertexCount (a .level))) (a .p) (s .span-of .result) (rw (← s .before .cell-index .ensures) (s .span-of .ensures)) (not-true _ (c .before .if1 .taken)))
-
-vertex-count-requires : tie.Need-vertex-count-requires
-vertex-count-requires c κs = tt
 
 mul-nearest-in-cell : tie.Need-mul-nearest-in-cell
 mul-nearest-in-cell c = omega (arith, kept c)
@@ -48,9 +36,6 @@ part-nearest-in-cell-start c = kept c .order
 part-nearest-in-cell-end : tie.Need-part-nearest-in-cell-end
 part-nearest-in-cell-end c = kept c .room
 
-nearest-in-cell-requires : tie.Need-nearest-in-cell-requires
-nearest-in-cell-requires c κs = tt
-
 returns-2 : tie.Need-returns-2
 returns-2 c =
     let k = c .before .before in
@@ -62,15 +47,4 @@ returns-2 c =
 pub find-nearest-vertex-spec : {M : Type 1} → statement M
 find-nearest-vertex-spec =
     tie.close
-    (tie.spec
-    cell-index-requires
-    span-of-requires
-    not-nearest-requires
-    returns
-    vertex-count-requires
-    mul-nearest-in-cell
-    sub-nearest-in-cell
-    part-nearest-in-cell-start
-    part-nearest-in-cell-end
-    nearest-in-cell-requires
-    returns-2)
+    (tie.spec (λ c κs. tt) (λ c κs. search needs) (λ c κs. tt) returns (λ c κs. tt) mul-nearest-in-cell sub-nearest-in-cell part-nearest-in-cell-start part-nearest-in-cell-end (λ c κs. tt) returns-2)

@@ -4,18 +4,6 @@ use borrow.Author.Needs.{needs}
 use Rattle.search.proofs.cells.nearer.Statement.{statement}
 use Rattle.search.proofs.cells.nearer.Tie as tie
 
-vertex-at-requires : tie.Need-vertex-at-requires
-vertex-at-requires c κs = search needs
-
-difference-requires : tie.Need-difference-requires
-difference-requires c κs = tt
-
-dot-requires : tie.Need-dot-requires
-dot-requires c κs = tt
-
-total-order-requires : tie.Need-total-order-requires
-total-order-requires c κs = tt
-
 returns : tie.Need-returns
 unfolding nearer squared
 returns c =
@@ -31,10 +19,4 @@ returns-2 c =
 pub nearer-spec : {M : Type 1} → statement M
 nearer-spec =
     tie.close
-    (tie.spec
-    vertex-at-requires
-    difference-requires
-    dot-requires
-    total-order-requires
-    returns
-    returns-2)
+    (tie.spec (λ c κs. search needs) (λ c κs. tt) (λ c κs. tt) (λ c κs. tt) returns returns-2)

@@ -1,15 +1,16 @@
 -- `nearest_in_cell` meets its contract. Assumes nothing.
 use mathlib.Core.Path.{_≡_, refl, sym, _∙_}
+use Rattle.lists.proofs.Counting.{yes, no}
+use mathlib.Core.Bool.{and-eq-true-iff}
 use Prim.Native.Nat.{_+_, _-_, _*_, _≤_}
 use native.Mathlib.Omega.{arith}
 use lib.ListN.{length, drop}
 use lib.Dec.{leb, ltb}
 use borrow.Author.Needs.{needs}
 use borrow.Author.Tests.{leb-true}
-use Rattle.ieee.proofs.Fields.{both-true}
 use Rattle.search.specs.Search.{notNearest}
-use Rattle.search.specs.Steps.{nearestOver}
-use Rattle.search.proofs.Laws.{yes, no, nearest-turn, nearest-stop, nearest-end}
+use Rattle.search.specs.Internal.{nearestOver}
+use Rattle.search.proofs.Laws.{nearest-turn, nearest-stop, nearest-end}
 use Rattle.search.proofs.cells.nearest_in_cell.Statement.{statement}
 use Rattle.search.proofs.cells.nearest_in_cell.Tie as tie
 
@@ -25,26 +26,11 @@ start : (l : tie.At-loop Inv-loop μ-loop)
     nearestOver (a .vertices .now) (a .n) (a .p) (l .before .not-nearest .result) (a .cell .now) ≡ nearestOver (a .vertices .now) (a .n) (a .p) (notNearest 20) (a .cell .now))
 start l = rw (l .before .not-nearest .ensures)
 
-not-nearest-requires : tie.Need-not-nearest-requires Inv-loop μ-loop
-not-nearest-requires c κs = tt
-
 loop-holds : tie.Need-loop-holds Inv-loop μ-loop
 loop-holds c = (omega arith, refl)
 
-mul-wide16 : tie.Need-mul-wide16 Inv-loop μ-loop
-mul-wide16 c = search needs
-
-shared-slice-read-wide16 : tie.Need-shared-slice-read-wide16 Inv-loop μ-loop
-shared-slice-read-wide16 c = search needs
-
-wide16-requires : tie.Need-wide16-requires Inv-loop μ-loop
-wide16-requires c κs = tt
-
 inside-requires : tie.Need-inside-requires Inv-loop μ-loop
 inside-requires c κs = omega (arith, c .wide16 .ensures, c .before .shared-slice-known3 .given (c .before .before .before .loop .i))
-
-not-nearest-requires-2 : tie.Need-not-nearest-requires-2 Inv-loop μ-loop
-not-nearest-requires-2 c κs = tt
 
 returns : tie.Need-returns Inv-loop μ-loop
 returns c =
@@ -60,17 +46,11 @@ room : (c : tie.Else1 Inv-loop μ-loop) → 3 * c .before .before .wide16 .resul
 room c =
     let v = c .before .before .wide16 .result in
     let a = c .before .before .before .before .before .before .before .before .before .args in
-    leb-true _ _ (both-true (ltb v (a .n)) (leb (3 * v + 3) (length (a .vertices .now))) (yes (c .before .inside .ensures) (c .if1 .left)) .1)
+    leb-true _ _ (and-eq-true-iff (ltb v (a .n)) (leb (3 * v + 3) (length (a .vertices .now))) .0 (yes (c .before .inside .ensures) (c .if1 .left)) .1)
 
 nearer-requires : tie.Need-nearer-requires Inv-loop μ-loop
 nearer-requires c κs =
     room c
-
-add-i : tie.Need-add-i Inv-loop μ-loop
-add-i c = search needs
-
-loop-less : tie.Need-loop-less Inv-loop μ-loop
-loop-less c = search needs
 
 loop-again : tie.Need-loop-again Inv-loop μ-loop
 loop-again c =
@@ -92,19 +72,4 @@ returns-2 c =
 pub nearest-in-cell-spec : {M : Type 1} → statement M
 nearest-in-cell-spec =
     tie.close
-    (tie.spec
-    Inv-loop
-    μ-loop
-    not-nearest-requires
-    loop-holds
-    mul-wide16
-    shared-slice-read-wide16
-    wide16-requires
-    inside-requires
-    not-nearest-requires-2
-    returns
-    nearer-requires
-    add-i
-    loop-less
-    loop-again
-    returns-2)
+    (tie.spec Inv-loop μ-loop (λ c κs. tt) loop-holds (λ c. search needs) (λ c. search needs) (λ c κs. tt) inside-requires (λ c κs. tt) returns nearer-requires (λ c. search needs) (λ c. search needs) loop-again returns-2)

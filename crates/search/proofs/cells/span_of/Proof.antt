@@ -9,45 +9,15 @@ use borrow.Author.Needs.{needs}
 use Rattle.search.proofs.cells.span_of.Statement.{statement}
 use Rattle.search.proofs.cells.span_of.Tie as tie
 
-no-span-requires : tie.Need-no-span-requires
-no-span-requires c κs = tt
-
 returns : tie.Need-returns
 returns c =
     let a = c .before .before .before .args in
     c .no-span .ensures ∙ sym (span-past (a .offsets .now) (a .w) (a .places) (a .i) (omega arith))
 
-add-if2 : tie.Need-add-if2
-add-if2 c = search needs
-
-no-span-requires-2 : tie.Need-no-span-requires-2
-no-span-requires-2 c κs = tt
-
 returns-2 : tie.Need-returns-2
 returns-2 c =
     let a = c .before .before .before .before .args in
     c .no-span2 .ensures ∙ sym (span-past (a .offsets .now) (a .w) (a .places) (a .i) (omega arith))
-
-mul-wide32 : tie.Need-mul-wide32
-mul-wide32 c = search needs
-
-shared-slice-read-wide32 : tie.Need-shared-slice-read-wide32
-shared-slice-read-wide32 c = search needs
-
-wide32-requires : tie.Need-wide32-requires
-wide32-requires c κs = tt
-
-add-wide32 : tie.Need-add-wide32
-add-wide32 c = search needs
-
-mul-wide32-2 : tie.Need-mul-wide32-2
-mul-wide32-2 c = search needs
-
-shared-slice-read-wide32-2 : tie.Need-shared-slice-read-wide32-2
-shared-slice-read-wide32-2 c = search needs
-
-wide32-requires-2 : tie.Need-wide32-requires-2
-wide32-requires-2 c κs = tt
 
 returns-3 : tie.Need-returns-3
 returns-3 c =
@@ -77,9 +47,6 @@ returns-4 c =
     let s = a .before .before .before .before .before .args in
     sym (span-by (s .offsets .now) (s .w) (s .places) (s .i) (a .wide32 .result) (b .wide322 .result) (a .wide32 .ensures) (b .wide322 .ensures) (omega arith) true (c .before .if3 .left) (c .if4 .taken))
 
-no-span-requires-3 : tie.Need-no-span-requires-3
-no-span-requires-3 c κs = tt
-
 returns-5 : tie.Need-returns-5
 returns-5 c =
     let b = c .before .before .before in
@@ -91,22 +58,4 @@ returns-5 c =
 pub span-of-spec : {M : Type 1} → statement M
 span-of-spec =
     tie.close
-    (tie.spec
-    no-span-requires
-    returns
-    add-if2
-    no-span-requires-2
-    returns-2
-    mul-wide32
-    shared-slice-read-wide32
-    wide32-requires
-    add-wide32
-    mul-wide32-2
-    shared-slice-read-wide32-2
-    wide32-requires-2
-    returns-3
-    mul-from
-    mul-to
-    returns-4
-    no-span-requires-3
-    returns-5)
+    (tie.spec (λ c κs. tt) returns (λ c. search needs) (λ c κs. tt) returns-2 (λ c. search needs) (λ c. search needs) (λ c κs. tt) (λ c. search needs) (λ c. search needs) (λ c. search needs) (λ c κs. tt) returns-3 mul-from mul-to returns-4 (λ c κs. tt) returns-5)

@@ -1,6 +1,7 @@
 -- `best_face` meets its contract. Assumes nothing.
 use mathlib.Core.Path.{_≡_, refl, sym, _∙_}
-use mathlib.Core.Bool.{true, _&&_}
+use Rattle.lists.proofs.Counting.{yes, no}
+use mathlib.Core.Bool.{true, _&&_, and-eq-true-iff}
 use mathlib.Core.List.{List}
 use lib.Ieee.{Float}
 use Prim.Native.Nat.{ℕ, _+_, _-_, _*_, _%_, _≤_}
@@ -9,10 +10,9 @@ use lib.ListN.{length, drop}
 use lib.Dec.{leb, ltb}
 use borrow.Author.Needs.{needs}
 use borrow.Author.Tests.{leb-true}
-use Rattle.ieee.proofs.Fields.{both-true}
 use Rattle.search.specs.Search.{noFit}
-use Rattle.search.specs.Steps.{fitOver}
-use Rattle.search.proofs.Laws.{inside, yes, no, fit-turn, fit-stop, fit-end}
+use Rattle.search.specs.Internal.{fitOver}
+use Rattle.search.proofs.Laws.{inside, fit-turn, fit-stop, fit-end}
 use Rattle.search.proofs.faces.best_face.Statement.{statement}
 use Rattle.search.proofs.faces.best_face.Tie as tie
 
@@ -36,46 +36,16 @@ tests : (c : tie.After-inside3 Inv-loop μ-loop)
 tests c = rw (c .before .before .inside .ensures, c .before .inside2 .ensures, c .inside3 .ensures)
 
 room : (vs : List Float) (n v : ℕ) → inside vs n v ≡ true → 3 * v + 3 ≤ length vs
-room vs n v h = leb-true _ _ (both-true (ltb v n) (leb (3 * v + 3) (length vs)) h .1)
-
-no-fit-requires : tie.Need-no-fit-requires Inv-loop μ-loop
-no-fit-requires c κs = tt
+room vs n v h = leb-true _ _ (and-eq-true-iff (ltb v n) (leb (3 * v + 3) (length vs)) .0 h .1)
 
 loop-holds : tie.Need-loop-holds Inv-loop μ-loop
 loop-holds c = (omega arith, omega arith, refl)
 
-mul-wide16 : tie.Need-mul-wide16 Inv-loop μ-loop
-mul-wide16 c = search needs
-
-shared-slice-read-wide16 : tie.Need-shared-slice-read-wide16 Inv-loop μ-loop
-shared-slice-read-wide16 c = search needs
-
-wide16-requires : tie.Need-wide16-requires Inv-loop μ-loop
-wide16-requires c κs = tt
-
-add-wide16 : tie.Need-add-wide16 Inv-loop μ-loop
-add-wide16 c = search needs
-
-mul-wide16-2 : tie.Need-mul-wide16-2 Inv-loop μ-loop
-mul-wide16-2 c = search needs
-
 shared-slice-read-wide16-2 : tie.Need-shared-slice-read-wide16-2 Inv-loop μ-loop
 shared-slice-read-wide16-2 c = omega arith
 
-wide16-requires-2 : tie.Need-wide16-requires-2 Inv-loop μ-loop
-wide16-requires-2 c κs = tt
-
-add-wide16-2 : tie.Need-add-wide16-2 Inv-loop μ-loop
-add-wide16-2 c = search needs
-
-mul-wide16-3 : tie.Need-mul-wide16-3 Inv-loop μ-loop
-mul-wide16-3 c = search needs
-
 shared-slice-read-wide16-3 : tie.Need-shared-slice-read-wide16-3 Inv-loop μ-loop
 shared-slice-read-wide16-3 c = omega arith
-
-wide16-requires-3 : tie.Need-wide16-requires-3 Inv-loop μ-loop
-wide16-requires-3 c κs = tt
 
 inside-requires : tie.Need-inside-requires Inv-loop μ-loop
 inside-requires c κs =
@@ -91,9 +61,6 @@ inside-requires-3 : tie.Need-inside-requires-3 Inv-loop μ-loop
 inside-requires-3 c κs =
     let d = c .before .before in
     omega (arith, d .wide163 .ensures, d .before .shared-slice-known5 .given (d .before .before .before .before .before .before .before .loop .i + 2))
-
-not-located-requires : tie.Need-not-located-requires Inv-loop μ-loop
-not-located-requires c κs = tt
 
 returns : tie.Need-returns Inv-loop μ-loop
 returns c =
@@ -115,8 +82,8 @@ better-requires c κs =
     let x = y .before .before in
     let a = x .before .before .before .before .before .before .before .args in
     let t = yes (tests i) (c .if1 .left) in
-    let k = both-true (inside (a .vertices .now) (a .n) (x .wide16 .result)) (inside (a .vertices .now) (a .n) (y .wide162 .result) && inside (a .vertices .now) (a .n) (z .wide163 .result)) t in
-    let m = both-true (inside (a .vertices .now) (a .n) (y .wide162 .result)) (inside (a .vertices .now) (a .n) (z .wide163 .result)) (k .1) in
+    let k = and-eq-true-iff (inside (a .vertices .now) (a .n) (x .wide16 .result)) (inside (a .vertices .now) (a .n) (y .wide162 .result) && inside (a .vertices .now) (a .n) (z .wide163 .result)) .0 t in
+    let m = and-eq-true-iff (inside (a .vertices .now) (a .n) (y .wide162 .result)) (inside (a .vertices .now) (a .n) (z .wide163 .result)) .0 (k .1) in
     (room (a .vertices .now) (a .n) (x .wide16 .result) (k .0), room (a .vertices .now) (a .n) (y .wide162 .result) (m .0), room (a .vertices .now) (a .n) (z .wide163 .result) (m .1))
 
 add-i : tie.Need-add-i Inv-loop μ-loop
@@ -140,9 +107,6 @@ loop-again c =
           ∙ l .loop .inv .2),
     )
 
-fitted-requires : tie.Need-fitted-requires Inv-loop μ-loop
-fitted-requires c κs = tt
-
 returns-2 : tie.Need-returns-2 Inv-loop μ-loop
 returns-2 c =
     let l = c .before .before in
@@ -152,30 +116,4 @@ returns-2 c =
 pub best-face-spec : {M : Type 1} → statement M
 best-face-spec =
     tie.close
-    (tie.spec
-    Inv-loop
-    μ-loop
-    no-fit-requires
-    loop-holds
-    mul-wide16
-    shared-slice-read-wide16
-    wide16-requires
-    add-wide16
-    mul-wide16-2
-    shared-slice-read-wide16-2
-    wide16-requires-2
-    add-wide16-2
-    mul-wide16-3
-    shared-slice-read-wide16-3
-    wide16-requires-3
-    inside-requires
-    inside-requires-2
-    inside-requires-3
-    not-located-requires
-    returns
-    better-requires
-    add-i
-    loop-less
-    loop-again
-    fitted-requires
-    returns-2)
+    (tie.spec Inv-loop μ-loop (λ c κs. tt) loop-holds (λ c. search needs) (λ c. search needs) (λ c κs. tt) (λ c. search needs) (λ c. search needs) shared-slice-read-wide16-2 (λ c κs. tt) (λ c. search needs) (λ c. search needs) shared-slice-read-wide16-3 (λ c κs. tt) inside-requires inside-requires-2 inside-requires-3 (λ c κs. tt) returns better-requires add-i loop-less loop-again (λ c κs. tt) returns-2)

@@ -4,14 +4,14 @@ use native.Mathlib.Omega.{arith}
 use lib.ListN.{length-take, length-drop}
 use borrow.Author.Tests.{not-true, not-false}
 use Rattle.mesh.specs.Levels.{vertexCount, gridSize}
-use Rattle.search.specs.Search.{Locator}
+use Rattle.search.specs.Search.{Locator, locatorOf}
 use Rattle.search.proofs.Laws.{Held, held, none-near, faces-not-held, faces-held}
 use borrow.Author.Needs.{needs}
 use Rattle.search.proofs.faces.locate.Statement.{statement}
 use Rattle.search.proofs.faces.locate.Tie as tie
 
 abbrev lists : tie.Start → Locator
-lists c = record { cellOffsets = c .args .cell-offsets .now; cellVertices = c .args .cell-vertices .now; faceOffsets = c .args .face-offsets .now; faces = c .args .faces .now }
+lists c = locatorOf (c .args .cell-offsets .now) (c .args .cell-vertices .now) (c .args .face-offsets .now) (c .args .faces .now)
 
 -- the places of the vertex's faces are held
 kept : (c : tie.After-vertex-count)
@@ -23,24 +23,12 @@ kept c =
     let a = v .before .before .before .before .before .before .args in
     held (a .vertices .now) (vertexCount (a .level)) 3 (a .face-offsets .now) (a .faces .now) (v .find-nearest-vertex .result .vertex) (s .span-of .result) (s .span-of .ensures) (not-false _ (c .before .if2 .left))
 
-find-nearest-vertex-requires : tie.Need-find-nearest-vertex-requires
-find-nearest-vertex-requires c κs = tt
-
-not-located-requires : tie.Need-not-located-requires
-not-located-requires c κs = tt
-
 returns : tie.Need-returns
 returns c =
     let v = c .before .before in
     let b = v .before .before .before .before .before .before in
     c .not-located .ensures
     ∙ sym (none-near (lists b) (b .args .vertices .now) (vertexCount (b .args .level)) (gridSize (vertexCount (b .args .level))) (b .args .p) (v .find-nearest-vertex .result) (v .find-nearest-vertex .ensures) (c .before .if1 .taken))
-
-span-of-requires : tie.Need-span-of-requires
-span-of-requires c κs = search needs
-
-not-located-requires-2 : tie.Need-not-located-requires-2
-not-located-requires-2 c κs = tt
 
 returns-2 : tie.Need-returns-2
 returns-2 c =
@@ -50,9 +38,6 @@ returns-2 c =
     c .not-located2 .ensures
     ∙ sym (faces-not-held (lists b) (b .args .vertices .now) (vertexCount (b .args .level)) (gridSize (vertexCount (b .args .level))) (b .args .p) (v .find-nearest-vertex .result) (v .find-nearest-vertex .ensures)
     (s .before .if1 .left) (s .span-of .result) (s .span-of .ensures) (not-true _ (c .before .if2 .taken)))
-
-vertex-count-requires : tie.Need-vertex-count-requires
-vertex-count-requires c κs = tt
 
 mul-best-face : tie.Need-mul-best-face
 mul-best-face c = omega (arith, kept c)
@@ -82,17 +67,4 @@ returns-3 c =
 pub locate-spec : {M : Type 1} → statement M
 locate-spec =
     tie.close
-    (tie.spec
-    find-nearest-vertex-requires
-    not-located-requires
-    returns
-    span-of-requires
-    not-located-requires-2
-    returns-2
-    vertex-count-requires
-    mul-best-face
-    sub-best-face
-    part-best-face-start
-    part-best-face-end
-    best-face-requires
-    returns-3)
+    (tie.spec (λ c κs. tt) (λ c κs. tt) returns (λ c κs. search needs) (λ c κs. tt) returns-2 (λ c κs. tt) mul-best-face sub-best-face part-best-face-start part-best-face-end best-face-requires returns-3)

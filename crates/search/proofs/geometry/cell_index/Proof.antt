@@ -35,18 +35,6 @@ small c =
     let q : g * g ≤ 400 * 400 = mul-le-mul (h .1) (h .1) in
     (q, mul-le-mul {n₂ = 5} (omega arith) q, mul-le-mul {n₂ = 400} (omega arith) (h .1), omega arith)
 
-grid-size-requires : tie.Need-grid-size-requires
-grid-size-requires c κs = tt
-
-cube-project-requires : tie.Need-cube-project-requires
-cube-project-requires c κs = tt
-
-cell-coordinate-requires : tie.Need-cell-coordinate-requires
-cell-coordinate-requires c κs = tt
-
-cell-coordinate-requires-2 : tie.Need-cell-coordinate-requires-2
-cell-coordinate-requires-2 c κs = tt
-
 mul-result : tie.Need-mul-result
 mul-result c = omega (arith, small c)
 
@@ -71,14 +59,4 @@ returns c =
 pub cell-index-spec : {M : Type 1} → statement M
 cell-index-spec =
     tie.close
-    (tie.spec
-    grid-size-requires
-    cube-project-requires
-    cell-coordinate-requires
-    cell-coordinate-requires-2
-    mul-result
-    mul-result-2
-    mul-result-3
-    add-result
-    add-result-2
-    returns)
+    (tie.spec (λ c κs. tt) (λ c κs. tt) (λ c κs. tt) (λ c κs. tt) mul-result mul-result-2 mul-result-3 add-result add-result-2 returns)

@@ -3,26 +3,11 @@ use Rattle.search.specs.Geometry.{cubeFaceProject, cubeFace, cubeProject
 use Rattle.search.proofs.geometry.cube_project.Statement.{statement}
 use Rattle.search.proofs.geometry.cube_project.Tie as tie
 
-abs-requires : tie.Need-abs-requires
-abs-requires c κs = tt
-
-abs-requires-2 : tie.Need-abs-requires-2
-abs-requires-2 c κs = tt
-
-abs-requires-3 : tie.Need-abs-requires-3
-abs-requires-3 c κs = tt
-
-projected-requires : tie.Need-projected-requires
-projected-requires c κs = tt
-
 returns : tie.Need-returns
 unfolding cubeProject cubeFace cubeFaceProject
 returns c =
     let s = c .before .before .before in
     rw (c .projected .ensures, ← s .before .before .abs .ensures, ← s .before .abs2 .ensures, ← s .abs3 .ensures, c .before .before .if1 .taken, c .before .if2 .taken)
-
-projected-requires-2 : tie.Need-projected-requires-2
-projected-requires-2 c κs = tt
 
 returns-2 : tie.Need-returns-2
 unfolding cubeProject cubeFace cubeFaceProject
@@ -30,17 +15,11 @@ returns-2 c =
     let s = c .before .before .before in
     rw (c .projected2 .ensures, ← s .before .before .abs .ensures, ← s .before .abs2 .ensures, ← s .abs3 .ensures, c .before .before .if1 .taken, c .before .if2 .left)
 
-projected-requires-3 : tie.Need-projected-requires-3
-projected-requires-3 c κs = tt
-
 returns-3 : tie.Need-returns-3
 unfolding cubeProject cubeFace cubeFaceProject
 returns-3 c =
     let s = c .before .before .before .before in
     rw (c .projected3 .ensures, ← s .before .before .abs .ensures, ← s .before .abs2 .ensures, ← s .abs3 .ensures, c .before .before .before .if1 .left, c .before .before .if3 .taken, c .before .if4 .taken)
-
-projected-requires-4 : tie.Need-projected-requires-4
-projected-requires-4 c κs = tt
 
 returns-4 : tie.Need-returns-4
 unfolding cubeProject cubeFace cubeFaceProject
@@ -48,17 +27,11 @@ returns-4 c =
     let s = c .before .before .before .before in
     rw (c .projected4 .ensures, ← s .before .before .abs .ensures, ← s .before .abs2 .ensures, ← s .abs3 .ensures, c .before .before .before .if1 .left, c .before .before .if3 .taken, c .before .if4 .left)
 
-projected-requires-5 : tie.Need-projected-requires-5
-projected-requires-5 c κs = tt
-
 returns-5 : tie.Need-returns-5
 unfolding cubeProject cubeFace cubeFaceProject
 returns-5 c =
     let s = c .before .before .before .before in
     rw (c .projected5 .ensures, ← s .before .before .abs .ensures, ← s .before .abs2 .ensures, ← s .abs3 .ensures, c .before .before .before .if1 .left, c .before .before .if3 .left, c .before .if5 .taken)
-
-projected-requires-6 : tie.Need-projected-requires-6
-projected-requires-6 c κs = tt
 
 returns-6 : tie.Need-returns-6
 unfolding cubeProject cubeFace cubeFaceProject
@@ -69,19 +42,4 @@ returns-6 c =
 pub cube-project-spec : {M : Type 1} → statement M
 cube-project-spec =
     tie.close
-    (tie.spec
-    abs-requires
-    abs-requires-2
-    abs-requires-3
-    projected-requires
-    returns
-    projected-requires-2
-    returns-2
-    projected-requires-3
-    returns-3
-    projected-requires-4
-    returns-4
-    projected-requires-5
-    returns-5
-    projected-requires-6
-    returns-6)
+    (tie.spec (λ c κs. tt) (λ c κs. tt) (λ c κs. tt) (λ c κs. tt) returns (λ c κs. tt) returns-2 (λ c κs. tt) returns-3 (λ c κs. tt) returns-4 (λ c κs. tt) returns-5 (λ c κs. tt) returns-6)

@@ -3,12 +3,10 @@ use Rattle.search.specs.Geometry.{unit}
 use Rattle.search.proofs.geometry.unit.Statement.{statement}
 use Rattle.search.proofs.geometry.unit.Tie as tie
 
-norm-requires : tie.Need-norm-requires
-norm-requires c κs = tt
-
 returns : tie.Need-returns
 unfolding unit
 returns c = rw (c .before .before .before .norm .ensures)
 
 pub unit-spec : {M : Type 1} → statement M
-unit-spec = tie.close (tie.spec norm-requires returns)
+unit-spec = tie.close
+    (tie.spec (λ c κs. tt) returns)

@@ -6,9 +6,9 @@ use native.Mathlib.Omega.{arith}
 use lib.ListN.{getD}
 use lib.Ieee.{Float, nan}
 use borrow.Author.Needs.{needs}
-use Rattle.mesh.specs.Lists.{forEach}
+use Rattle.lists.specs.Lists.{forEach}
 use Rattle.settling.specs.Gradient.{steeper, alongNeighbours}
-use Rattle.mesh.proofs.Loops.{each-turn}
+use Rattle.lists.proofs.Loops.{each-turn}
 use Rattle.settling.proofs.Numbers.{Number, steeper-number}
 use Rattle.settling.proofs.gradient.along_neighbours.Statement.{statement}
 use Rattle.settling.proofs.gradient.along_neighbours.Tie as tie
@@ -23,39 +23,15 @@ Inv-loop counts neighbours angles weights v g d x h₀ k₀ h k = (k ≤ d) × (
 abbrev μ-loop : tie.MeasureT-loop
 μ-loop counts neighbours angles weights v g d x h₀ k₀ h k = d - k
 
-degree-requires : tie.Need-degree-requires Inv-loop μ-loop
-degree-requires c κs = search needs
-
-entry-requires : tie.Need-entry-requires Inv-loop μ-loop
-entry-requires c κs = search needs
-
 loop-holds : tie.Need-loop-holds Inv-loop μ-loop
 unfolding forEach
 loop-holds c = (omega arith, refl, search needs)
 
-neighbour-requires : tie.Need-neighbour-requires Inv-loop μ-loop
-neighbour-requires c κs = search needs
-
-cast-entry : tie.Need-cast-entry Inv-loop μ-loop
-cast-entry c = search needs
-
-entry-requires-2 : tie.Need-entry-requires-2 Inv-loop μ-loop
-entry-requires-2 c κs = search needs
-
 mul-entry : tie.Need-mul-entry Inv-loop μ-loop
 mul-entry c = omega arith
 
-cast-entry-2 : tie.Need-cast-entry-2 Inv-loop μ-loop
-cast-entry-2 c = search needs
-
 add-entry : tie.Need-add-entry Inv-loop μ-loop
 add-entry c = omega arith
-
-entry-requires-3 : tie.Need-entry-requires-3 Inv-loop μ-loop
-entry-requires-3 c κs = search needs
-
-steeper-requires : tie.Need-steeper-requires Inv-loop μ-loop
-steeper-requires c κs = search needs
 
 add-k : tie.Need-add-k Inv-loop μ-loop
 add-k c = omega arith
@@ -83,21 +59,4 @@ returns c =
 pub along-neighbours-spec : {M : Type 1} → statement M
 along-neighbours-spec =
     tie.close
-    (tie.spec
-    Inv-loop
-    μ-loop
-    degree-requires
-    entry-requires
-    loop-holds
-    neighbour-requires
-    cast-entry
-    entry-requires-2
-    mul-entry
-    cast-entry-2
-    add-entry
-    entry-requires-3
-    steeper-requires
-    add-k
-    loop-less
-    loop-again
-    returns)
+    (tie.spec Inv-loop μ-loop (λ c κs. search needs) (λ c κs. search needs) loop-holds (λ c κs. search needs) (λ c. search needs) (λ c κs. search needs) mul-entry (λ c. search needs) add-entry (λ c κs. search needs) (λ c κs. search needs) add-k loop-less loop-again returns)

@@ -4,29 +4,24 @@ use mathlib.Core.List.{[]}
 use Prim.Native.Nat.{_-_, _≤_}
 use native.Mathlib.Omega.{arith}
 use borrow.Author.Needs.{needs}
-use Rattle.settling.specs.Steps.{columnGradient, firstColumns}
+use Rattle.mesh.specs.Mesh.{meshOf}
+use Rattle.settling.specs.Internal.{columnGradient, firstColumns}
 use Rattle.settling.proofs.Numbers.{columns-number, columns-one}
 use Rattle.settling.proofs.gradient.columns.Statement.{statement}
 use Rattle.settling.proofs.gradient.columns.Tie as tie
 
 abbrev Inv-loop : tie.InvT-loop
 Inv-loop counts neighbours angles energies beta n m h₀ t₀ h t =
-    (t ≤ n) × (h ≡ firstColumns (record { vertices = []; counts = counts; neighbours = neighbours; angles = angles }) n beta energies t)
+    (t ≤ n) × (h ≡ firstColumns (meshOf [] counts neighbours angles) n beta energies t)
 
 abbrev μ-loop : tie.MeasureT-loop
 μ-loop counts neighbours angles energies beta n m h₀ t₀ h t = n - t
-
-fours-requires : tie.Need-fours-requires Inv-loop μ-loop
-fours-requires c κs = search needs
 
 mul-t : tie.Need-mul-t Inv-loop μ-loop
 mul-t c = omega arith
 
 loop-holds : tie.Need-loop-holds Inv-loop μ-loop
 loop-holds c = (omega arith, c .fours .ensures)
-
-cast-line : tie.Need-cast-line Inv-loop μ-loop
-cast-line c = search needs
 
 line-requires : tie.Need-line-requires Inv-loop μ-loop
 line-requires c κs = (search needs, search needs, omega arith, rw (c .before .loop .inv .1) (columns-number _ _ _ _ _))
@@ -53,15 +48,4 @@ returns c =
 pub columns-spec : {M : Type 1} → statement M
 columns-spec =
     tie.close
-    (tie.spec
-    Inv-loop
-    μ-loop
-    fours-requires
-    mul-t
-    loop-holds
-    cast-line
-    line-requires
-    add-t
-    loop-less
-    loop-again
-    returns)
+    (tie.spec Inv-loop μ-loop (λ c κs. search needs) mul-t loop-holds (λ c. search needs) line-requires add-t loop-less loop-again returns)

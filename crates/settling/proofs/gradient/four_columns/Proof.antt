@@ -1,71 +1,17 @@
 -- `four_columns` meets its contract. Assumes nothing.
 use Prim.Native.Nat.{_+_}
-use Rattle.settling.specs.Steps.{lineWeights, columnGradient, fourColumns}
+use Rattle.settling.specs.Internal.{lineWeights, columnGradient, fourColumns}
 use Rattle.settling.proofs.Lines.{length-line, head-part}
 use Rattle.settling.proofs.Numbers.{line-number}
 use borrow.Author.Needs.{needs}
 use Rattle.settling.proofs.gradient.four_columns.Statement.{statement}
 use Rattle.settling.proofs.gradient.four_columns.Tie as tie
 
-slice-aggregate-weigh-four : tie.Need-slice-aggregate-weigh-four
-slice-aggregate-weigh-four c = search needs
-
-slice-aggregate-weigh-four-2 : tie.Need-slice-aggregate-weigh-four-2
-slice-aggregate-weigh-four-2 c = search needs
-
-slice-aggregate-weigh-four-3 : tie.Need-slice-aggregate-weigh-four-3
-slice-aggregate-weigh-four-3 c = search needs
-
-slice-aggregate-weigh-four-4 : tie.Need-slice-aggregate-weigh-four-4
-slice-aggregate-weigh-four-4 c = search needs
-
-weigh-four-requires : tie.Need-weigh-four-requires
-weigh-four-requires c κs = search needs
-
-sub-line-gradient : tie.Need-sub-line-gradient
-sub-line-gradient c = search needs
-
-part-line-gradient-start : tie.Need-part-line-gradient-start
-part-line-gradient-start c = search needs
-
-part-line-gradient-end : tie.Need-part-line-gradient-end
-part-line-gradient-end c = search needs
-
-line-gradient-requires : tie.Need-line-gradient-requires
-line-gradient-requires c κs = search needs
-
-sub-line-gradient-2 : tie.Need-sub-line-gradient-2
-sub-line-gradient-2 c = search needs
-
-part-line-gradient-start-2 : tie.Need-part-line-gradient-start-2
-part-line-gradient-start-2 c = search needs
-
-part-line-gradient-end-2 : tie.Need-part-line-gradient-end-2
-part-line-gradient-end-2 c = search needs
-
 line-gradient-requires-2 : tie.Need-line-gradient-requires-2
 line-gradient-requires-2 c κs = rw (c .before .before .line-gradient .ensures) (line-number _ _ _ _ (c .before .before .before .before .before .before .before .before .before .before .before .before .before .before .before .before .before .before .pre .2))
 
-sub-line-gradient-3 : tie.Need-sub-line-gradient-3
-sub-line-gradient-3 c = search needs
-
-part-line-gradient-start-3 : tie.Need-part-line-gradient-start-3
-part-line-gradient-start-3 c = search needs
-
-part-line-gradient-end-3 : tie.Need-part-line-gradient-end-3
-part-line-gradient-end-3 c = search needs
-
 line-gradient-requires-3 : tie.Need-line-gradient-requires-3
 line-gradient-requires-3 c κs = rw (c .before .before .line-gradient2 .ensures, c .before .before .before .before .before .line-gradient .ensures) (line-number _ _ _ _ (line-number _ _ _ _ (c .before .before .before .before .before .before .before .before .before .before .before .before .before .before .before .before .before .before .before .before .before .pre .2)))
-
-sub-line-gradient-4 : tie.Need-sub-line-gradient-4
-sub-line-gradient-4 c = search needs
-
-part-line-gradient-start-4 : tie.Need-part-line-gradient-start-4
-part-line-gradient-start-4 c = search needs
-
-part-line-gradient-end-4 : tie.Need-part-line-gradient-end-4
-part-line-gradient-end-4 c = search needs
 
 line-gradient-requires-4 : tie.Need-line-gradient-requires-4
 line-gradient-requires-4 c κs = rw (c .before .before .line-gradient3 .ensures, c .before .before .before .before .before .line-gradient2 .ensures, c .before .before .before .before .before .before .before .before .line-gradient .ensures) (line-number _ _ _ _ (line-number _ _ _ _ (line-number _ _ _ _ (c .before .before .before .before .before .before .before .before .before .before .before .before .before .before .before .before .before .before .before .before .before .before .before .before .pre .2))))
@@ -84,26 +30,4 @@ returns c =
 pub four-columns-spec : {M : Type 1} → statement M
 four-columns-spec =
     tie.close
-    (tie.spec
-    slice-aggregate-weigh-four
-    slice-aggregate-weigh-four-2
-    slice-aggregate-weigh-four-3
-    slice-aggregate-weigh-four-4
-    weigh-four-requires
-    sub-line-gradient
-    part-line-gradient-start
-    part-line-gradient-end
-    line-gradient-requires
-    sub-line-gradient-2
-    part-line-gradient-start-2
-    part-line-gradient-end-2
-    line-gradient-requires-2
-    sub-line-gradient-3
-    part-line-gradient-start-3
-    part-line-gradient-end-3
-    line-gradient-requires-3
-    sub-line-gradient-4
-    part-line-gradient-start-4
-    part-line-gradient-end-4
-    line-gradient-requires-4
-    returns)
+    (tie.spec (λ c. search needs) (λ c. search needs) (λ c. search needs) (λ c. search needs) (λ c κs. search needs) (λ c. search needs) (λ c. search needs) (λ c. search needs) (λ c κs. search needs) (λ c. search needs) (λ c. search needs) (λ c. search needs) line-gradient-requires-2 (λ c. search needs) (λ c. search needs) (λ c. search needs) line-gradient-requires-3 (λ c. search needs) (λ c. search needs) (λ c. search needs) line-gradient-requires-4 returns)

@@ -4,15 +4,16 @@ use mathlib.Core.List.{[]}
 use Prim.Native.Nat.{_+_, _*_, _/_, _-_, _≤_}
 use native.Mathlib.Omega.{arith}
 use borrow.Author.Needs.{needs}
-use Rattle.mesh.specs.Lists.{forEach}
-use Rattle.settling.specs.Steps.{firstColumns}
+use Rattle.mesh.specs.Mesh.{meshOf}
+use Rattle.lists.specs.Lists.{forEach}
+use Rattle.settling.specs.Internal.{firstColumns}
 use Rattle.settling.proofs.Numbers.{columns-number, columns-four}
 use Rattle.settling.proofs.gradient.fours.Statement.{statement}
 use Rattle.settling.proofs.gradient.fours.Tie as tie
 
 abbrev Inv-loop : tie.InvT-loop
 Inv-loop counts neighbours angles energies beta n h₀ i₀ h i =
-    (i ≤ n / 4) × (h ≡ firstColumns (record { vertices = []; counts = counts; neighbours = neighbours; angles = angles }) n beta energies (i * 4))
+    (i ≤ n / 4) × (h ≡ firstColumns (meshOf [] counts neighbours angles) n beta energies (i * 4))
 
 abbrev μ-loop : tie.MeasureT-loop
 μ-loop counts neighbours angles energies beta n h₀ i₀ h i = n / 4 - i
@@ -20,9 +21,6 @@ abbrev μ-loop : tie.MeasureT-loop
 loop-holds : tie.Need-loop-holds Inv-loop μ-loop
 unfolding firstColumns forEach
 loop-holds c = (omega arith, refl)
-
-cast-four-columns : tie.Need-cast-four-columns Inv-loop μ-loop
-cast-four-columns c = search needs
 
 mul-four-columns : tie.Need-mul-four-columns Inv-loop μ-loop
 mul-four-columns c = omega arith
@@ -51,14 +49,4 @@ returns c =
 pub fours-spec : {M : Type 1} → statement M
 fours-spec =
     tie.close
-    (tie.spec
-    Inv-loop
-    μ-loop
-    loop-holds
-    cast-four-columns
-    mul-four-columns
-    four-columns-requires
-    add-i
-    loop-less
-    loop-again
-    returns)
+    (tie.spec Inv-loop μ-loop loop-holds (λ c. search needs) mul-four-columns four-columns-requires add-i loop-less loop-again returns)

@@ -1,12 +1,9 @@
 -- `gradient` meets its contract. Assumes nothing.
 use borrow.Author.Needs.{needs}
-use Rattle.settling.specs.Steps.{byLines}
+use Rattle.settling.specs.Internal.{byLines}
 use Rattle.settling.proofs.Numbers.{columns-number, columns-are}
 use Rattle.settling.proofs.gradient.gradient.Statement.{statement}
 use Rattle.settling.proofs.gradient.gradient.Tie as tie
-
-columns-requires : tie.Need-columns-requires
-columns-requires c κs = search needs
 
 lines-requires : tie.Need-lines-requires
 lines-requires c κs = (search needs, search needs, search needs, rw (c .columns .ensures) (columns-number _ _ _ _ _))
@@ -16,4 +13,5 @@ unfolding byLines
 returns c = rw (c .lines .ensures, c .before .columns .ensures, columns-are)
 
 pub gradient-spec : {M : Type 1} → statement M
-gradient-spec = tie.close (tie.spec columns-requires lines-requires returns)
+gradient-spec = tie.close
+    (tie.spec (λ c κs. search needs) lines-requires returns)

@@ -1,35 +1,17 @@
 -- `line` meets its contract. Assumes nothing.
 use mathlib.Core.Path.{ap, _∙_}
 use mathlib.Core.List.{[]}
-use Rattle.mesh.specs.Mesh.{Mesh}
-use Rattle.settling.specs.Steps.{lineWeights, lineGradient}
+use Rattle.mesh.specs.Mesh.{Mesh, meshOf}
+use Rattle.settling.specs.Internal.{lineWeights, lineGradient}
 use Rattle.settling.proofs.Lines.{length-line, head-part}
 use borrow.Author.Needs.{needs}
 use Rattle.settling.proofs.gradient.line.Statement.{statement}
 use Rattle.settling.proofs.gradient.line.Tie as tie
 
-slice-aggregate-weigh : tie.Need-slice-aggregate-weigh
-slice-aggregate-weigh c = search needs
-
-weigh-requires : tie.Need-weigh-requires
-weigh-requires c κs = search needs
-
-sub-line-gradient : tie.Need-sub-line-gradient
-sub-line-gradient c = search needs
-
-part-line-gradient-start : tie.Need-part-line-gradient-start
-part-line-gradient-start c = search needs
-
-part-line-gradient-end : tie.Need-part-line-gradient-end
-part-line-gradient-end c = search needs
-
-line-gradient-requires : tie.Need-line-gradient-requires
-line-gradient-requires c κs = search needs
-
 returns : tie.Need-returns
 returns c =
     let a = c .before .before .before .before .before .before .before .before .before .before .args in
-    let m : Mesh = record { vertices = []; counts = a .counts .now; neighbours = a .neighbours .now; angles = a .angles .now } in
+    let m : Mesh = meshOf [] (a .counts .now) (a .neighbours .now) (a .angles .now) in
     let l = lineWeights (a .beta) (a .energies .now) (a .from) (a .step) (a .n) in
     c .line-gradient .ensures
     ∙ ap (λ w. lineGradient m (a .n) w (a .g)) (head-part _ _ l (a .n) (c .before .before .before .before .weigh .ensures) (length-line (a .beta) (a .energies .now) (a .from) (a .step) (a .n)))
@@ -37,11 +19,4 @@ returns c =
 pub line-spec : {M : Type 1} → statement M
 line-spec =
     tie.close
-    (tie.spec
-    slice-aggregate-weigh
-    weigh-requires
-    sub-line-gradient
-    part-line-gradient-start
-    part-line-gradient-end
-    line-gradient-requires
-    returns)
+    (tie.spec (λ c. search needs) (λ c κs. search needs) (λ c. search needs) (λ c. search needs) (λ c. search needs) (λ c κs. search needs) returns)

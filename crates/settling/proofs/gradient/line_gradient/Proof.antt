@@ -6,10 +6,11 @@ use native.Mathlib.Omega.{arith}
 use lib.ListN.{getD}
 use lib.Ieee.{Float, nan}
 use borrow.Author.Needs.{needs}
-use Rattle.mesh.specs.Lists.{forEach}
+use Rattle.mesh.specs.Mesh.{meshOf}
+use Rattle.lists.specs.Lists.{forEach}
 use Rattle.settling.specs.Gradient.{alongNeighbours}
-use Rattle.settling.specs.Steps.{lineGradient}
-use Rattle.mesh.proofs.Loops.{each-turn}
+use Rattle.settling.specs.Internal.{lineGradient}
+use Rattle.lists.proofs.Loops.{each-turn}
 use Rattle.settling.proofs.Numbers.{Number, neighbours-number}
 use Rattle.settling.proofs.gradient.line_gradient.Statement.{statement}
 use Rattle.settling.proofs.gradient.line_gradient.Tie as tie
@@ -17,7 +18,7 @@ use Rattle.settling.proofs.gradient.line_gradient.Tie as tie
 -- what a turn of the loop makes of the gradient so far
 abbrev turn : List ℕ → List ℕ → List Float → List Float → ℕ → Float → Float
 turn counts neighbours angles weights v =
-    alongNeighbours (record { vertices = []; counts = counts; neighbours = neighbours; angles = angles }) v (λ k. getD weights k nan) (getD weights v nan)
+    alongNeighbours (meshOf [] counts neighbours angles) v (λ k. getD weights k nan) (getD weights v nan)
 
 abbrev Inv-loop : tie.InvT-loop
 Inv-loop counts neighbours angles weights n g h₀ v₀ h v = (v ≤ n) × (h ≡ forEach v (turn counts neighbours angles weights) g) × Number h
@@ -28,9 +29,6 @@ abbrev μ-loop : tie.MeasureT-loop
 loop-holds : tie.Need-loop-holds Inv-loop μ-loop
 unfolding forEach
 loop-holds c = (omega arith, refl, search needs)
-
-along-neighbours-requires : tie.Need-along-neighbours-requires Inv-loop μ-loop
-along-neighbours-requires c κs = search needs
 
 add-v : tie.Need-add-v Inv-loop μ-loop
 add-v c = omega arith
@@ -57,12 +55,4 @@ returns c =
 pub line-gradient-spec : {M : Type 1} → statement M
 line-gradient-spec =
     tie.close
-    (tie.spec
-    Inv-loop
-    μ-loop
-    loop-holds
-    along-neighbours-requires
-    add-v
-    loop-less
-    loop-again
-    returns)
+    (tie.spec Inv-loop μ-loop loop-holds (λ c κs. search needs) add-v loop-less loop-again returns)

@@ -6,9 +6,10 @@ use native.Mathlib.Nat.{mul-le-mul}
 use native.Mathlib.Omega.{arith}
 use lib.Ieee.{Float}
 use borrow.Author.Needs.{needs}
-use Rattle.mesh.specs.Lists.{forEach}
-use Rattle.settling.specs.Steps.{lineWeights, lineGradient, linesGradient}
-use Rattle.mesh.proofs.Loops.{each-turn}
+use Rattle.mesh.specs.Mesh.{meshOf}
+use Rattle.lists.specs.Lists.{forEach}
+use Rattle.settling.specs.Internal.{lineWeights, lineGradient, linesGradient}
+use Rattle.lists.proofs.Loops.{each-turn}
 use Rattle.settling.proofs.Numbers.{Number, line-number}
 use Rattle.settling.proofs.gradient.lines.Statement.{statement}
 use Rattle.settling.proofs.gradient.lines.Tie as tie
@@ -16,7 +17,7 @@ use Rattle.settling.proofs.gradient.lines.Tie as tie
 -- what a turn of the loop makes of the gradient so far
 abbrev turn : List ℕ → List ℕ → List Float → List Float → Float → ℕ → ℕ → ℕ → ℕ → Float → Float
 turn counts neighbours angles energies beta apart step n t =
-    lineGradient (record { vertices = []; counts = counts; neighbours = neighbours; angles = angles }) n (lineWeights beta energies (apart * t) step n)
+    lineGradient (meshOf [] counts neighbours angles) n (lineWeights beta energies (apart * t) step n)
 
 abbrev Inv-loop : tie.InvT-loop
 Inv-loop counts neighbours angles energies beta apart step n g h₀ t₀ h t = (t ≤ n) × (h ≡ forEach t (turn counts neighbours angles energies beta apart step n) g) × Number h
@@ -34,9 +35,6 @@ place c =
 loop-holds : tie.Need-loop-holds Inv-loop μ-loop
 unfolding forEach
 loop-holds c = (omega arith, refl, search needs)
-
-cast-line : tie.Need-cast-line Inv-loop μ-loop
-cast-line c = search needs
 
 mul-line : tie.Need-mul-line Inv-loop μ-loop
 mul-line c = omega (arith, place c)
@@ -70,14 +68,4 @@ returns c =
 pub lines-spec : {M : Type 1} → statement M
 lines-spec =
     tie.close
-    (tie.spec
-    Inv-loop
-    μ-loop
-    loop-holds
-    cast-line
-    mul-line
-    line-requires
-    add-t
-    loop-less
-    loop-again
-    returns)
+    (tie.spec Inv-loop μ-loop loop-holds (λ c. search needs) mul-line line-requires add-t loop-less loop-again returns)

@@ -7,9 +7,6 @@ use borrow.Author.Needs.{needs}
 use Rattle.settling.proofs.gradient.steeper.Statement.{statement}
 use Rattle.settling.proofs.gradient.steeper.Tie as tie
 
-abs-requires : tie.Need-abs-requires
-abs-requires c κs = search needs
-
 returns : tie.Need-returns
 unfolding steeper
 returns c =
@@ -27,4 +24,5 @@ unfolding steeper
 returns-3 c = rw (c .if1 .left)
 
 pub steeper-spec : {M : Type 1} → statement M
-steeper-spec = tie.close (tie.spec abs-requires returns returns-2 returns-3)
+steeper-spec = tie.close
+    (tie.spec (λ c κs. search needs) returns returns-2 returns-3)

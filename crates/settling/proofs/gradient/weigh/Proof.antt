@@ -4,9 +4,9 @@ use Prim.Native.Nat.{_-_, _≤_}
 use native.Mathlib.Omega.{arith}
 use lib.ListN.{length, length-set}
 use borrow.Author.Needs.{needs}
-use Rattle.mesh.specs.Lists.{put}
-use Rattle.mesh.proofs.Written.{put-nil}
-use Rattle.settling.specs.Steps.{lineWeights}
+use Rattle.lists.specs.Lists.{put}
+use Rattle.lists.proofs.Written.{put-nil}
+use Rattle.settling.specs.Internal.{lineWeights}
 use Rattle.settling.proofs.Lines.{weigh-turn}
 use Rattle.settling.proofs.gradient.weigh.Statement.{statement}
 use Rattle.settling.proofs.gradient.weigh.Tie as tie
@@ -45,9 +45,6 @@ loop-again c =
       rw (c .weight-at .ensures) (weigh-turn (a .beta) (a .energies .now) (a .from) (a .step) (a .weights .now) (l .loop .weights) (l .loop .i) (l .loop .inv .2) (omega arith)),
     )
 
-same-length : tie.Need-same-length Inv-loop μ-loop
-same-length c = search needs
-
 returns : tie.Need-returns Inv-loop μ-loop
 returns c =
     let l = c .before in
@@ -57,15 +54,4 @@ returns c =
 pub weigh-spec : {M : Type 1} → statement M
 weigh-spec =
     tie.close
-    (tie.spec
-    Inv-loop
-    μ-loop
-    loop-holds
-    weight-at-requires
-    mul-weights
-    slice-write-weights
-    add-i
-    loop-less
-    loop-again
-    same-length
-    returns)
+    (tie.spec Inv-loop μ-loop loop-holds weight-at-requires mul-weights slice-write-weights add-i loop-less loop-again (λ c. search needs) returns)

@@ -4,9 +4,9 @@ use Prim.Native.Nat.{_+_, _-_, _≤_}
 use native.Mathlib.Omega.{arith}
 use lib.ListN.{length, length-set}
 use borrow.Author.Needs.{needs}
-use Rattle.mesh.specs.Lists.{put}
-use Rattle.mesh.proofs.Written.{put-nil}
-use Rattle.settling.specs.Steps.{lineWeights}
+use Rattle.lists.specs.Lists.{put}
+use Rattle.lists.proofs.Written.{put-nil}
+use Rattle.settling.specs.Internal.{lineWeights}
 use Rattle.settling.proofs.Lines.{weigh-turn}
 use Rattle.settling.proofs.gradient.weigh_four.Statement.{statement}
 use Rattle.settling.proofs.gradient.weigh_four.Tie as tie
@@ -103,18 +103,6 @@ loop-again c =
       rw (c .weight-at4 .ensures) (weigh-turn (a .beta) (a .energies .now) (a .from + 3) (a .step) (a .fourth .now) (l .loop .fourth) (l .loop .i) (l .loop .inv .8) (omega arith)),
     )
 
-same-length : tie.Need-same-length Inv-loop μ-loop
-same-length c = search needs
-
-same-length-2 : tie.Need-same-length-2 Inv-loop μ-loop
-same-length-2 c = search needs
-
-same-length-3 : tie.Need-same-length-3 Inv-loop μ-loop
-same-length-3 c = search needs
-
-same-length-4 : tie.Need-same-length-4 Inv-loop μ-loop
-same-length-4 c = search needs
-
 returns : tie.Need-returns Inv-loop μ-loop
 returns c =
     let l = c .before in
@@ -124,30 +112,4 @@ returns c =
 pub weigh-four-spec : {M : Type 1} → statement M
 weigh-four-spec =
     tie.close
-    (tie.spec
-    Inv-loop
-    μ-loop
-    loop-holds
-    weight-at-requires
-    mul-first
-    slice-write-first
-    add-weight-at
-    weight-at-requires-2
-    mul-second
-    slice-write-second
-    add-weight-at-2
-    weight-at-requires-3
-    mul-third
-    slice-write-third
-    add-weight-at-3
-    weight-at-requires-4
-    mul-fourth
-    slice-write-fourth
-    add-i
-    loop-less
-    loop-again
-    same-length
-    same-length-2
-    same-length-3
-    same-length-4
-    returns)
+    (tie.spec Inv-loop μ-loop loop-holds weight-at-requires mul-first slice-write-first add-weight-at weight-at-requires-2 mul-second slice-write-second add-weight-at-2 weight-at-requires-3 mul-third slice-write-third add-weight-at-3 weight-at-requires-4 mul-fourth slice-write-fourth add-i loop-less loop-again (λ c. search needs) (λ c. search needs) (λ c. search needs) (λ c. search needs) returns)

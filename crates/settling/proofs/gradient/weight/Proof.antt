@@ -4,12 +4,10 @@ use borrow.Author.Needs.{needs}
 use Rattle.settling.proofs.gradient.weight.Statement.{statement}
 use Rattle.settling.proofs.gradient.weight.Tie as tie
 
-exp-requires : tie.Need-exp-requires
-exp-requires c κs = search needs
-
 returns : tie.Need-returns
 unfolding weight
 returns c = rw (c .exp .ensures)
 
 pub weight-spec : {M : Type 1} → statement M
-weight-spec = tie.close (tie.spec exp-requires returns)
+weight-spec = tie.close
+    (tie.spec (λ c κs. search needs) returns)

@@ -11,14 +11,9 @@ mul-entry c = omega (arith, mul-le-mul (c .before .pre .1) (c .before .pre .2))
 add-entry : tie.Need-add-entry
 add-entry c = omega (arith, mul-le-mul (c .before .pre .1) (c .before .pre .2))
 
-entry-requires : tie.Need-entry-requires
-entry-requires c κs = search needs
-
-weight-requires : tie.Need-weight-requires
-weight-requires c κs = search needs
-
 returns : tie.Need-returns
 returns c = rw (c .weight .ensures, c .before .entry .ensures)
 
 pub weight-at-spec : {M : Type 1} → statement M
-weight-at-spec = tie.close (tie.spec mul-entry add-entry entry-requires weight-requires returns)
+weight-at-spec = tie.close
+    (tie.spec mul-entry add-entry (λ c κs. search needs) (λ c κs. search needs) returns)

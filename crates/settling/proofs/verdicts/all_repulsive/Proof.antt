@@ -1,14 +1,14 @@
 -- `all_repulsive` meets its contract. Assumes nothing.
 use mathlib.Core.Path.{_≡_, refl, sym, _∙_}
+use Rattle.lists.proofs.Counting.{yes, no}
 use Prim.Native.Nat.{_-_}
 use native.Mathlib.Omega.{arith}
 use lib.ListN.{length, drop}
 use lib.Ieee.{nan}
 use borrow.Author.Needs.{needs}
-use Rattle.mesh.specs.Lists.{every}
-use Rattle.grid.proofs.Laws.{yes, no}
+use Rattle.lists.specs.Lists.{every}
 use Rattle.settling.specs.Gradient.{repulsive, allRepulsive}
-use Rattle.mesh.proofs.Loops.{every-fails, every-next, every-end}
+use Rattle.lists.proofs.Loops.{every-fails, every-next, every-end}
 use Rattle.settling.proofs.verdicts.all_repulsive.Statement.{statement}
 use Rattle.settling.proofs.verdicts.all_repulsive.Tie as tie
 
@@ -20,15 +20,6 @@ abbrev μ-loop : tie.MeasureT-loop
 
 loop-holds : tie.Need-loop-holds Inv-loop μ-loop
 loop-holds c = refl
-
-mul-is-repulsive : tie.Need-mul-is-repulsive Inv-loop μ-loop
-mul-is-repulsive c = search needs
-
-shared-slice-read-is-repulsive : tie.Need-shared-slice-read-is-repulsive Inv-loop μ-loop
-shared-slice-read-is-repulsive c = search needs
-
-is-repulsive-requires : tie.Need-is-repulsive-requires Inv-loop μ-loop
-is-repulsive-requires c κs = search needs
 
 returns : tie.Need-returns Inv-loop μ-loop
 unfolding allRepulsive
@@ -58,15 +49,4 @@ returns-2 c =
 pub all-repulsive-spec : {M : Type 1} → statement M
 all-repulsive-spec =
     tie.close
-    (tie.spec
-    Inv-loop
-    μ-loop
-    loop-holds
-    mul-is-repulsive
-    shared-slice-read-is-repulsive
-    is-repulsive-requires
-    returns
-    add-i
-    loop-less
-    loop-again
-    returns-2)
+    (tie.spec Inv-loop μ-loop loop-holds (λ c. search needs) (λ c. search needs) (λ c κs. search needs) returns add-i loop-less loop-again returns-2)

@@ -4,9 +4,6 @@ use borrow.Author.Needs.{needs}
 use Rattle.settling.proofs.verdicts.by_gradient.Statement.{statement}
 use Rattle.settling.proofs.verdicts.by_gradient.Tie as tie
 
-mean-narrowed-requires : tie.Need-mean-narrowed-requires
-mean-narrowed-requires c κs = search needs
-
 returns : tie.Need-returns
 unfolding byGradient
 returns c = rw (c .before .if1 .taken, c .mean-narrowed .ensures)
@@ -20,4 +17,5 @@ unfolding byGradient
 returns-3 c = rw (c .before .if1 .left, c .if2 .left)
 
 pub by-gradient-spec : {M : Type 1} → statement M
-by-gradient-spec = tie.close (tie.spec mean-narrowed-requires returns returns-2 returns-3)
+by-gradient-spec = tie.close
+    (tie.spec (λ c κs. search needs) returns returns-2 returns-3)

@@ -4,12 +4,10 @@ use borrow.Author.Needs.{needs}
 use Rattle.settling.proofs.verdicts.is_repulsive.Statement.{statement}
 use Rattle.settling.proofs.verdicts.is_repulsive.Tie as tie
 
-weight-requires : tie.Need-weight-requires
-weight-requires c κs = search needs
-
 returns : tie.Need-returns
 unfolding repulsive
 returns c = rw (c .weight .ensures)
 
 pub is-repulsive-spec : {M : Type 1} → statement M
-is-repulsive-spec = tie.close (tie.spec weight-requires returns)
+is-repulsive-spec = tie.close
+    (tie.spec (λ c κs. search needs) returns)

@@ -4,7 +4,7 @@ use native.Mathlib.Omega.{arith}
 use borrow.Author.Tests.{le-leb, lt-leb}
 use Rattle.mesh.proofs.Laws.{count-le}
 use Rattle.settling.specs.Settling.{verdict}
-use Rattle.settling.specs.Steps.{byLines}
+use Rattle.settling.specs.Internal.{byLines}
 use Rattle.settling.proofs.Slopes.{by-lines}
 use borrow.Author.Needs.{needs}
 use Rattle.settling.proofs.verdicts.verdict.Statement.{statement}
@@ -17,24 +17,15 @@ small c = rw (c .vertex-count .ensures) (count-le _ 16 (omega (arith, c .before 
 returns : tie.Need-returns
 returns c = rw (lt-leb _ _ (c .if1 .taken))
 
-all-repulsive-requires : tie.Need-all-repulsive-requires
-all-repulsive-requires c κs = search needs
-
 returns-2 : tie.Need-returns-2
 unfolding verdict
 returns-2 c = rw (le-leb _ _ (c .before .before .if1 .left), ← c .before .all-repulsive .ensures, c .if2 .taken)
-
-vertex-count-requires : tie.Need-vertex-count-requires
-vertex-count-requires c κs = search needs
 
 cast-n : tie.Need-cast-n
 cast-n c = omega (arith, small c)
 
 gradient-requires : tie.Need-gradient-requires
 gradient-requires c κs = small c
-
-by-gradient-requires : tie.Need-by-gradient-requires
-by-gradient-requires c κs = search needs
 
 returns-3 : tie.Need-returns-3
 unfolding verdict byLines
@@ -44,12 +35,4 @@ returns-3 c =
 pub verdict-spec : {M : Type 1} → statement M
 verdict-spec =
     tie.close
-    (tie.spec
-    returns
-    all-repulsive-requires
-    returns-2
-    vertex-count-requires
-    cast-n
-    gradient-requires
-    by-gradient-requires
-    returns-3)
+    (tie.spec returns (λ c κs. search needs) returns-2 (λ c κs. search needs) cast-n gradient-requires (λ c κs. search needs) returns-3)

@@ -7,18 +7,6 @@ use Rattle.settling.specs.declared.Verdict.the-variants.{Empty}
 use Rattle.settling.proofs.verdicts.verdict_of.Statement.{statement}
 use Rattle.settling.proofs.verdicts.verdict_of.Tie as tie
 
-enum-told : tie.Need-enum-told
-enum-told c = search needs
-
-enum-told-2 : tie.Need-enum-told-2
-enum-told-2 c = search needs
-
-enum-told-3 : tie.Need-enum-told-3
-enum-told-3 c = search needs
-
-verdict-requires : tie.Need-verdict-requires
-verdict-requires c κs = search needs
-
 -- a row with no energies, at whatever level
 none-either : (b : Bool) → Empty ≡ cond b Empty Empty
 none-either true = refl
@@ -36,4 +24,4 @@ returns-3 c = rw (c .before .enum-told3 .given .1, c .verdict .ensures)
 pub verdict-of-spec : {M : Type 1} → statement M
 verdict-of-spec =
     tie.close
-    (tie.spec enum-told enum-told-2 enum-told-3 verdict-requires returns returns-2 returns-3)
+    (tie.spec (λ c. search needs) (λ c. search needs) (λ c. search needs) (λ c κs. search needs) returns returns-2 returns-3)

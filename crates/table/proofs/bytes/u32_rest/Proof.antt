@@ -6,12 +6,6 @@ use Rattle.table.proofs.Numbers.{four, beyond}
 use Rattle.table.proofs.bytes.u32_rest.Statement.{statement}
 use Rattle.table.proofs.bytes.u32_rest.Tie as tie
 
-sub-left : tie.Need-sub-left
-sub-left c = search needs
-
-shared-slice-read-a : tie.Need-shared-slice-read-a
-shared-slice-read-a c = search needs
-
 cast-a : tie.Need-cast-a
 cast-a c =
     let at = c .before .args .at in
@@ -24,12 +18,6 @@ returns c =
     let f = s .args .file .now in
     let at = s .args .at in
     omega (arith, four f at, beyond f (at + 1) (omega arith), beyond f (at + 2) (omega arith), beyond f (at + 3) (omega arith))
-
-add-b : tie.Need-add-b
-add-b c = search needs
-
-shared-slice-read-b : tie.Need-shared-slice-read-b
-shared-slice-read-b c = search needs
 
 cast-b : tie.Need-cast-b
 cast-b c =
@@ -55,12 +43,6 @@ returns-2 c =
     let f = s .args .file .now in
     let at = s .args .at in
     omega (arith, four f at, beyond f (at + 2) (omega arith), beyond f (at + 3) (omega arith))
-
-add-c : tie.Need-add-c
-add-c c = search needs
-
-shared-slice-read-c : tie.Need-shared-slice-read-c
-shared-slice-read-c c = search needs
 
 cast-c : tie.Need-cast-c
 cast-c c =
@@ -102,22 +84,4 @@ returns-3 c =
 pub u32-rest-spec : {M : Type 1} → statement M
 u32-rest-spec =
     tie.close
-    (tie.spec
-    sub-left
-    shared-slice-read-a
-    cast-a
-    returns
-    add-b
-    shared-slice-read-b
-    cast-b
-    mul-result
-    add-result
-    returns-2
-    add-c
-    shared-slice-read-c
-    cast-c
-    mul-result-2
-    add-result-2
-    mul-result-3
-    add-result-3
-    returns-3)
+    (tie.spec (λ c. search needs) (λ c. search needs) cast-a returns (λ c. search needs) (λ c. search needs) cast-b mul-result add-result returns-2 (λ c. search needs) (λ c. search needs) cast-c mul-result-2 add-result-2 mul-result-3 add-result-3 returns-3)

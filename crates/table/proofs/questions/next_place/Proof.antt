@@ -9,9 +9,6 @@ use Rattle.table.proofs.questions.next_place.Tie as tie
 returns : tie.Need-returns
 returns c = (rw (le-leb _ _ (c .if1 .taken)), c .before .pre)
 
-per-level-requires : tie.Need-per-level-requires
-per-level-requires c κs = search needs
-
 add-result : tie.Need-add-result
 add-result c = omega (arith, c .per-level .ensures, per-le (c .before .before .args .level) 256 (omega arith))
 
@@ -19,4 +16,5 @@ returns-2 : tie.Need-returns-2
 returns-2 c = (rw (lt-leb _ _ (c .before .if1 .left), c .per-level .ensures), omega (arith, c .per-level .ensures, per-le (c .before .before .args .level) 256 (omega arith)))
 
 pub next-place-spec : {M : Type 1} → statement M
-next-place-spec = tie.close (tie.spec returns per-level-requires add-result returns-2)
+next-place-spec = tie.close
+    (tie.spec returns (λ c κs. search needs) add-result returns-2)

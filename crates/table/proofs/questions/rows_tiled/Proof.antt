@@ -4,7 +4,7 @@ use Prim.Native.Nat.{_+_, _*_, _≤_}
 use native.Mathlib.Omega.{arith}
 use lib.ListN.{length}
 use borrow.Author.Needs.{needs}
-use Rattle.mesh.proofs.Counting.{yes, no}
+use Rattle.lists.proofs.Counting.{yes, no}
 use Rattle.table.specs.Bytes.{items}
 use Rattle.table.specs.File.{entryOf}
 use Rattle.table.specs.Read.{tiled}
@@ -35,9 +35,6 @@ add-u32-in c = omega arith
 
 u32-in-requires : tie.Need-u32-in-requires Inv-loop μ-loop
 u32-in-requires c κs = omega arith
-
-placed-requires : tie.Need-placed-requires Inv-loop μ-loop
-placed-requires c κs = search needs
 
 returns : tie.Need-returns Inv-loop μ-loop
 returns c =
@@ -73,20 +70,4 @@ returns-2 c =
 pub rows-tiled-spec : {M : Type 1} → statement M
 rows-tiled-spec =
     tie.close
-    (tie.spec
-    Inv-loop
-    μ-loop
-    loop-holds
-    shared-slice-read-kind
-    add-level
-    shared-slice-read-level
-    add-u32-in
-    u32-in-requires
-    placed-requires
-    returns
-    next-place-requires
-    add-at
-    sub-left
-    loop-less
-    loop-again
-    returns-2)
+    (tie.spec Inv-loop μ-loop loop-holds shared-slice-read-kind add-level shared-slice-read-level add-u32-in u32-in-requires (λ c κs. search needs) returns next-place-requires add-at sub-left loop-less loop-again returns-2)

@@ -2,9 +2,9 @@
 use mathlib.Core.Path.{_≡_, sym}
 use mathlib.Core.Bool.{true}
 use borrow.Author.Needs.{needs}
-use Rattle.mesh.proofs.Counting.{yes, no}
+use Rattle.lists.proofs.Counting.{yes, no}
 use Rattle.table.specs.Read.{layout, laidOut, tableOf}
-use Rattle.table.specs.Steps.{Placed, tableQuestion}
+use Rattle.table.specs.Internal.{SectionsInside, tableQuestion}
 use Rattle.table.proofs.Accepted.{laid, inside, read-unlaid, read-refused, read-accepted}
 use Rattle.table.proofs.reader.read.Statement.{statement}
 use Rattle.table.proofs.reader.read.Tie as tie
@@ -12,17 +12,11 @@ use Rattle.table.proofs.reader.read.Tie as tie
 answered : (c : tie.Else1) → laidOut (c .before .before .before .before .args .file .now) (layout (c .before .before .before .before .args .file .now)) ≡ true
 answered c = rw (← c .before .before .sections .ensures) (yes (c .before .laid-out .ensures) (c .if1 .left))
 
-placed : (c : tie.Else1) → Placed (c .before .before .before .before .args .file .now) (c .before .before .sections .result)
+placed : (c : tie.Else1) → SectionsInside (c .before .before .before .before .args .file .now) (c .before .before .sections .result)
 placed c = laid _ _ (c .before .before .sections .ensures) (yes (c .before .laid-out .ensures) (c .if1 .left))
 
 asked : (c : tie.After-table-question) → c .table-question .result ≡ tableQuestion (c .before .before .before .before .before .before .args .file .now) (tableOf (c .before .before .before .before .before .before .args .file .now) (layout (c .before .before .before .before .before .before .args .file .now)))
 asked c = rw (← c .before .before .before .before .sections .ensures, ← c .before .table-of .ensures) (c .table-question .ensures)
-
-sections-requires : tie.Need-sections-requires
-sections-requires c κs = search needs
-
-laid-out-requires : tie.Need-laid-out-requires
-laid-out-requires c κs = search needs
 
 returns : tie.Need-returns
 returns c =
@@ -48,11 +42,4 @@ returns-3 c =
 pub read-spec : {M : Type 1} → statement M
 read-spec =
     tie.close
-    (tie.spec
-    sections-requires
-    laid-out-requires
-    returns
-    table-of-requires
-    table-question-requires
-    returns-2
-    returns-3)
+    (tie.spec (λ c κs. search needs) (λ c κs. search needs) returns table-of-requires table-question-requires returns-2 returns-3)

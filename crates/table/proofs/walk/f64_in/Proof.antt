@@ -3,14 +3,9 @@ use borrow.Author.Needs.{needs}
 use Rattle.table.proofs.walk.f64_in.Statement.{statement}
 use Rattle.table.proofs.walk.f64_in.Tie as tie
 
-u64-in-requires : tie.Need-u64-in-requires
-u64-in-requires c κs = search needs
-
-float64-requires : tie.Need-float64-requires
-float64-requires c κs = search needs
-
 returns : tie.Need-returns
 returns c = rw (c .float64 .ensures, c .before .u64-in .ensures)
 
 pub f64-in-spec : {M : Type 1} → statement M
-f64-in-spec = tie.close (tie.spec u64-in-requires float64-requires returns)
+f64-in-spec = tie.close
+    (tie.spec (λ c κs. search needs) (λ c κs. search needs) returns)

@@ -6,15 +6,6 @@ use borrow.Author.Needs.{needs}
 use Rattle.table.proofs.walk.past.Statement.{statement}
 use Rattle.table.proofs.walk.past.Tie as tie
 
-u32-at-requires : tie.Need-u32-at-requires
-u32-at-requires c κs = search needs
-
-cast-n : tie.Need-cast-n
-cast-n c = search needs
-
-add-result : tie.Need-add-result
-add-result c = search needs
-
 mul-result : tie.Need-mul-result
 mul-result c =
     let s = c .before .before in
@@ -37,4 +28,5 @@ returns c =
     (rw (c .u32-at .ensures), omega (arith, h))
 
 pub past-spec : {M : Type 1} → statement M
-past-spec = tie.close (tie.spec u32-at-requires cast-n add-result mul-result add-result-2 returns)
+past-spec = tie.close
+    (tie.spec (λ c κs. search needs) (λ c. search needs) (λ c. search needs) mul-result add-result-2 returns)

@@ -7,15 +7,15 @@ use native.Mathlib.Nat.{zero-add}
 use native.Mathlib.Omega.{arith}
 use lib.ListN.{getD}
 use borrow.Author.Needs.{needs}
-use Rattle.mesh.specs.Lists.{allUpTo}
-use Rattle.mesh.proofs.Counting.{all-turn, all-fails, yes, no}
-use Rattle.rows.specs.Rows.{known}
-use Rattle.questions.specs.Lists.{rowsKnown}
+use Rattle.lists.specs.Lists.{allUpTo}
+use Rattle.lists.proofs.Counting.{all-turn, all-fails, yes, no}
+use Rattle.rows.specs.Rows.{known, rowsOf}
+use Rattle.builder.specs.BuilderLists.{rowsKnown}
 use Rattle.writer.proofs.files.rows_known.Statement.{statement}
 use Rattle.writer.proofs.files.rows_known.Tie as tie
 
 abbrev Inv-loop : tie.InvT-loop
-Inv-loop top kinds levels n s₀ s = (s ≤ n) × (rowsKnown top (record { kinds = kinds; levels = levels; values = [] }) 0 s ≡ true)
+Inv-loop top kinds levels n s₀ s = (s ≤ n) × (rowsKnown top (rowsOf kinds levels []) 0 s ≡ true)
 
 abbrev μ-loop : tie.MeasureT-loop
 μ-loop top kinds levels n s₀ s = n - s
@@ -23,9 +23,6 @@ abbrev μ-loop : tie.MeasureT-loop
 loop-holds : tie.Need-loop-holds Inv-loop μ-loop
 unfolding rowsKnown allUpTo
 loop-holds c = (omega arith, refl)
-
-row-known-requires : tie.Need-row-known-requires Inv-loop μ-loop
-row-known-requires c κs = search needs
 
 returns : tie.Need-returns Inv-loop μ-loop
 unfolding rowsKnown
@@ -55,13 +52,4 @@ returns-2 c =
 pub rows-known-spec : {M : Type 1} → statement M
 rows-known-spec =
     tie.close
-    (tie.spec
-    Inv-loop
-    μ-loop
-    loop-holds
-    row-known-requires
-    returns
-    add-s
-    loop-less
-    loop-again
-    returns-2)
+    (tie.spec Inv-loop μ-loop loop-holds (λ c κs. search needs) returns add-s loop-less loop-again returns-2)

@@ -5,22 +5,22 @@ use native.Mathlib.Omega.{arith}
 use lib.ListN.{length}
 use borrow.Author.Tests.{lt-leb, le-leb}
 use borrow.Author.Needs.{needs}
-use Rattle.mesh.specs.Mesh.{Mesh}
-use Rattle.questions.specs.Refusals.{meshedRefusal}
-use Rattle.questions.specs.Lists.{Lists, rowsKnown}
+use Rattle.mesh.specs.Mesh.{Mesh, meshOf}
+use Rattle.builder.specs.Refusals.{meshedRefusal}
+use Rattle.builder.specs.BuilderLists.{BuilderLists, rowsKnown, listsOf}
 use Rattle.writer.specs.Write.{fileFrom}
-use Rattle.writer.specs.Steps.{writeQuestion}
+use Rattle.writer.specs.Internal.{writeQuestion}
 use Rattle.writer.proofs.Whole.{file-length}
 use Rattle.writer.proofs.Outcome.{Sure, sure, ready, write-refused, write-short, write-done}
 use Rattle.writer.proofs.files.write.Statement.{statement}
 use Rattle.writer.proofs.files.write.Tie as tie
 
 -- the lists and the meshes that were lent
-abbrev lists : tie.Start → Lists
-lists s = record { store = s .args .store .now; rows = record { kinds = s .args .kinds .now; levels = s .args .levels .now; values = s .args .values .now } }
+abbrev lists : tie.Start → BuilderLists
+lists s = listsOf (s .args .store .now) (s .args .kinds .now) (s .args .levels .now) (s .args .values .now)
 
 abbrev meshes : tie.Start → Mesh
-meshes s = record { vertices = s .args .vertices .now; counts = s .args .counts .now; neighbours = s .args .neighbours .now; angles = s .args .angles .now }
+meshes s = meshOf (s .args .vertices .now) (s .args .counts .now) (s .args .neighbours .now) (s .args .angles .now)
 
 -- the first questions' answer; and what it says where it is 0
 answer : (c : tie.After-write-question) → let s = c .before .before .before .before .before .before .before .before .before .before in
@@ -32,9 +32,6 @@ certain : (c : tie.Else1) → let s = c .before .before .before .before .before 
 certain c =
     let s = c .before .before .before .before .before .before .before .before .before .before .before in
     sure (s .args .b) (meshes s) (lists s) (sym (answer (c .before)) ∙ c .if1 .left)
-
-write-question-requires : tie.Need-write-question-requires
-write-question-requires c κs = search needs
 
 returns : tie.Need-returns
 returns c =
@@ -91,9 +88,6 @@ put-file-requires c κs =
     let s = c .before .before .before .before .before .before .before .before .before .before .before .before .before .before in
     ready (s .args .b) (lists s) (c .before .before .energy-total .result) _ (certain (c .before .before .before)) (c .before .before .energy-total .ensures) (omega (arith, c .before .if2 .left))
 
-same-length : tie.Need-same-length
-same-length c = search needs
-
 returns-3 : tie.Need-returns-3
 returns-3 c =
     let s = c .before .before .before .before .before .before .before .before .before .before .before .before .before .before .before .before .before in
@@ -106,18 +100,4 @@ returns-3 c =
 pub write-spec : {M : Type 1} → statement M
 write-spec =
     tie.close
-    (tie.spec
-    write-question-requires
-    returns
-    mul-n
-    energy-total-requires
-    mul-size
-    add-size
-    mul-size-2
-    add-size-2
-    mul-size-3
-    add-size-3
-    returns-2
-    put-file-requires
-    same-length
-    returns-3)
+    (tie.spec (λ c κs. search needs) returns mul-n energy-total-requires mul-size add-size mul-size-2 add-size-2 mul-size-3 add-size-3 returns-2 put-file-requires (λ c. search needs) returns-3)

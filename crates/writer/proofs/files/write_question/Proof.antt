@@ -1,18 +1,16 @@
 -- `write_question` meets its contract. Assumes nothing.
 use mathlib.Core.Path.{_≡_, sym, _∙_}
+use Rattle.lists.proofs.Asking.{first-yes}
 use native.Mathlib.Nat.{mul-le-mul}
 use native.Mathlib.Omega.{arith}
 use borrow.Author.Needs.{needs}
-use Rattle.mesh.specs.Questions.{ask}
-use Rattle.mesh.proofs.Counting.{yes, no}
-use Rattle.questions.specs.Refusals.{builderQuestion}
-use Rattle.questions.proofs.Laws.{asked, first-yes}
+use Rattle.lists.specs.Questions.{ask}
+use Rattle.lists.proofs.Counting.{yes, no}
+use Rattle.builder.specs.Refusals.{builderQuestion}
+use Rattle.builder.proofs.Laws.{asked}
 use Rattle.writer.proofs.Outcome.{first-no, first-zero}
 use Rattle.writer.proofs.files.write_question.Statement.{statement}
 use Rattle.writer.proofs.files.write_question.Tie as tie
-
-meshed-refusal-requires : tie.Need-meshed-refusal-requires
-meshed-refusal-requires c κs = search needs
 
 returns : tie.Need-returns
 returns c = c .before .meshed-refusal .ensures ∙ sym (first-no _ _ (λ z. c .if1 .taken (c .before .meshed-refusal .ensures ∙ z)))
@@ -23,9 +21,6 @@ mul-rows-known c =
     let q : builderQuestion b ≡ 0 = first-yes (sym (c .before .meshed-refusal .ensures) ∙ c .if1 .left) .0 in
     let f = asked (b .grid) (b .top) (b .level) q in
     omega (arith, mul-le-mul (f .rs) (f .omegas))
-
-rows-known-requires : tie.Need-rows-known-requires
-rows-known-requires c κs = search needs
 
 returns-2 : tie.Need-returns-2
 unfolding ask
@@ -38,10 +33,4 @@ returns-3 c = sym (first-zero _ _ (sym (c .before .before .before .meshed-refusa
 pub write-question-spec : {M : Type 1} → statement M
 write-question-spec =
     tie.close
-    (tie.spec
-    meshed-refusal-requires
-    returns
-    mul-rows-known
-    rows-known-requires
-    returns-2
-    returns-3)
+    (tie.spec (λ c κs. search needs) returns mul-rows-known (λ c κs. search needs) returns-2 returns-3)

@@ -3,14 +3,14 @@ use mathlib.Core.Path.{_≡_, ap, _∙_}
 use Prim.Native.Nat.{_+_}
 use native.Mathlib.Omega.{arith}
 use borrow.Author.Needs.{needs}
-use Rattle.rows.specs.Rows.{Rows, resolutionAt}
-use Rattle.writer.specs.Steps.{heldBy, resolutions, total}
+use Rattle.rows.specs.Rows.{Rows, resolutionAt, rowsOf}
+use Rattle.writer.specs.Internal.{heldBy, resolutions, total}
 use Rattle.writer.proofs.Filed.{total-turn, total-end}
 use Rattle.writer.proofs.sections.energy_total.Statement.{statement}
 use Rattle.writer.proofs.sections.energy_total.Tie as tie
 
 abbrev Inv-loop : tie.InvT-loop
-Inv-loop kinds levels values n s₀ left₀ o₀ s left o = (s + left ≡ n) × (o + total (resolutions (record { kinds = kinds; levels = levels; values = values }) s left) ≡ total (resolutions (record { kinds = kinds; levels = levels; values = values }) 0 n))
+Inv-loop kinds levels values n s₀ left₀ o₀ s left o = (s + left ≡ n) × (o + total (resolutions (rowsOf kinds levels values) s left) ≡ total (resolutions (rowsOf kinds levels values) 0 n))
 
 abbrev μ-loop : tie.MeasureT-loop
 μ-loop kinds levels values n s₀ left₀ o₀ s left o = left
@@ -18,17 +18,11 @@ abbrev μ-loop : tie.MeasureT-loop
 loop-holds : tie.Need-loop-holds Inv-loop μ-loop
 loop-holds c = (omega arith, omega arith)
 
-resolution-at-requires : tie.Need-resolution-at-requires Inv-loop μ-loop
-resolution-at-requires c κs = search needs
-
-energy-count-requires : tie.Need-energy-count-requires Inv-loop μ-loop
-energy-count-requires c κs = search needs
-
 add-o : tie.Need-add-o Inv-loop μ-loop
 add-o c =
     let l = c .before .before .before in
     let a = l .before .before .before .before .args in
-    let r : Rows = record { kinds = a .kinds .now; levels = a .levels .now; values = a .values .now } in
+    let r : Rows = rowsOf (a .kinds .now) (a .levels .now) (a .values .now) in
     let t = total-turn r (l .loop .s) (l .loop .left) (omega arith) in
     let e : c .energy-count .result ≡ heldBy (resolutionAt r (l .loop .s)) = c .energy-count .ensures ∙ ap heldBy (c .before .resolution-at .ensures) in
     omega (arith, t, e, l .loop .inv .1, c .before .before .before .before .before .before .before .pre)
@@ -46,7 +40,7 @@ loop-again : tie.Need-loop-again Inv-loop μ-loop
 loop-again c =
     let l = c .before .before .before in
     let a = l .before .before .before .before .args in
-    let r : Rows = record { kinds = a .kinds .now; levels = a .levels .now; values = a .values .now } in
+    let r : Rows = rowsOf (a .kinds .now) (a .levels .now) (a .values .now) in
     let t = total-turn r (l .loop .s) (l .loop .left) (omega arith) in
     let e : c .energy-count .result ≡ heldBy (resolutionAt r (l .loop .s)) = c .energy-count .ensures ∙ ap heldBy (c .before .resolution-at .ensures) in
     (omega arith, omega (arith, t, e, l .loop .inv .1))
@@ -55,21 +49,10 @@ returns : tie.Need-returns Inv-loop μ-loop
 returns c =
     let l = c .before in
     let a = l .before .before .before .before .args in
-    let r : Rows = record { kinds = a .kinds .now; levels = a .levels .now; values = a .values .now } in
+    let r : Rows = rowsOf (a .kinds .now) (a .levels .now) (a .values .now) in
     omega (arith, l .loop .inv .1, total-end r (l .loop .s) (l .loop .left) (omega arith))
 
 pub energy-total-spec : {M : Type 1} → statement M
 energy-total-spec =
     tie.close
-    (tie.spec
-    Inv-loop
-    μ-loop
-    loop-holds
-    resolution-at-requires
-    energy-count-requires
-    add-o
-    add-s
-    sub-left
-    loop-less
-    loop-again
-    returns)
+    (tie.spec Inv-loop μ-loop loop-holds (λ c κs. search needs) (λ c κs. search needs) add-o add-s sub-left loop-less loop-again returns)

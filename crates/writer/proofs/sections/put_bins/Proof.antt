@@ -5,18 +5,6 @@ use Rattle.writer.proofs.Puts.{bins-put}
 use Rattle.writer.proofs.sections.put_bins.Statement.{statement}
 use Rattle.writer.proofs.sections.put_bins.Tie as tie
 
-put-u32-requires : tie.Need-put-u32-requires
-put-u32-requires c κs = search needs
-
-put-u32-requires-2 : tie.Need-put-u32-requires-2
-put-u32-requires-2 c κs = search needs
-
-put-u32-requires-3 : tie.Need-put-u32-requires-3
-put-u32-requires-3 c κs = search needs
-
-same-length : tie.Need-same-length
-same-length c = search needs
-
 returns : tie.Need-returns
 unfolding section packed
 returns c =
@@ -27,4 +15,5 @@ returns c =
 
 pub put-bins-spec : {M : Type 1} → statement M
 put-bins-spec =
-    tie.close (tie.spec put-u32-requires put-u32-requires-2 put-u32-requires-3 same-length returns)
+    tie.close
+    (tie.spec (λ c κs. search needs) (λ c κs. search needs) (λ c κs. search needs) (λ c. search needs) returns)

@@ -25,17 +25,8 @@ loop-holds c =
     let s = c .before .before in
     (s .pre .0, s .pre .1, begun (s .args .out .now) (s .args .at) _ (omega (arith, s .pre .0, taken-bytes (s .args .store .now) (s .args .from) (s .args .n) (s .pre .1))))
 
-mul-narrow : tie.Need-mul-narrow Inv-loop μ-loop
-mul-narrow c = search needs
-
 shared-slice-read-narrow : tie.Need-shared-slice-read-narrow Inv-loop μ-loop
 shared-slice-read-narrow c = omega arith
-
-narrow-requires : tie.Need-narrow-requires Inv-loop μ-loop
-narrow-requires c κs = search needs
-
-bits32-requires : tie.Need-bits32-requires Inv-loop μ-loop
-bits32-requires c κs = search needs
 
 put-u32-requires : tie.Need-put-u32-requires Inv-loop μ-loop
 put-u32-requires c κs = let l = c .before .before .before .before .before in omega (arith, l .loop .inv .2 .size)
@@ -74,19 +65,4 @@ returns c =
 pub put-energies-spec : {M : Type 1} → statement M
 put-energies-spec =
     tie.close
-    (tie.spec
-    Inv-loop
-    μ-loop
-    loop-holds
-    mul-narrow
-    shared-slice-read-narrow
-    narrow-requires
-    bits32-requires
-    put-u32-requires
-    add-p
-    add-to
-    sub-left
-    loop-less
-    loop-again
-    same-length
-    returns)
+    (tie.spec Inv-loop μ-loop loop-holds (λ c. search needs) shared-slice-read-narrow (λ c κs. search needs) (λ c κs. search needs) put-u32-requires add-p add-to sub-left loop-less loop-again same-length returns)

@@ -4,10 +4,10 @@ use Prim.Native.Nat.{_+_, _*_, _≤_}
 use native.Mathlib.Omega.{arith}
 use lib.ListN.{length}
 use borrow.Author.Needs.{needs}
-use Rattle.rows.specs.Rows.{Rows, resolutionAt}
+use Rattle.rows.specs.Rows.{Rows, resolutionAt, rowsOf}
 use Rattle.table.specs.Bytes.{packed}
 use Rattle.table.specs.File.{entryBytes}
-use Rattle.writer.specs.Steps.{heldBy, entryFor, resolutions, entriesFor, total}
+use Rattle.writer.specs.Internal.{heldBy, entryFor, resolutions, entriesFor, total}
 use Rattle.writer.proofs.Puts.{Left, begun, step, ended}
 use Rattle.writer.proofs.Filed.{entries-length, entries-turn, entries-end, total-turn}
 use Rattle.table.proofs.Lengths.{entry-length}
@@ -15,7 +15,7 @@ use Rattle.writer.proofs.sections.put_entries.Statement.{statement}
 use Rattle.writer.proofs.sections.put_entries.Tie as tie
 
 abbrev Inv-loop : tie.InvT-loop
-Inv-loop out₀ at kinds levels values n s₀ left₀ to₀ o₀ out s left to o = (s + left ≡ n) × (to + left * 10 ≤ length out₀) × (o + total (resolutions (record { kinds = kinds; levels = levels; values = values }) s left) ≤ 4294967295) × Left out₀ at (packed entryBytes (entriesFor 0 (resolutions (record { kinds = kinds; levels = levels; values = values }) 0 n))) out to (packed entryBytes (entriesFor o (resolutions (record { kinds = kinds; levels = levels; values = values }) s left)))
+Inv-loop out₀ at kinds levels values n s₀ left₀ to₀ o₀ out s left to o = (s + left ≡ n) × (to + left * 10 ≤ length out₀) × (o + total (resolutions (rowsOf kinds levels values) s left) ≤ 4294967295) × Left out₀ at (packed entryBytes (entriesFor 0 (resolutions (rowsOf kinds levels values) 0 n))) out to (packed entryBytes (entriesFor o (resolutions (rowsOf kinds levels values) s left)))
 
 abbrev μ-loop : tie.MeasureT-loop
 μ-loop out₀ at kinds levels values n s₀ left₀ to₀ o₀ out s left to o = left
@@ -23,38 +23,20 @@ abbrev μ-loop : tie.MeasureT-loop
 loop-holds : tie.Need-loop-holds Inv-loop μ-loop
 loop-holds c =
     let s = c .before .before .before .before in
-    let r : Rows = record { kinds = s .args .kinds .now; levels = s .args .levels .now; values = s .args .values .now } in
+    let r : Rows = rowsOf (s .args .kinds .now) (s .args .levels .now) (s .args .values .now) in
     (omega arith, s .pre .0, omega (arith, s .pre .1), begun (s .args .out .now) (s .args .at) _ (omega (arith, s .pre .0, entries-length r 0 0 (s .args .n))))
-
-resolution-at-requires : tie.Need-resolution-at-requires Inv-loop μ-loop
-resolution-at-requires c κs = search needs
 
 cast-offset-of : tie.Need-cast-offset-of Inv-loop μ-loop
 cast-offset-of c = omega arith
 
-offset-of-requires : tie.Need-offset-of-requires Inv-loop μ-loop
-offset-of-requires c κs = search needs
-
-kind-of-requires : tie.Need-kind-of-requires Inv-loop μ-loop
-kind-of-requires c κs = search needs
-
-level-of-requires : tie.Need-level-of-requires Inv-loop μ-loop
-level-of-requires c κs = search needs
-
-value-of-requires : tie.Need-value-of-requires Inv-loop μ-loop
-value-of-requires c κs = search needs
-
 put-row-requires : tie.Need-put-row-requires Inv-loop μ-loop
 put-row-requires c κs = let l = c .before .before .before .before .before .before .before in omega (arith, l .loop .inv .3 .size)
-
-energy-count-requires : tie.Need-energy-count-requires Inv-loop μ-loop
-energy-count-requires c κs = search needs
 
 add-o : tie.Need-add-o Inv-loop μ-loop
 add-o c =
     let l = c .before .before .before .before .before .before .before .before .before .before .before in
     let a = c .before .before .before .before .before .before .before .before .before .before .before .before .before .before .before .before .args in
-    let r : Rows = record { kinds = a .kinds .now; levels = a .levels .now; values = a .values .now } in
+    let r : Rows = rowsOf (a .kinds .now) (a .levels .now) (a .values .now) in
     let x = resolutionAt r (l .loop .s) in
     let t = total-turn r (l .loop .s) (l .loop .left) (omega arith) in
     let e : c .energy-count .result ≡ heldBy x = c .energy-count .ensures ∙ ap heldBy (c .before .before .before .before .before .before .before .before .before .resolution-at .ensures) in
@@ -76,7 +58,7 @@ loop-again : tie.Need-loop-again Inv-loop μ-loop
 loop-again c =
     let l = c .before .before .before .before .before .before .before .before .before .before .before in
     let a = c .before .before .before .before .before .before .before .before .before .before .before .before .before .before .before .before .args in
-    let r : Rows = record { kinds = a .kinds .now; levels = a .levels .now; values = a .values .now } in
+    let r : Rows = rowsOf (a .kinds .now) (a .levels .now) (a .values .now) in
     let x = resolutionAt r (l .loop .s) in
     let t = total-turn r (l .loop .s) (l .loop .left) (omega arith) in
     let e : c .energy-count .result ≡ heldBy x = c .energy-count .ensures ∙ ap heldBy (c .before .before .before .before .before .before .before .before .before .resolution-at .ensures) in (
@@ -96,28 +78,9 @@ returns : tie.Need-returns Inv-loop μ-loop
 returns c =
     let l = c .before in
     let a = l .before .before .before .before .before .args in
-    ended (l .loop .inv .3) (entries-end (record { kinds = a .kinds .now; levels = a .levels .now; values = a .values .now }) (l .loop .s) (l .loop .left) (l .loop .o) (omega arith))
+    ended (l .loop .inv .3) (entries-end (rowsOf (a .kinds .now) (a .levels .now) (a .values .now)) (l .loop .s) (l .loop .left) (l .loop .o) (omega arith))
 
 pub put-entries-spec : {M : Type 1} → statement M
 put-entries-spec =
     tie.close
-    (tie.spec
-    Inv-loop
-    μ-loop
-    loop-holds
-    resolution-at-requires
-    cast-offset-of
-    offset-of-requires
-    kind-of-requires
-    level-of-requires
-    value-of-requires
-    put-row-requires
-    energy-count-requires
-    add-o
-    add-to
-    add-s
-    sub-left
-    loop-less
-    loop-again
-    same-length
-    returns)
+    (tie.spec Inv-loop μ-loop loop-holds (λ c κs. search needs) cast-offset-of (λ c κs. search needs) (λ c κs. search needs) (λ c κs. search needs) (λ c κs. search needs) put-row-requires (λ c κs. search needs) add-o add-to add-s sub-left loop-less loop-again same-length returns)

@@ -5,24 +5,12 @@ use native.Mathlib.Omega.{arith}
 use lib.ListN.{length, length-map}
 use borrow.Author.Needs.{needs}
 use Rattle.mesh.specs.Levels.{vertexCount}
-use Rattle.mesh.specs.Lists.{below}
+use Rattle.lists.specs.Lists.{below}
 use Rattle.table.specs.Bytes.{bytesOf, packed, section}
 use Rattle.writer.proofs.Puts.{puts}
 use Rattle.table.proofs.Lengths.{bytes-length, below-length}
 use Rattle.writer.proofs.sections.put_levels.Statement.{statement}
 use Rattle.writer.proofs.sections.put_levels.Tie as tie
-
-cast-put-u32 : tie.Need-cast-put-u32
-cast-put-u32 c = search needs
-
-put-u32-requires : tie.Need-put-u32-requires
-put-u32-requires c κs = search needs
-
-put-vertex-counts-requires : tie.Need-put-vertex-counts-requires
-put-vertex-counts-requires c κs = search needs
-
-same-length : tie.Need-same-length
-same-length c = search needs
 
 returns : tie.Need-returns
 unfolding section
@@ -36,4 +24,4 @@ returns c =
 pub put-levels-spec : {M : Type 1} → statement M
 put-levels-spec =
     tie.close
-    (tie.spec cast-put-u32 put-u32-requires put-vertex-counts-requires same-length returns)
+    (tie.spec (λ c. search needs) (λ c κs. search needs) (λ c κs. search needs) (λ c. search needs) returns)

@@ -4,37 +4,22 @@ use Prim.Native.Nat.{_+_}
 use native.Mathlib.Omega.{arith}
 use lib.ListN.{length}
 use borrow.Author.Needs.{needs}
-use Rattle.rows.specs.Rows.{Rows}
+use Rattle.rows.specs.Rows.{Rows, rowsOf}
 use Rattle.table.specs.Bytes.{bytesOf, packed, section}
 use Rattle.table.specs.File.{entryBytes}
-use Rattle.writer.specs.Steps.{resolutions, entriesFor}
+use Rattle.writer.specs.Internal.{resolutions, entriesFor}
 use Rattle.writer.proofs.Puts.{puts}
 use Rattle.table.proofs.Lengths.{bytes-length}
 use Rattle.writer.proofs.Filed.{entriesFor-length, res-length}
 use Rattle.writer.proofs.sections.put_rows.Statement.{statement}
 use Rattle.writer.proofs.sections.put_rows.Tie as tie
 
-cast-put-u32 : tie.Need-cast-put-u32
-cast-put-u32 c = search needs
-
-put-u32-requires : tie.Need-put-u32-requires
-put-u32-requires c κs = search needs
-
-add-put-entries : tie.Need-add-put-entries
-add-put-entries c = search needs
-
-put-entries-requires : tie.Need-put-entries-requires
-put-entries-requires c κs = search needs
-
-same-length : tie.Need-same-length
-same-length c = search needs
-
 returns : tie.Need-returns
 unfolding section
 returns c =
     let s = c .before .before .before .before .before .before .before .before .before .before .before .before in
     let a = s .args in
-    let r : Rows = record { kinds = a .kinds .now; levels = a .levels .now; values = a .values .now } in
+    let r : Rows = rowsOf (a .kinds .now) (a .levels .now) (a .values .now) in
     let xs = resolutions r 0 (a .n) in
     let len : length (entriesFor 0 xs) ≡ a .n = entriesFor-length 0 xs ∙ res-length r 0 (a .n) in
     rw (c .before .before .put-entries .ensures, c .before .before .before .before .before .before .put-u32 .ensures, len)
@@ -43,10 +28,4 @@ returns c =
 pub put-rows-spec : {M : Type 1} → statement M
 put-rows-spec =
     tie.close
-    (tie.spec
-    cast-put-u32
-    put-u32-requires
-    add-put-entries
-    put-entries-requires
-    same-length
-    returns)
+    (tie.spec (λ c. search needs) (λ c κs. search needs) (λ c. search needs) (λ c κs. search needs) (λ c. search needs) returns)

@@ -5,23 +5,23 @@ use Prim.Native.Nat.{_+_, _*_, _≤_}
 use native.Mathlib.Omega.{arith}
 use lib.ListN.{length, take, drop}
 use borrow.Author.Needs.{needs}
-use Rattle.rows.specs.Rows.{Rows, resolutionAt, narrowBits}
+use Rattle.rows.specs.Rows.{Rows, resolutionAt, narrowBits, rowsOf}
 use Rattle.table.specs.Bytes.{bytesOf, packed}
-use Rattle.writer.specs.Steps.{heldBy, resolutions, total, energiesFor, Bounded}
+use Rattle.writer.specs.Internal.{heldBy, resolutions, total, energiesFor, Bounded}
 use Rattle.writer.proofs.Puts.{Left, begun, step, ended}
 use Rattle.writer.proofs.Filed.{res-length, Slab, slab-turn, energies-turn, energies-end, energies-bytes, taken-bytes}
 use Rattle.writer.proofs.sections.put_slabs.Statement.{statement}
 use Rattle.writer.proofs.sections.put_slabs.Tie as tie
 
 abbrev Inv-loop : tie.InvT-loop
-Inv-loop out₀ at z store kinds levels values n s₀ left₀ to₀ p₀ out s left to p = (s + left ≡ n) × (to + total (resolutions (record { kinds = kinds; levels = levels; values = values }) s left) * 4 ≤ length out₀) × (p + left * z ≤ length store) × Bounded z (resolutions (record { kinds = kinds; levels = levels; values = values }) s left) × Left out₀ at (packed (bytesOf 4) (energiesFor z store 0 (resolutions (record { kinds = kinds; levels = levels; values = values }) 0 n))) out to (packed (bytesOf 4) (energiesFor z store p (resolutions (record { kinds = kinds; levels = levels; values = values }) s left)))
+Inv-loop out₀ at z store kinds levels values n s₀ left₀ to₀ p₀ out s left to p = (s + left ≡ n) × (to + total (resolutions (rowsOf kinds levels values) s left) * 4 ≤ length out₀) × (p + left * z ≤ length store) × Bounded z (resolutions (rowsOf kinds levels values) s left) × Left out₀ at (packed (bytesOf 4) (energiesFor z store 0 (resolutions (rowsOf kinds levels values) 0 n))) out to (packed (bytesOf 4) (energiesFor z store p (resolutions (rowsOf kinds levels values) s left)))
 
 abbrev μ-loop : tie.MeasureT-loop
 μ-loop out₀ at z store kinds levels values n s₀ left₀ to₀ p₀ out s left to p = left
 
 -- the rows that were lent, and the energies of the row at hand
 abbrev rows : tie.At-loop Inv-loop μ-loop → Rows
-rows l = let a = l .before .before .before .before .before .before .args in record { kinds = a .kinds .now; levels = a .levels .now; values = a .values .now }
+rows l = let a = l .before .before .before .before .before .before .args in rowsOf (a .kinds .now) (a .levels .now) (a .values .now)
 
 taken : (c : tie.After-energy-count Inv-loop μ-loop) → let l = c .before .before .before in c .energy-count .result ≡ heldBy (resolutionAt (rows l) (l .loop .s))
 taken c = c .energy-count .ensures ∙ ap heldBy (c .before .resolution-at .ensures)
@@ -36,19 +36,13 @@ loop-holds : tie.Need-loop-holds Inv-loop μ-loop
 loop-holds c =
     let s = c .before .before .before .before .before in
     let a = s .args in
-    let r : Rows = record { kinds = a .kinds .now; levels = a .levels .now; values = a .values .now } in (
+    let r : Rows = rowsOf (a .kinds .now) (a .levels .now) (a .values .now) in (
       omega arith,
       s .pre .0,
       omega (arith, s .pre .1),
       s .pre .2,
       begun (a .out .now) (a .at) _ (omega (arith, s .pre .0, energies-bytes (a .z) (a .store .now) 0 (resolutions r 0 (a .n)) (s .pre .2) (rw (res-length r 0 (a .n)) (omega (arith, s .pre .1))))),
     )
-
-resolution-at-requires : tie.Need-resolution-at-requires Inv-loop μ-loop
-resolution-at-requires c κs = search needs
-
-energy-count-requires : tie.Need-energy-count-requires Inv-loop μ-loop
-energy-count-requires c κs = search needs
 
 put-energies-requires : tie.Need-put-energies-requires Inv-loop μ-loop
 put-energies-requires c κs = let t = turn (c .before) in (omega (arith, t .fits, c .before .before .before .before .loop .inv .4 .size), t .inside)
@@ -95,24 +89,9 @@ returns : tie.Need-returns Inv-loop μ-loop
 returns c =
     let l = c .before in
     let a = l .before .before .before .before .before .before .args in
-    ended (l .loop .inv .4) (energies-end (record { kinds = a .kinds .now; levels = a .levels .now; values = a .values .now }) (a .z) (a .store .now) (l .loop .p) (l .loop .s) (l .loop .left) (omega arith))
+    ended (l .loop .inv .4) (energies-end (rowsOf (a .kinds .now) (a .levels .now) (a .values .now)) (a .z) (a .store .now) (l .loop .p) (l .loop .s) (l .loop .left) (omega arith))
 
 pub put-slabs-spec : {M : Type 1} → statement M
 put-slabs-spec =
     tie.close
-    (tie.spec
-    Inv-loop
-    μ-loop
-    loop-holds
-    resolution-at-requires
-    energy-count-requires
-    put-energies-requires
-    mul-to
-    add-to
-    add-p
-    add-s
-    sub-left
-    loop-less
-    loop-again
-    same-length
-    returns)
+    (tie.spec Inv-loop μ-loop loop-holds (λ c κs. search needs) (λ c κs. search needs) put-energies-requires mul-to add-to add-p add-s sub-left loop-less loop-again same-length returns)

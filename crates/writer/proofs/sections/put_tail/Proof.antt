@@ -4,36 +4,21 @@ use Prim.Native.Nat.{_+_}
 use native.Mathlib.Omega.{arith}
 use lib.ListN.{length}
 use borrow.Author.Needs.{needs}
-use Rattle.rows.specs.Rows.{Rows}
+use Rattle.rows.specs.Rows.{Rows, rowsOf}
 use Rattle.table.specs.Bytes.{bytesOf, packed, section}
-use Rattle.writer.specs.Steps.{resolutions, energiesFor}
+use Rattle.writer.specs.Internal.{resolutions, energiesFor}
 use Rattle.writer.proofs.Puts.{puts}
 use Rattle.table.proofs.Lengths.{bytes-length}
 use Rattle.writer.proofs.Filed.{energies-length, res-length}
 use Rattle.writer.proofs.sections.put_tail.Statement.{statement}
 use Rattle.writer.proofs.sections.put_tail.Tie as tie
 
-cast-put-u32 : tie.Need-cast-put-u32
-cast-put-u32 c = search needs
-
-put-u32-requires : tie.Need-put-u32-requires
-put-u32-requires c κs = search needs
-
-add-put-slabs : tie.Need-add-put-slabs
-add-put-slabs c = search needs
-
-put-slabs-requires : tie.Need-put-slabs-requires
-put-slabs-requires c κs = search needs
-
-same-length : tie.Need-same-length
-same-length c = search needs
-
 returns : tie.Need-returns
 unfolding section
 returns c =
     let s = c .before .before .before .before .before .before .before .before .before .before .before .before .before in
     let a = s .args in
-    let r : Rows = record { kinds = a .kinds .now; levels = a .levels .now; values = a .values .now } in
+    let r : Rows = rowsOf (a .kinds .now) (a .levels .now) (a .values .now) in
     let xs = resolutions r 0 (a .n) in
     let len : length (energiesFor (a .z) (a .store .now) 0 xs) ≡ a .e =
     energies-length (a .z) (a .store .now) 0 xs (s .pre .4) (rw (res-length r 0 (a .n)) (omega (arith, s .pre .3))) ∙ sym (s .pre .2) in
@@ -43,4 +28,4 @@ returns c =
 pub put-tail-spec : {M : Type 1} → statement M
 put-tail-spec =
     tie.close
-    (tie.spec cast-put-u32 put-u32-requires add-put-slabs put-slabs-requires same-length returns)
+    (tie.spec (λ c. search needs) (λ c κs. search needs) (λ c. search needs) (λ c κs. search needs) (λ c. search needs) returns)

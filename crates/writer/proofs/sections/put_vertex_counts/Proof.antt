@@ -5,8 +5,8 @@ use Prim.Native.Nat.{_+_, _-_, _*_, _≤_}
 use native.Mathlib.Omega.{arith}
 use borrow.Author.Needs.{needs}
 use Rattle.mesh.specs.Levels.{vertexCount}
-use Rattle.mesh.specs.Lists.{below}
-use Rattle.mesh.proofs.Written.{Written, nothing, chunk}
+use Rattle.lists.specs.Lists.{below}
+use Rattle.lists.proofs.Written.{Written, nothing, chunk}
 use Rattle.mesh.proofs.Laws.{count-le}
 use Rattle.table.specs.Bytes.{bytesOf, packed}
 use Rattle.table.proofs.Lengths.{bytes-length}
@@ -32,9 +32,6 @@ add-put-u32 c = omega arith
 
 cast-vertex-count : tie.Need-cast-vertex-count Inv-loop μ-loop
 cast-vertex-count c = omega arith
-
-vertex-count-requires : tie.Need-vertex-count-requires Inv-loop μ-loop
-vertex-count-requires c κs = search needs
 
 cast-put-u32 : tie.Need-cast-put-u32 Inv-loop μ-loop
 cast-put-u32 c = omega (arith, c .vertex-count .ensures, count-le (c .before .before .before .loop .m) 256 (omega arith))
@@ -66,18 +63,4 @@ returns c =
 pub put-vertex-counts-spec : {M : Type 1} → statement M
 put-vertex-counts-spec =
     tie.close
-    (tie.spec
-    Inv-loop
-    μ-loop
-    loop-holds
-    mul-put-u32
-    add-put-u32
-    cast-vertex-count
-    vertex-count-requires
-    cast-put-u32
-    put-u32-requires
-    add-m
-    loop-less
-    loop-again
-    same-length
-    returns)
+    (tie.spec Inv-loop μ-loop loop-holds mul-put-u32 add-put-u32 cast-vertex-count (λ c κs. search needs) cast-put-u32 put-u32-requires add-m loop-less loop-again same-length returns)

@@ -1,0 +1,123 @@
+-- What questions that were answered yes say of the numbers. Assumes nothing.
+use mathlib.Core.Path.{_≡_}
+use Rattle.lists.proofs.Asking.{ask-yes, first-yes}
+use Rattle.lists.proofs.Counting.{yes, no}
+use mathlib.Core.Bool.{Bool, true, false, not, _&&_, and-eq-true-iff}
+use mathlib.Core.List.{List}
+use Prim.Native.Nat.{ℕ, suc, _+_, _*_, _≤_, _<_}
+use native.Mathlib.Omega.{arith}
+use lib.Dec.{leb, ltb, lit<}
+use lib.Ieee.{Float}
+use lib.ListN.{length}
+use borrow.Author.Tests.{leb-true, ltb-true, eqb-true}
+use Rattle.lists.specs.Questions.{ask, first}
+use Rattle.mesh.specs.Levels.{per, verticesBelow}
+use Rattle.mesh.specs.Mesh.{Mesh, meshLong, meshesKeep}
+use Rattle.mesh.proofs.Sizes.{per-mono}
+use Rattle.lists.proofs.Places.{place}
+use Rattle.grid.specs.Settings.{question, levelsValid, slabsFit}
+use Rattle.grid.specs.declared.Grid.{Grid}
+use Rattle.grid.proofs.Laws.{counts-le}
+use Rattle.rows.specs.Rows.{rowRoom}
+use Rattle.builder.specs.BuilderLists.{slabs, slab, storePlace, listRoom}
+use Rattle.builder.specs.Refusals.{builderQuestion, setQuestion}
+use Rattle.builder.specs.declared.Builder.{Builder}
+
+-- the first of two tests was passed before; the branch on `!r`, r being both, was passed by, or taken
+pub second-yes : {a q r : Bool} → r ≡ a && q → a ≡ true → not r ≡ false → q ≡ true
+second-yes {a} {q} {r} e h t = let z : a && q ≡ true = yes e t in rw h at z
+
+pub second-no : {a q r : Bool} → r ≡ a && q → a ≡ true → not r ≡ true → q ≡ false
+second-no {a} {q} {r} e h t = let z : a && q ≡ false = no e t in rw h at z
+
+-- 1 to 5 answered yes
+pub record Asked (g : Grid) (top level : ℕ) : Type 0 where
+  pub top-le : top ≤ 15
+  pub level-le : level ≤ top
+  pub rs : g .«n_r» ≤ 65535
+  pub omegas : g .«n_omega» ≤ 65535
+  pub few : slabs g * per top ≤ 4294967295
+
+pub asked : (g : Grid) (top level : ℕ) → question g top level ≡ 0 → Asked g top level
+unfolding question levelsValid slabsFit
+asked g top level e =
+    let q2 = ask-yes (lit< tt) (ask-yes (lit< tt) e .1) in
+    let q3 = ask-yes (lit< tt) (q2 .1) in
+    let q5 = ask-yes (lit< tt) (ask-yes (lit< tt) (q3 .1) .1) in
+    let l = and-eq-true-iff (leb top 15) (leb level top) .0 (q2 .0) in
+    let n = counts-le g (q3 .0) in
+    record {
+      top-le = leb-true top 15 (l .0);
+      level-le = leb-true level top (l .1);
+      rs = n .0;
+      omegas = n .1;
+      few = leb-true (slabs g * per top) 4294967295 (q5 .0);
+    }
+
+-- 6, of store and rows, answered yes
+pub record Roomy (g : Grid) (top store kinds levels values : ℕ) : Type 0 where
+  pub store-le : slabs g * per top ≤ store
+  pub kinds-le : slabs g ≤ kinds
+  pub levels-le : slabs g ≤ levels
+  pub values-le : slabs g ≤ values
+
+pub roomy : (g : Grid) (top store kinds levels values : ℕ) → listRoom g top store kinds levels values ≡ true → Roomy g top store kinds levels values
+unfolding listRoom rowRoom
+roomy g top store kinds levels values e =
+    let a = and-eq-true-iff (leb (slabs g * per top) store) (leb (slabs g) kinds && (leb (slabs g) levels && leb (slabs g) values)) .0 e in
+    let b = and-eq-true-iff (leb (slabs g) kinds) (leb (slabs g) levels && leb (slabs g) values) .0 (a .1) in
+    let d = and-eq-true-iff (leb (slabs g) levels) (leb (slabs g) values) .0 (b .1) in
+    record {
+      store-le = leb-true (slabs g * per top) store (a .0);
+      kinds-le = leb-true (slabs g) kinds (b .0);
+      levels-le = leb-true (slabs g) levels (d .0);
+      values-le = leb-true (slabs g) values (d .1);
+    }
+
+-- what an accepted set may count on: its row is inside the rows, and its energies inside the store
+pub record Set (b : Builder) (ri oi : ℕ) (e : List Float) (store kinds levels values : ℕ) : Type 0 where
+  pub asked : Asked (b .grid) (b .top) (b .level)
+  pub room : Roomy (b .grid) (b .top) store kinds levels values
+  pub row : slab (b .grid) ri oi < slabs (b .grid)
+  pub energies : storePlace (b .top) (slab (b .grid) ri oi) + length e ≤ store
+
+pub accepted : (b : Builder) (ri oi : ℕ) (e : List Float) (store kinds levels values : ℕ)
+    → first (builderQuestion b) (ask (listRoom (b .grid) (b .top) store kinds levels values) 6 (setQuestion (b .grid) (b .level) ri oi e)) ≡ 0
+    → Set b ri oi e store kinds levels values
+unfolding setQuestion
+accepted b ri oi e store kinds levels values p =
+    let f = first-yes p in
+    let q6 = ask-yes (lit< tt) (f .1) in
+    let q8 = ask-yes (lit< tt) (q6 .1) in
+    let q9 = ask-yes (lit< tt) (q8 .1) in
+    let g = b .grid in
+    let a = asked g (b .top) (b .level) (f .0) in
+    let r = roomy g (b .top) store kinds levels values (q6 .0) in
+    let bins = and-eq-true-iff (ltb ri (g .«n_r»)) (ltb oi (g .«n_omega»)) .0 (q8 .0) in
+    let row : slab g ri oi < slabs g =
+    omega (arith, place ri (g .«n_r») (oi + 1) (g .«n_omega») (ltb-true ri (g .«n_r») (bins .0)) (omega (arith, ltb-true oi (g .«n_omega») (bins .1)))) in
+    let many : length e ≡ per (b .level) = eqb-true (length e) (per (b .level)) (q9 .0) in
+    let fits : length e ≤ per (b .top) = omega (arith, many, per-mono (b .level) (b .top) (a .level-le)) in
+    record {
+      asked = a;
+      room = r;
+      row = row;
+      energies = omega (arith, r .store-le, place (slab g ri oi) (slabs g) (length e) (per (b .top)) row fits);
+    }
+
+-- what an accepted call may count on that the meshes are lent to
+pub record Meshed (b : Builder) (m : Mesh) (store kinds levels values : ℕ) : Type 0 where
+  pub asked : Asked (b .grid) (b .top) (b .level)
+  pub room : Roomy (b .grid) (b .top) store kinds levels values
+  pub held : meshLong (verticesBelow (suc (b .top))) m ≡ true
+  pub kept : meshesKeep (b .top) m ≡ true
+
+pub meshed : (b : Builder) (m : Mesh) (store kinds levels values : ℕ)
+    → first (builderQuestion b) (ask (listRoom (b .grid) (b .top) store kinds levels values && meshLong (verticesBelow (suc (b .top))) m) 6 (ask (meshesKeep (b .top) m) 7 0)) ≡ 0
+    → Meshed b m store kinds levels values
+meshed b m store kinds levels values p =
+    let f = first-yes p in
+    let q6 = ask-yes (lit< tt) (f .1) in
+    let q7 = ask-yes (lit< tt) (q6 .1) in
+    let r = and-eq-true-iff (listRoom (b .grid) (b .top) store kinds levels values) (meshLong (verticesBelow (suc (b .top))) m) .0 (q6 .0) in
+    record { asked = asked (b .grid) (b .top) (b .level) (f .0); room = roomy (b .grid) (b .top) store kinds levels values (r .0); held = r .1; kept = q7 .0 }

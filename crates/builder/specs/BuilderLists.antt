@@ -1,0 +1,61 @@
+-- The lists that are lent to a builder's calls, and the rows in them. Definitions only.
+use mathlib.Core.Bool.{Bool, _&&_}
+use mathlib.Core.List.{List, [], _∷_}
+use Prim.Native.Nat.{ℕ, zero, suc, _+_, _*_}
+use lib.ListN.{length, getD, take, drop}
+use lib.Dec.{leb}
+use lib.Ieee.{Float}
+use Rattle.lists.specs.Lists.{allUpTo}
+use Rattle.mesh.specs.Levels.{per, verticesBelow}
+use Rattle.mesh.specs.Mesh.{Mesh, meshLong}
+use Rattle.grid.specs.declared.Grid.{Grid}
+use Rattle.rows.specs.Rows.{Rows, rowsOf, resolutionAt, rowKnown, rowRoom, Row, rowWith}
+use Rattle.builder.specs.declared.Builder.{Builder}
+
+-- the store and the rows
+pub record BuilderLists : Type 0 where
+  pub store : List Float
+  pub rows : Rows
+
+abbrev pub listsOf : List Float → List ℕ → List ℕ → List ℕ → BuilderLists
+listsOf store kinds levels values = record { store = store; rows = rowsOf kinds levels values }
+
+-- "A slab is one distance bin and one dihedral bin"
+abbrev pub slabs : Grid → ℕ
+slabs g = g .«n_r» * g .«n_omega»
+
+abbrev pub slab : Grid → ℕ → ℕ → ℕ
+slab g ri oi = ri * g .«n_omega» + oi
+
+-- "a lent f64 store, slab s at s × n·n of the top level"
+abbrev pub storePlace : ℕ → ℕ → ℕ
+storePlace top s = s * per top
+
+-- the row of slab s: with the first energies of the slab, as many as the row's level has
+unfoldable pub rowAt : ℕ → BuilderLists → ℕ → Row Float
+rowAt top l s = rowWith (resolutionAt (l .rows) s) (take (per (getD (l .rows .levels) s 0)) (drop (storePlace top s) (l .store)))
+
+-- n rows from slab s on
+unfoldable pub rowsFrom : ℕ → BuilderLists → ℕ → ℕ → List (Row Float)
+rowsFrom top l s zero = []
+rowsFrom top l s (suc n) = rowAt top l s ∷ rowsFrom top l (suc s) n
+
+-- the rows of a slice
+abbrev pub sliceAt : Builder → BuilderLists → ℕ → List (Row Float)
+sliceAt b l ri = rowsFrom (b .top) l (slab (b .grid) ri 0) (b .grid .«n_omega»)
+
+-- 6, of store and rows (S5.6)
+unfoldable pub listRoom : Grid → ℕ → ℕ → ℕ → ℕ → ℕ → Bool
+listRoom g top store kinds levels values = leb (slabs g * per top) store && rowRoom (slabs g) kinds levels values
+
+-- S5.6
+abbrev pub listsLong : Builder → BuilderLists → Bool
+listsLong b l = listRoom (b .grid) (b .top) (length (l .store)) (length (l .rows .kinds)) (length (l .rows .levels)) (length (l .rows .values))
+
+-- 6, of the meshes of the levels from 0 to the top
+abbrev pub meshesLong : Builder → Mesh → Bool
+meshesLong b m = meshLong (verticesBelow (suc (b .top))) m
+
+-- the kind and level part of 15, of n rows from slab s on
+unfoldable pub rowsKnown : ℕ → Rows → ℕ → ℕ → Bool
+rowsKnown top r s n = allUpTo n (λ i. rowKnown top r (s + i))

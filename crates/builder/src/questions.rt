@@ -1,0 +1,238 @@
+// The questions that a call puts before it acts. They take the lengths of the lists that are lent.
+ghost use mathlib.Core.Path.{_≡_};
+ghost use mathlib.Core.Bool.{not, _&&_};
+ghost use mathlib.Core.List.{[]};
+ghost use Prim.Native.Nat.{suc, _≤_};
+ghost use lib.Dec.{ltb};
+ghost use lib.Ieee.{isNan};
+ghost use Rattle.lists.specs.Questions.{ask, first};
+ghost use Rattle.lists.specs.Lists.{every};
+ghost use Rattle.mesh.specs.Levels.{verticesBelow};
+ghost use Rattle.mesh.specs.Mesh.{meshLong, meshesKeep, meshOf};
+ghost use Rattle.rows.specs.Rows.{rowWith, rowsOf};
+ghost use Rattle.settling.specs.Settling.{fromLevel};
+ghost use Rattle.builder.specs.BuilderLists.{listRoom, rowsKnown, listsOf};
+ghost use Rattle.builder.specs.Internal.{rowsFromLevel, settleQuestion};
+ghost use Rattle.builder.specs.Refusals.{builderQuestion, setQuestion, settleRefusal};
+use crate::Builder;
+use grid::Grid;
+use rows::SlabResolution;
+
+// Question 6 of store and rows, once 1 to 5 are answered yes.
+fn list_room(g: Grid, top: u64, store: u64, kinds: u64, levels: u64, values: u64) -> bool
+    requires { ⌜ (g .«n_r» ≤ 65535) × (g .«n_omega» ≤ 65535) × (top ≤ 15) ⌝ }
+    ensures { λ r. ⌜ r ≡ listRoom g top store kinds levels values ⌝ }
+{
+    let n_r = g.n_r;
+    let n_omega = g.n_omega;
+    let n = n_r * n_omega;
+    (n * mesh::per_level(top as u8) <= store) & ((n <= kinds) & ((n <= levels) & (n <= values)))
+}
+
+fn is_number(x: f64) -> bool
+    ensures { λ r. ⌜ r ≡ not (isNan x) ⌝ }
+{
+    !(x != x)
+}
+
+fn no_nan(e: &[f64]) -> bool
+    ensures { λ r. ⌜ r ≡ every (λ x. not (isNan x)) (now (e .entry)) ⌝ }
+{
+    let mut i = 0;
+    while i < e.len() {
+        if !is_number(e[i]) {
+            return false;
+        }
+        i += 1;
+    }
+    true
+}
+
+// Question 8 of set.
+fn bins_inside(g: Grid, ri: u64, oi: u64) -> bool
+    ensures { λ r. ⌜ r ≡ ltb ri (g .«n_r») && ltb oi (g .«n_omega») ⌝ }
+{
+    let n_r = g.n_r;
+    let n_omega = g.n_omega;
+    (ri < n_r) & (oi < n_omega)
+}
+
+// Questions 8 to 10 of set.
+fn set_question(g: Grid, level: u64, ri: u64, oi: u64, energies: &[f64]) -> u64
+    requires { ⌜ level ≤ 15 ⌝ }
+    ensures { λ r. ⌜ r ≡ setQuestion g level ri oi (now (energies .entry)) ⌝ }
+{
+    if !bins_inside(g, ri, oi) {
+        return 8;
+    }
+    if energies.len() as u64 != mesh::per_level(level as u8) {
+        return 9;
+    }
+    if !no_nan(energies) {
+        return 10;
+    }
+    0
+}
+
+// Questions 1 to 6 and 8 to 10, of set.
+pub(crate) fn set_refusal(
+    b: Builder,
+    store: u64,
+    kinds: u64,
+    levels: u64,
+    values: u64,
+    ri: u64,
+    oi: u64,
+    energies: &[f64],
+) -> u64
+    ensures { λ r. ⌜ r ≡ first (builderQuestion b) (ask (listRoom (b .grid) (b .top) store kinds levels values) 6 (setQuestion (b .grid) (b .level) ri oi (now (energies .entry)))) ⌝ }
+{
+    let g = b.grid;
+    let top = b.top;
+    let level = b.level;
+    let no = grid::question(g, top, level);
+    if no != 0 {
+        return no;
+    }
+    if !list_room(g, top, store, kinds, levels, values) {
+        return 6;
+    }
+    set_question(g, level, ri, oi, energies)
+}
+
+// Questions 1 to 7 of a call that the meshes are lent to.
+pub fn meshed_refusal(
+    b: Builder,
+    store: u64,
+    kinds: u64,
+    levels: u64,
+    values: u64,
+    vertices: &[f64],
+    counts: &[u8],
+    neighbours: &[u16],
+    angles: &[f64],
+) -> u64
+    ensures { λ r. ⌜ r ≡ first (builderQuestion b)
+        (ask (listRoom (b .grid) (b .top) store kinds levels values && meshLong (verticesBelow (suc (b .top))) (meshOf (now (vertices .entry)) (now (counts .entry)) (now (neighbours .entry)) (now (angles .entry)))) 6
+        (ask (meshesKeep (b .top) (meshOf (now (vertices .entry)) (now (counts .entry)) (now (neighbours .entry)) (now (angles .entry)))) 7 0)) ⌝ }
+{
+    let g = b.grid;
+    let top = b.top;
+    let level = b.level;
+    let no = grid::question(g, top, level);
+    if no != 0 {
+        return no;
+    }
+    if !list_room(g, top, store, kinds, levels, values) {
+        return 6;
+    }
+    if !mesh::meshes_room(
+        top as u8,
+        vertices.len(),
+        counts.len(),
+        neighbours.len(),
+        angles.len(),
+    ) {
+        return 6;
+    }
+    if !mesh::meshes_keep(top as u8, vertices, counts, neighbours, angles) {
+        return 7;
+    }
+    0
+}
+
+// The kind and level part of question 15, of the rows of a slice.
+fn rows_known(top: u64, kinds: &[u8], levels: &[u8], s: u64, n: u64) -> bool
+    requires { ⌜ (s ≤ 4294967295) × (n ≤ 65535) ⌝ }
+    ensures { λ r. ⌜ r ≡ rowsKnown top (rowsOf (now (kinds .entry)) (now (levels .entry)) []) s n ⌝ }
+{
+    let mut i: u64 = 0;
+    while i < n {
+        if !rows::row_known(top, kinds, levels, s + i) {
+            return false;
+        }
+        i += 1;
+    }
+    true
+}
+
+// A row's energies, if it holds any, are from a level.
+fn from_level(level: u64, row: SlabResolution) -> bool
+    ensures { λ r. ⌜ r ≡ fromLevel level (rowWith row []) ⌝ }
+{
+    match row {
+        SlabResolution::Scalar(_) => true,
+        SlabResolution::Repulsive => true,
+        SlabResolution::Mesh(v, _) => v as u64 == level,
+    }
+}
+
+// Question 11.
+fn rows_from_level(level: u64, kinds: &[u8], levels: &[u8], values: &[u32], s: u64, n: u64) -> bool
+    requires { ⌜ (s ≤ 4294967295) × (n ≤ 65535) ⌝ }
+    ensures { λ r. ⌜ r ≡ rowsFromLevel level (rowsOf (now (kinds .entry)) (now (levels .entry)) (now (values .entry))) s n ⌝ }
+{
+    let mut i: u64 = 0;
+    while i < n {
+        if !from_level(level, rows::resolution_at(kinds, levels, values, s + i)) {
+            return false;
+        }
+        i += 1;
+    }
+    true
+}
+
+// Questions 8, 15 and 11 of settle.
+fn settle_question(b: Builder, kinds: &[u8], levels: &[u8], values: &[u32], ri: u64) -> u64
+    requires { ⌜ (b .grid .«n_r» ≤ 65535) × (b .grid .«n_omega» ≤ 65535) ⌝ }
+    ensures { λ r. ⌜ r ≡ settleQuestion b (rowsOf (now (kinds .entry)) (now (levels .entry)) (now (values .entry))) ri ⌝ }
+{
+    let n_r = b.grid.n_r;
+    let n = b.grid.n_omega;
+    let top = b.top;
+    let level = b.level;
+    if n_r <= ri {
+        return 8;
+    }
+    let s = ri * n;
+    if !rows_known(top, kinds, levels, s, n) {
+        return 15;
+    }
+    if !rows_from_level(level, kinds, levels, values, s, n) {
+        return 11;
+    }
+    0
+}
+
+// Questions 1 to 8, 15 and 11, of settle.
+pub(crate) fn settle_refusal(
+    b: Builder,
+    store: &[f64],
+    kinds: &[u8],
+    levels: &[u8],
+    values: &[u32],
+    vertices: &[f64],
+    counts: &[u8],
+    neighbours: &[u16],
+    angles: &[f64],
+    ri: u64,
+) -> u64
+    ensures { λ r. ⌜ r ≡ settleRefusal b (meshOf (now (vertices .entry)) (now (counts .entry)) (now (neighbours .entry)) (now (angles .entry)))
+        (listsOf (now (store .entry)) (now (kinds .entry)) (now (levels .entry)) (now (values .entry))) ri ⌝ }
+{
+    let no = meshed_refusal(
+        b,
+        store.len() as u64,
+        kinds.len() as u64,
+        levels.len() as u64,
+        values.len() as u64,
+        vertices,
+        counts,
+        neighbours,
+        angles,
+    );
+    if no != 0 {
+        return no;
+    }
+    settle_question(b, kinds, levels, values, ri)
+}

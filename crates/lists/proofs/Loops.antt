@@ -1,0 +1,56 @@
+-- A turn of a loop over a list, and its end. Assumes nothing.
+use mathlib.Core.Path.{_≡_, _∙_}
+use mathlib.Core.Bool.{Bool, true, false, _&&_}
+use mathlib.Core.List.{List, append-assoc}
+use Prim.Native.Nat.{ℕ, _+_, _-_, _≤_, _<_}
+use native.Mathlib.Numerals.{add-one}
+use native.Mathlib.Omega.{arith}
+use lib.ListN.{length, take, drop, getD, set, replicate, length-drop, drop-of-length-le, length-replicate, replicate-append-replicate}
+use lib.Seq.{drop-cons, paste, paste-suc, take-length, length-take-le}
+use Rattle.lists.specs.Lists.{every, put, forEach}
+use Rattle.lists.proofs.Written.{put-push}
+
+-- a test of every entry, looked at from place i on
+module _ {A : Type 0} (p : A → Bool) (l : List A) (i : ℕ) (z : A) where
+  step : i < length l → every p (drop i l) ≡ p (getD l i z) && every p (drop (i + 1) l)
+  unfolding every
+  step h = rw (add-one, drop-cons l i z)
+
+  pub every-fails : i < length l → p (getD l i z) ≡ false → every p (drop i l) ≡ false
+  every-fails h e = step h ∙ rw e
+
+  pub every-next : i < length l → p (getD l i z) ≡ true → every p (drop i l) ≡ every p (drop (i + 1) l)
+  every-next h e = step h ∙ rw e
+
+  pub every-end : length l ≤ i → every p (drop i l) ≡ true
+  unfolding every
+  every-end h = rw (drop-of-length-le l h)
+
+-- a copy of s into d from place at on: one more entry, and all of them
+pub copy-turn : {A : Type 0} (d : List A) (at : ℕ) (s dst : List A) (j : ℕ) (z : A) → dst ≡ paste d at s j → at + j < length d → j < length s
+    → set dst (at + j) (getD s j z) ≡ paste d at s (j + 1)
+copy-turn d at s dst j z e hd hs = rw (e, add-one) (paste-suc d at s j z hd hs)
+
+pub copy-all : {A : Type 0} (d : List A) (at : ℕ) (s : List A) → paste d at s (length s) ≡ put d at s
+unfolding put
+copy-all d at s = rw (take-length s, append-assoc)
+
+-- the first i entries are x: one more
+pub fill-turn : {A : Type 0} (d : List A) (x : A) (out : List A) (i : ℕ) → out ≡ put d 0 (replicate i x) → i < length d → set out i x ≡ put d 0 (replicate (i + 1) x)
+fill-turn d x out i e h =
+    let n : 0 + length (replicate i x) ≡ i = omega (arith, length-replicate i x) in
+    rw (e, ← replicate-append-replicate i 1 x) (rw n at (put-push d 0 (replicate i x) x (omega (arith, n))))
+
+-- a loop over 0 .. n - 1 makes a turn more
+pub each-turn : {S : Type 0} (f : ℕ → S → S) (k : ℕ) (s t : S) → t ≡ forEach k f s → f k t ≡ forEach (k + 1) f s
+unfolding forEach
+each-turn f k s t e = rw (e, add-one)
+
+-- a part of a list by its ends
+pub part-length : {A : Type 0} (l : List A) (at k : ℕ) → at + k ≤ length l → length (take (at + k - at) (drop at l)) ≡ k
+part-length l at k h =
+    let e : at + k - at ≡ k = omega arith in
+    rw e (length-take-le k (drop at l) (omega (arith, length-drop at l)))
+
+pub part-is : {A : Type 0} (l : List A) (at k : ℕ) → take (at + k - at) (drop at l) ≡ take k (drop at l)
+part-is l at k = let e : at + k - at ≡ k = omega arith in rw e

@@ -1,8 +1,0 @@
--- Steps of the code. Definitions only.
-use mathlib.Core.List.{List, []}
-use Prim.Native.Nat.{ℕ}
-use Rattle.mesh.specs.Mesh.{Mesh}
-
--- the links of a mesh: its neighbour counts and neighbours alone
-abbrev pub links : List ℕ → List ℕ → Mesh
-links counts neighbours = record { vertices = []; counts = counts; neighbours = neighbours; angles = [] }

@@ -1,0 +1,100 @@
+-- What only the code and the proofs need; a reader need not believe it. Definitions only.
+use mathlib.Core.Path.{_≡_}
+use mathlib.Core.Bool.{Bool, false, cond, _&&_}
+use mathlib.Core.List.{List}
+use Prim.Native.Nat.{ℕ, _+_, _-_, _*_, _/_, _≤_, _<_, min}
+use lib.ListN.{length, take, drop}
+use lib.Dec.{leb, ltb}
+use lib.Ieee.{Float, inf, binary64, ofBits, add, mul}
+use Rattle.mesh.specs.declared.Face.{Face}
+use Rattle.grid.specs.Bins.{distanceBin, dihedralBin}
+use Rattle.grid.specs.declared.Grid.{Grid}
+use Rattle.rows.specs.declared.SlabResolution.{SlabResolution}
+use Rattle.rows.specs.declared.SlabResolution.the-variants.{Scalar, Mesh, Repulsive}
+use Rattle.search.specs.Search.{Locator}
+use Rattle.search.specs.declared.Vector3.{Vector3}
+use Rattle.search.specs.declared.Weights.{Weights}
+use Rattle.search.specs.declared.Nearest.{Nearest}
+use Rattle.search.specs.declared.Located.{Located}
+use Rattle.table.specs.Bytes.{numberAt}
+use Rattle.table.specs.File.{entryOf}
+use Rattle.table.specs.declared.Table.{Table}
+use Rattle.reading.specs.Resolve.{Query, Resolved, unresolved, beyond, slabAt, widened}
+use Rattle.reading.specs.Reading.{rowInside, searchIn, readPicks, readEntry}
+use Rattle.reading.specs.declared.Reading.{Reading}
+use Rattle.reading.specs.declared.Reading.the-variants.{Energy, Refused}
+use Rattle.reading.specs.declared.resolve.RowPlace.{RowPlace}
+use Rattle.reading.specs.declared.resolve.RowPlace.the-variants.{At, Outside, NoRow}
+
+-- how many of a section's items, w bytes each from byte start on, are below its count and inside a file of n bytes
+unfoldable pub itemsInside : ℕ → ℕ → ℕ → ℕ → ℕ
+itemsInside start w count n = min count ((n - start) / w)
+
+-- ---- the row
+
+abbrev pub slabOf : Grid → Float → Float → ℕ
+slabOf g r omega = distanceBin r (g .rmin) (g .dr) (g .«n_r») * g .«n_omega» + dihedralBin omega (g .«omega_step») (g .«n_omega»)
+
+-- the byte at which the row of a slab starts, or why no row is read
+abbrev pub rowPlace : List ℕ → Table → Resolved → RowPlace
+rowPlace file t (unresolved n) = NoRow n
+rowPlace file t beyond = Outside
+rowPlace file t (slabAt s) = cond (rowInside file t s) (At (t .«rows_start» + s * 10)) (NoRow 19)
+
+-- the two directions alone: neither a row nor a search asks for the distance and the angle
+abbrev pub toward : Vector3 → Vector3 → Query
+toward a b = record { r = ofBits binary64 0; omega = ofBits binary64 0; a = a; b = b }
+
+-- the row as the enum, of a kind and an offset
+abbrev pub readResolution : List ℕ → Table → List Float → Locator → Query → ℕ → ℕ → SlabResolution → Reading
+readResolution file t vertices l q kind o (Scalar x) = Energy x
+readResolution file t vertices l q kind o Repulsive = Energy (inf false)
+readResolution file t vertices l q kind o (Mesh v b) = cond (leb kind 3 && ltb v (t .levels)) (readPicks file t b o (searchIn vertices l q v b)) (Refused 19)
+
+-- the answer by the place of the row
+abbrev pub readPlaced : List ℕ → Table → List Float → Locator → Query → RowPlace → Reading
+readPlaced file t vertices l q (NoRow n) = Refused n
+readPlaced file t vertices l q Outside = Energy (ofBits binary64 0)
+readPlaced file t vertices l q (At at) = readEntry file t vertices l q (entryOf (take 10 (drop at file)))
+
+-- where a level's part of a list of n entries begins: at the list's end, where the list is shorter
+unfoldable pub partFrom : ℕ → ℕ → ℕ
+partFrom at n = min at n
+
+-- ---- the energies
+
+-- the vertices that a search found are below n
+abbrev pub NearestBelow : ℕ → Nearest → Type 0
+NearestBelow n x = x .number ≡ 0 → x .vertex < n
+
+abbrev pub LocatedBelow : ℕ → Located → Type 0
+LocatedBelow n x = x .number ≡ 0 → (x .face .a < n) × (x .face .b < n) × (x .face .c < n)
+
+abbrev pub Small : Face → Type 0
+Small f = (f .a < 655362) × (f .b < 655362) × (f .c < 655362)
+
+-- the places of a vertex against a face, the vertex's own beginning at k, are below held
+abbrev pub placesBelow : ℕ → ℕ → ℕ → Face → Bool
+placesBelow held o k f = ltb (o + (k + f .a)) held && (ltb (o + (k + f .b)) held && ltb (o + (k + f .c)) held)
+
+abbrev pub facePlacesBelow : ℕ → ℕ → ℕ → Face → Face → Bool
+facePlacesBelow held o n f g = placesBelow held o (f .a * n) g && (placesBelow held o (f .b * n) g && placesBelow held o (f .c * n) g)
+
+-- their bytes are inside the file
+abbrev pub PlaceInside : List ℕ → ℕ → ℕ → Type 0
+PlaceInside file start k = start + k * 4 + 4 ≤ length file
+
+abbrev pub RowInside : List ℕ → ℕ → ℕ → ℕ → Face → Type 0
+RowInside file start o k f = PlaceInside file start (o + (k + f .a)) × PlaceInside file start (o + (k + f .b)) × PlaceInside file start (o + (k + f .c))
+
+-- a term added to x, and the terms of a vertex against a face
+abbrev term : List ℕ → ℕ → Float → ℕ → Float → Float → Float
+term file start w k v x = add binary64 x (mul binary64 (mul binary64 w (widened (numberAt 4 file (start + k * 4)))) v)
+
+unfoldable pub rowTerms : List ℕ → ℕ → ℕ → ℕ → Face → Float → Weights → Float → Float
+rowTerms file start o k f w q x =
+    term file start w (o + (k + f .c)) (q .c) (term file start w (o + (k + f .b)) (q .b) (term file start w (o + (k + f .a)) (q .a) x))
+
+unfoldable pub faceTerms : List ℕ → ℕ → ℕ → ℕ → Face → Face → Weights → Weights → Float
+faceTerms file start o n f g p q =
+    rowTerms file start o (f .c * n) g (p .c) q (rowTerms file start o (f .b * n) g (p .b) q (rowTerms file start o (f .a * n) g (p .a) q (ofBits binary64 0)))

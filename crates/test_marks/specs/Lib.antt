@@ -1,0 +1,8 @@
+-- Checks by computation: `Starred` has document 01's starred marks. Nothing here is cited by a contract.
+pub mod Icospheres
+pub mod Computed
+pub mod Starred
+pub mod Asked
+pub mod Settled
+pub mod Filed
+pub mod Searched

@@ -1,0 +1,3 @@
+-- What the functions of this program cite.
+pub mod Hex
+pub mod Signed

@@ -1,0 +1,79 @@
+-- What only the code and the proofs need; a reader need not believe it. Definitions only.
+use mathlib.Core.Path.{_≡_}
+use mathlib.Core.List.{List, [], _∷_, _++_, map}
+use Prim.Native.Nat.{ℕ, zero, suc, _+_, _*_, _≤_}
+use lib.ListN.{length, take, drop}
+use lib.Ieee.{Float, binary64, toBits}
+use Rattle.lists.specs.Questions.{ask, first}
+use Rattle.lists.specs.Lists.{below}
+use Rattle.mesh.specs.Levels.{vertexCount, per}
+use Rattle.mesh.specs.Mesh.{Mesh}
+use Rattle.grid.specs.declared.Grid.{Grid}
+use Rattle.rows.specs.declared.SlabResolution.{SlabResolution}
+use Rattle.rows.specs.declared.SlabResolution.the-variants.{Scalar, Mesh as OnMesh, Repulsive}
+use Rattle.rows.specs.Rows.{Rows, kindOf, levelOf, valueOf, resolutionAt, narrowBits}
+use Rattle.builder.specs.BuilderLists.{BuilderLists, slabs, rowsKnown}
+use Rattle.builder.specs.Refusals.{meshedRefusal}
+use Rattle.builder.specs.declared.Builder.{Builder}
+use Rattle.table.specs.Bytes.{bytesOf, section}
+use Rattle.table.specs.File.{Entry}
+
+-- ---- rows as the code reads them, without their energies
+
+-- how many energies a row holds, and its row in the file, its energies being at place o
+abbrev pub heldBy : SlabResolution → ℕ
+heldBy (Scalar x) = 0
+heldBy (OnMesh v b) = per v
+heldBy Repulsive = 0
+
+abbrev pub offsetOf : ℕ → SlabResolution → ℕ
+offsetOf o (Scalar x) = 0xFFFF_FFFF
+offsetOf o (OnMesh v b) = o
+offsetOf o Repulsive = 0xFFFF_FFFF
+
+abbrev pub entryFor : ℕ → SlabResolution → Entry
+entryFor o x = record { kind = kindOf x; level = levelOf x; offset = offsetOf o x; scalar = valueOf x }
+
+-- n rows from slab s on
+unfoldable pub resolutions : Rows → ℕ → ℕ → List SlabResolution
+resolutions r s zero = []
+resolutions r s (suc n) = resolutionAt r s ∷ resolutions r (suc s) n
+
+unfoldable pub entriesFor : ℕ → List SlabResolution → List Entry
+entriesFor o [] = []
+entriesFor o (x ∷ xs) = entryFor o x ∷ entriesFor (o + heldBy x) xs
+
+unfoldable pub total : List SlabResolution → ℕ
+total [] = 0
+total (x ∷ xs) = heldBy x + total xs
+
+-- the energies of rows whose slabs are z places apart in the store, from place p on
+unfoldable pub energiesFor : ℕ → List Float → ℕ → List SlabResolution → List ℕ
+energiesFor z store p [] = []
+energiesFor z store p (x ∷ xs) = map narrowBits (take (heldBy x) (drop p store)) ++ energiesFor z store (p + z) xs
+
+-- no row holds more than z energies
+unfoldable pub Bounded : ℕ → List SlabResolution → Type 0
+Bounded z [] = Unit
+Bounded z (x ∷ xs) = (heldBy x ≤ z) × Bounded z xs
+
+-- the sections before the rows
+abbrev pub headBytes : Grid → ℕ → List ℕ
+headBytes g levels =
+    section (bytesOf 8) (toBits binary64 (g .rmin) ∷ toBits binary64 (g .dr) ∷ toBits binary64 (g .«omega_step») ∷ [])
+    ++ (section (bytesOf 4) (g .«n_r» ∷ g .«n_omega» ∷ []) ++ section (bytesOf 4) (map vertexCount (below levels)))
+
+-- a builder and its lists that every question of write was answered yes for; their rows hold e energies together
+pub record WriteReady (b : Builder) (l : BuilderLists) (e room : ℕ) : Type 0 where
+  pub top-le : b .top ≤ 15
+  pub rs : b .grid .«n_r» ≤ 65535
+  pub omegas : b .grid .«n_omega» ≤ 65535
+  pub store : slabs (b .grid) * per (b .top) ≤ length (l .store)
+  pub bounded : Bounded (per (b .top)) (resolutions (l .rows) 0 (slabs (b .grid)))
+  pub energies : e ≡ total (resolutions (l .rows) 0 (slabs (b .grid)))
+  pub few : e ≤ 4294967295
+  pub fits : 56 + 4 * b .top + 10 * slabs (b .grid) + 4 * e ≤ room
+
+-- 1 to 7, then 15 of every row
+abbrev pub writeQuestion : Builder → Mesh → BuilderLists → ℕ
+writeQuestion b m l = first (meshedRefusal b m l) (ask (rowsKnown (b .top) (l .rows) 0 (slabs (b .grid))) 15 0)

@@ -1,0 +1,226 @@
+/* Lists of calls of fresh, set and settle (tests/compare/calls.rs writes them). A line is one of these: a call with its
+ * stored answer, the level, rows and store after it, and its arguments; entries of a lent list; a builder that is held
+ * from there on. The lists and the builder are those that the calls before have left, also refused ones. */
+#include "replay.h"
+
+#include <string.h>
+
+enum { FRESH, SET = 2, SETTLE = 4, GRADIENTS = 6, LEVELS, ROWS, STORES };
+
+enum { STORE = 25392, SLABS = 12, N = 146, ENERGIES = 8500 };
+
+/* Letters of a call's stored answer, and where the builder stands in a line. */
+enum { ANSWER = 3 + 17 + 17 + 9 + SLABS * 15, BUILDER = 3 + ANSWER + 8 * 5 };
+
+/* The lists, in the order in which a line says how much of each is lent. */
+typedef struct lists {
+    double store[STORE];
+    uint8_t kinds[SLABS], levels[SLABS];
+    uint32_t values[SLABS];
+    double vertices[3 * N];
+    uint8_t counts[N];
+    uint16_t neighbours[6 * N];
+    double angles[6 * N];
+} lists;
+
+typedef struct lengths {
+    size_t store, kinds, levels, values, vertices, counts, neighbours, angles;
+} lengths;
+
+/* What a call gives, whatever it is. */
+typedef struct outcome {
+    uint64_t number;
+    double gradient;
+    icotable_builder builder;
+} outcome;
+
+static lengths read_lengths(replay *r) {
+    lengths n;
+    n.store = lent(r, STORE);
+    n.kinds = lent(r, SLABS);
+    n.levels = lent(r, SLABS);
+    n.values = lent(r, SLABS);
+    n.vertices = lent(r, 3 * N);
+    n.counts = lent(r, N);
+    n.neighbours = lent(r, 6 * N);
+    n.angles = lent(r, 6 * N);
+    return n;
+}
+
+static icotable_builder read_builder(replay *r) {
+    icotable_builder b;
+    b.grid = read_grid(r);
+    b.top = word(r, 16);
+    b.level = word(r, 16);
+    return b;
+}
+
+static bool same_settings(const icotable_grid *g, const icotable_grid *h) {
+    return bits(g->rmin) == bits(h->rmin) && bits(g->rmax) == bits(h->rmax) && bits(g->dr) == bits(h->dr) &&
+           bits(g->omega_step) == bits(h->omega_step) && bits(g->threshold) == bits(h->threshold) &&
+           bits(g->beta) == bits(h->beta);
+}
+
+/* All but the level. */
+static bool same_table(const icotable_builder *a, const icotable_builder *b) {
+    return same_settings(&a->grid, &b->grid) && a->grid.n_r == b->grid.n_r && a->grid.n_omega == b->grid.n_omega &&
+           a->top == b->top;
+}
+
+/* ---- the energies of a set, by a rule */
+
+/* Energy i is base + step * (x % modulus), x being Park and Miller's minimal standard generator after i + 1 turns. */
+static void by_rule(replay *r, double *energies) {
+    uint64_t modulus = word(r, 8), x = word(r, 8);
+    double base = number(r), step = number(r);
+    for (size_t i = 0; i < ENERGIES; i++) {
+        x = x % 2147483647 * 16807 % 2147483647;
+        energies[i] = base + step * (double)(modulus == 0 ? 0 : x % modulus);
+    }
+}
+
+/* How many are lent, the rule, and two places with values of their own; FFFF is no place. */
+static size_t read_energies(replay *r, double *energies) {
+    size_t count = lent(r, ENERGIES);
+    by_rule(r, energies);
+    for (int k = 0; k < 2; k++) {
+        size_t place = word(r, 4);
+        double e = number(r);
+        if (place < ENERGIES)
+            energies[place] = e;
+    }
+    return count;
+}
+
+/* ---- the calls */
+
+/* A refused fresh answers zeros, and the builder that was held stays. */
+static outcome fresh(
+    replay *r, lists *l, const lengths *n, icotable_builder settings, icotable_builder held, bool *right) {
+    static const icotable_builder zeros;
+    icotable_built a = icotable_fresh(settings.grid, settings.top, l->store, n->store, l->kinds, n->kinds, l->levels,
+        n->levels, l->values, n->values, l->vertices, n->vertices, l->counts, n->counts, l->neighbours, n->neighbours,
+        l->angles, n->angles);
+    if (a.number == 0)
+        *right = holds(r, FRESH, same_settings(&a.builder.grid, &settings.grid) && a.builder.top == settings.top,
+            "the builder has other settings");
+    else
+        *right = holds(r, FRESH + 1, same_table(&a.builder, &zeros) && a.builder.level == 0,
+            "a refused fresh does not answer zeros");
+    return (outcome){.number = a.number, .builder = a.number == 0 ? a.builder : held};
+}
+
+static outcome set(replay *r, lists *l, const lengths *n, icotable_builder held) {
+    static double energies[ENERGIES];
+    uint64_t ri = word(r, 16), oi = word(r, 16);
+    size_t count = read_energies(r, energies);
+    icotable_built a = icotable_set(held, l->store, n->store, l->kinds, n->kinds, l->levels, n->levels, l->values,
+        n->values, ri, oi, energies, count);
+    return (outcome){.number = a.number, .builder = a.builder};
+}
+
+static outcome settle(replay *r, lists *l, const lengths *n, icotable_builder held) {
+    uint64_t ri = word(r, 16);
+    icotable_settled a =
+        icotable_settle(held, l->store, n->store, l->kinds, n->kinds, l->levels, n->levels, l->values, n->values,
+            l->vertices, n->vertices, l->counts, n->counts, l->neighbours, n->neighbours, l->angles, n->angles, ri);
+    return (outcome){.number = a.number, .gradient = a.gradient, .builder = a.builder};
+}
+
+/* A number that stands for the bits of every energy of the store. */
+static uint64_t stamp(const double *store) {
+    uint64_t h = 1;
+    for (size_t i = 0; i < STORE; i++)
+        h = (h * 16807 + bits(store[i]) % 2147483647 + 1) % 2147483647;
+    return h;
+}
+
+/* The stored answer: number, level, gradient, stamp of the store, and all twelve rows, also those beyond the ones that
+ * the table needs. */
+static void judge(replay *r, int kind, bool right, const outcome *o, const lists *l) {
+    bool agrees = same(r, kind, 2, o->number) && right;
+    bool level = same(r, LEVELS, 16, o->builder.level);
+    bool gradient = same(r, kind < SETTLE ? kind : GRADIENTS, 16, bits(o->gradient));
+    counted(r, kind, agrees && (kind == SETTLE || gradient));
+    if (kind == SETTLE)
+        counted(r, GRADIENTS, gradient);
+    counted(r, LEVELS, level);
+    counted(r, STORES, same(r, STORES, 8, stamp(l->store)));
+    for (size_t i = 0; i < SLABS; i++) {
+        bool row = same(r, ROWS, 2, l->kinds[i]);
+        row &= same(r, ROWS, 2, l->levels[i]);
+        row &= same(r, ROWS, 8, l->values[i]);
+        counted(r, ROWS, row);
+    }
+}
+
+/* A call: 1 fresh, 2 set, 3 settle. Its stored answer stands before its arguments. */
+static void replay_call(replay *r, uint64_t what, lists *l, icotable_builder *held) {
+    size_t answer = r->at;
+    int kind = 2 * (int)(what - 1) + (digits(r, 2) != 0);
+    r->at = answer + ANSWER;
+    lengths n = read_lengths(r);
+    icotable_builder given = read_builder(r);
+    bool right = true;
+    outcome o;
+    if (what == 1) {
+        o = fresh(r, l, &n, given, *held, &right);
+    } else {
+        right = holds(r, kind, same_table(&given, held) && given.level == held->level,
+            "the builder that is held is not the stored one");
+        o = what == 2 ? set(r, l, &n, *held) : settle(r, l, &n, *held);
+        right &= holds(r, kind, same_table(&o.builder, held), "the builder comes back with other settings");
+    }
+    size_t end = r->at;
+    r->at = answer;
+    judge(r, kind, right, &o, l);
+    *held = o.builder;
+    r->at = end;
+}
+
+/* ---- entries */
+
+/* Lists 0 kinds, 1 levels, 2 values, 3 vertices, 4 counts, 5 neighbours, 6 angles. */
+static void put(replay *r, void *lent_lists, uint64_t list, size_t place) {
+    lists *l = lent_lists;
+    static const size_t counts[] = {SLABS, SLABS, SLABS, 3 * N, N, 6 * N, 6 * N};
+    if (list > 6 || place >= counts[list])
+        bad_data(r, "there is no such place in a list");
+    switch (list) {
+    case 0: l->kinds[place] = (uint8_t)word(r, 16); break;
+    case 1: l->levels[place] = (uint8_t)word(r, 16); break;
+    case 2: l->values[place] = (uint32_t)word(r, 16); break;
+    case 3: l->vertices[place] = number(r); break;
+    case 4: l->counts[place] = (uint8_t)word(r, 16); break;
+    case 5: l->neighbours[place] = (uint16_t)word(r, 16); break;
+    case 6: l->angles[place] = number(r); break;
+    }
+}
+
+/* What the lists hold before the first line. */
+static void blank(lists *l) {
+    memset(l, 0, sizeof *l);
+    for (size_t i = 0; i < STORE; i++)
+        l->store[i] = 1.0;
+    for (size_t i = 0; i < SLABS; i++)
+        l->kinds[i] = l->levels[i] = 9, l->values[i] = 9;
+}
+
+void replay_calls(replay *r) {
+    static lists l;
+    icotable_builder held = {0};
+    blank(&l);
+    while (next_line(r)) {
+        size_t start = r->at;
+        uint64_t what = word(r, 2);
+        if (what >= 1 && what <= 3)
+            replay_call(r, what, &l, &held);
+        else if (what == 4)
+            read_entries(r, &l, put);
+        else if (what == 5)
+            r->at = start + BUILDER, held = read_builder(r);
+        else
+            bad_data(r, "there is no such line");
+        end_line(r);
+    }
+}

@@ -1,0 +1,22 @@
+"""The walks of this repository."""
+from bridge import Gather, Spread
+from entry import Read, Replace
+from lend import Lend
+from through import Through
+
+RECORDS = (('specs', 'Records'), ('proofs', 'Entries'))
+
+
+def walks():
+    return [
+        Lend('lent', 'calls', 'set_lent'),
+        Lend('lent', 'calls', 'settle_lent'),
+        Read('lent', 'records', 'row_at', RECORDS, 'none', 'read (rows .now) s', 'read-beyond (rows .now) s h'),
+        Replace('lent', 'records', 'replace_row', RECORDS, 'none', '(inside (ltb s (length (rows .now))) h, refl)',
+                '(outside (ltb s (length (rows .now))) h, kept (rows .now) s r h)'),
+        Gather('lent', 'records', 'gather', RECORDS, 'none', 'bridged-le'),
+        Spread('lent', 'records', 'spread', RECORDS, 'none', 'bridged-le', 'recordAt (columns (rows .now)) %s',
+               'read (rows .now) %s'),
+        Through('test_forms', 'through', 'settle_through'),
+        Through('test_forms', 'through', 'with_row', 'e .1'),
+    ]
