@@ -1,6 +1,6 @@
 // Little-endian numbers in a file.
 ghost use mathlib.Core.Path.{_≡_};
-ghost use Prim.Native.Nat.{_+_, _≤_, _<_};
+ghost use Prim.Native.Nat.{_+_, _/_, _%_, _≤_, _<_};
 ghost use lib.ListN.{length};
 ghost use Rattle.table.specs.Bytes.{numberAt};
 
@@ -17,10 +17,10 @@ pub(crate) fn u32_in(file: &[u8], at: u64) -> u32
     ((d * 256 + c) * 256 + b) * 256 + a
 }
 
-// Eight bytes that are inside the file.
+// Eight bytes that are inside the file: also two numbers of four.
 pub(crate) fn u64_in(file: &[u8], at: u64) -> u64
     requires { ⌜ at + 8 ≤ length (now file) ⌝ }
-    ensures { λ r. ⌜ r ≡ numberAt 8 (now (file .entry)) at ⌝ }
+    ensures { λ r. ⌜ (r ≡ numberAt 8 (now (file .entry)) at) × (r % 4294967296 ≡ numberAt 4 (now (file .entry)) at) × (r / 4294967296 ≡ numberAt 4 (now (file .entry)) (at + 4)) ⌝ }
 {
     let low = u32_in(file, at) as u64;
     let high = u32_in(file, at + 4) as u64;
