@@ -1,6 +1,6 @@
 -- A turn of a loop over a list, and its end. Assumes nothing.
-use mathlib.Core.Path.{_≡_, _∙_}
-use mathlib.Core.Bool.{Bool, true, false, _&&_}
+use mathlib.Core.Path.{_≡_, sym, _∙_}
+use mathlib.Core.Bool.{Bool, true, false, _&&_, and-true, and-assoc}
 use mathlib.Core.List.{List, append-assoc}
 use Prim.Native.Nat.{ℕ, _+_, _-_, _≤_, _<_}
 use native.Mathlib.Numerals.{add-one}
@@ -25,6 +25,13 @@ module _ {A : Type 0} (p : A → Bool) (l : List A) (i : ℕ) (z : A) where
   pub every-end : length l ≤ i → every p (drop i l) ≡ true
   unfolding every
   every-end h = rw (drop-of-length-le l h)
+
+  -- the same in a loop that goes on to the end, h being what was found so far
+  pub every-turn : (h b : Bool) → i < length l → b ≡ p (getD l i z) → ((h && b) && every p (drop (i + 1) l)) ≡ (h && every p (drop i l))
+  every-turn h b k e = rw (step k, e) (and-assoc h (p (getD l i z)) (every p (drop (i + 1) l)))
+
+  pub every-all : (h : Bool) → length l ≤ i → h ≡ (h && every p (drop i l))
+  every-all h k = rw (every-end k) (sym (and-true h))
 
 -- a copy of s into d from place at on: one more entry, and all of them
 pub copy-turn : {A : Type 0} (d : List A) (at : ℕ) (s dst : List A) (j : ℕ) (z : A) → dst ≡ paste d at s j → at + j < length d → j < length s

@@ -4,7 +4,7 @@ use Rattle.reading.proofs.combine.energy.Statement.{statement}
 use Rattle.reading.proofs.combine.energy.Tie as tie
 
 returns : tie.Need-returns
-returns c = rw (c .widen .ensures, c .before .float32 .ensures, c .before .before .u32-at .ensures)
+returns c = rw (c .widen .ensures, c .before .float32 .ensures, c .before .before .u32-inside .ensures)
 
 pub energy-spec : {M : Type 1} → statement M
 energy-spec =
