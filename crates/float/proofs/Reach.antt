@@ -117,8 +117,10 @@ rounded-half s a d D h =
     go true z (fin false m e) q k u = subst (λ (y : Float). Small (add binary64 y (fin false 1 (negsuc 0)))) (sym q) (half-added true m e (subst (λ (y : Float). T (fits binary64 y)) q k) (omega arith))
     go false z (fin false m e) q k u = subst (λ (y : Float). Small (add binary64 y (fin false 1 (negsuc 0)))) (sym q) (half-added false m e (subst (λ (y : Float). T (fits binary64 y)) q k) (omega arith))
 
-pub reach : (y : Float) → isNan y ≡ false → lt y (fin true 177 (pos 2)) ≡ false → lt (fin false 709 (pos 0)) y ≡ false
-    → Small (add binary64 (mul binary64 y (fin false 3248660424278399 (negsuc 50))) (fin false 1 (negsuc 0)))
+abbrev pub argument : Float → Float
+argument y = add binary64 (mul binary64 y (fin false 3248660424278399 (negsuc 50))) (fin false 1 (negsuc 0))
+
+pub reach : (y : Float) → isNan y ≡ false → lt y (fin true 177 (pos 2)) ≡ false → lt (fin false 709 (pos 0)) y ≡ false → Small (argument y)
 unfolding isNan lt mul
 reach nan n l h = absurd (true≢false n)
 reach (inf true) n l h = absurd (true≢false l)
