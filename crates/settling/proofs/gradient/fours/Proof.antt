@@ -56,10 +56,10 @@ loop-again c =
     let e : (l .i + 1) * 4 ≡ l .i * 4 + 4 = omega arith in (
       omega arith,
       rw (f .ensures, l .inv .1, e) (columns-four (meshOf [] (a .counts .now) (a .neighbours .now) (a .angles .now)) (a .n) (a .beta) (a .energies .now) (l .i * 4)),
-      f .kept .1 .1 .1 .1 .1 .1 .1 .1 .0 ∙ l .inv .2,
-      f .kept .1 .1 .1 .1 .1 .1 .1 .1 .1 .0 ∙ l .inv .3,
-      f .kept .1 .1 .1 .1 .1 .1 .1 .1 .1 .1 .0 ∙ l .inv .4,
-      f .kept .1 .1 .1 .1 .1 .1 .1 .1 .1 .1 .1 .0 ∙ l .inv .5,
+      _∙_ {b = length (l .first)} (f .kept .1 .1 .1 .1 .1 .1 .1 .1 .0) (l .inv .2),
+      _∙_ {b = length (l .second)} (f .kept .1 .1 .1 .1 .1 .1 .1 .1 .1 .0) (l .inv .3),
+      _∙_ {b = length (l .third)} (f .kept .1 .1 .1 .1 .1 .1 .1 .1 .1 .1 .0) (l .inv .4),
+      _∙_ {b = length (l .fourth)} (f .kept .1 .1 .1 .1 .1 .1 .1 .1 .1 .1 .1 .0) (l .inv .5),
     )
 
 returns : tie.Need-returns Inv-loop μ-loop

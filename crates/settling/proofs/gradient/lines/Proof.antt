@@ -61,7 +61,7 @@ loop-again c =
       omega arith,
       rw (f .ensures)
           (each-turn (turn (a .counts .now) (a .neighbours .now) (a .angles .now) (a .energies .now) (a .beta) (a .apart) (a .step) (a .n)) (l .t) (a .g) (l .h) (l .inv .1)),
-      rw (f .ensures) (line-number _ (a .n) _ (l .h) (l .inv .2)),
+      rw (f .ensures) (line-number (meshOf [] (a .counts .now) (a .neighbours .now) (a .angles .now)) (a .n) (lineWeights (a .beta) (a .energies .now) (a .apart * l .t) (a .step) (a .n)) (l .h) (l .inv .2)),
       f .kept .1 .1 .1 .1 .1 .1 .1 .1 .1 .0 ∙ l .inv .3,
     )
 
