@@ -103,7 +103,7 @@ eq-no (fin s m e) nan h = absurd h
 eq-no (fin s m e) (inf b) h = absurd h
 eq-no (fin s m e) (fin t n d) h = level-no s (m * up e * down d) t (n * up d * down e) h
 
-le-no : (x y : Float) → T (le x y) → lt y x ≡ false
+pub le-no : (x y : Float) → T (le x y) → lt y x ≡ false
 unfolding le
 le-no x y h = by (lt x y) refl h
   where
@@ -127,7 +127,7 @@ units-neg f q k =
     let t = ltb (q * 2 ^ k) (2 ^ (low f + suc (emax f))) in
     ap (λ (x : Float). cond t x (inf true)) (odd-neg (suc (prec f)) q k (low f)) ∙ neg-cond t (odd (suc (prec f)) false q k (low f)) (inf false)
 
-round-neg : (f : Format) (n d : ℕ) → round f true n d ≡ neg (round f false n d)
+pub round-neg : (f : Format) (n d : ℕ) → round f true n d ≡ neg (round f false n d)
 round-neg f n d =
     round-is f true n d
     ∙ units-neg f (kept (prec f) (n * 2 ^ low f) d) (drop (prec f) (n * 2 ^ low f) d)
@@ -191,7 +191,7 @@ neg-no (fin false m e) (fin false n d) p q = refl
 larger-no : (f : Format) (a b c : ℕ) → 0 < c → a ≤ b → lt (round f false b c) (round f false a c) ≡ false
 larger-no f a b c C h = le-no (round f false a c) (round f false b c) (round-mono f a c b c C C (mul-le-mul-right c h))
 
-from-b : (f : Format) (a b c : ℕ) → b ≤ a → sum f false a true b c ≡ round f false (a - b) c
+pub from-b : (f : Format) (a b c : ℕ) → b ≤ a → sum f false a true b c ≡ round f false (a - b) c
 unfolding sum
 from-b f a b c h = rw (le-ltb a b h)
 

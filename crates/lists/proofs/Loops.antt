@@ -1,12 +1,12 @@
 -- A turn of a loop over a list, and its end. Assumes nothing.
 use mathlib.Core.Path.{_≡_, sym, _∙_}
 use mathlib.Core.Bool.{Bool, true, false, _&&_, and-true, and-assoc}
-use mathlib.Core.List.{List, append-assoc}
-use Prim.Native.Nat.{ℕ, _+_, _-_, _≤_, _<_}
+use mathlib.Core.List.{List, _++_, map, append-assoc, append-nil}
+use Prim.Native.Nat.{ℕ, suc, _+_, _-_, _≤_, _<_}
 use native.Mathlib.Numerals.{add-one}
 use native.Mathlib.Omega.{arith}
 use lib.ListN.{length, take, drop, getD, set, replicate, length-drop, drop-of-length-le, length-replicate, replicate-append-replicate}
-use lib.Seq.{drop-cons, paste, paste-suc, take-length, length-take-le}
+use lib.Seq.{drop-cons, append-snoc, take-suc-set, drop-set-lt, take-all, paste, paste-suc, take-length, length-take-le}
 use Rattle.lists.specs.Lists.{every, put, forEach}
 use Rattle.lists.proofs.Written.{put-push}
 
@@ -47,6 +47,16 @@ pub fill-turn : {A : Type 0} (d : List A) (x : A) (out : List A) (i : ℕ) → o
 fill-turn d x out i e h =
     let n : 0 + length (replicate i x) ≡ i = omega (arith, length-replicate i x) in
     rw (e, ← replicate-append-replicate i 1 x) (rw n at (put-push d 0 (replicate i x) x (omega (arith, n))))
+
+-- each entry is replaced by what f makes of it: one more, and all of them
+module _ {A : Type 0} (f : A → A) (l : List A) (i : ℕ) where
+  pub map-turn : (z : A) → i < length l → let m = set l i (f (getD l i z)) in take (i + 1) m ++ map f (drop (i + 1) m) ≡ take i l ++ map f (drop i l)
+  map-turn z h =
+      let a = f (getD l i z) in
+      rw (add-one, take-suc-set l i a h, drop-set-lt (suc i) l i a (omega arith), drop-cons l i z h) (append-snoc (take i l) a (map f (drop (suc i) l)))
+
+  pub map-end : length l ≤ i → take i l ++ map f (drop i l) ≡ l
+  map-end h = rw (drop-of-length-le l h, take-all i l h) (append-nil l)
 
 -- a loop over 0 .. n - 1 makes a turn more
 pub each-turn : {S : Type 0} (f : ℕ → S → S) (k : ℕ) (s t : S) → t ≡ forEach k f s → f k t ≡ forEach (k + 1) f s

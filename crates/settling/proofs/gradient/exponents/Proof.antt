@@ -1,28 +1,29 @@
--- `weigh` meets its contract. Assumes nothing.
+-- `exponents` meets its contract. Assumes nothing.
 use mathlib.Core.Path.{_≡_, refl, sym, _∙_}
 use Prim.Native.Nat.{_-_, _≤_}
 use native.Mathlib.Omega.{arith}
+use lib.Ieee.{binary64, mul, neg}
 use lib.ListN.{length, length-set}
 use borrow.Author.Needs.{needs}
 use Rattle.lists.specs.Lists.{put}
 use Rattle.lists.proofs.Written.{put-nil}
-use Rattle.settling.specs.Internal.{lineWeights}
-use Rattle.settling.proofs.Lines.{weigh-turn}
-use Rattle.settling.proofs.gradient.weigh.Statement.{statement}
-use Rattle.settling.proofs.gradient.weigh.Tie as tie
+use Rattle.settling.specs.Internal.{lineOf, lineExponents}
+use Rattle.settling.proofs.Lines.{line-turn}
+use Rattle.settling.proofs.gradient.exponents.Statement.{statement}
+use Rattle.settling.proofs.gradient.exponents.Tie as tie
 
 abbrev Inv-loop : tie.InvT-loop
-Inv-loop beta energies from step n weights₀ i₀ weights i = (i ≤ n) × (length weights ≡ length weights₀) × (weights ≡ put weights₀ 0 (lineWeights beta energies from step i))
+Inv-loop beta energies from step n weights₀ i₀ weights i = (i ≤ n) × (length weights ≡ length weights₀) × (weights ≡ put weights₀ 0 (lineExponents beta energies from step i))
 
 abbrev μ-loop : tie.MeasureT-loop
 μ-loop beta energies from step n weights₀ i₀ weights i = n - i
 
 loop-holds : tie.Need-loop-holds Inv-loop μ-loop
-unfolding lineWeights
+unfolding lineOf
 loop-holds c = (search needs, refl, sym (put-nil (c .before .before .args .weights .now) 0))
 
-weight-at-requires : tie.Need-weight-at-requires Inv-loop μ-loop
-weight-at-requires c κs = (search needs, search needs, omega arith)
+exponent-at-requires : tie.Need-exponent-at-requires Inv-loop μ-loop
+exponent-at-requires c κs = (search needs, search needs, omega arith)
 
 mul-weights : tie.Need-mul-weights Inv-loop μ-loop
 mul-weights c = omega arith
@@ -42,7 +43,7 @@ loop-again c =
     let a = l .before .before .before .args in (
       omega arith,
       simp length-set (l .loop .inv .1),
-      rw (c .weight-at .ensures) (weigh-turn (a .beta) (a .energies .now) (a .from) (a .step) (a .weights .now) (l .loop .weights) (l .loop .i) (l .loop .inv .2) (omega arith)),
+      rw (c .exponent-at .ensures) (line-turn (mul binary64 (neg (a .beta))) (a .energies .now) (a .from) (a .step) (a .weights .now) (l .loop .weights) (l .loop .i) (l .loop .inv .2) (omega arith)),
     )
 
 returns : tie.Need-returns Inv-loop μ-loop
@@ -51,7 +52,7 @@ returns c =
     let full : l .loop .i ≡ l .before .before .before .args .n = omega arith in
     l .loop .inv .2 ∙ rw full
 
-pub weigh-spec : {M : Type 1} → statement M
-weigh-spec =
+pub exponents-spec : {M : Type 1} → statement M
+exponents-spec =
     tie.close
-    (tie.spec Inv-loop μ-loop loop-holds weight-at-requires mul-weights slice-write-weights add-i loop-less loop-again (λ c. search needs) returns)
+    (tie.spec Inv-loop μ-loop loop-holds exponent-at-requires mul-weights slice-write-weights add-i loop-less loop-again (λ c. search needs) returns)
