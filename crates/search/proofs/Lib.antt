@@ -3,3 +3,5 @@ pub mod Bounds
 pub mod Laws
 pub mod Lengths
 pub mod Below
+pub mod Signs
+pub mod Regions

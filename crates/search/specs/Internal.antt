@@ -1,11 +1,12 @@
 -- What only the code and the proofs need; a reader need not believe it. Definitions only.
-use mathlib.Core.Bool.{true, false, cond, _&&_}
+use mathlib.Core.Bool.{Bool, true, false, cond, _&&_, _||_}
 use mathlib.Core.List.{List}
 use Prim.Native.Nat.{ℕ, _+_, _*_}
 use lib.ListN.{length, getD}
 use lib.Dec.{leb, ltb, eqb}
-use lib.Ieee.{Float}
+use lib.Ieee.{Float, lt, le}
 use Rattle.lists.specs.Lists.{every}
+use Rattle.search.specs.Geometry.{times, minus, zero, dot, difference}
 use Rattle.search.specs.Cells.{triples}
 use Rattle.search.specs.Search.{vertexInside, nearestFrom, notNearest, fitFrom, notLocated}
 use Rattle.search.specs.declared.Vector3.{Vector3}
@@ -13,6 +14,7 @@ use Rattle.search.specs.declared.Nearest.{Nearest}
 use Rattle.search.specs.declared.Located.{Located}
 use Rattle.search.specs.declared.cells.Span.{Span}
 use Rattle.search.specs.declared.faces.Fit.{Fit}
+use Rattle.search.specs.declared.triangle.Sides.{Sides}
 
 -- where the entries between offsets i and i + 1 stand, each offset counting w places; not held where an offset or an entry is not inside what was
 -- lent, or the end is below the start. Where there is no entry the places are those before the first, so that they can be cut out of any list
@@ -38,3 +40,28 @@ locatedFit b = record { number = 0; face = b .face; weights = b .weights }
 -- the best of a list's faces and of one that was there before, or 19
 unfoldable pub fitOver : List Float → ℕ → Vector3 → Fit → List ℕ → Located
 fitOver vs n p best l = cond (every (vertexInside vs n) l) (locatedFit (fitFrom vs p best (triples l))) (notLocated 19)
+
+-- the dot products that `projectedBarycentric` begins with
+unfoldable pub sidesOf : Vector3 → Vector3 → Vector3 → Vector3 → Sides
+sidesOf p a b c =
+    let ab = difference b a in
+    let ac = difference c a in
+    record {
+      d1 = dot ab (difference p a);
+      d2 = dot ac (difference p a);
+      d3 = dot ab (difference p b);
+      d4 = dot ac (difference p b);
+      d5 = dot ab (difference p c);
+      d6 = dot ac (difference p c);
+    }
+
+-- plain products, each rounded, put p past an edge or a corner
+unfoldable pub past : Sides → Bool
+past s =
+    let atA = le (s .d1) zero && le (s .d2) zero in
+    let atB = le zero (s .d3) && le (s .d4) (s .d3) in
+    let onAB = lt (times (s .d1) (s .d4)) (times (s .d3) (s .d2)) && (le zero (s .d1) && le (s .d3) zero) in
+    let atC = le zero (s .d6) && le (s .d5) (s .d6) in
+    let onAC = lt (times (s .d5) (s .d2)) (times (s .d1) (s .d6)) && (le zero (s .d2) && le (s .d6) zero) in
+    let onBC = lt (times (s .d3) (s .d6)) (times (s .d5) (s .d4)) && (le zero (minus (s .d4) (s .d3)) && le zero (minus (s .d5) (s .d6))) in
+    ((atA || atB) || onAB) || ((atC || onAC) || onBC)
