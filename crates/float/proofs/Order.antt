@@ -104,7 +104,7 @@ eq-no (fin s m e) nan h = absurd h
 eq-no (fin s m e) (inf b) h = absurd h
 eq-no (fin s m e) (fin t n d) h = level-no s (m * up e * down d) t (n * up d * down e) h
 
-le-no : (x y : Float) → T (le x y) → lt y x ≡ false
+pub le-no : (x y : Float) → T (le x y) → lt y x ≡ false
 unfolding le
 le-no x y h = by (lt x y) refl h
   where

@@ -5,3 +5,4 @@ pub mod Lengths
 pub mod Below
 pub mod Signs
 pub mod Regions
+pub mod Halves

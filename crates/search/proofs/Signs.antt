@@ -183,7 +183,7 @@ module _ (s t u : Bool) (m n k : ℕ) (e d g : ℤ) (h : T (fits binary64 (fin u
       let W : 0 < w = mul-pos (down-pos g) (down-pos i) in
       let D : 0 < c * w = mul-pos some W in
       let own : round binary64 false (j * up i * (c * down g)) (c * w) ≡ fin false j i =
-            round-same binary64 false (j * up i * (c * down g)) (c * w) (j * up i) (down i) D (down-pos i) (simp (mul-assoc, mul-comm, mul-left-comm)) ∙ own-round false j i f in
+      round-same binary64 false (j * up i * (c * down g)) (c * w) (j * up i) (down i) D (down-pos i) (simp (mul-assoc, mul-comm, mul-left-comm)) ∙ own-round false j i f in
       let summed = sum-same binary64 u false (k * up g * down i) (j * up i * down g) w (k * up g * (c * down i)) (j * up i * (c * down g)) (c * w) W D (simp (mul-assoc, mul-comm, mul-left-comm)) (simp (mul-assoc, mul-comm, mul-left-comm)) in
       let less = sum-same binary64 (unlike s t) (not u) (p * down g) (k * up g * c) (c * down g) (p * w) (k * up g * (c * down i)) (c * w) (mul-pos some (down-pos g)) D (simp (mul-assoc, mul-comm, mul-left-comm)) (simp (mul-assoc, mul-comm, mul-left-comm)) in
       ap (λ (x : Float). le x none) less
