@@ -9,3 +9,4 @@ pub mod Powers
 pub mod Casts
 pub mod Remainders
 pub mod Order
+pub mod Ranks

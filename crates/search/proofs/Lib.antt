@@ -6,3 +6,4 @@ pub mod Below
 pub mod Signs
 pub mod Regions
 pub mod Halves
+pub mod Nearness

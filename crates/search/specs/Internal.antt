@@ -1,10 +1,11 @@
 -- What only the code and the proofs need; a reader need not believe it. Definitions only.
-use mathlib.Core.Bool.{Bool, true, false, cond, _&&_, _||_}
+use mathlib.Core.Bool.{Bool, true, false, not, cond, _&&_, _||_}
+use mathlib.Core.Path.{_≡_}
 use mathlib.Core.List.{List}
-use Prim.Native.Nat.{ℕ, _+_, _*_}
+use Prim.Native.Nat.{ℕ, _+_, _*_, _/_}
 use lib.ListN.{length, getD}
-use lib.Dec.{leb, ltb, eqb}
-use lib.Ieee.{Float, lt, le}
+use lib.Dec.{T, leb, ltb, eqb}
+use lib.Ieee.{Float, nan, inf, fin, binary64, fits, lt, le}
 use Rattle.lists.specs.Lists.{every}
 use Rattle.search.specs.Geometry.{times, minus, zero, dot, difference}
 use Rattle.search.specs.Cells.{triples}
@@ -33,6 +34,20 @@ spanOf w offsets places i =
 -- the nearest of a list's vertices and of one that was there before, or 19
 unfoldable pub nearestOver : List Float → ℕ → Vector3 → Nearest → List ℕ → Nearest
 nearestOver vs n p best l = cond (every (vertexInside vs n) l) (nearestFrom vs p best l) (notNearest 19)
+
+-- neither a NaN nor a number whose sign is set
+abbrev pub plain : Float → Bool
+plain nan = false
+plain (inf s) = not s
+plain (fin s m e) = not s
+
+-- a nearest vertex whose distance can be compared with others by their plain order
+abbrev pub Measured : Nearest → Type 0
+Measured b = (b .number ≡ 0) × T (fits binary64 (b .distance)) × T (plain (b .distance))
+
+-- how many of n vertices have their three coordinates among this many places
+abbrev pub limitOf : ℕ → ℕ → ℕ
+limitOf n places = cond (ltb n (places / 3)) n (places / 3)
 
 abbrev pub locatedFit : Fit → Located
 locatedFit b = record { number = 0; face = b .face; weights = b .weights }
