@@ -7,3 +7,4 @@ pub mod Signs
 pub mod Regions
 pub mod Halves
 pub mod Nearness
+pub mod Sifting

@@ -152,13 +152,14 @@ module _ (vs : List Float) (n : ℕ) where
       by (inl h) (inr k) = rw (lt-ltb n (length vs / 3) k)
       by (inl h) (inl k) = rw (le-ltb n (length vs / 3) k) (ap (λ (t : Bool). t && leb (3 * v + 3) (length vs)) (at (length vs / 3) (λ z. omega arith) (λ z. omega arith)))
 
-  pub limited : (p : Vector3) (best : Nearest) (l : List ℕ) → nearestOver vs n p best l ≡ nearestOver vs (limitOf n (length vs)) p best l
-  unfolding nearestOver every
-  limited p best l = ap (λ (t : Bool). cond t (nearestFrom vs p best l) (notNearest 19)) (each l)
-    where
-      each : (l : List ℕ) → every (vertexInside vs n) l ≡ every (vertexInside vs (limitOf n (length vs))) l
-      each [] = refl
-      each (v ∷ l) = rw (within v, each l)
+  pub all-within : (l : List ℕ) → every (vertexInside vs n) l ≡ every (vertexInside vs (limitOf n (length vs))) l
+  unfolding every
+  all-within [] = refl
+  all-within (v ∷ l) = rw (within v, all-within l)
+
+  limited : (p : Vector3) (best : Nearest) (l : List ℕ) → nearestOver vs n p best l ≡ nearestOver vs (limitOf n (length vs)) p best l
+  unfolding nearestOver
+  limited p best l = ap (λ (t : Bool). cond t (nearestFrom vs p best l) (notNearest 19)) (all-within l)
 
 pub limit-room : (n k : ℕ) → 3 * limitOf n k ≤ k
 limit-room n k = by (ltb n (k / 3)) refl
@@ -166,6 +167,14 @@ limit-room n k = by (ltb n (k / 3)) refl
     by : (t : Bool) → ltb n (k / 3) ≡ t → 3 * cond t n (k / 3) ≤ k
     by true h = omega (arith, ltb-true n (k / 3) h)
     by false h = omega arith
+
+-- with a limit whose coordinates are inside, being below it is being inside
+pub below-limit : (vs : List Float) (n v : ℕ) → 3 * n ≤ length vs → (ltb v n && leb (3 * v + 3) (length vs)) ≡ ltb v n
+below-limit vs n v h = by (le-or-lt n v)
+  where
+    by : (n ≤ v) ⊎ (v < n) → (ltb v n && leb (3 * v + 3) (length vs)) ≡ ltb v n
+    by (inl l) = rw (le-ltb v n l)
+    by (inr l) = rw (lt-ltb v n l, le-leb (3 * v + 3) (length vs) (omega arith))
 
 -- ---- a cell's first vertex, v, and the rest
 module _ (vs : List Float) (n : ℕ) (p : Vector3) (l : List ℕ) (v : ℕ) (h : 0 < length l) (e : v ≡ getD l 0 0) where

@@ -1,13 +1,15 @@
 -- What only the code and the proofs need; a reader need not believe it. Definitions only.
 use mathlib.Core.Bool.{Bool, true, false, not, cond, _&&_, _||_}
 use mathlib.Core.Path.{_≡_}
-use mathlib.Core.List.{List}
+use mathlib.Core.List.{List, [], _∷_}
 use Prim.Native.Nat.{ℕ, _+_, _*_, _/_}
 use lib.ListN.{length, getD}
 use lib.Dec.{T, leb, ltb, eqb}
 use lib.Ieee.{Float, nan, inf, fin, binary64, fits, lt, le}
 use Rattle.lists.specs.Lists.{every}
-use Rattle.search.specs.Geometry.{times, minus, zero, dot, difference}
+use Rattle.mesh.specs.Faces.{face}
+use Rattle.mesh.specs.declared.Face.{Face}
+use Rattle.search.specs.Geometry.{times, minus, zero, dot, difference, vertexAt}
 use Rattle.search.specs.Cells.{triples}
 use Rattle.search.specs.Search.{vertexInside, nearestFrom, notNearest, fitFrom, notLocated}
 use Rattle.search.specs.declared.Vector3.{Vector3}
@@ -15,6 +17,7 @@ use Rattle.search.specs.declared.Nearest.{Nearest}
 use Rattle.search.specs.declared.Located.{Located}
 use Rattle.search.specs.declared.cells.Span.{Span}
 use Rattle.search.specs.declared.faces.Fit.{Fit}
+use Rattle.search.specs.declared.faces.Within.{Within}
 use Rattle.search.specs.declared.triangle.Sides.{Sides}
 
 -- where the entries between offsets i and i + 1 stand, each offset counting w places; not held where an offset or an entry is not inside what was
@@ -80,3 +83,22 @@ past s =
     let onAC = lt (times (s .d5) (s .d2)) (times (s .d1) (s .d6)) && (le zero (s .d2) && le (s .d6) zero) in
     let onBC = lt (times (s .d3) (s .d6)) (times (s .d5) (s .d4)) && (le zero (minus (s .d4) (s .d3)) && le zero (minus (s .d5) (s .d6))) in
     ((atA || atB) || onAB) || ((atC || onAC) || onBC)
+
+-- ---- one pass over faces
+
+abbrev pub pastFace : List Float → Vector3 → Face → Bool
+pastFace vs p f = past (sidesOf p (vertexAt vs (f .a)) (vertexAt vs (f .b)) (vertexAt vs (f .c)))
+
+-- of the faces so far those that p is not told to be past: none, one or more (0, 1, 2), and the place of the last; with face f, listed from place i on
+unfoldable pub sifted : List Float → Vector3 → Within → ℕ → Face → Within
+sifted vs p w i f = cond (pastFace vs p f) w (record { count = cond (eqb (w .count) 0) 1 2; at = i })
+
+-- the faces of a list whose first place is i
+unfoldable pub sift : List Float → Vector3 → ℕ → Within → List ℕ → Within
+sift vs p i w [] = w
+sift vs p i w (a ∷ []) = w
+sift vs p i w (a ∷ b ∷ []) = w
+sift vs p i w (a ∷ b ∷ c ∷ l) = sift vs p (i + 3) (sifted vs p w i (face a b c)) l
+
+unfoldable pub siftOver : List Float → ℕ → Vector3 → ℕ → Within → List ℕ → Within
+siftOver vs n p i w l = cond (every (vertexInside vs n) l) (sift vs p i w l) (record { count = 2; at = 0 })

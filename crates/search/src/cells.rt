@@ -185,7 +185,7 @@ fn nearest_of(list: &[u16], vertices: &[f64], limit: usize, p: Vector3, first: N
 }
 
 // How many of n vertices have their coordinates inside `places`.
-fn limit_of(n: usize, places: usize) -> usize
+pub(crate) fn limit_of(n: usize, places: usize) -> usize
     ensures { λ r. ⌜ r ≡ limitOf n places ⌝ }
 {
     let m = places / 3;

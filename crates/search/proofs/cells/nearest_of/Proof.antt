@@ -1,15 +1,13 @@
 -- `nearest_of` meets its contract. Assumes nothing.
 use mathlib.Core.Path.{_≡_, refl, sym, _∙_}
-use mathlib.Core.Bool.{Bool, true, false, _&&_}
-use Prim.Native.Nat.{ℕ, _+_, _-_, _*_, _≤_, _<_}
+use Prim.Native.Nat.{_+_, _-_, _*_, _≤_}
 use native.Mathlib.Omega.{arith}
 use lib.ListN.{length, drop}
-use lib.Dec.{leb, ltb}
 use borrow.Author.Needs.{needs}
-use borrow.Author.Tests.{lt-ltb, le-ltb, le-leb}
+use borrow.Author.Tests.{lt-ltb, le-ltb}
 use Rattle.search.specs.Internal.{nearestOver, Measured}
 use Rattle.search.proofs.Laws.{nearest-turn, nearest-stop, nearest-end}
-use Rattle.search.proofs.Nearness.{stays-measured}
+use Rattle.search.proofs.Nearness.{stays-measured, below-limit}
 use Rattle.search.proofs.cells.nearest_of.Statement.{statement}
 use Rattle.search.proofs.cells.nearest_of.Tie as tie
 
@@ -19,13 +17,6 @@ Inv-loop list vertices limit p best₀ i₀ best i = (i ≤ length list) × Meas
 abbrev μ-loop : tie.MeasureT-loop
 μ-loop list vertices limit p best₀ i₀ best i = length list - i
 
--- below the limit a vertex is inside
-yes : (n v k : ℕ) → 3 * n ≤ k → v < n → (ltb v n && leb (3 * v + 3) k) ≡ true
-yes n v k h l = rw (lt-ltb v n l, le-leb (3 * v + 3) k (omega arith))
-
-no : (n v k : ℕ) → n ≤ v → (ltb v n && leb (3 * v + 3) k) ≡ false
-no n v k l = rw (le-ltb v n l)
-
 loop-holds : tie.Need-loop-holds Inv-loop μ-loop
 loop-holds c = (omega arith, c .before .before .pre .1, refl)
 
@@ -33,9 +24,10 @@ returns : tie.Need-returns Inv-loop μ-loop
 returns c =
     let e = c .before .before in
     let l = e .before .before .before in
-    let a = l .before .before .before .args in
+    let o = l .before .before .before in
+    let a = o .args in
     c .not-nearest .ensures
-    ∙ sym (nearest-stop (a .vertices .now) (a .limit) (a .p) (a .list .now) (l .loop .best) (l .loop .i) (e .wide16 .result) (omega arith) (e .wide16 .ensures) (no (a .limit) (e .wide16 .result) (length (a .vertices .now)) (c .before .if1 .taken)))
+    ∙ sym (nearest-stop (a .vertices .now) (a .limit) (a .p) (a .list .now) (l .loop .best) (l .loop .i) (e .wide16 .result) (omega arith) (e .wide16 .ensures) (below-limit (a .vertices .now) (a .limit) (e .wide16 .result) (o .pre .0) ∙ le-ltb _ _ (c .before .if1 .taken)))
     ∙ l .loop .inv .2
 
 closer-requires : tie.Need-closer-requires Inv-loop μ-loop
@@ -54,7 +46,7 @@ loop-again c =
       rw (c .closer .ensures) (stays-measured (a .vertices .now) (a .p) (l .loop .best) (e .wide16 .result) (l .loop .inv .1)),
       rw (c .closer .ensures)
           (sym (nearest-turn (a .vertices .now) (a .limit) (a .p) (a .list .now) (l .loop .best) (l .loop .i) (e .wide16 .result) (omega arith) (e .wide16 .ensures)
-          (yes (a .limit) (e .wide16 .result) (length (a .vertices .now)) (o .pre .0) (c .before .if1 .left)))
+          (below-limit (a .vertices .now) (a .limit) (e .wide16 .result) (o .pre .0) ∙ lt-ltb _ _ (c .before .if1 .left)))
           ∙ l .loop .inv .2),
     )
 
