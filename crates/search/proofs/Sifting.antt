@@ -14,9 +14,8 @@ use lib.Ieee.{Float, nan, inf, fin, binary64, up, down, lt, le, eq, neg, fits, i
 use lib.IntN.{ℤ, pos}
 use lib.Ieee.Fits.{mul-fits, down-pos}
 use borrow.Author.Tests.{ltb-true, ltb-false, lt-ltb, le-ltb, leb-true, eqb-true, eqb-false, not-true}
-use Rattle.ieee.proofs.Fields.{less-no-nan}
+use Rattle.ieee.proofs.Fields.{less-no-nan, more-no-nan}
 use Rattle.ieee.specs.Fused.{fused}
-use Rattle.float.proofs.Ends.{above-no-nan}
 use Rattle.float.proofs.Order.{lt-trans, lt-asym, le-not}
 use Rattle.float.specs.Order.{smaller, farther}
 use Rattle.lists.specs.Lists.{every}
@@ -34,7 +33,7 @@ use Rattle.search.specs.declared.triangle.Sides.{Sides}
 use Rattle.search.proofs.Laws.{inside, three, stops}
 use Rattle.search.proofs.Nearness.{all-within}
 use Rattle.search.proofs.Regions.{regions, by-regions}
-use Rattle.search.proofs.Signs.{not-above, nan-no}
+use Rattle.search.proofs.Signs.{not-above}
 
 abbrev none : Float
 none = fin false 0 (pos 0)
@@ -311,7 +310,7 @@ module _ (vs : List Float) (p : Vector3) where
           let j : faceAt all (sift vs p (i + 3) (sifted vs p w i (face a b c)) l .at) ≡ face a b c = rw (s, r .1) (here all l i a b c d .0) in
           let m = subst (λ (x : Face). lt none (fitOf x .least) ≡ true) j t in
           ap (λ (x : Fit). fitFrom vs p x (triples l)) (better-by best (face a b c) true (low-below (best .least) (fitOf (face a b c) .least) h m))
-          ∙ stays (fitOf (face a b c)) (lt-asym none (fitOf (face a b c) .least) m, above-no-nan (fitOf (face a b c) .least) m) (triples l) (r .0)
+          ∙ stays (fitOf (face a b c)) (lt-asym none (fitOf (face a b c) .least) m, more-no-nan none (fitOf (face a b c) .least) m) (triples l) (r .0)
           ∙ ap fitOf (sym j)
 
   -- past all of them, the first having no weight below 0
@@ -365,12 +364,6 @@ module _ (vs : List Float) (n : ℕ) (p : Vector3) (l : List ℕ) where
   sift-end w i h = rw (drop-of-length-le l h)
 
 -- ---- what one pass tells
-right-number : (x y : Float) → lt x y ≡ true → T (not (isNan y))
-unfolding isNan
-right-number x nan h = absurd (true≢false (sym h ∙ nan-no x))
-right-number x (inf s) h = tt
-right-number x (fin s m e) h = tt
-
 every-at : (q : ℕ → Bool) (l : List ℕ) (j : ℕ) → every q l ≡ true → j < length l → q (getD l j 0) ≡ true
 unfolding every
 every-at q [] j h k = absurd (omega (arith, k))
@@ -432,7 +425,7 @@ module _ (vs : List Float) (n : ℕ) (p : Vector3) (l : List ℕ) (w : Within) (
           let q = found b k g in
           let r = all-past vs p l 0 start (omega arith) (le-of-eq (sym (ap (λ (x : Within). x .count) (ended .1)) ∙ z)) .1 in
           let j : f ≡ faceAt vs p l 0 = ap (λ (x : Within). faceAt vs p l (x .at)) (ended .1 ∙ r) in
-          let i = right-number (inf true) (fitOf vs p f .least) (q .1) in
+          let i = more-no-nan (inf true) (fitOf vs p f .least) (q .1) in
           the-first vs p l l 0 noFit start refl h refl (sym (ap (λ (x : Within). x .count) (ended .1)) ∙ z)
           (subst (λ (x : Face). lt (inf true) (fitOf vs p x .least) ≡ true) j (q .1)) (subst (λ (x : Face). High (fitOf vs p x .least)) j (high i (q .0) g)) .1
           ∙ ap (fitOf vs p) (sym j) ∙ sym (q .0)

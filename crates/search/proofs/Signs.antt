@@ -110,7 +110,7 @@ outside-low (inf false) (inf u) f h = absurd (true≢false (sym h))
 outside-low (inf false) (fin u k g) f h = absurd (true≢false (sym h))
 outside-low (fin s n e) m f h = absurd (true≢false f)
 
-pub nan-no : (x : Float) → lt x nan ≡ false
+nan-no : (x : Float) → lt x nan ≡ false
 unfolding lt
 nan-no nan = refl
 nan-no (inf s) = refl

@@ -18,7 +18,8 @@ pub fn dot(a: Vector3, b: Vector3) -> f64
 pub fn norm(a: Vector3) -> f64
     ensures { λ r. ⌜ r ≡ norm a ⌝ }
 {
-    ieee::root(dot(a, a))
+    // most directions come as units
+    ieee::root_next_to_one(dot(a, a))
 }
 
 // A length that is finite and above 0. It is so where its square is, so no root is taken; d - d is 0 for a finite d alone.
