@@ -11,3 +11,4 @@ pub mod Order
 pub mod Signed
 pub mod Shifts
 pub mod Reach
+pub mod Ranks

@@ -30,6 +30,16 @@ less-no-nan nan y h = absurd (false≢true h)
 less-no-nan (inf s) y h = tt
 less-no-nan (fin s m e) y h = tt
 
+pub more-no-nan : (x y : Float) → lt x y ≡ true → T (not (isNan y))
+unfolding lt isNan
+more-no-nan nan y h = absurd (false≢true h)
+more-no-nan (inf s) nan h = absurd (false≢true h)
+more-no-nan (inf s) (inf t) h = tt
+more-no-nan (inf s) (fin t n d) h = tt
+more-no-nan (fin s m e) nan h = absurd (false≢true h)
+more-no-nan (fin s m e) (inf t) h = tt
+more-no-nan (fin s m e) (fin t n d) h = tt
+
 -- ---- finite numbers
 pub finite-test : (x : Float) → (lt x (inf false) && lt (inf true) x) ≡ finite x
 unfolding lt

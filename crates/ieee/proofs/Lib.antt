@@ -10,3 +10,4 @@ pub mod Squares
 pub mod OddRoot
 pub mod RootSteps
 pub mod Meaning
+pub mod NextToOne
