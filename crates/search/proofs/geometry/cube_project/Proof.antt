@@ -2,7 +2,7 @@
 use mathlib.Core.Path.{_≡_, refl, sym, ap, _∙_}
 use mathlib.Core.Bool.{Bool, true, false, not, cond, _&&_}
 use Prim.Native.Nat.{ℕ, _+_, _≤_}
-use native.Mathlib.Nat.{lt-of-le-of-lt}
+use native.Mathlib.Nat.{add-zero, lt-of-le-of-lt}
 use native.Mathlib.Omega.{arith}
 use lib.Dec.{lit<}
 use lib.Ieee.{Float, nan, inf, fin, binary64, unlike, neg, div, lt, le}
@@ -41,26 +41,18 @@ seen v s t =
       w = over (cond s (v .z) (cond t (v .z) (v .y))) (cond (lt zero a) a (neg a));
     }
 
+-- the two faces of a pair
+either-side : (v : Vector3) (k : ℕ) (a u w : Float) → cubeFaceProject k v ≡ record { u = u; w = w; d = a } → cubeFaceProject (k + 1) v ≡ record { u = neg u; w = w; d = neg a } → (z : Bool)
+    → _≡_ {A = Projected} (record { face = k + boolByte (not z); u = over u a; w = over w (cond z a (neg a)) })
+    (let s = cubeFaceProject (cond z k (k + 1)) v in record { face = cond z k (k + 1); u = over (s .u) (s .d); w = over (s .w) (s .d) })
+either-side v k a u w p q true = rw (p, add-zero k)
+either-side v k a u w p q false = rw (q, turned u a)
+
 as-seen : (v : Vector3) (s t : Bool) → (le (magnitude (v .y)) (magnitude (v .x)) && le (magnitude (v .z)) (magnitude (v .x))) ≡ s → le (magnitude (v .z)) (magnitude (v .y)) ≡ t → seen v s t ≡ cubeProject v
 unfolding cubeProject cubeFace cubeFaceProject
-as-seen v true t p q = rw p (by (lt zero (v .x)))
-  where
-    by : (z : Bool) → _≡_ {A = Projected} (record { face = 0 + boolByte (not z); u = over (v .y) (v .x); w = over (v .z) (cond z (v .x) (neg (v .x))) })
-        (let s = cubeFaceProject (cond z 0 1) v in record { face = cond z 0 1; u = over (s .u) (s .d); w = over (s .w) (s .d) })
-    by true = refl
-    by false = rw (turned (v .y) (v .x))
-as-seen v false true p q = rw (p, q) (by (lt zero (v .y)))
-  where
-    by : (z : Bool) → _≡_ {A = Projected} (record { face = 2 + boolByte (not z); u = over (v .x) (v .y); w = over (v .z) (cond z (v .y) (neg (v .y))) })
-        (let s = cubeFaceProject (cond z 2 3) v in record { face = cond z 2 3; u = over (s .u) (s .d); w = over (s .w) (s .d) })
-    by true = refl
-    by false = rw (turned (v .x) (v .y))
-as-seen v false false p q = rw (p, q) (by (lt zero (v .z)))
-  where
-    by : (z : Bool) → _≡_ {A = Projected} (record { face = 4 + boolByte (not z); u = over (v .x) (v .z); w = over (v .y) (cond z (v .z) (neg (v .z))) })
-        (let s = cubeFaceProject (cond z 4 5) v in record { face = cond z 4 5; u = over (s .u) (s .d); w = over (s .w) (s .d) })
-    by true = refl
-    by false = rw (turned (v .x) (v .z))
+as-seen v true t p q = rw p (either-side v 0 (v .x) (v .y) (v .z) refl refl (lt zero (v .x)))
+as-seen v false true p q = rw (p, q) (either-side v 2 (v .y) (v .x) (v .z) refl refl (lt zero (v .y)))
+as-seen v false false p q = rw (p, q) (either-side v 4 (v .z) (v .x) (v .y) refl refl (lt zero (v .z)))
 
 -- ---- the function
 number-le : (s t z : Bool) → cond s 0 (cond t 2 4) + boolByte z ≤ 5
