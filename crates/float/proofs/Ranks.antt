@@ -1,21 +1,20 @@
 -- Among numbers whose sign is clear IEEE 754's total order is the plain one: bit patterns grow with the numbers. Assumes nothing.
 use mathlib.Core.Path.{_≡_, refl, sym, ap, _∙_, subst}
-use mathlib.Core.Bool.{Bool, true, false, not, cond, true≢false}
+use mathlib.Core.Bool.{Bool, true, false, not, true≢false}
 use mathlib.Core.Logic.{_⊎_, inl, inr}
-use Prim.Native.Nat.{ℕ, zero, suc, _+_, _-_, _*_, _/_, _%_, _^_, _≤_, _<_, zero-le}
-use native.Mathlib.Nat.{le-trans, le-of-eq, le-of-lt, lt-of-le-of-lt, lt-of-lt-of-le, le-antisymm, eq-or-lt-of-le, mul-comm, mul-le-mul-right, le-of-mul-le-mul-right, le-div-iff-mul-le, zero-add, add-mul}
+use Prim.Native.Nat.{ℕ, _+_, _-_, _*_, _/_, _%_, _^_, _≤_, _<_, zero-le}
+use native.Mathlib.Nat.{le-trans, le-of-eq, le-of-lt, lt-of-le-of-lt, lt-of-lt-of-le, le-antisymm, eq-or-lt-of-le, mul-le-mul-right, le-of-mul-le-mul-right, le-div-iff-mul-le, zero-add, add-mul}
 use native.Mathlib.Omega.{arith}
-use lib.Dec.{T, leb, ltb, lit<, lit≤}
+use lib.Dec.{T, leb, lit<, lit≤}
 use lib.IntN.{ℤ}
 use lib.Pow.{pow-add, pow-pos}
 use lib.Ieee.{Float, nan, inf, fin, binary64, up, down, size, hid, lt, fits, isNan, toBits, ofBits}
 use lib.Ieee.Bits.{ofBits-toBits}
 use lib.Ieee.Digits.{size-lt, size-le, size-reaches}
-use lib.Ieee.Exact.{HasValue}
 use lib.Ieee.Fits.{down-pos, kept-lt}
 use lib.Ieee.Nearest.{div-mono}
 use lib.Ieee.Order.{transfer}
-use borrow.Author.Tests.{ltb-false, lt-ltb, le-leb, lt-leb, leb-true}
+use borrow.Author.Tests.{ltb-false, lt-ltb, le-leb, lt-leb}
 use Rattle.ieee.proofs.Fields.{less-no-nan}
 use Rattle.ieee.proofs.Pack.{le-or-lt, all-in-use, toBits-val, twice-hid}
 use Rattle.float.specs.Order.{rank, ordered}

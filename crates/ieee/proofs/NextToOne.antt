@@ -1,13 +1,13 @@
 -- The root of a number next to 1 is half as far from 1 as the number is, counted in last places: its bit pattern is the mean of the number's and that of 1, cut to a whole number. Assumes nothing.
-use mathlib.Core.Path.{_≡_, refl, sym, ap, _∙_, subst}
+use mathlib.Core.Path.{_≡_, sym, ap, _∙_, subst}
 use mathlib.Core.Logic.{_⊎_, inl, inr}
-use mathlib.Core.Bool.{Bool, false}
+use mathlib.Core.Bool.{false}
 use Prim.Native.Nat.{ℕ, _+_, _-_, _*_, _/_, _%_, _^_, _≤_, _<_}
 use native.Mathlib.Nat.{le-trans, le-of-eq, lt-of-le-of-lt, mul-assoc, mul-comm, add-mul, mul-add, mul-one, mul-le-mul, mul-le-mul-left, mul-le-mul-right, mul-pos}
 use native.Mathlib.Omega.{arith}
 use lib.Dec.{T, leb, lit≤, lit<}
 use lib.Pow.{pow-add, pow-pos}
-use lib.Ieee.{Float, binary64, top, hid, fits, toBits, ofBits, ofFields}
+use lib.Ieee.{Float, binary64, fits, toBits, ofBits, ofFields}
 use lib.Ieee.Exact.{HasValue}
 use borrow.Author.Tests.{lt-leb}
 use Rattle.ieee.specs.Root.{root, rootOf}

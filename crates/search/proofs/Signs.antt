@@ -1,21 +1,20 @@
 -- The sign of x·y - m rounded once, from x·y and m rounded apart: rounding keeps order, so where the plain product is below m the exact one is at most m, and where it is above m
 -- by more than a number t above 0 the exact difference is t at least, and rounds above 0. Assumes nothing.
 use mathlib.Core.Path.{_≡_, refl, sym, ap, _∙_, subst}
-use mathlib.Core.Bool.{Bool, true, false, not, _&&_, Bool·beq, true≢false, and-eq-true-iff}
+use mathlib.Core.Bool.{Bool, true, false, not, _&&_, true≢false, and-eq-true-iff}
 use mathlib.Core.Logic.{_⊎_, inl, inr}
 use Prim.Native.Nat.{ℕ, _+_, _-_, _*_, _≤_, _<_}
-use native.Mathlib.Nat.{mul-pos, mul-assoc, mul-comm, mul-left-comm, mul-right-comm, mul-le-mul-right, sub-self, zero-lt-suc, le-of-eq}
+use native.Mathlib.Nat.{mul-pos, mul-assoc, mul-comm, mul-left-comm, mul-le-mul-right, zero-lt-suc}
 use native.Mathlib.Omega.{arith}
-use lib.Dec.{T, ltb, eqb, ltb→lt}
+use lib.Dec.{T, ltb→lt}
 use lib.IntN.{ℤ, pos}
-use lib.Ieee.{Float, nan, inf, fin, Format, binary64, up, down, unlike, round, sum, below, neg, add, mul, lt, le, fits, isNan}
-use lib.Ieee.Bits.{is-true}
-use lib.Ieee.Fits.{up-pos, down-pos, round-fits}
+use lib.Ieee.{Float, nan, inf, fin, binary64, up, down, unlike, round, sum, below, neg, add, mul, lt, le, fits, isNan}
+use lib.Ieee.Fits.{up-pos, down-pos}
 use lib.Ieee.Order.{round-mono}
 use lib.Ieee.Positive.{positive, above-of-le}
 use lib.Ieee.Positive as positives
 use lib.Ieee.Scale.{finite, round-same}
-use borrow.Author.Tests.{ltb-true, ltb-false, lt-ltb, le-ltb}
+use borrow.Author.Tests.{ltb-false, lt-ltb, le-ltb}
 use Rattle.ieee.proofs.Pack.{le-or-lt}
 use Rattle.ieee.proofs.Fields.{product-finite}
 use Rattle.ieee.proofs.Sums.{sum-like, sum-less, sum-more, sum-level}

@@ -1,5 +1,5 @@
 -- `root_next_to_one` meets its contract. Assumes nothing.
-use mathlib.Core.Bool.{_&&_, and-eq-true-iff}
+use mathlib.Core.Bool.{and-eq-true-iff}
 use Prim.Native.Nat.{_+_, _*_, _^_, _≤_, _<_}
 use native.Mathlib.Omega.{arith}
 use lib.Dec.{leb, ltb}

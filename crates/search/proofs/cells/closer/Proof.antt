@@ -1,5 +1,5 @@
 -- `closer` meets its contract. Assumes nothing.
-use mathlib.Core.Path.{_≡_, ap, _∙_}
+use mathlib.Core.Path.{_≡_}
 use borrow.Author.Needs.{needs}
 use Rattle.search.specs.Geometry.{vertexAt}
 use Rattle.search.specs.Search.{squared}

@@ -1,12 +1,12 @@
 -- `nearest_in_cell` meets its contract. Assumes nothing.
-use mathlib.Core.Path.{_≡_, refl, sym, _∙_}
-use Prim.Native.Nat.{_+_, _*_, _≤_, _<_}
+use mathlib.Core.Path.{_≡_, sym, _∙_}
+use Prim.Native.Nat.{_<_}
 use native.Mathlib.Omega.{arith}
 use lib.ListN.{length}
 use borrow.Author.Needs.{needs}
 use Rattle.ieee.proofs.Fields.{no-nan-of-same}
 use Rattle.search.specs.Search.{notNearest, nearer}
-use Rattle.search.specs.Internal.{Measured, limitOf}
+use Rattle.search.specs.Internal.{limitOf}
 use Rattle.search.proofs.Laws.{nearest-end}
 use Rattle.search.proofs.Nearness.{first-measured, limit-room, first-stop, first-turn}
 use Rattle.search.proofs.cells.nearest_in_cell.Statement.{statement}

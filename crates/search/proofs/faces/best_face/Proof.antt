@@ -1,19 +1,17 @@
 -- `best_face` meets its contract. Assumes nothing.
-use mathlib.Core.Path.{_≡_, refl, sym, _∙_}
+use mathlib.Core.Path.{_≡_, refl, _∙_}
 use mathlib.Core.Bool.{Bool, true, false, _||_, true≢false}
 use mathlib.Core.Logic.{_⊎_, inl, inr}
-use Prim.Native.Nat.{ℕ, _+_, _*_, _%_, _≤_, _<_}
+use Prim.Native.Nat.{ℕ, _+_, _%_, _≤_, _<_}
 use native.Mathlib.Omega.{arith}
-use lib.ListN.{length, getD}
+use lib.ListN.{length}
 use lib.Dec.{ltb, eqb}
 use lib.Ieee.{ofBits}
 use borrow.Author.Needs.{needs}
 use borrow.Author.Tests.{ltb-false, eqb-false}
 use Rattle.ieee.proofs.Pack.{le-or-lt}
-use Rattle.mesh.specs.Faces.{face}
-use Rattle.search.specs.Search.{noFit, better}
+use Rattle.search.specs.Search.{better}
 use Rattle.search.specs.Internal.{limitOf, siftOver}
-use Rattle.search.specs.declared.faces.Within.{Within}
 use Rattle.search.proofs.Nearness.{limit-room}
 use Rattle.search.proofs.Sifting.{told-room, told-inside, told-best}
 use Rattle.search.proofs.faces.best_face.Statement.{statement}

@@ -1,7 +1,7 @@
 -- `sifted` meets its contract. Assumes nothing.
 use mathlib.Core.Path.{_≡_, refl}
 use mathlib.Core.Bool.{Bool, true, false, not, cond}
-use Prim.Native.Nat.{ℕ, _+_, _<_, _^_}
+use Prim.Native.Nat.{_+_, _<_, _^_}
 use lib.Dec.{eqb, lit<}
 use mir.Val.{boolByte}
 use borrow.Author.Needs.{needs}

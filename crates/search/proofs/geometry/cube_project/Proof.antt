@@ -1,11 +1,11 @@
 -- `cube_project` meets its contract. Assumes nothing.
-use mathlib.Core.Path.{_≡_, refl, sym, ap, _∙_}
+use mathlib.Core.Path.{_≡_, refl}
 use mathlib.Core.Bool.{Bool, true, false, not, cond, _&&_}
 use Prim.Native.Nat.{ℕ, _+_, _≤_}
 use native.Mathlib.Nat.{add-zero, lt-of-le-of-lt}
 use native.Mathlib.Omega.{arith}
 use lib.Dec.{lit<}
-use lib.Ieee.{Float, nan, inf, fin, binary64, unlike, neg, div, lt, le}
+use lib.Ieee.{Float, nan, inf, fin, unlike, neg, div, lt, le}
 use mir.Val.{boolByte}
 use Rattle.float.specs.Order.{magnitude}
 use Rattle.search.specs.Geometry.{zero, over, cubeFaceProject, cubeFace, cubeProject}

@@ -1,5 +1,5 @@
 -- `largest` meets its contract. Assumes nothing.
-use mathlib.Core.Path.{_≡_, refl, sym}
+use mathlib.Core.Path.{_≡_, refl}
 use mathlib.Core.Bool.{Bool, true, false, cond, _&&_}
 use lib.Ieee.{Float, le}
 use Rattle.search.proofs.geometry.largest.Statement.{statement}

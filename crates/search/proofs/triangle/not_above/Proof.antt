@@ -1,6 +1,6 @@
 -- `not_above` meets its contract. Assumes nothing.
-use mathlib.Core.Path.{_≡_, sym}
-use mathlib.Core.Bool.{Bool, _&&_, and-false, and-true}
+use mathlib.Core.Path.{sym}
+use mathlib.Core.Bool.{Bool, and-false, and-true}
 use lib.Dec.{T}
 use lib.Ieee.{binary64, ofBits, fits, neg, le}
 use borrow.Author.Tests.{not-true, not-false}
