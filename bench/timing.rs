@@ -39,11 +39,15 @@ fn clock() -> i64 {
 // makes it longer.
 pub fn least(rounds: usize, parts: usize, sides: [&mut dyn FnMut(); 3]) -> [f64; 3] {
     let mut least = [i64::MAX; 3];
-    for _ in 0..rounds {
-        for k in !landed() as usize..3 {
-            let start = clock();
-            sides[k]();
-            least[k] = least[k].min(clock() - start);
+    for round in 0..rounds {
+        for turn in 0..3 {
+            // forwards and backwards, so that no side always comes after the same one
+            let k = if round % 2 == 0 { turn } else { 2 - turn };
+            if k > 0 || landed() {
+                let start = clock();
+                sides[k]();
+                least[k] = least[k].min(clock() - start);
+            }
         }
     }
     least.map(|t| if t == i64::MAX { f64::NAN } else { t as f64 / parts as f64 })
