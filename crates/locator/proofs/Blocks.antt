@@ -8,6 +8,7 @@ use native.Mathlib.Nat.{mul-add-div-right, mul-add-mod-self-right, mod-eq-of-lt,
 use native.Mathlib.Omega.{arith}
 use lib.ListN.{length, set}
 use lib.Dec.{eqb}
+use borrow.Author.Tests.{le-ltb}
 use Rattle.lists.specs.Lists.{put, joined, filter}
 use Rattle.mesh.specs.Mesh.{Mesh, degree, neighbour, within, lists}
 use Rattle.mesh.specs.Faces.{face, isFace, facesFrom, extractFaces, has}
@@ -15,7 +16,7 @@ use Rattle.mesh.specs.declared.Face.{Face}
 use Rattle.lists.proofs.Counting.{any-none, or-none}
 use Rattle.lists.proofs.Written.{filter-append, joined-more, Written, nothing, pushed, chunk}
 use Rattle.search.specs.Cells.{facesOf, flat}
-use Rattle.locator.specs.Internal.{only, wanted, touches, block}
+use Rattle.locator.specs.Internal.{only, wanted, touches, thirds, block}
 
 module _ {A : Type 0} where
   -- lists that are equal one by one
@@ -69,35 +70,49 @@ unfolding flat
 length-flat [] = refl
 length-flat (x ∷ f) = omega (arith, length-flat f)
 
--- the faces of v whose least vertex is i, pair by pair of i's d neighbours
-abbrev pub pieceBy : Mesh → ℕ → ℕ → ℕ → ℕ → List Face
-pieceBy l v i d q =
-    only (wanted l i (neighbour l i (q / d)) (neighbour l i (q % d)) v) (face i (neighbour l i (q / d)) (neighbour l i (q % d)))
+-- the faces of v whose least vertices are i and its neighbour at place x
+abbrev pub blockRow : Mesh → ℕ → ℕ → ℕ → ℕ → List Face
+blockRow l v i d x = thirds l v i d (neighbour l i x)
 
+-- the faces of v whose least vertex is i, by i's neighbours: filter's joined twice over
+pub block-rows : (l : Mesh) (v i d : ℕ) → d ≡ degree l i → block l v i ≡ joined d (blockRow l v i d)
+unfolding block facesFrom wanted thirds
+block-rows l v i d e =
+    rw e
+    (filter-joined (has v) (degree l i) (λ x. joined (degree l i) (λ y. only (isFace l i (neighbour l i x) (neighbour l i y)) (face i (neighbour l i x) (neighbour l i y))))
+    ∙ joined-eq (degree l i) _ (blockRow l v i (degree l i))
+    (λ x lx. filter-joined (has v) (degree l i) (λ y. only (isFace l i (neighbour l i x) (neighbour l i y)) (face i (neighbour l i x) (neighbour l i y)))
+    ∙ joined-eq (degree l i) _ (λ y. only (wanted l i (neighbour l i x) (neighbour l i y) v) (face i (neighbour l i x) (neighbour l i y)))
+    (λ y ly. filter-only (has v) (isFace l i (neighbour l i x) (neighbour l i y)) (face i (neighbour l i x) (neighbour l i y)))))
+
+-- one of them, or none
+abbrev pub third : Mesh → ℕ → ℕ → ℕ → ℕ → List Face
+third l v i j y = only (wanted l i j (neighbour l i y) v) (face i j (neighbour l i y))
+
+pub thirds-are : (l : Mesh) (v i d j : ℕ) → thirds l v i d j ≡ joined d (third l v i j)
+unfolding thirds
+thirds-are l v i d j = refl
+
+-- no face has its second vertex at or below its first
+pub no-thirds : (l : Mesh) (v i d j : ℕ) → j ≤ i → thirds l v i d j ≡ []
+unfolding thirds wanted isFace
+no-thirds l v i d j h = joined-none d _ (λ y ly. rw (le-ltb i j h))
+
+-- the same pair by pair
 abbrev pub piece : Mesh → ℕ → ℕ → ℕ → List Face
-piece l v i q = pieceBy l v i (degree l i) q
+piece l v i q =
+    only (wanted l i (neighbour l i (q / degree l i)) (neighbour l i (q % degree l i)) v) (face i (neighbour l i (q / degree l i)) (neighbour l i (q % degree l i)))
 
--- filter's joined twice over
 pub block-is : (l : Mesh) (v i : ℕ) → block l v i ≡ joined (degree l i * degree l i) (piece l v i)
-unfolding block facesFrom wanted joined filter
-block-is l v i = by (degree l i) refl
+unfolding thirds joined
+block-is l v i = block-rows l v i (degree l i) refl ∙ by (degree l i)
   where
-    two : (d : ℕ) → 0 < d
-        → filter (has v) (joined d (λ x. joined d (λ y. only (isFace l i (neighbour l i x) (neighbour l i y)) (face i (neighbour l i x) (neighbour l i y)))))
-        ≡ joined (d * d) (λ q. only (wanted l i (neighbour l i (q / d)) (neighbour l i (q % d)) v) (face i (neighbour l i (q / d)) (neighbour l i (q % d))))
-    two d h =
-        filter-joined (has v) d (λ x. joined d (λ y. only (isFace l i (neighbour l i x) (neighbour l i y)) (face i (neighbour l i x) (neighbour l i y))))
-        ∙ joined-eq d _ (λ x. joined d (λ y. only (wanted l i (neighbour l i x) (neighbour l i y) v) (face i (neighbour l i x) (neighbour l i y))))
-        (λ x lx. filter-joined (has v) d (λ y. only (isFace l i (neighbour l i x) (neighbour l i y)) (face i (neighbour l i x) (neighbour l i y)))
-        ∙ joined-eq d _ (λ y. only (wanted l i (neighbour l i x) (neighbour l i y) v) (face i (neighbour l i x) (neighbour l i y)))
-        (λ y ly. filter-only (has v) (isFace l i (neighbour l i x) (neighbour l i y)) (face i (neighbour l i x) (neighbour l i y))))
-        ∙ joined-grid d d (λ x y. only (wanted l i (neighbour l i x) (neighbour l i y) v) (face i (neighbour l i x) (neighbour l i y))) h
+    f : ℕ → ℕ → List Face
+    f x y = only (wanted l i (neighbour l i x) (neighbour l i y) v) (face i (neighbour l i x) (neighbour l i y))
 
-    by : (d : ℕ) → degree l i ≡ d
-        → filter (has v) (joined d (λ x. joined d (λ y. only (isFace l i (neighbour l i x) (neighbour l i y)) (face i (neighbour l i x) (neighbour l i y)))))
-        ≡ joined (d * d) (λ q. only (wanted l i (neighbour l i (q / d)) (neighbour l i (q % d)) v) (face i (neighbour l i (q / d)) (neighbour l i (q % d))))
-    by zero e = refl
-    by (suc d) e = two (suc d) (omega arith)
+    by : (d : ℕ) → joined d (λ x. joined d (λ y. f x y)) ≡ joined (d * d) (λ q. f (q / d) (q % d))
+    by zero = refl
+    by (suc d) = joined-grid (suc d) (suc d) f (omega arith)
 
 -- i's pairs: both are neighbours
 pub pair : (d q : ℕ) → q < d * d → (0 < d) × (q / d < d) × (q % d < d)
@@ -139,9 +154,6 @@ more-flat at to f q out′ r h fits er eo =
 -- how far the writing has come
 pub come : {d out : List ℕ} (at to : ℕ) (w : List Face) → Written d (3 * at) (flat w) out (3 * to) → to ≡ at + length w
 come at to w h = omega (arith, h .next, length-flat w)
-
-pub block-by : (l : Mesh) (v i d : ℕ) → d ≡ degree l i → block l v i ≡ joined (d * d) (pieceBy l v i d)
-block-by l v i d e = rw e (block-is l v i)
 
 pub faces-of-is : (l : Mesh) (n v : ℕ) → facesOf l n v ≡ joined n (block l v)
 unfolding facesOf extractFaces block
