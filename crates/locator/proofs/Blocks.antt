@@ -1,19 +1,19 @@
 -- The faces of a vertex, block by block: each block has those whose least vertex is one vertex.
 use mathlib.Core.Path.{_≡_, refl, sym, ap, _∙_}
-use mathlib.Core.Bool.{Bool, true, false, cond, _&&_}
+use mathlib.Core.Bool.{Bool, true, false, cond, _&&_, _||_}
 use mathlib.Core.List.{List, [], _∷_, _++_, append-assoc, append-nil}
 use mathlib.Core.Logic.{⊎-elim}
 use Prim.Native.Nat.{ℕ, zero, suc, _+_, _*_, _/_, _%_, _≤_, _<_}
 use native.Mathlib.Nat.{mul-add-div-right, mul-add-mod-self-right, mod-eq-of-lt, div-eq-of-lt, add-zero, add-suc, div-lt-iff-lt-mul, mod-lt, eq-or-lt-of-le, le-of-suc-le-suc}
 use native.Mathlib.Omega.{arith}
 use lib.ListN.{length, set}
-use lib.Dec.{eqb}
-use borrow.Author.Tests.{le-ltb}
+use lib.Dec.{ltb, eqb}
+use borrow.Author.Tests.{le-ltb, ltb-true, ne-eqb}
 use Rattle.lists.specs.Lists.{put, joined, filter}
 use Rattle.mesh.specs.Mesh.{Mesh, degree, neighbour, within, lists}
 use Rattle.mesh.specs.Faces.{face, isFace, facesFrom, extractFaces, has}
 use Rattle.mesh.specs.declared.Face.{Face}
-use Rattle.lists.proofs.Counting.{any-none, or-none}
+use Rattle.lists.proofs.Counting.{any-none, or-none, and-no}
 use Rattle.lists.proofs.Written.{filter-append, joined-more, Written, nothing, pushed, chunk}
 use Rattle.search.specs.Cells.{facesOf, flat}
 use Rattle.locator.specs.Internal.{only, wanted, touches, thirds, block}
@@ -93,10 +93,24 @@ pub thirds-are : (l : Mesh) (v i d j : ℕ) → thirds l v i d j ≡ joined d (t
 unfolding thirds
 thirds-are l v i d j = refl
 
+pub no-thirds : (l : Mesh) (v i d j : ℕ) → ((k : ℕ) → wanted l i j k v ≡ false) → thirds l v i d j ≡ []
+unfolding thirds
+no-thirds l v i d j h = joined-none d _ (λ y ly. rw (h (neighbour l i y)))
+
 -- no face has its second vertex at or below its first
-pub no-thirds : (l : Mesh) (v i d j : ℕ) → j ≤ i → thirds l v i d j ≡ []
-unfolding thirds wanted isFace
-no-thirds l v i d j h = joined-none d _ (λ y ly. rw (le-ltb i j h))
+pub not-above : (l : Mesh) (i j k v : ℕ) → j ≤ i → wanted l i j k v ≡ false
+unfolding wanted isFace
+not-above l i j k v h = rw (le-ltb i j h)
+
+-- v is none of the three
+pub unwanted : (l : Mesh) (i j k v : ℕ) → (i ≡ v → ⊥) → (i < j → j ≡ v → ⊥) → (i < j → j < k → k ≡ v → ⊥) → wanted l i j k v ≡ false
+unfolding wanted isFace has
+unwanted l i j k v a b c = by (ltb i j) (ltb j k) refl refl
+  where
+    by : (s t : Bool) → ltb i j ≡ s → ltb j k ≡ t → (s && (t && lists l j k)) && (eqb i v || (eqb j v || eqb k v)) ≡ false
+    by false t p q = refl
+    by true false p q = refl
+    by true true p q = rw (ne-eqb i v a, ne-eqb j v (b (ltb-true i j p)), ne-eqb k v (c (ltb-true i j p) (ltb-true j k q))) (and-no (lists l j k) false refl)
 
 -- the same pair by pair
 abbrev pub piece : Mesh → ℕ → ℕ → ℕ → List Face
@@ -136,6 +150,13 @@ untouched l v i e =
         by : (b : Bool) → cond (b && false) (face i (neighbour l i (q / degree l i)) (neighbour l i (q % degree l i)) ∷ []) [] ≡ []
         by true = refl
         by false = refl
+
+-- nor has one whose least vertex is above v
+pub block-above : (l : Mesh) (v i : ℕ) → v < i → block l v i ≡ []
+block-above l v i h =
+    block-is l v i
+    ∙ joined-none (degree l i * degree l i) (piece l v i)
+    (λ q lq. rw (unwanted l i (neighbour l i (q / degree l i)) (neighbour l i (q % degree l i)) v (λ e. absurd (omega arith)) (λ p e. absurd (omega arith)) (λ p r e. absurd (omega arith))))
 
 pub three : (d : List ℕ) (p i j k : ℕ) → p + 3 ≤ length d → set (set (set d p i) (p + 1) j) (p + 2) k ≡ put d p (i ∷ j ∷ k ∷ [])
 three d p i j k h =

@@ -89,6 +89,9 @@ fn put_third(
     if j <= i {
         return at;
     }
+    if (i < v) & (v < j) {
+        return at;
+    }
     let mut to = at;
     let mut y: u32 = 0;
     while y < c {
@@ -153,7 +156,7 @@ fn next(counts: &[u8], neighbours: &[u16], n: u32, v: u32, from: u32) -> u32
     best
 }
 
-// The faces of v.
+// The faces of v: the least vertex of none is above v.
 fn put_faces_of(
     counts: &[u8],
     neighbours: &[u16],
@@ -169,7 +172,7 @@ fn put_faces_of(
 {
     let mut to = at;
     let mut i = next(counts, neighbours, n, v, 0);
-    while i < n {
+    while i <= v {
         to = put_block(counts, neighbours, n, i, v, out, to);
         i = next(counts, neighbours, n, v, i + 1);
     }
