@@ -66,7 +66,7 @@ static void locator(void) {
 static void reading(void) {
     for (int i = 0; i < 4000; i++) {
         double r = i % 5 - 0.25, omega = i * 0.1, x = i % 7 - 3, y = i % 11 - 5, z = i % 13 - 6.5;
-        sink = icotable_reading(table, file, length, ICOTABLE_LOCATORS(&meshes), r, omega, x, y, z, z, x, y).energy;
+        sink = icotable_reading(&table, file, length, ICOTABLE_LOCATORS(&meshes), r, omega, x, y, z, z, x, y).energy;
     }
 }
 
