@@ -93,7 +93,7 @@ static const operation operations[] = {
     {"settle", set, settle, 88},
     {"write", nothing, write_table, 2},
     {"read", nothing, read_table, 2},
-    {"locator", nothing, locator, 4},
+    {"locator", nothing, locator, 10},
     {"reading", nothing, reading, 2},
     {"root, exp, mul_add, narrow, vertices, cells", nothing, numbers, 2},
 };
