@@ -136,20 +136,36 @@ pub(crate) fn energy_total(kinds: &[u8], levels: &[u8], values: &[u32], n: u64) 
     o
 }
 
-// The energies of one row, narrowed.
+// The first n of some numbers.
+fn put_floats(out: &mut [u8], at: u64, list: &[f32], n: u64)
+    requires { ⌜ (at + n * 4 ≤ length (now out)) × (n ≤ length (now list)) ⌝ }
+    ensures { λ _. ⌜ now (out .exit) ≡ put (now (out .entry)) at (packed (bytesOf 4) (map (toBits binary32) (take n (now (list .entry))))) ⌝ }
+{
+    let mut i: u64 = 0;
+    let mut to = at;
+    while i < n {
+        put_u32(out, to, bits::bits32(list[i as usize]));
+        to += 4;
+        i += 1;
+    }
+}
+
+// The energies of one row, narrowed, in blocks.
 fn put_energies(out: &mut [u8], at: u64, store: &[f64], from: u64, n: u64)
     requires { ⌜ (at + n * 4 ≤ length (now out)) × (from + n ≤ length (now store)) ⌝ }
     ensures { λ _. ⌜ now (out .exit) ≡ put (now (out .entry)) at (packed (bytesOf 4) (map narrowBits (take n (drop from (now (store .entry)))))) ⌝ }
 {
+    let mut block: [f32; 256] = [0.0; 256];
     let mut p = from;
     let mut left = n;
     let mut to = at;
     while 0 < left {
-        let i = p as usize;
-        put_u32(out, to, bits::bits32(ieee::narrow(store[i])));
-        p += 1;
-        to += 4;
-        left -= 1;
+        let k = if left < 256 { left } else { 256 };
+        ieee::narrow_list(&store[p as usize..(p + k) as usize], &mut block);
+        put_floats(out, to, &block, k);
+        p += k;
+        to += 4 * k;
+        left -= k;
     }
 }
 
