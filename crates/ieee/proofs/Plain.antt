@@ -7,8 +7,9 @@ use native.Mathlib.Nat.{mod-lt, suc-ne-zero, le-trans, le-of-eq, lt-of-lt-of-le,
 use native.Mathlib.Omega.{arith}
 use lib.Dec.{T, leb, eqb, lit≤, lit<}
 use lib.Pow.{pow-add, pow-pos, pow-lt, shl-lt}
-use lib.Ieee.{Float, nan, inf, fin, binary32, binary64, up, down, below, level, units, round, hid, ones, top, ofFields, ofBits, toBits, fits, neg, lt, le, eq}
-use lib.Ieee.Fits.{down-pos, nearest-le, round-is}
+use lib.Ieee.{Float, nan, inf, fin, binary32, binary64, up, down, below, level, units, round, hid, ones, top, ofFields, ofBits, toBits, fits, isNan, neg, lt, le, eq}
+use lib.Ieee.Fits.{down-pos, nearest-le, round-is, fits-widens}
+use lib.Ieee.Bits.{ofBits-toBits, toBits-lt}
 use lib.Ieee.Exact.{HasValue, units-val}
 use lib.Ieee.Nearest.{closest, nearest-ge}
 use lib.Ieee.Order.{drop, kept}
@@ -18,7 +19,7 @@ use Rattle.ieee.specs.Narrow.{narrowed}
 use Rattle.ieee.specs.Internal.{plain}
 use Rattle.ieee.proofs.Pack.{le-or-lt, pow-le-back, pow-lt-back, value-bits, other-scale}
 use Rattle.ieee.proofs.Sticky.{closest-lt, closest-eq, closest-gt, cut-law}
-use Rattle.ieee.proofs.Fields.{as-fields, at-low, at-mid, finite-field, narrowed-value}
+use Rattle.ieee.proofs.Fields.{as-fields, at-low, at-mid, finite-field, finite-no-nan, narrowed-value, narrowed-fits, narrowed-number}
 
 -- ---- half a unit less one, and one more where the quotient is odd, carry into the quotient just where it is rounded up
 half-even : (v : ℕ) → (v + 0xfff_ffff + v / 2 ^ 29 % 2) / 2 ^ 29 ≡ closest v (2 ^ 29)
@@ -36,7 +37,7 @@ half-even v = elim (le-or-lt (v % 2 ^ 29 * 2) (2 ^ 29)) [
     stays : (v : ℕ) → v % 2 ^ 29 * 2 < 2 ^ 29 → (v + 0xfff_ffff + v / 2 ^ 29 % 2) / 2 ^ 29 ≡ v / 2 ^ 29
     stays v g = omega arith
 
-abbrev rounded : ℕ → ℕ
+abbrev pub rounded : ℕ → ℕ
 rounded b = (b + 0xfff_ffff + b / 2 ^ 29 % 2) / 2 ^ 29 * 2 ^ 29
 
 -- sign and exponent stand above the digits, and are even
@@ -170,7 +171,7 @@ by-field x s e t small v most least =
     let E : e ≡ e - 896 + 896 = omega arith in
     narrowed-bits x s m (e - 896) (subst (λ (k : ℕ). HasValue x s (m * 2 ^ k) (2 ^ 1074)) E v) (omega arith) (λ _. omega arith) (omega arith) (omega arith)
 
-pub plain-bits : (x : Float) → T (fits binary64 x) → plain x ≡ true → rounded (toBits binary64 x) ≡ toBits binary64 (narrowed x)
+plain-bits : (x : Float) → T (fits binary64 x) → plain x ≡ true → rounded (toBits binary64 x) ≡ toBits binary64 (narrowed x)
 unfolding plain
 plain-bits x f p =
     let most = ofBits binary64 0x47E0_0000_0000_0000 in
@@ -198,3 +199,23 @@ plain-bits x f p =
         let back : suc e - 1 ≡ e = omega arith in
         let v : HasValue x s z (2 ^ 1074) = subst (λ (y : Float). HasValue y s z (2 ^ 1074)) (sym is) (rw back at (at-mid binary64 s (suc e) t (suc-ne-zero e) n)) in
         elim d [ inl g ↦ by-field x s e t small v (under-most x s z v a c) (over-least x s z v g) | inr g ↦ zero-bits x s z v (no-size x s z v g) ]
+
+pub plain-finite : (x : Float) → plain x ≡ true → finite x ≡ true
+unfolding plain
+plain-finite x p =
+    let most = ofBits binary64 0x47E0_0000_0000_0000 in
+    let w = and-eq-true-iff (lt x most) (lt (neg most) x) .0 (and-eq-true-iff (lt x most && lt (neg most) x) _ .0 p .0) in
+    within x (w .0) (w .1)
+
+-- there is room above the pattern for what is added
+pub plain-room : (x : Float) → T (fits binary64 x) → plain x ≡ true → toBits binary64 x + 2 ^ 52 ≤ 2 ^ 64
+plain-room x f p = room (toBits binary64 x) (toBits-lt binary64 x f) (finite-field binary64 x f (plain-finite x p))
+  where
+    room : (b : ℕ) → b < 2 ^ 64 → (b % 2 ^ 63 / 2 ^ 52 ≡ 2047 → ⊥) → b + 2 ^ 52 ≤ 2 ^ 64
+    room b l n = omega arith
+
+pub plain-narrowed : (x : Float) → T (fits binary64 x) → plain x ≡ true → ofBits binary64 (rounded (toBits binary64 x)) ≡ narrowed x
+plain-narrowed x f p = ap (ofBits binary64) (plain-bits x f p) ∙ ofBits-toBits binary64 (narrowed x) (fits-widens (narrowed x) (narrowed-fits x))
+
+pub plain-number : (x : Float) → plain x ≡ true → T (not (isNan (narrowed x)))
+plain-number x p = subst (λ (t : Bool). T (not t)) (sym (narrowed-number x)) (finite-no-nan x (plain-finite x p))
