@@ -1,12 +1,13 @@
 -- A turn of a loop over a list, and its end. Assumes nothing.
 use mathlib.Core.Path.{_≡_, sym, _∙_}
-use mathlib.Core.Bool.{Bool, true, false, _&&_, and-true, and-assoc, and-eq-true-iff}
+use mathlib.Core.Bool.{Bool, true, false, not, _&&_, and-true, and-assoc, and-eq-true-iff}
 use mathlib.Core.List.{List, [], _∷_, map, map-append, append-assoc}
-use Prim.Native.Nat.{ℕ, zero, suc, _+_, _-_, _≤_, _<_}
+use Prim.Native.Nat.{ℕ, zero, suc, _+_, _-_, _≤_, _<_, min}
 use native.Mathlib.Numerals.{add-one}
 use native.Mathlib.Omega.{arith}
+use lib.Dec.{T, leb, leb→le, nleb→lt}
 use lib.ListN.{length, take, drop, getD, set, replicate, length-map, length-drop, drop-of-length-le, length-replicate, replicate-append-replicate}
-use lib.Seq.{drop-cons, paste, paste-suc, take-suc, take-length, length-take-le}
+use lib.Seq.{drop-cons, paste, paste-suc, take-suc, take-all, take-length, length-take-le}
 use Rattle.lists.specs.Lists.{every, put, forEach}
 use Rattle.lists.proofs.Written.{put-push}
 
@@ -75,3 +76,11 @@ part-length l at k h =
 
 pub part-is : {A : Type 0} (l : List A) (at k : ℕ) → take (at + k - at) (drop at l) ≡ take k (drop at l)
 part-is l at k = let e : at + k - at ≡ k = omega arith in rw e
+
+-- the first entries of a list, as many as there is room for
+pub part-least : {A : Type 0} (l : List A) (k n : ℕ) → n ≡ min (length l) k → take (n - 0) (drop 0 l) ≡ take k l
+part-least l k n e = by (leb k (length l)) (leb→le k (length l)) (nleb→lt k (length l))
+  where
+    by : (b : Bool) → (T b → k ≤ length l) → (T (not b) → length l < k) → take (n - 0) (drop 0 l) ≡ take k l
+    by true h g = let m : n - 0 ≡ k = omega (arith, e, h tt) in rw m
+    by false h g = take-all (n - 0) l (omega (arith, e, g tt)) ∙ sym (take-all k l (omega (arith, g tt)))
