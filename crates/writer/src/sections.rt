@@ -1,9 +1,9 @@
 // The bytes of each section of a table file.
 ghost use mathlib.Core.Path.{_≡_};
 ghost use mathlib.Core.List.{[], _∷_, map};
-ghost use Prim.Native.Nat.{_+_, _*_, _≤_};
+ghost use Prim.Native.Nat.{_+_, _*_, _≤_, min};
 ghost use lib.ListN.{length, take, drop};
-ghost use lib.Ieee.{binary64, toBits};
+ghost use lib.Ieee.{binary32, binary64, toBits};
 ghost use Rattle.lists.specs.Lists.{put, below};
 ghost use Rattle.mesh.specs.Levels.{vertexCount};
 ghost use Rattle.rows.specs.Rows.{narrowBits, rowsOf};
@@ -141,16 +141,36 @@ fn put_floats(out: &mut [u8], at: u64, list: &[f32], n: u64)
     requires { ⌜ (at + n * 4 ≤ length (now out)) × (n ≤ length (now list)) ⌝ }
     ensures { λ _. ⌜ now (out .exit) ≡ put (now (out .entry)) at (packed (bytesOf 4) (map (toBits binary32) (take n (now (list .entry))))) ⌝ }
 {
-    let mut i: u64 = 0;
+    let mut p: u64 = 0;
+    let mut left = n;
     let mut to = at;
-    while i < n {
-        put_u32(out, to, bits::bits32(list[i as usize]));
+    while 0 < left {
+        let i = p as usize;
+        put_u32(out, to, bits::bits32(list[i]));
+        p += 1;
         to += 4;
-        i += 1;
+        left -= 1;
     }
 }
 
-// The energies of one row, narrowed, in blocks.
+// Energies that the block has room for, narrowed.
+fn put_block(out: &mut [u8], at: u64, store: &[f64], from: u64, n: u64, block: &mut [f32])
+    requires { ⌜ (at + n * 4 ≤ length (now out)) × (from + n ≤ length (now store)) × (n ≤ length (now block)) ⌝ }
+    ensures { λ _. ⌜ now (out .exit) ≡ put (now (out .entry)) at (packed (bytesOf 4) (map narrowBits (take n (drop from (now (store .entry)))))) ⌝ }
+{
+    let start = from as usize;
+    let end = (from + n) as usize;
+    ieee::narrow_list(&store[start..end], block);
+    put_floats(out, at, block, n);
+}
+
+fn block_size(left: u64) -> u64
+    ensures { λ r. ⌜ r ≡ min left 256 ⌝ }
+{
+    if left < 256 { left } else { 256 }
+}
+
+// The energies of one row, narrowed, a block at a time.
 fn put_energies(out: &mut [u8], at: u64, store: &[f64], from: u64, n: u64)
     requires { ⌜ (at + n * 4 ≤ length (now out)) × (from + n ≤ length (now store)) ⌝ }
     ensures { λ _. ⌜ now (out .exit) ≡ put (now (out .entry)) at (packed (bytesOf 4) (map narrowBits (take n (drop from (now (store .entry)))))) ⌝ }
@@ -160,9 +180,8 @@ fn put_energies(out: &mut [u8], at: u64, store: &[f64], from: u64, n: u64)
     let mut left = n;
     let mut to = at;
     while 0 < left {
-        let k = if left < 256 { left } else { 256 };
-        ieee::narrow_list(&store[p as usize..(p + k) as usize], &mut block);
-        put_floats(out, to, &block, k);
+        let k = block_size(left);
+        put_block(out, to, store, p, k, &mut block);
         p += k;
         to += 4 * k;
         left -= k;

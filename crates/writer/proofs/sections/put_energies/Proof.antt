@@ -1,68 +1,79 @@
--- `put_energies` meets its contract. Assumes nothing.
-use mathlib.Core.Path.{_∙_}
-use mathlib.Core.List.{map}
-use Prim.Native.Nat.{_+_, _*_, _≤_}
-use native.Mathlib.Omega.{arith}
-use lib.ListN.{getD, length, take, drop}
-use lib.Ieee.{nan}
-use borrow.Author.Needs.{needs}
-use Rattle.rows.specs.Rows.{narrowBits}
-use Rattle.table.specs.Bytes.{bytesOf, packed}
-use Rattle.writer.proofs.Puts.{Left, begun, step, ended}
-use Rattle.table.proofs.Lengths.{bytes-length}
-use Rattle.writer.proofs.Filed.{taken-bytes, taken-turn, taken-end}
 use Rattle.writer.proofs.sections.put_energies.Statement.{statement}
 use Rattle.writer.proofs.sections.put_energies.Tie as tie
+use Rattle.writer.proofs.sections.put_energies.Reads as reads
+use Rattle.writer.proofs.sections.put_energies.Lts as lts
+use Rattle.writer.proofs.sections.block_size.Reads as block-size-reads
+use Rattle.writer.proofs.sections.put_block.Reads as put-block-reads
 
 abbrev Inv-loop : tie.InvT-loop
-Inv-loop out₀ at store from n p₀ left₀ to₀ out p left to = (to + left * 4 ≤ length out₀) × (p + left ≤ length store) × Left out₀ at (packed (bytesOf 4) (map narrowBits (take n (drop from store)))) out to (packed (bytesOf 4) (map narrowBits (take left (drop p store))))
+Inv-loop out₀ at store from n block₀ p₀ left₀ to₀ out block p left to = ?
 
 abbrev μ-loop : tie.MeasureT-loop
-μ-loop out₀ at store from n p₀ left₀ to₀ out p left to = left
+μ-loop out₀ at store from n block₀ p₀ left₀ to₀ out block p left to = ?
 
+-- src/sections.rt:182:5
 loop-holds : tie.Need-loop-holds Inv-loop μ-loop
-loop-holds c =
-    let s = c .before .before in
-    (s .pre .0, s .pre .1, begun (s .args .out .now) (s .args .at) _ (omega (arith, s .pre .0, taken-bytes (s .args .store .now) (s .args .from) (s .args .n) (s .pre .1))))
+loop-holds c = ?
 
-shared-slice-read-narrow : tie.Need-shared-slice-read-narrow Inv-loop μ-loop
-shared-slice-read-narrow c = omega arith
+-- src/sections.rt:183:13
+block-size-requires : tie.Need-block-size-requires Inv-loop μ-loop
+block-size-requires c κs = ?
 
-put-u32-requires : tie.Need-put-u32-requires Inv-loop μ-loop
-put-u32-requires c κs = let l = c .before .before .before .before .before in omega (arith, l .loop .inv .2 .size)
+-- src/sections.rt:184:41
+slice-aggregate-put-block : tie.Need-slice-aggregate-put-block Inv-loop μ-loop
+slice-aggregate-put-block c = ?
 
+-- src/sections.rt:184:9
+put-block-requires : tie.Need-put-block-requires Inv-loop μ-loop
+put-block-requires c κs = ?
+
+-- src/sections.rt:185:9
 add-p : tie.Need-add-p Inv-loop μ-loop
-add-p c = omega arith
+add-p c = ?
 
+-- src/sections.rt:186:15
+mul-to : tie.Need-mul-to Inv-loop μ-loop
+mul-to c = ?
+
+-- src/sections.rt:186:9
 add-to : tie.Need-add-to Inv-loop μ-loop
-add-to c = omega arith
+add-to c = ?
 
+-- src/sections.rt:187:9
 sub-left : tie.Need-sub-left Inv-loop μ-loop
-sub-left c = omega arith
+sub-left c = ?
 
+-- src/sections.rt:182:5
 loop-less : tie.Need-loop-less Inv-loop μ-loop
-loop-less c = omega arith
+loop-less c = ?
 
+-- src/sections.rt:182:5
 loop-again : tie.Need-loop-again Inv-loop μ-loop
-loop-again c =
-    let l = c .before .before .before .before .before .before .before .before in
-    let store = l .before .before .before .args .store .now in
-    let x = narrowBits (getD store (l .loop .p) nan) in (
-      omega arith,
-      omega arith,
-      step (l .loop .inv .2) (bytesOf 4 x) _ _ _ (taken-turn store (l .loop .p) (l .loop .left) (omega arith) (omega arith))
-          (c .before .before .put-u32 .ensures ∙ rw (c .before .before .before .bits32 .ensures, c .before .before .before .before .narrow .ensures)) (omega (arith, bytes-length 4 x)),
-    )
+loop-again c = ?
 
+-- src/sections.rt:174:1
 same-length : tie.Need-same-length Inv-loop μ-loop
-same-length c = c .before .loop .inv .2 .size
+same-length c = ?
 
+-- src/sections.rt:174:1
 returns : tie.Need-returns Inv-loop μ-loop
-returns c =
-    let l = c .before in
-    ended (l .loop .inv .2) (taken-end (l .before .before .before .args .store .now) (l .loop .p) (l .loop .left) (omega arith))
+returns c = ?
 
 pub put-energies-spec : {M : Type 1} → statement M
 put-energies-spec =
     tie.close
-    (tie.spec Inv-loop μ-loop loop-holds (λ c. search needs) shared-slice-read-narrow (λ c κs. search needs) (λ c κs. search needs) put-u32-requires add-p add-to sub-left loop-less loop-again same-length returns)
+    (tie.spec
+    Inv-loop
+    μ-loop
+    loop-holds
+    block-size-requires
+    slice-aggregate-put-block
+    put-block-requires
+    add-p
+    mul-to
+    add-to
+    sub-left
+    loop-less
+    loop-again
+    same-length
+    returns)
