@@ -1,14 +1,16 @@
 -- The sections of a file, row by row and energy by energy. Assumes nothing.
 use mathlib.Core.Path.{_≡_, refl, ap, _∙_}
-use mathlib.Core.List.{List, [], _∷_, _++_, map, append-nil, map-append}
+use mathlib.Core.List.{List, [], _∷_, _++_, map, append-nil, map-append, map-map}
 use Prim.Native.Nat.{ℕ, zero, suc, _+_, _-_, _*_, _≤_, _<_}
 use native.Mathlib.Nat.{suc-mul, mod-eq-of-lt}
 use native.Mathlib.Numerals.{add-one}
 use native.Mathlib.Omega.{arith}
 use lib.ListN.{length, getD, take, drop, length-append, length-map, length-drop}
-use lib.Seq.{drop-cons, drop-drop, take-add, length-take-le}
-use lib.Ieee.{Float, nan}
+use lib.Seq.{drop-cons, drop-drop, take-add, take-all, take-at, length-take-le}
+use lib.Ieee.{Float, binary32, nan, toBits}
 use Rattle.lists.specs.Lists.{below, put}
+use Rattle.lists.proofs.Loops.{part-is}
+use Rattle.ieee.specs.Narrow.{narrowed}
 use Rattle.mesh.specs.Levels.{vertexCount}
 use Rattle.rows.specs.declared.SlabResolution.{SlabResolution}
 use Rattle.rows.specs.Rows.{Rows, resolutionAt, narrowBits}
@@ -126,6 +128,17 @@ module _ (g : Float → ℕ) (store : List Float) (p k : ℕ) where
   pub taken-end : k ≤ 0 → packed (bytesOf 4) (map g (take k (drop p store))) ≡ []
   unfolding packed
   taken-end h = let e : k ≡ 0 = omega arith in rw e
+
+-- the bits of what was narrowed into a block
+pub block-bits : (store block b : List Float) (p n : ℕ) → p + n ≤ length store → n ≤ length block → b ≡ put block 0 (map narrowed (take (length block) (take (p + n - p) (drop p store))))
+    → map (toBits binary32) (take n b) ≡ map narrowBits (take n (drop p store))
+unfolding put
+block-bits store block b p n h g e =
+    let l = take n (drop p store) in
+    let s : length l ≡ n = length-take-le n (drop p store) (omega (arith, length-drop p store)) in
+    let a : take (length block) (take (p + n - p) (drop p store)) ≡ l = ap (take (length block)) (part-is store p n) ∙ take-all (length block) l (omega (arith, s)) in
+    ap (λ (y : List Float). map (toBits binary32) (take n y)) e
+    ∙ rw a (ap (map (toBits binary32)) (take-at (map narrowed l) (drop (0 + length (map narrowed l)) block) n (length-map l narrowed ∙ s)) ∙ map-map (toBits binary32) narrowed l)
 
 -- as many energies as the rows hold, where they are inside the store
 pub energies-length : (z : ℕ) (store : List Float) (p : ℕ) (xs : List SlabResolution) → Bounded z xs → p + length xs * z ≤ length store → length (energiesFor z store p xs) ≡ total xs

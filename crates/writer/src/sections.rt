@@ -170,22 +170,30 @@ fn block_size(left: u64) -> u64
     if left < 256 { left } else { 256 }
 }
 
-// The energies of one row, narrowed, a block at a time.
-fn put_energies(out: &mut [u8], at: u64, store: &[f64], from: u64, n: u64)
-    requires { ⌜ (at + n * 4 ≤ length (now out)) × (from + n ≤ length (now store)) ⌝ }
+// A block at a time.
+fn put_blocks(out: &mut [u8], at: u64, store: &[f64], from: u64, n: u64, block: &mut [f32])
+    requires { ⌜ (at + n * 4 ≤ length (now out)) × (from + n ≤ length (now store)) × (256 ≤ length (now block)) ⌝ }
     ensures { λ _. ⌜ now (out .exit) ≡ put (now (out .entry)) at (packed (bytesOf 4) (map narrowBits (take n (drop from (now (store .entry)))))) ⌝ }
 {
-    let mut block: [f32; 256] = [0.0; 256];
     let mut p = from;
     let mut left = n;
     let mut to = at;
     while 0 < left {
         let k = block_size(left);
-        put_block(out, to, store, p, k, &mut block);
+        put_block(out, to, store, p, k, block);
         p += k;
         to += 4 * k;
         left -= k;
     }
+}
+
+// The energies of one row, narrowed.
+fn put_energies(out: &mut [u8], at: u64, store: &[f64], from: u64, n: u64)
+    requires { ⌜ (at + n * 4 ≤ length (now out)) × (from + n ≤ length (now store)) ⌝ }
+    ensures { λ _. ⌜ now (out .exit) ≡ put (now (out .entry)) at (packed (bytesOf 4) (map narrowBits (take n (drop from (now (store .entry)))))) ⌝ }
+{
+    let mut block: [f32; 256] = [0.0; 256];
+    put_blocks(out, at, store, from, n, &mut block);
 }
 
 // The energies of all rows, in row order; slabs are z places apart in the store.

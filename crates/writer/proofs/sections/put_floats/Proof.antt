@@ -22,13 +22,13 @@ abbrev μ-loop : tie.MeasureT-loop
 loop-holds : tie.Need-loop-holds Inv-loop μ-loop
 loop-holds c =
     let s = c .before .before in
-    (s .pre .0, s .pre .1, begun (s .args .out .now) (s .args .at) _ (omega (arith, s .pre .0, taken-bytes (toBits binary32) (s .args .list .now) 0 (s .args .n) (s .pre .1))))
+    (s .pre .0, omega (arith, s .pre .1), begun (s .args .out .now) (s .args .at) _ (omega (arith, s .pre .0, taken-bytes (toBits binary32) (s .args .list .now) 0 (s .args .n) (omega (arith, s .pre .1)))))
 
 shared-slice-read-bits32 : tie.Need-shared-slice-read-bits32 Inv-loop μ-loop
 shared-slice-read-bits32 c = omega arith
 
 put-u32-requires : tie.Need-put-u32-requires Inv-loop μ-loop
-put-u32-requires c κs = let l = c .before .before .before .before .before in omega (arith, l .loop .inv .2 .size)
+put-u32-requires c κs = let l = c .before .before .before .before in omega (arith, l .loop .inv .2 .size)
 
 add-p : tie.Need-add-p Inv-loop μ-loop
 add-p c = omega arith
@@ -44,7 +44,7 @@ loop-less c = omega arith
 
 loop-again : tie.Need-loop-again Inv-loop μ-loop
 loop-again c =
-    let l = c .before .before .before .before .before .before .before .before in
+    let l = c .before .before .before .before .before .before .before in
     let list = l .before .before .before .args .list .now in
     let x = toBits binary32 (getD list (l .loop .p) nan) in (
       omega arith,
