@@ -11,3 +11,4 @@ pub mod OddRoot
 pub mod RootSteps
 pub mod Meaning
 pub mod NextToOne
+pub mod Plain

@@ -11,6 +11,7 @@ use lib.Seq.{take-at, take-suc, take-take, getD-take, length-take-le}
 use lib.Dec.{leb, ltb}
 use lib.Ieee.{Float}
 use borrow.Author.Tests.{le-leb, lt-leb, leb-true, leb-false, lt-ltb, ltb-true}
+use Rattle.lists.proofs.Loops.{every-at}
 use Rattle.lists.specs.Lists.{filter, below, every, put}
 use Rattle.lists.proofs.Written.{Written, pushed, filter-append}
 use Rattle.search.specs.Cells.{cell}
@@ -49,13 +50,6 @@ module _ {A : Type 0} where
       let e : filter p (take n l) ≡ filter p (take k l) ++ filter p (drop k (take n l)) =
       ap (filter p) (sym (take-append-drop k (take n l))) ∙ filter-append p (take k (take n l)) (drop k (take n l)) ∙ rw (take-take k n l h) in
       omega (arith, ap length e, length-append (filter p (take k l)) (filter p (drop k (take n l))))
-
-  -- what holds of every entry holds of one
-  pub every-at : (q : A → Bool) (l : List A) (k : ℕ) (z : A) → every q l ≡ true → k < length l → q (getD l k z) ≡ true
-  unfolding every
-  every-at q [] k z e h = absurd (omega arith)
-  every-at q (x ∷ l) zero z e h = and-eq-true-iff (q x) (every q l) .0 e .0
-  every-at q (x ∷ l) (suc k) z e h = every-at q l k z (and-eq-true-iff (q x) (every q l) .0 e .1) (omega arith)
 
 pub entry-below : (m held : ℕ) (row : List ℕ) (k : ℕ) → every (λ v. ltb v m) (take held row) ≡ true → held ≤ length row → k < held → getD row k 0 < m
 entry-below m held row k e h l =

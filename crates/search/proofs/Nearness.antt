@@ -21,7 +21,7 @@ use Rattle.float.specs.Order.{ordered}
 use Rattle.lists.specs.Lists.{every}
 use Rattle.search.specs.Geometry.{plus, times, dot, difference, vertexAt}
 use Rattle.search.specs.Search.{squared, notNearest, nearer, nearestFrom, vertexInside}
-use Rattle.search.specs.Internal.{nearestOver, plain, Measured, limitOf}
+use Rattle.search.specs.Internal.{nearestOver, clearSign, Measured, limitOf}
 use Rattle.search.proofs.Laws.{nearest-turn, nearest-stop}
 use Rattle.search.specs.declared.Vector3.{Vector3}
 use Rattle.search.specs.declared.Nearest.{Nearest}
@@ -63,22 +63,22 @@ distance-fits : (v : Vector3) → T (fits binary64 (dot v v))
 unfolding dot
 distance-fits v = add-fits binary64 (plus (times (v .x) (v .x)) (times (v .y) (v .y))) (times (v .z) (v .z))
 
-plain-clear : (x : Float) → T (plain x) → T (clear x)
-plain-clear nan p = absurd p
-plain-clear (inf s) p = p
-plain-clear (fin s m e) p = p
+clear-of : (x : Float) → T (clearSign x) → T (clear x)
+clear-of nan p = absurd p
+clear-of (inf s) p = p
+clear-of (fin s m e) p = p
 
-plain-number : (x : Float) → T (plain x) → T (not (isNan x))
+number-of : (x : Float) → T (clearSign x) → T (not (isNan x))
 unfolding isNan
-plain-number nan p = absurd p
-plain-number (inf s) p = tt
-plain-number (fin s m e) p = tt
+number-of nan p = absurd p
+number-of (inf s) p = tt
+number-of (fin s m e) p = tt
 
-clear-plain : (x : Float) → T (clear x) → T (not (isNan x)) → T (plain x)
+of-clear : (x : Float) → T (clear x) → T (not (isNan x)) → T (clearSign x)
 unfolding isNan
-clear-plain nan p q = absurd q
-clear-plain (inf s) p q = p
-clear-plain (fin s m e) p q = p
+of-clear nan p q = absurd q
+of-clear (inf s) p q = p
+of-clear (fin s m e) p q = p
 
 -- ---- the nearer of two
 module _ (vs : List Float) (p : Vector3) (best : Nearest) (v : ℕ) where
@@ -97,11 +97,11 @@ module _ (vs : List Float) (p : Vector3) (best : Nearest) (v : ℕ) where
   d-fits = distance-fits (difference p (vertexAt vs v))
 
   measured-next : T (not (isNan d)) → Measured next
-  measured-next h = (refl, d-fits, clear-plain d d-clear h)
+  measured-next h = (refl, d-fits, of-clear d d-clear h)
 
   module _ (m : Measured best) where
     by-order : ordered (best .distance) d ≡ not (lt d (best .distance))
-    by-order = ordered-clear (best .distance) d (m .1) d-fits (plain-clear (best .distance) (m .2)) d-clear (plain-number (best .distance) (m .2))
+    by-order = ordered-clear (best .distance) d (m .1) d-fits (clear-of (best .distance) (m .2)) d-clear (number-of (best .distance) (m .2))
 
     pub closer-yes : lt d (best .distance) ≡ true → next ≡ nearer vs p best v
     unfolding nearer

@@ -18,6 +18,7 @@ use Rattle.ieee.proofs.Fields.{less-no-nan, more-no-nan}
 use Rattle.ieee.specs.Fused.{fused}
 use Rattle.float.proofs.Order.{lt-trans, lt-asym, le-not}
 use Rattle.float.specs.Order.{smaller, farther}
+use Rattle.lists.proofs.Loops.{every-at}
 use Rattle.lists.specs.Lists.{every}
 use Rattle.mesh.specs.Faces.{face}
 use Rattle.mesh.specs.declared.Face.{Face}
@@ -364,12 +365,6 @@ module _ (vs : List Float) (n : ℕ) (p : Vector3) (l : List ℕ) where
   sift-end w i h = rw (drop-of-length-le l h)
 
 -- ---- what one pass tells
-every-at : (q : ℕ → Bool) (l : List ℕ) (j : ℕ) → every q l ≡ true → j < length l → q (getD l j 0) ≡ true
-unfolding every
-every-at q [] j h k = absurd (omega (arith, k))
-every-at q (x ∷ l) zero h k = and-eq-true-iff (q x) (every q l) .0 h .0
-every-at q (x ∷ l) (suc j) h k = every-at q l j (and-eq-true-iff (q x) (every q l) .0 h .1) (omega (arith, k))
-
 -- the pass ended with none or one
 module _ (vs : List Float) (n : ℕ) (p : Vector3) (l : List ℕ) (w : Within) (e : w ≡ siftOver vs (limitOf n (length vs)) p 0 (record { count = 0; at = 0 }) l) (few : w .count ≤ 1) where
   abbrev limit : ℕ
@@ -394,7 +389,7 @@ module _ (vs : List Float) (n : ℕ) (p : Vector3) (l : List ℕ) (w : Within) (
 
   pub told-inside : (j : ℕ) → j < length l → 3 * getD l j 0 + 3 ≤ length vs
   unfolding vertexInside
-  told-inside j h = let v = getD l j 0 in leb-true (3 * v + 3) (length vs) (and-eq-true-iff (ltb v limit) (leb (3 * v + 3) (length vs)) .0 (every-at (vertexInside vs limit) l j (ended .0) h) .1)
+  told-inside j h = let v = getD l j 0 in leb-true (3 * v + 3) (length vs) (and-eq-true-iff (ltb v limit) (leb (3 * v + 3) (length vs)) .0 (every-at (vertexInside vs limit) l j 0 (ended .0) h) .1)
 
   abbrev f : Face
   f = faceAt vs p l (w .at)

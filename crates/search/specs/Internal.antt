@@ -39,14 +39,14 @@ unfoldable pub nearestOver : List Float → ℕ → Vector3 → Nearest → List
 nearestOver vs n p best l = cond (every (vertexInside vs n) l) (nearestFrom vs p best l) (notNearest 19)
 
 -- neither a NaN nor a number whose sign is set
-abbrev pub plain : Float → Bool
-plain nan = false
-plain (inf s) = not s
-plain (fin s m e) = not s
+abbrev pub clearSign : Float → Bool
+clearSign nan = false
+clearSign (inf s) = not s
+clearSign (fin s m e) = not s
 
--- a nearest vertex whose distance can be compared with others by their plain order
+-- a nearest vertex whose distance can be compared with others by their clearSign order
 abbrev pub Measured : Nearest → Type 0
-Measured b = (b .number ≡ 0) × T (fits binary64 (b .distance)) × T (plain (b .distance))
+Measured b = (b .number ≡ 0) × T (fits binary64 (b .distance)) × T (clearSign (b .distance))
 
 -- how many of n vertices have their three coordinates among this many places
 abbrev pub limitOf : ℕ → ℕ → ℕ
@@ -73,7 +73,7 @@ sidesOf p a b c =
       d6 = dot ac (difference p c);
     }
 
--- plain products, each rounded, put p past an edge or a corner
+-- clearSign products, each rounded, put p past an edge or a corner
 unfoldable pub past : Sides → Bool
 past s =
     let atA = le (s .d1) zero && le (s .d2) zero in
