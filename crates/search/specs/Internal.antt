@@ -44,7 +44,7 @@ clearSign nan = false
 clearSign (inf s) = not s
 clearSign (fin s m e) = not s
 
--- a nearest vertex whose distance can be compared with others by their clearSign order
+-- a nearest vertex whose distance can be compared with others by their plain order
 abbrev pub Measured : Nearest → Type 0
 Measured b = (b .number ≡ 0) × T (fits binary64 (b .distance)) × T (clearSign (b .distance))
 
@@ -73,7 +73,7 @@ sidesOf p a b c =
       d6 = dot ac (difference p c);
     }
 
--- clearSign products, each rounded, put p past an edge or a corner
+-- plain products, each rounded, put p past an edge or a corner
 unfoldable pub past : Sides → Bool
 past s =
     let atA = le (s .d1) zero && le (s .d2) zero in
