@@ -1,5 +1,5 @@
 -- Fresh, set and settle: what each answers, and what it leaves in the lent lists. Definitions only.
-use mathlib.Core.Bool.{true, cond}
+use mathlib.Core.Bool.{Bool, true, not, cond}
 use mathlib.Core.List.{List, [], _∷_}
 use Prim.Native.Nat.{ℕ, suc, _*_}
 use lib.ListN.{replicate}
@@ -33,6 +33,11 @@ abbrev pub builtValues : Builder → Built → BuiltValues
 builtValues kept (Builds b) = record { number = 0; builder = b }
 builtValues kept (NotBuilt n) = record { number = n; builder = kept }
 
+-- a refusal has a number: 0 is acceptance alone
+abbrev pub builtNumbered : Built → Bool
+builtNumbered (Builds b) = true
+builtNumbered (NotBuilt n) = not (eqb n 0)
+
 -- "settle returns the largest gradient"; beside a number that refuses stands 0
 pub record SettledValues : Type 0 where
   pub number : ℕ
@@ -42,6 +47,10 @@ pub record SettledValues : Type 0 where
 abbrev pub settledValues : Builder → Settled → SettledValues
 settledValues kept (Settles b x) = record { number = 0; gradient = x; builder = b }
 settledValues kept (NotSettled n) = record { number = n; gradient = zero; builder = kept }
+
+abbrev pub settledNumbered : Settled → Bool
+settledNumbered (Settles b x) = true
+settledNumbered (NotSettled n) = not (eqb n 0)
 
 -- what stands for a builder where fresh is refused
 abbrev pub noBuilder : Builder

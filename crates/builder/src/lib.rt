@@ -1,8 +1,9 @@
 // The builder of a table, by value; its store, rows and meshes are lent.
 ghost use mathlib.Core.Path.{_≡_};
+ghost use mathlib.Core.Bool.{true};
 ghost use Rattle.mesh.specs.Mesh.{meshOf};
 ghost use Rattle.builder.specs.BuilderLists.{listsOf};
-ghost use Rattle.builder.specs.Calls.{BuiltOut, SettleOut, builtValues, settledValues, noBuilder, freshBuilder, freshOut, setOut, settleOut};
+ghost use Rattle.builder.specs.Calls.{BuiltOut, SettleOut, builtValues, builtNumbered, settledValues, settledNumbered, noBuilder, freshBuilder, freshOut, setOut, settleOut};
 use grid::Grid;
 use rows::SlabResolution;
 
@@ -55,14 +56,14 @@ pub fn fresh(
     neighbours: &[u16],
     angles: &[f64],
 ) -> Built
-    ensures { λ r. ⌜ _≡_ {A = BuiltOut}
+    ensures { λ r. ⌜ (builtNumbered r ≡ true) × _≡_ {A = BuiltOut}
         (record { answer = builtValues noBuilder r; lists = listsOf (now (store .exit)) (now (kinds .exit)) (now (levels .exit)) (now (values .exit)) })
         (freshOut g top (meshOf (now (vertices .entry)) (now (counts .entry)) (now (neighbours .entry)) (now (angles .entry)))
         (listsOf (now (store .entry)) (now (kinds .entry)) (now (levels .entry)) (now (values .entry)))) ⌝ }
 {
-    let b = fresh_builder(g, top);
+    let made = fresh_builder(g, top);
     let no = questions::meshed_refusal(
-        b,
+        made,
         store.len() as u64,
         kinds.len() as u64,
         levels.len() as u64,
@@ -75,13 +76,13 @@ pub fn fresh(
     if no != 0 {
         return Built::Refused(no);
     }
-    let n_r = b.grid.n_r;
-    let n_omega = b.grid.n_omega;
-    let most = b.top;
+    let n_r = made.grid.n_r;
+    let n_omega = made.grid.n_omega;
+    let most = made.top;
     let n = n_r * n_omega;
     copies::clear_store(store, (n * mesh::per_level(most as u8)) as usize);
     copies::clear_rows(kinds, levels, values, n as usize);
-    Built::Accepted(b)
+    Built::Accepted(made)
 }
 
 // Gives a slab its energies, which are those of the current level.
@@ -95,7 +96,7 @@ pub fn set(
     oi: u64,
     energies: &[f64],
 ) -> Built
-    ensures { λ r. ⌜ _≡_ {A = BuiltOut}
+    ensures { λ r. ⌜ (builtNumbered r ≡ true) × _≡_ {A = BuiltOut}
         (record { answer = builtValues b r; lists = listsOf (now (store .exit)) (now (kinds .exit)) (now (levels .exit)) (now (values .exit)) })
         (setOut b (listsOf (now (store .entry)) (now (kinds .entry)) (now (levels .entry)) (now (values .entry))) ri oi (now (energies .entry))) ⌝ }
 {
@@ -140,7 +141,7 @@ pub fn settle(
     angles: &[f64],
     ri: u64,
 ) -> Settled
-    ensures { λ r. ⌜ _≡_ {A = SettleOut}
+    ensures { λ r. ⌜ (settledNumbered r ≡ true) × _≡_ {A = SettleOut}
         (record { answer = settledValues b r; lists = listsOf (now (store .entry)) (now (kinds .exit)) (now (levels .exit)) (now (values .exit)) })
         (settleOut b (meshOf (now (vertices .entry)) (now (counts .entry)) (now (neighbours .entry)) (now (angles .entry)))
         (listsOf (now (store .entry)) (now (kinds .entry)) (now (levels .entry)) (now (values .entry))) ri) ⌝ }

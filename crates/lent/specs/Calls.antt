@@ -1,6 +1,8 @@
 -- Set and settle with the builder lent: what each answers and leaves. Definitions only.
+use mathlib.Core.Bool.{Bool, true, not}
 use mathlib.Core.List.{List}
 use Prim.Native.Nat.{ℕ}
+use lib.Dec.{eqb}
 use lib.Ieee.{Float}
 use Rattle.mesh.specs.Mesh.{Mesh}
 use Rattle.settling.specs.Gradient.{zero}
@@ -18,6 +20,11 @@ pub record LentValues : Type 0 where
 abbrev pub lentValues : LentSettled → LentValues
 lentValues (Accepted x) = record { number = 0; gradient = x }
 lentValues (Refused n) = record { number = n; gradient = zero }
+
+-- a refusal has a number: 0 is acceptance alone
+abbrev pub lentNumbered : LentSettled → Bool
+lentNumbered (Accepted x) = true
+lentNumbered (Refused n) = not (eqb n 0)
 
 -- what a call leaves: the answer, the builder that was lent and every list that is lent to be altered
 pub record LentOut (A : Type 0) : Type 0 where

@@ -1,10 +1,11 @@
 // Set and settle with the builder lent to be altered: the by-value call, and the builder that it leaves stored back.
 ghost use mathlib.Core.Path.{_≡_};
+ghost use mathlib.Core.Bool.{true};
 ghost use Prim.Native.Nat.{ℕ};
 ghost use Rattle.mesh.specs.Mesh.{meshOf};
 ghost use Rattle.builder.specs.BuilderLists.{listsOf};
-ghost use Rattle.builder.specs.Calls.{builtValues, settledValues};
-ghost use Rattle.lent.specs.Calls.{LentOut, LentValues, lentValues, setLent, settleLent};
+ghost use Rattle.builder.specs.Calls.{builtValues, settledValues, settledNumbered};
+ghost use Rattle.lent.specs.Calls.{LentOut, LentValues, lentValues, lentNumbered, setLent, settleLent};
 use crate::LentSettled;
 use builder::Builder;
 use builder::Built;
@@ -34,7 +35,7 @@ fn set_done(kept: Builder, a: Built) -> SetDone
 }
 
 fn settle_done(kept: Builder, a: Settled) -> SettleDone
-    ensures { λ r. ⌜ (r .builder ≡ settledValues kept a .builder) × (lentValues (r .answer) ≡ record { number = settledValues kept a .number; gradient = settledValues kept a .gradient }) ⌝ }
+    ensures { λ r. ⌜ (lentNumbered (r .answer) ≡ settledNumbered a) × (r .builder ≡ settledValues kept a .builder) × (lentValues (r .answer) ≡ record { number = settledValues kept a .number; gradient = settledValues kept a .gradient }) ⌝ }
 {
     match a {
         Settled::Accepted(builder, gradient) => SettleDone {
@@ -78,7 +79,7 @@ fn settle_kept(
     angles: &[f64],
     ri: u64,
 ) -> SettleDone
-    ensures { λ r. ⌜ _≡_ {A = LentOut LentValues}
+    ensures { λ r. ⌜ (lentNumbered (r .answer) ≡ true) × _≡_ {A = LentOut LentValues}
         (record { answer = lentValues (r .answer); builder = r .builder; lists = listsOf (now (store .entry)) (now (kinds .exit)) (now (levels .exit)) (now (values .exit)) })
         (settleLent b (meshOf (now (vertices .entry)) (now (counts .entry)) (now (neighbours .entry)) (now (angles .entry)))
         (listsOf (now (store .entry)) (now (kinds .entry)) (now (levels .entry)) (now (values .entry))) ri) ⌝ }
@@ -131,7 +132,7 @@ pub fn settle_lent(
     angles: &[f64],
     ri: u64,
 ) -> LentSettled
-    ensures { λ r. ⌜ _≡_ {A = LentOut LentValues}
+    ensures { λ r. ⌜ (lentNumbered r ≡ true) × _≡_ {A = LentOut LentValues}
         (record { answer = lentValues r; builder = now (b .exit); lists = listsOf (now (store .entry)) (now (kinds .exit)) (now (levels .exit)) (now (values .exit)) })
         (settleLent (now (b .entry)) (meshOf (now (vertices .entry)) (now (counts .entry)) (now (neighbours .entry)) (now (angles .entry)))
         (listsOf (now (store .entry)) (now (kinds .entry)) (now (levels .entry)) (now (values .entry))) ri) ⌝ }

@@ -11,16 +11,21 @@ use lib.Dec.{leb, ltb, eqb}
 use lib.Ieee.{Float, inf, binary32, ofBits}
 use borrow.Author.Tests.{lt-ltb, le-ltb, le-leb, lt-leb, leb-true, eqb-true, eqb-false, ne-eqb}
 use Rattle.ieee.proofs.Pack.{le-or-lt}
-use Rattle.lists.proofs.Counting.{or-none}
+use Rattle.lists.specs.Lists.{every}
+use Rattle.lists.proofs.Counting.{or-none, chosen}
 use Rattle.rows.specs.Rows.{resolutionOf}
 use Rattle.rows.specs.declared.SlabResolution.{SlabResolution}
 use Rattle.rows.specs.declared.SlabResolution.the-variants.{Scalar, Mesh, Repulsive}
 use Rattle.search.specs.Search.{Locator}
+use Rattle.search.specs.declared.Weights.{Weights}
+use Rattle.search.specs.declared.Nearest.{Nearest}
+use Rattle.search.specs.declared.Located.{Located}
 use Rattle.table.specs.File.{Entry}
 use Rattle.table.specs.declared.Table.{Table}
-use Rattle.reading.specs.Resolve.{readingValues, Query, Resolved, unresolved, beyond, slabAt, queryValid, outside, resolve, widened}
-use Rattle.reading.specs.Reading.{rowInside, entryAt, readEntry, readSlab, readingOut, searchIn, readPicks}
+use Rattle.reading.specs.Resolve.{readingValues, readingNumbered, Query, Resolved, unresolved, beyond, slabAt, queryValid, outside, resolve, Picks, unpicked, picked, joint, nearestPick, facePick, widened}
+use Rattle.reading.specs.Reading.{rowInside, energyInside, entryAt, readEntry, readSlab, readingOut, searchIn, readPicks}
 use Rattle.reading.specs.Internal.{itemsInside, slabOf, rowPlace, toward, readPlaced, readResolution}
+use Rattle.reading.specs.declared.Reading.{Reading}
 use Rattle.reading.specs.declared.Reading.the-variants.{Energy, Refused}
 use Rattle.reading.specs.declared.resolve.RowPlace.{RowPlace}
 use Rattle.reading.specs.declared.resolve.RowPlace.the-variants.{At, Outside, NoRow}
@@ -96,6 +101,24 @@ module _ (file : List ℕ) (t : Table) where
       by true h e = let z : suc (t .«rows_start» + s * 10) ≡ suc at = ap place e in omega (arith, h refl)
       by false h e = absurd (let z : 0 ≡ suc at = ap place e in omega arith)
 
+-- a search that picks nothing says why, by a number that is not 0
+picksNumbered : Picks → Bool
+picksNumbered (unpicked n) = not (eqb n 0)
+picksNumbered (picked ks u v) = true
+
+found-numbered : (x : Bool) (n : ℕ) (ks : List ℕ) (u v : Weights) → eqb n 0 ≡ x → picksNumbered (cond x (picked ks u v) (unpicked n)) ≡ true
+unfolding picksNumbered
+found-numbered true n ks u v e = refl
+found-numbered false n ks u v e = rw e
+
+vertices-numbered : (n : ℕ) (a b : Nearest) → picksNumbered (nearestPick n a b) ≡ true
+unfolding nearestPick
+vertices-numbered n a b = let r = joint (a .number) (b .number) in found-numbered (eqb r 0) r _ _ _ refl
+
+faces-numbered : (n : ℕ) (a b : Located) → picksNumbered (facePick n a b) ≡ true
+unfolding facePick
+faces-numbered n a b = let r = joint (a .number) (b .number) in found-numbered (eqb r 0) r _ _ _ refl
+
 module _ (file : List ℕ) (t : Table) (vs : List Float) (l : Locator) (q : Query) where
   placed-slab : (x : Resolved) → readSlab file t vs l q x ≡ readPlaced file t vs l q (rowPlace file t x)
   unfolding entryAt
@@ -107,10 +130,44 @@ module _ (file : List ℕ) (t : Table) (vs : List Float) (l : Locator) (q : Quer
       by true = refl
       by false = refl
 
+  -- no refusal is numbered 0
+  abbrev Numbered : Reading → Type 0
+  Numbered z = readingNumbered z ≡ true
+
+  picks-numbered : (i : Bool) (o : ℕ) (p : Picks) → picksNumbered p ≡ true → Numbered (readPicks file t i o p)
+  unfolding picksNumbered
+  picks-numbered i o (unpicked n) e = e
+  picks-numbered i o (picked ks u v) e = chosen Numbered (every (λ k. energyInside file t (o + k)) ks) _ _ (λ h. refl) refl
+
+  search-numbered : (v : ℕ) (i : Bool) → picksNumbered (searchIn vs l q v i) ≡ true
+  unfolding searchIn
+  search-numbered v true = faces-numbered _ _ _
+  search-numbered v false = vertices-numbered _ _ _
+
+  entry-numbered : (e : Entry) → Numbered (readEntry file t vs l q e)
+  unfolding readEntry
+  entry-numbered e =
+      chosen Numbered (eqb (e .kind) 0) _ _ (λ h. refl)
+      (chosen Numbered (eqb (e .kind) 1) _ _ (λ h. refl)
+      (chosen Numbered (leb (e .kind) 3 && ltb (e .level) (t .levels)) _ _ (λ h. picks-numbered (eqb (e .kind) 3) (e .offset) _ (search-numbered (e .level) (eqb (e .kind) 3))) refl))
+
+  slab-numbered : Numbered (readSlab file t vs l q (resolve (t .grid) q))
+  unfolding resolve
+  slab-numbered =
+      let P : Resolved → Type 0 = λ w. Numbered (readSlab file t vs l q w) in
+      let s = slabOf (t .grid) (q .r) (q .omega) in
+      let some = ltb 0 (t .grid .«n_r») && ltb 0 (t .grid .«n_omega») in
+      chosen P (queryValid q) (cond (outside (t .grid) (q .r)) beyond (cond some (slabAt s) (unresolved 19))) (unresolved 18)
+      (λ e. chosen P (outside (t .grid) (q .r)) beyond (cond some (slabAt s) (unresolved 19)) (λ f. refl)
+      (chosen P some (slabAt s) (unresolved 19) (λ f. chosen Numbered (rowInside file t s) _ _ (λ h. entry-numbered (entryAt file t s)) refl) refl)) refl
+
   -- the answer by the row's place
-  pub reading-by : (p r : RowPlace) → p ≡ rowPlace file t (resolve (t .grid) q) → p ≡ r → readingValues (readPlaced file t vs l q r) ≡ readingOut file t vs l q
+  pub reading-by : (p r : RowPlace) (z : Reading) → z ≡ readPlaced file t vs l q r → p ≡ rowPlace file t (resolve (t .grid) q) → p ≡ r
+      → Numbered z × readingValues z ≡ readingOut file t vs l q
   unfolding readingOut
-  reading-by p r e h = ap readingValues (ap (λ (z : RowPlace). readPlaced file t vs l q z) (sym h ∙ e) ∙ sym (placed-slab (resolve (t .grid) q)))
+  reading-by p r z a e h =
+      let w : z ≡ readSlab file t vs l q (resolve (t .grid) q) = a ∙ ap (λ (z : RowPlace). readPlaced file t vs l q z) (sym h ∙ e) ∙ sym (placed-slab (resolve (t .grid) q)) in
+      (ap readingNumbered w ∙ slab-numbered, ap readingValues w)
 
   -- a row's answer has no use for the distance and the angle
   pub entry-toward : (e : Entry) → readEntry file t vs l (toward (q .a) (q .b)) e ≡ readEntry file t vs l q e

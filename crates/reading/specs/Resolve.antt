@@ -28,6 +28,11 @@ abbrev pub readingValues : Reading → ReadingValues
 readingValues (Energy x) = record { number = 0; energy = x }
 readingValues (Refused n) = record { number = n; energy = ofBits binary64 0 }
 
+-- a refusal has a number: 0 is acceptance alone
+abbrev pub readingNumbered : Reading → Bool
+readingNumbered (Energy x) = true
+readingNumbered (Refused n) = not (eqb n 0)
+
 -- what is asked for: a distance, a dihedral angle and two directions
 pub record Query : Type 0 where
   pub r : Float

@@ -1,10 +1,11 @@
 // A reading: the stages in their order.
 ghost use mathlib.Core.Path.{_≡_};
+ghost use mathlib.Core.Bool.{true};
 ghost use Prim.Native.Nat.{_+_, _≤_, _<_};
 ghost use lib.ListN.{length, take, drop};
 ghost use Rattle.search.specs.Search.{locatorOf};
 ghost use Rattle.table.specs.File.{entryOf};
-ghost use Rattle.reading.specs.Resolve.{readingValues};
+ghost use Rattle.reading.specs.Resolve.{readingValues, readingNumbered};
 ghost use Rattle.reading.specs.Reading.{readEntry, readingOut};
 ghost use Rattle.reading.specs.Internal.{toward, readResolution};
 use crate::Reading;
@@ -128,7 +129,7 @@ pub fn lookup(
     a: Vector3,
     b: Vector3,
 ) -> Reading
-    ensures { λ z. ⌜ readingValues z ≡ readingOut (now (file .entry)) t (now (vertices .entry))
+    ensures { λ z. ⌜ (readingNumbered z ≡ true) × readingValues z ≡ readingOut (now (file .entry)) t (now (vertices .entry))
         (locatorOf (now («cell_offsets» .entry)) (now («cell_vertices» .entry)) (now («face_offsets» .entry)) (now (faces .entry)))
         (record { r = r; omega = omega; a = a; b = b }) ⌝ }
 {

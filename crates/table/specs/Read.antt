@@ -35,6 +35,11 @@ abbrev pub readValues : ReadAnswer → ReadValues
 readValues (Reads t) = record { number = 0; table = t }
 readValues (NotRead n) = record { number = n; table = noTable }
 
+-- a refusal has a number: 0 is acceptance alone
+abbrev pub readNumbered : ReadAnswer → Bool
+readNumbered (Reads t) = true
+readNumbered (NotRead n) = not (eqb n 0)
+
 -- ---- 13, the layout
 
 -- the count of the section at a byte, and the byte after the section, its items w bytes each

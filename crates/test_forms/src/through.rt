@@ -1,9 +1,10 @@
 // The lent forms behind plain signatures: a caller that holds a builder or records in a local lends them from such a function, whose proof is a walk by hand.
 ghost use mathlib.Core.Path.{_≡_};
+ghost use mathlib.Core.Bool.{true};
 ghost use lib.ListN.{set};
 ghost use Rattle.mesh.specs.Mesh.{meshOf};
 ghost use Rattle.builder.specs.BuilderLists.{listsOf};
-ghost use Rattle.lent.specs.Calls.{LentOut, LentValues, lentValues, settleLent};
+ghost use Rattle.lent.specs.Calls.{LentOut, LentValues, lentValues, lentNumbered, settleLent};
 use builder::Builder;
 use lent::LentSettled;
 use lent::RowRecord;
@@ -26,7 +27,7 @@ pub(crate) fn settle_through(
     angles: &[f64],
     ri: u64,
 ) -> SettleLeft
-    ensures { λ r. ⌜ _≡_ {A = LentOut LentValues}
+    ensures { λ r. ⌜ (lentNumbered (r .answer) ≡ true) × _≡_ {A = LentOut LentValues}
         (record { answer = lentValues (r .answer); builder = r .builder; lists = listsOf (now (store .entry)) (now (kinds .exit)) (now (levels .exit)) (now (values .exit)) })
         (settleLent b (meshOf (now (vertices .entry)) (now (counts .entry)) (now (neighbours .entry)) (now (angles .entry)))
         (listsOf (now (store .entry)) (now (kinds .entry)) (now (levels .entry)) (now (values .entry))) ri) ⌝ }

@@ -1,5 +1,5 @@
 -- Write: what it answers, and what it leaves in the output. Definitions only.
-use mathlib.Core.Bool.{cond}
+use mathlib.Core.Bool.{Bool, true, not, cond}
 use mathlib.Core.List.{List, map}
 use Prim.Native.Nat.{ℕ, suc}
 use lib.ListN.{length}
@@ -23,6 +23,11 @@ pub record WrittenValues : Type 0 where
 abbrev pub writtenValues : Written → WrittenValues
 writtenValues (Writes n) = record { number = 0; length = n }
 writtenValues (NotWritten n) = record { number = n; length = 0 }
+
+-- a refusal has a number: 0 is acceptance alone
+abbrev pub writtenNumbered : Written → Bool
+writtenNumbered (Writes n) = true
+writtenNumbered (NotWritten n) = not (eqb n 0)
 
 -- the file of a builder and the lists that it holds. "The level count is the top level plus one."
 unfoldable pub fileFrom : Builder → BuilderLists → List ℕ

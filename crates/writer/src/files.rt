@@ -1,6 +1,6 @@
 // Write: its questions, then the file.
 ghost use mathlib.Core.Path.{_≡_};
-ghost use mathlib.Core.Bool.{_&&_};
+ghost use mathlib.Core.Bool.{true, _&&_};
 ghost use mathlib.Core.List.{[]};
 ghost use Prim.Native.Nat.{suc, _+_, _*_, _≤_};
 ghost use lib.ListN.{length};
@@ -11,7 +11,7 @@ ghost use Rattle.mesh.specs.Levels.{verticesBelow};
 ghost use Rattle.mesh.specs.Mesh.{meshLong, meshesKeep, meshOf};
 ghost use Rattle.builder.specs.BuilderLists.{slabs, listRoom, rowsKnown, listsOf};
 ghost use Rattle.builder.specs.Refusals.{builderQuestion};
-ghost use Rattle.writer.specs.Write.{WriteOut, writtenValues, fileFrom, writeOut};
+ghost use Rattle.writer.specs.Write.{WriteOut, writtenValues, writtenNumbered, fileFrom, writeOut};
 ghost use Rattle.writer.specs.Internal.{headBytes, WriteReady};
 use crate::Written;
 use crate::sections::energy_total;
@@ -139,7 +139,7 @@ pub fn write(
     angles: &[f64],
     output: &mut [u8],
 ) -> Written
-    ensures { λ r. ⌜ _≡_ {A = WriteOut}
+    ensures { λ r. ⌜ (writtenNumbered r ≡ true) × _≡_ {A = WriteOut}
         (record { answer = writtenValues r; builder = b; lists = listsOf (now (store .entry)) (now (kinds .entry)) (now (levels .entry)) (now (values .entry)); output = now (output .exit) })
         (writeOut b (meshOf (now (vertices .entry)) (now (counts .entry)) (now (neighbours .entry)) (now (angles .entry)))
         (listsOf (now (store .entry)) (now (kinds .entry)) (now (levels .entry)) (now (values .entry))) (now (output .entry))) ⌝ }

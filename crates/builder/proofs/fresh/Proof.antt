@@ -1,5 +1,5 @@
 -- `fresh` meets its contract. Assumes nothing.
-use mathlib.Core.Path.{sym, _∙_}
+use mathlib.Core.Path.{refl, sym, _∙_}
 use native.Mathlib.Omega.{arith}
 use lib.ListN.{length}
 use borrow.Author.Needs.{needs}
@@ -19,7 +19,7 @@ facts c = meshed _ _ _ _ _ _ (sym (c .before .meshed-refusal .ensures) ∙ c .if
 
 returns : tie.Need-returns
 unfolding freshOut meshedRefusal
-returns c = rw (← c .before .before .fresh-builder .ensures, ← c .before .meshed-refusal .ensures, ne-eqb _ _ (c .if1 .taken))
+returns c = (rw (ne-eqb _ _ (c .if1 .taken)), rw (← c .before .before .fresh-builder .ensures, ← c .before .meshed-refusal .ensures, ne-eqb _ _ (c .if1 .taken)))
 
 mul-n : tie.Need-mul-n
 mul-n c = let f = facts c in omega (arith, f .room .kinds-le)
@@ -41,7 +41,7 @@ unfolding freshOut meshedRefusal filled
 returns-2 c =
     let d = c .before .before .before .before .before .before .before .before .before .before .before .before .before .before .before in
     let w = c .before .before .before .before .before .before .clear-rows .ensures in
-    rw (← d .before .before .fresh-builder .ensures, ← d .before .meshed-refusal .ensures, eq-eqb _ _ (d .if1 .left), c .before .before .before .before .before .before .before .before .before .before .before .before .clear-store .ensures, c .before .before .before .before .before .before .before .before .before .before .before .before .before .per-level .ensures, w .0, w .1, w .2)
+    (refl, rw (← d .before .before .fresh-builder .ensures, ← d .before .meshed-refusal .ensures, eq-eqb _ _ (d .if1 .left), c .before .before .before .before .before .before .before .before .before .before .before .before .clear-store .ensures, c .before .before .before .before .before .before .before .before .before .before .before .before .before .per-level .ensures, w .0, w .1, w .2))
 
 pub fresh-spec : {M : Type 1} → statement M
 fresh-spec =

@@ -1,5 +1,5 @@
 -- `set` meets its contract. Assumes nothing.
-use mathlib.Core.Path.{sym, _∙_}
+use mathlib.Core.Path.{refl, sym, _∙_}
 use native.Mathlib.Omega.{arith}
 use lib.ListN.{length}
 use borrow.Author.Tests.{eq-eqb, ne-eqb}
@@ -17,7 +17,7 @@ facts c = accepted _ _ _ _ _ _ _ _ (sym (c .before .set-refusal .ensures) ∙ c 
 
 returns : tie.Need-returns
 unfolding setOut setRefusal
-returns c = rw (← c .before .set-refusal .ensures, ne-eqb _ _ (c .if1 .taken))
+returns c = (rw (ne-eqb _ _ (c .if1 .taken)), rw (← c .before .set-refusal .ensures, ne-eqb _ _ (c .if1 .taken)))
 
 mul-s : tie.Need-mul-s
 mul-s c = let f = facts c in omega (arith, f .row, f .room .kinds-le)
@@ -41,7 +41,7 @@ returns-2 : tie.Need-returns-2
 unfolding setOut setRefusal setLists
 returns-2 c =
     let e = c .before .before .before .before .before .before .before .before .before .before .before .before .before .before .before in
-    rw (← e .before .set-refusal .ensures, eq-eqb _ _ (e .if1 .left), c .before .before .before .before .before .before .before .before .before .before .before .before .copy-at .ensures, c .before .before .before .before .before .before .before .before .before .before .before .before .before .per-level .ensures, ← c .before .before .before .before .before .before .replace .ensures)
+    (refl, rw (← e .before .set-refusal .ensures, eq-eqb _ _ (e .if1 .left), c .before .before .before .before .before .before .before .before .before .before .before .before .copy-at .ensures, c .before .before .before .before .before .before .before .before .before .before .before .before .before .per-level .ensures, ← c .before .before .before .before .before .before .replace .ensures))
 
 pub set-spec : {M : Type 1} → statement M
 set-spec =

@@ -1,5 +1,5 @@
 -- `settle` meets its contract. Assumes nothing.
-use mathlib.Core.Path.{sym, _∙_}
+use mathlib.Core.Path.{refl, sym, _∙_}
 use borrow.Author.Tests.{eq-eqb, ne-eqb}
 use Rattle.mesh.specs.Mesh.{Mesh, meshOf}
 use Rattle.builder.specs.BuilderLists.{BuilderLists, listsOf}
@@ -11,7 +11,7 @@ use Rattle.builder.proofs.settle.Tie as tie
 
 returns : tie.Need-returns
 unfolding settleOut
-returns c = rw (← c .before .settle-refusal .ensures, ne-eqb _ _ (c .if1 .taken))
+returns c = (rw (ne-eqb _ _ (c .if1 .taken)), rw (← c .before .settle-refusal .ensures, ne-eqb _ _ (c .if1 .taken)))
 
 settle-slice-requires : tie.Need-settle-slice-requires
 settle-slice-requires c κs =
@@ -28,8 +28,8 @@ returns-2 c =
     let m : Mesh = meshOf (a .vertices .now) (a .counts .now) (a .neighbours .now) (a .angles .now) in
     let l : BuilderLists = listsOf (a .store .now) (a .kinds .now) (a .levels .now) (a .values .now) in
     let e = c .before .before .before .before .before .before .before .before .before .before .before in
-    rw (← e .before .settle-refusal .ensures, eq-eqb _ _ (e .if1 .left), c .dropped .ensures)
-    (settle-is (a .b) m l (a .ri) _ _ (c .before .before .before .before .before .before .before .settle-slice .ensures))
+    let told = c .before .before .before .before .before .before .before .settle-slice .ensures in
+    (refl, rw (← e .before .settle-refusal .ensures, eq-eqb _ _ (e .if1 .left), c .dropped .ensures) (settle-is (a .b) m l (a .ri) _ _ told))
 
 pub settle-spec : {M : Type 1} → statement M
 settle-spec =

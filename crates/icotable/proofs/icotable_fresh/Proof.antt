@@ -4,7 +4,7 @@ use Rattle.icotable.proofs.icotable_fresh.Statement.{statement}
 use Rattle.icotable.proofs.icotable_fresh.Tie as tie
 
 returns : tie.Need-returns
-returns c = rw (c .built-answer .ensures, c .before .before .before .before .before .before .before .before .before .before .before .before .before .before .no-builder .ensures) (c .before .before .before .before .before .before .before .before .before .fresh .ensures)
+returns c = rw (c .built-answer .ensures, c .before .before .before .before .before .before .before .before .before .before .before .before .before .before .no-builder .ensures) (c .before .before .before .before .before .before .before .before .before .fresh .ensures .1)
 
 pub icotable-fresh-spec : {M : Type 1} → statement M
 icotable-fresh-spec =

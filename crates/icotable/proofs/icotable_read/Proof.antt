@@ -4,7 +4,7 @@ use Rattle.icotable.proofs.icotable_read.Statement.{statement}
 use Rattle.icotable.proofs.icotable_read.Tie as tie
 
 returns : tie.Need-returns
-returns c = rw (← c .before .read .ensures) (c .table-answer .ensures)
+returns c = rw (← c .before .read .ensures .1) (c .table-answer .ensures)
 
 pub icotable-read-spec : {M : Type 1} → statement M
 icotable-read-spec = tie.close

@@ -4,7 +4,7 @@ use Rattle.icotable.proofs.icotable_reading.Statement.{statement}
 use Rattle.icotable.proofs.icotable_reading.Tie as tie
 
 returns : tie.Need-returns
-returns c = rw (← c .before .before .table-from .ensures, ← c .before .lookup .ensures) (c .value-answer .ensures)
+returns c = rw (← c .before .before .table-from .ensures, ← c .before .lookup .ensures .1) (c .value-answer .ensures)
 
 pub icotable-reading-spec : {M : Type 1} → statement M
 icotable-reading-spec = tie.close

@@ -4,7 +4,7 @@ use Rattle.icotable.proofs.icotable_set.Statement.{statement}
 use Rattle.icotable.proofs.icotable_set.Tie as tie
 
 returns : tie.Need-returns
-returns c = rw (c .built-answer .ensures) (c .before .before .before .before .before .before .before .before .before .set .ensures)
+returns c = rw (c .built-answer .ensures) (c .before .before .before .before .before .before .before .before .before .set .ensures .1)
 
 pub icotable-set-spec : {M : Type 1} → statement M
 icotable-set-spec =

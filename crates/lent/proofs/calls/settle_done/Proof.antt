@@ -5,10 +5,10 @@ use Rattle.lent.proofs.calls.settle_done.Statement.{statement}
 use Rattle.lent.proofs.calls.settle_done.Tie as tie
 
 returns : tie.Need-returns
-returns c = rw (c .before .a .given .1) (refl, refl)
+returns c = rw (c .before .a .given .1) (refl, refl, refl)
 
 returns-2 : tie.Need-returns-2
-returns-2 c = rw (c .before .a2 .given .1) (refl, refl)
+returns-2 c = rw (c .before .a2 .given .1) (refl, refl, refl)
 
 pub settle-done-spec : {M : Type 1} → statement M
 settle-done-spec = tie.close

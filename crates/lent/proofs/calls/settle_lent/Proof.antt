@@ -3,6 +3,7 @@
 -- where the old one was. The `&mut` lists are given up for good, at their own lifetimes, shares and names; of each `&`
 -- list a copy is passed. The numbers of `move` and `look` are places in the context.
 use mathlib.Core.Path.{_≡_, refl, ap}
+use mathlib.Core.Bool.{true}
 use Prim.Native.Nat.{ℕ, _<_, _^_}
 use mathlib.Core.List.{List, [], _∷_}
 use lib.ListN.{length}
@@ -46,7 +47,7 @@ use denote.Struct.Laws as LL
 use denote.Enum.Laws as LE
 use Rattle.mesh.specs.Mesh.{meshOf}
 use Rattle.builder.specs.BuilderLists.{listsOf}
-use Rattle.lent.specs.Calls.{LentOut, LentValues, lentValues, settleLent}
+use Rattle.lent.specs.Calls.{LentOut, LentValues, lentValues, lentNumbered, settleLent}
 use Rattle.builder.specs.declared.Builder.{Builder}
 use Rattle.builder.proofs.Builder as T
 use Rattle.builder.proofs.Builder.Laws as T′
@@ -155,7 +156,7 @@ module _ {M : Type 1} (𝓤 : URA M) (H : Heap 𝓤) (A : Atoms 𝓤) (W : Given
 
   -- what is ensured
   abbrev Said : LentSettled → Builder → List ℕ → List ℕ → List ℕ → Type 0
-  Said r z-b z-kinds z-levels z-values = _≡_ {A = LentOut LentValues} (record { answer = lentValues r; builder = z-b; lists = listsOf (store .now) z-kinds z-levels z-values }) (settleLent (b .now) (meshOf (vertices .now) (counts .now) (neighbours .now) (angles .now)) (listsOf (store .now) (kinds .now) (levels .now) (values .now)) ri)
+  Said r z-b z-kinds z-levels z-values = (lentNumbered r ≡ true) × _≡_ {A = LentOut LentValues} (record { answer = lentValues r; builder = z-b; lists = listsOf (store .now) z-kinds z-levels z-values }) (settleLent (b .now) (meshOf (vertices .now) (counts .now) (neighbours .now) (angles .now)) (listsOf (store .now) (kinds .now) (levels .now) (values .now)) ri)
 
   exits : (r : LentSettled) (z-b : Builder) (z-kinds : List ℕ) (z-levels : List ℕ) (z-values : List ℕ) → Said r z-b z-kinds z-levels z-values → length z-kinds ≡ length (kinds .now) → length z-levels ≡ length (levels .now) → length z-values ≡ length (values .now) → Is O.the-row r (mach-O r ∷ []) → ent 𝓤 (⋆ 𝓤 H A (Left z-b z-kinds z-levels z-values)) (Post (mach-O r))
   exits r z-b z-kinds z-levels z-values e l-kinds l-levels l-values g =
@@ -186,7 +187,7 @@ module _ {M : Type 1} (𝓤 : URA M) (H : Heap 𝓤) (A : Atoms 𝓤) (W : Given
 
   -- what it ensures
   abbrev callee-said : SettleDone → List ℕ → List ℕ → List ℕ → Type 0
-  callee-said r z-kinds z-levels z-values = _≡_ {A = LentOut LentValues} (record { answer = lentValues (r .answer); builder = r .builder; lists = listsOf (store .now) z-kinds z-levels z-values }) (settleLent (b .now) (meshOf (vertices .now) (counts .now) (neighbours .now) (angles .now)) (listsOf (store .now) (kinds .now) (levels .now) (values .now)) ri)
+  callee-said r z-kinds z-levels z-values = (lentNumbered (r .answer) ≡ true) × _≡_ {A = LentOut LentValues} (record { answer = lentValues (r .answer); builder = r .builder; lists = listsOf (store .now) z-kinds z-levels z-values }) (settleLent (b .now) (meshOf (vertices .now) (counts .now) (neighbours .now) (angles .now)) (listsOf (store .now) (kinds .now) (levels .now) (values .now)) ri)
 
   module _ (𝓣 : Tables 𝓤 H) (callee-known : Triple 𝓤 (𝓣 .C #lent·settle-kept) (Callee 𝓤 H A at-mem run)) where
     walk : ent 𝓤 (onEntry 𝓤 H A fn.signature (κ, (κ1, (κ2, (κ3, (κ4, (κ5, (κ6, (κ7, (κ8, tt))))))))) (q, (q1, (q2, (q3, (q4, (q5, (q6, (q7, (q8, tt))))))))) a at) (WpFn 𝓤 H (𝓣 .C) (𝓣 .Λ) code.function (vptr (b .ptr .0) (b .ptr .1) ∷ v-store ∷ v-kinds ∷ v-levels ∷ v-values ∷ v-vertices ∷ v-counts ∷ v-neighbours ∷ v-angles ∷ vint w64 ri ∷ []) Post)

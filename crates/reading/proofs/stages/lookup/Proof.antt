@@ -1,8 +1,8 @@
 -- `lookup` meets its contract. Assumes nothing.
 use borrow.Author.Needs.{needs}
-use mathlib.Core.Path.{sym, ap, _∙_}
+use mathlib.Core.Path.{refl, sym, _∙_}
 use Rattle.search.specs.Search.{Locator, locatorOf}
-use Rattle.reading.specs.Resolve.{readingValues, Query, resolve}
+use Rattle.reading.specs.Resolve.{Query, resolve}
 use Rattle.reading.proofs.Inside.{placed-fits, reading-by, entry-toward}
 use Rattle.reading.proofs.stages.lookup.Statement.{statement}
 use Rattle.reading.proofs.stages.lookup.Tie as tie
@@ -23,20 +23,20 @@ returns : tie.Need-returns
 returns c =
     let p = c .before .before .before in
     let s = p .before .before .before .before .before .before .before in
-    reading-by (s .args .file .now) (s .args .t) (s .args .vertices .now) (lists s) (query s) (p .row-place .result) _ (p .row-place .ensures) (c .before .n .given .1)
+    reading-by (s .args .file .now) (s .args .t) (s .args .vertices .now) (lists s) (query s) (p .row-place .result) _ _ refl (p .row-place .ensures) (c .before .n .given .1)
 
 returns-2 : tie.Need-returns-2
 returns-2 c =
     let p = c .before .before in
     let s = p .before .before .before .before .before .before .before in
-    reading-by (s .args .file .now) (s .args .t) (s .args .vertices .now) (lists s) (query s) (p .row-place .result) _ (p .row-place .ensures) (c .enum-told .given .1)
+    reading-by (s .args .file .now) (s .args .t) (s .args .vertices .now) (lists s) (query s) (p .row-place .result) _ _ refl (p .row-place .ensures) (c .enum-told .given .1)
 
 returns-3 : tie.Need-returns-3
 returns-3 c =
     let p = c .before .before .before .before in
     let s = p .before .before .before .before .before .before .before in
-    ap readingValues (c .read-row .ensures ∙ entry-toward (s .args .file .now) (s .args .t) (s .args .vertices .now) (lists s) (query s) _)
-    ∙ reading-by (s .args .file .now) (s .args .t) (s .args .vertices .now) (lists s) (query s) (p .row-place .result) _ (p .row-place .ensures) (c .before .before .at .given .1)
+    reading-by (s .args .file .now) (s .args .t) (s .args .vertices .now) (lists s) (query s) (p .row-place .result) _ _
+    (c .read-row .ensures ∙ entry-toward (s .args .file .now) (s .args .t) (s .args .vertices .now) (lists s) (query s) _) (p .row-place .ensures) (c .before .before .at .given .1)
 
 pub lookup-spec : {M : Type 1} → statement M
 lookup-spec =

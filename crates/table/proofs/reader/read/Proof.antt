@@ -1,7 +1,8 @@
 -- `read` meets its contract. Assumes nothing.
-use mathlib.Core.Path.{_≡_, sym}
+use mathlib.Core.Path.{_≡_, refl, sym}
 use mathlib.Core.Bool.{true}
 use borrow.Author.Needs.{needs}
+use borrow.Author.Tests.{ne-eqb}
 use Rattle.lists.proofs.Counting.{yes, no}
 use Rattle.table.specs.Read.{layout, laidOut, tableOf}
 use Rattle.table.specs.Internal.{SectionsInside, tableQuestion}
@@ -21,7 +22,7 @@ asked c = rw (← c .before .before .before .before .sections .ensures, ← c .b
 returns : tie.Need-returns
 returns c =
     let f = c .before .before .before .before .args .file .now in
-    sym (read-unlaid f (rw (← c .before .before .sections .ensures) (no (c .before .laid-out .ensures) (c .if1 .taken))))
+    (refl, sym (read-unlaid f (rw (← c .before .before .sections .ensures) (no (c .before .laid-out .ensures) (c .if1 .taken)))))
 
 table-of-requires : tie.Need-table-of-requires
 table-of-requires c κs = placed c
@@ -32,12 +33,12 @@ table-question-requires c κs = rw (c .table-of .ensures) (inside _ _ (placed (c
 returns-2 : tie.Need-returns-2
 returns-2 c =
     let f = c .before .before .before .before .before .before .before .args .file .now in
-    sym (read-refused f (answered (c .before .before .before)) (c .before .table-question .result) (asked (c .before)) (c .if2 .taken))
+    (rw (ne-eqb _ _ (c .if2 .taken)), sym (read-refused f (answered (c .before .before .before)) (c .before .table-question .result) (asked (c .before)) (c .if2 .taken)))
 
 returns-3 : tie.Need-returns-3
 returns-3 c =
     let f = c .before .before .before .before .before .before .before .args .file .now in
-    rw (c .before .before .table-of .ensures, c .before .before .before .before .before .sections .ensures) (sym (read-accepted f (answered (c .before .before .before)) (c .before .table-question .result) (asked (c .before)) (c .if2 .left)))
+    (refl, rw (c .before .before .table-of .ensures, c .before .before .before .before .before .sections .ensures) (sym (read-accepted f (answered (c .before .before .before)) (c .before .table-question .result) (asked (c .before)) (c .if2 .left))))
 
 pub read-spec : {M : Type 1} → statement M
 read-spec =

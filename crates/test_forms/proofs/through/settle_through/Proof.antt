@@ -3,6 +3,7 @@
 -- with the loan; the lifetime is ended, and the local is back as the callee left it. The numbers of `move` and `look`
 -- are places in the context.
 use mathlib.Core.Path.{_≡_, refl, ap, subst}
+use mathlib.Core.Bool.{true}
 use Prim.Native.Nat.{ℕ, _<_, _^_}
 use mathlib.Core.List.{List, [], _∷_}
 use lib.ListN.{length}
@@ -47,7 +48,7 @@ use denote.Struct.Laws as LL
 use denote.Enum.Laws as LE
 use Rattle.mesh.specs.Mesh.{meshOf}
 use Rattle.builder.specs.BuilderLists.{listsOf}
-use Rattle.lent.specs.Calls.{LentOut, LentValues, lentValues, settleLent}
+use Rattle.lent.specs.Calls.{LentOut, LentValues, lentValues, lentNumbered, settleLent}
 use Rattle.test_forms.proofs.Loans.{lies-in, lies-out}
 use Rattle.builder.specs.declared.Builder.{Builder}
 use Rattle.builder.proofs.Builder as T
@@ -154,7 +155,7 @@ module _ {M : Type 1} (𝓤 : URA M) (H : Heap 𝓤) (A : Atoms 𝓤) (W : Given
 
   -- what is ensured
   abbrev Said : SettleLeft → List ℕ → List ℕ → List ℕ → Type 0
-  Said r z-kinds z-levels z-values = _≡_ {A = LentOut LentValues} (record { answer = lentValues (r .answer); builder = r .builder; lists = listsOf (store .now) z-kinds z-levels z-values }) (settleLent b (meshOf (vertices .now) (counts .now) (neighbours .now) (angles .now)) (listsOf (store .now) (kinds .now) (levels .now) (values .now)) ri)
+  Said r z-kinds z-levels z-values = (lentNumbered (r .answer) ≡ true) × _≡_ {A = LentOut LentValues} (record { answer = lentValues (r .answer); builder = r .builder; lists = listsOf (store .now) z-kinds z-levels z-values }) (settleLent b (meshOf (vertices .now) (counts .now) (neighbours .now) (angles .now)) (listsOf (store .now) (kinds .now) (levels .now) (values .now)) ri)
 
   exits : (r : SettleLeft) (z-kinds : List ℕ) (z-levels : List ℕ) (z-values : List ℕ) → Said r z-kinds z-levels z-values → length z-kinds ≡ length (kinds .now) → length z-levels ≡ length (levels .now) → length z-values ≡ length (values .now) → Is N.the-row r (mach-N r ∷ []) → ent 𝓤 (⋆ 𝓤 H A (Left z-kinds z-levels z-values)) (Post (mach-N r))
   exits r z-kinds z-levels z-values e l-kinds l-levels l-values g =
@@ -196,7 +197,7 @@ module _ {M : Type 1} (𝓤 : URA M) (H : Heap 𝓤) (A : Atoms 𝓤) (W : Given
 
   -- what it ensures
   abbrev callee-said : LentSettled → Builder → List ℕ → List ℕ → List ℕ → Type 0
-  callee-said r z-loan z-kinds z-levels z-values = _≡_ {A = LentOut LentValues} (record { answer = lentValues r; builder = z-loan; lists = listsOf (store .now) z-kinds z-levels z-values }) (settleLent b (meshOf (vertices .now) (counts .now) (neighbours .now) (angles .now)) (listsOf (store .now) (kinds .now) (levels .now) (values .now)) ri)
+  callee-said r z-loan z-kinds z-levels z-values = (lentNumbered r ≡ true) × _≡_ {A = LentOut LentValues} (record { answer = lentValues r; builder = z-loan; lists = listsOf (store .now) z-kinds z-levels z-values }) (settleLent b (meshOf (vertices .now) (counts .now) (neighbours .now) (angles .now)) (listsOf (store .now) (kinds .now) (levels .now) (values .now)) ri)
 
   module _ (𝓣 : Tables 𝓤 H) (callee-known : Triple 𝓤 (𝓣 .C #lent·settle-lent) (Callee 𝓤 H A at-mem run)) where
     walk : ent 𝓤 (onEntry 𝓤 H A fn.signature (κ, (κ1, (κ2, (κ3, (κ4, (κ5, (κ6, (κ7, tt)))))))) (q, (q1, (q2, (q3, (q4, (q5, (q6, (q7, tt)))))))) a at) (WpFn 𝓤 H (𝓣 .C) (𝓣 .Λ) code.function (mach b ∷ v-store ∷ v-kinds ∷ v-levels ∷ v-values ∷ v-vertices ∷ v-counts ∷ v-neighbours ∷ v-angles ∷ vint w64 ri ∷ []) Post)

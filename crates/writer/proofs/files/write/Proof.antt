@@ -1,9 +1,9 @@
 -- `write` meets its contract. Assumes nothing.
-use mathlib.Core.Path.{_≡_, sym, _∙_}
+use mathlib.Core.Path.{_≡_, refl, sym, _∙_}
 use native.Mathlib.Nat.{mul-le-mul}
 use native.Mathlib.Omega.{arith}
 use lib.ListN.{length}
-use borrow.Author.Tests.{lt-leb, le-leb}
+use borrow.Author.Tests.{lt-leb, le-leb, ne-eqb}
 use borrow.Author.Needs.{needs}
 use Rattle.mesh.specs.Mesh.{Mesh, meshOf}
 use Rattle.builder.specs.Refusals.{meshedRefusal}
@@ -36,7 +36,7 @@ certain c =
 returns : tie.Need-returns
 returns c =
     let s = c .before .before .before .before .before .before .before .before .before .before .before in
-    sym (write-refused (s .args .b) (meshes s) (lists s) (s .args .output .now) (c .before .write-question .result) (answer (c .before)) (c .if1 .taken))
+    (rw (ne-eqb _ _ (c .if1 .taken)), sym (write-refused (s .args .b) (meshes s) (lists s) (s .args .output .now) (c .before .write-question .result) (answer (c .before)) (c .if1 .taken)))
 
 mul-n : tie.Need-mul-n
 mul-n c = let f = certain c in omega (arith, mul-le-mul (f .rs) (f .omegas))
@@ -81,7 +81,7 @@ returns-2 c =
     let f = certain (c .before .before) in
     let e = c .before .energy-total .result in
     let len = file-length (s .args .b) (lists s) e (f .store) (f .bounded) (c .before .energy-total .ensures) in
-    sym (write-short (s .args .b) (meshes s) (lists s) (s .args .output .now) zero (lt-leb (length (fileFrom (s .args .b) (lists s))) (length (s .args .output .now)) (omega (arith, len, c .if2 .taken))))
+    (refl, sym (write-short (s .args .b) (meshes s) (lists s) (s .args .output .now) zero (lt-leb (length (fileFrom (s .args .b) (lists s))) (length (s .args .output .now)) (omega (arith, len, c .if2 .taken)))))
 
 put-file-requires : tie.Need-put-file-requires
 put-file-requires c κs =
@@ -95,7 +95,7 @@ returns-3 c =
     let f = certain (c .before .before .before .before .before .before) in
     let e = c .before .before .before .before .before .energy-total .result in
     let len = file-length (s .args .b) (lists s) e (f .store) (f .bounded) (c .before .before .before .before .before .energy-total .ensures) in
-    rw (c .before .before .put-file .ensures, write-done (s .args .b) (meshes s) (lists s) (s .args .output .now) zero (le-leb (length (fileFrom (s .args .b) (lists s))) (length (s .args .output .now)) (omega (arith, len, c .before .before .before .before .if2 .left))), len)
+    (refl, rw (c .before .before .put-file .ensures, write-done (s .args .b) (meshes s) (lists s) (s .args .output .now) zero (le-leb (length (fileFrom (s .args .b) (lists s))) (length (s .args .output .now)) (omega (arith, len, c .before .before .before .before .if2 .left))), len))
 
 pub write-spec : {M : Type 1} → statement M
 write-spec =
