@@ -47,14 +47,22 @@ mod report;
 #[path = "../tests/compare/search.rs"]
 #[allow(dead_code)]
 mod search;
+#[cfg(landed)]
+#[path = "../target/bench/landed/mod.rs"]
+#[allow(dead_code)]
+mod landed;
+#[cfg(not(landed))]
+use new as landed;
 mod builds;
+mod new;
 mod readings;
 mod searches;
 mod timing;
 
 use meshes::{vertex_count, Random};
 use readings::{Caller, Rows};
-use timing::{figure, row, used};
+use std::sync::atomic::Ordering::Relaxed;
+use timing::{figure, misses, row, used, with_ratio, Bar, LANDED};
 
 fn size(megabytes: f64) -> String {
     match megabytes {
@@ -64,35 +72,52 @@ fn size(megabytes: f64) -> String {
     }
 }
 
-// A figure of ours, and its ratio.
-fn with_ratio(t: [f64; 2], parts: f64) -> String {
-    format!("{} ({:.2})", figure(t[0] * parts), t[0] / t[1])
+// Bars are those of document 01 where no later one was set.
+fn search_rows(random: &mut Random) {
+    for level in [0, 1, 3, 5, 9, 15] {
+        let [nearest, located, built] = searches::measure(level, random);
+        if level == 3 || level == 15 {
+            row(&format!("find_nearest_vertex, level {level}"), "ns a direction", nearest, Bar::Times(3.0));
+            row(&format!("locate, level {level}"), "ns a direction", located, Bar::Times(3.0));
+        }
+        row(&format!("locator, level {level}"), "ns a vertex", built, Bar::Times(2.0));
+    }
 }
 
-fn table(random: &mut Random) {
-    for level in [3, 15] {
-        let [nearest, located, built] = searches::measure(level, random);
-        row(&format!("find_nearest_vertex, level {level}"), "ns a direction", nearest, 3.0);
-        row(&format!("locate, level {level}"), "ns a direction", located, 3.0);
-        row(&format!("locator, level {level}"), "ns a vertex", built, 0.0);
-    }
-    for (level, n_omega, rounds) in [(3, 8, 41), (5, 4, 21)] {
+fn build_rows(random: &mut Random) {
+    for (level, n_omega, rounds) in [(0, 1, 400), (1, 1, 400), (3, 1, 101), (3, 8, 41), (5, 4, 21), (9, 1, 11)] {
         let [set, settle] = builds::slice(level, n_omega, rounds, random);
-        row(&format!("set, level {level}"), "ns an energy", set, 3.0);
-        row(&format!("settle, level {level}"), "ns an energy", settle, 1.5);
+        let slabs = if n_omega == 1 { "one slab".into() } else { format!("{n_omega} slabs") };
+        // in the cache: what one slab or a few small ones take
+        row(&format!("set, level {level}, {slabs}"), "ns an energy", set, if level < 5 { Bar::Times(1.8) } else { Bar::Times(3.0) });
+        if n_omega > 1 || level < 2 {
+            row(&format!("settle, level {level}, {slabs}"), "ns an energy", settle, Bar::Times(if level == 0 { 1.2 } else { 0.8 }));
+        }
     }
-    let ([write, read], megabytes) = builds::file(5, 20, 8, 11, random);
-    row(&format!("write, {megabytes:.0} MB"), "ns a byte", write, 3.0);
-    row(&format!("read, {megabytes:.0} MB"), "ns a byte", read, 2.0);
-    let meshes = [("nearest", Rows::Nearest, 3, 2.0), ("interpolated", Rows::Interpolated, 3, 2.0)];
-    let small = meshes.map(|m| (m, [1, 8], 4096, 400));
-    let large = meshes.map(|m| (m, [400, 8], 400_000, 8));
+    for (top, n_r, rounds) in [(3, 1, 101), (5, 20, 11)] {
+        let ([write, read], megabytes) = builds::file(top, n_r, 8, rounds, random);
+        row(&format!("write, {} (beside a plain writer)", size(megabytes)), "ns a byte", write, Bar::Goal(1.5));
+        row(&format!("read, {} (beside a plain checker)", size(megabytes)), "ns a byte", read, Bar::Times(0.7));
+    }
+}
+
+fn reading_rows(random: &mut Random) {
+    let mut rows = Vec::new();
     // rows alone: ten million of them make a hundred megabytes
-    let scalar = [([1, 8], 4096, 400), ([400, 8], 400_000, 8), ([60_000, 170], 400_000, 8)].map(|(bins, n, rounds)| (("Scalar", Rows::Scalar, 0, 3.0), bins, n, rounds));
-    for ((what, rows, level, bar), bins, queries, rounds) in scalar.into_iter().chain(small).chain(large) {
+    for (bins, queries, rounds) in [([1, 8], 4096, 400), ([400, 8], 400_000, 8), ([60_000, 170], 400_000, 8)] {
+        rows.push(("Scalar".into(), Rows::Scalar, 0, bins, queries, rounds, 1.6));
+    }
+    for (what, kind) in [("nearest", Rows::Nearest), ("interpolated", Rows::Interpolated)] {
+        for (level, bins, queries, rounds) in
+            [(0, [1, 1], 4096, 200), (1, [1, 1], 4096, 200), (2, [1, 1], 4096, 200), (3, [1, 8], 4096, 200), (5, [1, 1], 4096, 200), (9, [1, 1], 40_000, 20), (3, [360, 8], 400_000, 8)]
+        {
+            rows.push((format!("{what}, level {level}"), kind, level, bins, queries, rounds, if level < 2 { 1.2 } else { 1.0 }));
+        }
+    }
+    for (what, kind, level, bins, queries, rounds, bar) in rows {
         for (caller, from) in [(Caller::C, "C"), (Caller::Rust, "Rust")] {
-            let (time, megabytes) = readings::measure(caller, rows, level, bins, queries, rounds, random);
-            row(&format!("reading, {what}, {}, called from {from}", size(megabytes)), "ns", time, bar);
+            let (time, megabytes) = readings::measure(caller, kind, level, bins, queries, rounds, random);
+            row(&format!("reading, {what}, {}, called from {from}", size(megabytes)), "ns", time, Bar::Times(bar));
         }
     }
 }
@@ -107,12 +132,12 @@ fn by_level(random: &mut Random) {
         let [nearest, located, built] = searches::measure(level, random);
         let (one, megabytes) = readings::measure(Caller::C, Rows::Nearest, level, [1, 1], 40_000, 20, random);
         let (nine, _) = readings::measure(Caller::C, Rows::Interpolated, level, [1, 1], 40_000, 20, random);
-        let slab = |t: [f64; 2]| with_ratio(t, (n * n) as f64 / 1e3);
+        let slab = (n * n) as f64 / 1e3;
         println!(
             "| {level} | {n} | {} | {} | {} | {} | {} | {} | {} | {} | {} |",
             n * n,
-            slab(set),
-            slab(settle),
+            with_ratio(set, slab),
+            with_ratio(settle, slab),
             with_ratio(built, n as f64 / 1e3),
             with_ratio(nearest, 1.0),
             with_ratio(located, 1.0),
@@ -161,9 +186,14 @@ fn only(what: &str, random: &mut Random) {
 fn main() {
     let mut random = Random(0x2545f4914f6cdd1d);
     if let Some(what) = std::env::args().nth(1) {
+        LANDED.store(false, Relaxed);
         return only(&what, &mut random);
     }
-    table(&mut random);
+    row("exp, apart, beside the Rust's E", "ns", builds::exp(&mut random), Bar::Landed);
+    search_rows(&mut random);
+    build_rows(&mut random);
+    reading_rows(&mut random);
+    println!("\nAbove its bar by more than a tenth (in bold): {} of the rows that stand beside the Rust.", misses());
     println!("\nHow cost grows with the level; in brackets the ratio to the Rust's.");
     by_level(&mut random);
     println!("\nHow a reading's cost grows with the table, Mesh rows at level 3; in brackets the ratio to the Rust's.");

@@ -1,13 +1,14 @@
-// Set, settle, write and read beside the Rust: set and settle as the Rust's builder has them, with document 01's exponential and the lent angles; write and read beside a plain writer and checker
-// of the same file. What both sides answer is compared first, and lists are in the same state.
-use crate::builder::{AdaptiveBuilder, MeshLevel, SlabResolution};
-use crate::icotable::{self, Builder, Grid, Lists, Meshes};
+// Set, settle, write and read beside the Rust: set and settle as the Rust's builder has them, with document 01's exponential and the lent angles; write and read, which the Rust has for another
+// format, beside a plain writer and checker of the same file in Rust (tests/compare/plain.rs). What the sides answer is compared first, and lists are in the same state.
+use crate::builder::{exponential, AdaptiveBuilder, MeshLevel, SlabResolution};
 use crate::meshes::{angle, icosphere, vertex_count, Lent, Random};
+use crate::new::side::Building;
 use crate::plain;
-use crate::timing::{each, least, used};
+use crate::timing::{each, least, least_alone, used};
+use crate::{landed, new};
 use std::hint::black_box;
 
-// The same meshes for both sides.
+// The same meshes for all sides.
 fn meshes(top: usize) -> (Lent, Vec<MeshLevel>) {
     let mut lent = Lent { vertices: Vec::new(), counts: Vec::new(), neighbours: Vec::new(), angles: Vec::new() };
     let mut levels = Vec::new();
@@ -26,158 +27,111 @@ fn meshes(top: usize) -> (Lent, Vec<MeshLevel>) {
     (lent, levels)
 }
 
-fn lent(m: &Lent) -> Meshes<'_> {
-    Meshes { vertices: &m.vertices, counts: &m.counts, neighbours: &m.neighbours, angles: &m.angles }
-}
-
-// The lists of a builder.
-struct Own {
-    store: Vec<f64>,
-    kinds: Vec<u8>,
-    levels: Vec<u8>,
-    values: Vec<u32>,
-}
-
-impl Own {
-    fn new(slabs: usize, top: usize) -> Own {
-        let n = vertex_count(top);
-        Own { store: vec![0.0; slabs * n * n], kinds: vec![0; slabs], levels: vec![0; slabs], values: vec![0; slabs] }
-    }
-
-    fn lent(&mut self) -> Lists<'_> {
-        Lists { store: &mut self.store, kinds: &mut self.kinds, levels: &mut self.levels, values: &mut self.values }
-    }
-}
-
-// Settings of n_r distance bins and n_omega dihedral bins. The threshold is so low that every slab is left as it is.
-fn settings(n_r: u64, n_omega: u64) -> Grid {
-    Grid {
-        rmin: 0.0,
-        rmax: n_r as f64,
-        dr: 1.0,
-        omega_step: std::f64::consts::TAU / n_omega as f64,
-        threshold: 1e-9,
-        beta: 1.0,
-        n_r: 0,
-        n_omega: 0,
-    }
-}
-
-fn begun(grid: Grid, top: usize, l: &mut Own, m: &Lent) -> Builder {
-    let a = icotable::fresh(grid, top as u64, &mut l.lent(), lent(m));
-    assert_eq!(a.number, 0);
-    a.builder
-}
-
 // Energies of a few kT, either sign.
 fn energies(n: usize, random: &mut Random) -> Vec<f64> {
     (0..n).map(|_| 3.0 * random.unit()).collect()
 }
 
 // Nanoseconds of set and of settle for an energy, on one slice.
-pub fn slice(top: usize, n_omega: usize, rounds: usize, random: &mut Random) -> [[f64; 2]; 2] {
+pub fn slice(top: usize, n_omega: usize, rounds: usize, random: &mut Random) -> [[f64; 3]; 2] {
     let (m, levels) = meshes(top);
     let per = vertex_count(top).pow(2);
-    let mut l = Own::new(n_omega, top);
-    let b = begun(settings(1, n_omega as u64), top, &mut l, &m);
-    let g = b.grid;
+    let mut a = landed::side::Building::fresh(1, n_omega, top, &m);
+    let mut b = Building::fresh(1, n_omega, top, &m);
+    let g = b.grid();
     let mut rust = AdaptiveBuilder::with_subdivision(levels, g.rmin, g.rmax, g.dr, g.omega_step, top, g.threshold, g.beta);
-    let given: Vec<(usize, Vec<f64>)> = (0..n_omega).map(|oi| (oi, energies(per, random))).collect();
-    let set = least(
-        rounds,
-        n_omega * per,
-        || each(&given, |(oi, e)| assert_eq!(icotable::set(b, &mut l.lent(), 0, *oi as u64, e).number, 0)),
-        || each(&given, |(oi, e)| rust.set_slab(0, *oi, e)),
-    );
-    let a = icotable::settle(b, &mut l.lent(), lent(&m), 0);
-    assert_eq!((a.number, a.gradient.to_bits()), (0, rust.finish_r_slice(0).to_bits()));
-    assert_eq!(a.builder.level, rust.current_level as u64);
+    let given: Vec<Vec<f64>> = (0..n_omega).map(|_| energies(per, random)).collect();
+    let mut in_rust = || {
+        let mut oi = 0;
+        each(&given, |e| {
+            rust.set_slab(0, oi, e);
+            oi += 1;
+        })
+    };
+    let set = least(rounds, n_omega * per, [&mut || a.set_all(&given), &mut || b.set_all(&given), &mut in_rust]);
+    a.set_all(&given);
+    let settled = (rust.finish_r_slice(0).to_bits(), rust.current_level);
+    assert_eq!((a.settle(), b.settle()), (settled, settled));
     for (s, row) in rust.slab_res.iter().enumerate() {
-        assert!(matches!(row, SlabResolution::Mesh { interpolate: true, .. }) && l.kinds[s] == 3);
-        assert!(rust.slab_data[s].as_deref() == Some(&l.store[s * per..(s + 1) * per]));
+        assert!(matches!(row, SlabResolution::Mesh { interpolate: true, .. }) && (a.kinds()[s], b.kinds()[s]) == (3, 3));
+        assert!(rust.slab_data[s].as_deref() == Some(&b.store()[s * per..(s + 1) * per]));
     }
-    let settle = least(
-        rounds,
-        n_omega * per,
-        || used(icotable::settle(b, &mut black_box(&mut l).lent(), lent(&m), 0)),
-        || used(black_box(&mut rust).finish_r_slice(0)),
-    );
+    let settle = least(rounds, n_omega * per, [&mut || used(a.settle()), &mut || used(b.settle()), &mut || used(black_box(&mut rust).finish_r_slice(0))]);
     [set, settle]
 }
 
 // Nanoseconds of write and of read for a byte of a whole table, and its megabytes.
-pub fn file(top: usize, n_r: usize, n_omega: usize, rounds: usize, random: &mut Random) -> ([[f64; 2]; 2], f64) {
+pub fn file(top: usize, n_r: usize, n_omega: usize, rounds: usize, random: &mut Random) -> ([[f64; 3]; 2], f64) {
     let (m, _) = meshes(top);
     let per = vertex_count(top).pow(2);
     let slabs = n_r * n_omega;
-    let mut l = Own::new(slabs, top);
-    let grid = settings(n_r as u64, n_omega as u64);
-    let b = begun(grid, top, &mut l, &m);
+    let mut a = landed::side::Building::fresh(n_r, n_omega, top, &m);
+    let mut b = Building::fresh(n_r, n_omega, top, &m);
     for s in 0..slabs {
-        let a = icotable::set(b, &mut l.lent(), (s / n_omega) as u64, (s % n_omega) as u64, &energies(per, random));
-        assert_eq!(a.number, 0);
+        let e = energies(per, random);
+        a.set(s / n_omega, s % n_omega, &e);
+        b.set(s / n_omega, s % n_omega, &e);
     }
     let length = 52 + 4 * (top + 1) + 10 * slabs + 4 * slabs * per;
-    let (mut one, mut other) = (vec![0u8; length], vec![0u8; length]);
-    let l = l.lent();
+    let mut files = [(); 3].map(|_| vec![0u8; length]);
+    let (g, store, kinds, levels, values) = (b.grid(), b.store().to_vec(), b.kinds().to_vec(), b.levels().to_vec(), b.values().to_vec());
     let held = plain::Held {
-        rmin: grid.rmin,
-        dr: grid.dr,
-        step: grid.omega_step,
+        rmin: g.rmin,
+        dr: g.dr,
+        step: g.omega_step,
         n_r: n_r as u32,
         n_omega: n_omega as u32,
         top: top as u8,
-        store: l.store,
-        kinds: l.kinds,
-        levels: l.levels,
-        values: l.values,
+        store: &store,
+        kinds: &kinds,
+        levels: &levels,
+        values: &values,
     };
-    assert_eq!(icotable::write(b, l.held(), lent(&m), &mut one).length as usize, length);
-    assert_eq!(plain::write(&held, &mut other), length);
-    assert!(one == other);
-    let write = least(
-        rounds,
-        length,
-        || assert_eq!(icotable::write(b, black_box(&l).held(), lent(&m), &mut one).number, 0),
-        || assert_eq!(plain::write(black_box(&held), &mut other), length),
-    );
-    assert_eq!((icotable::read(&one).number, plain::read(&other)), (0, 0));
-    let read = least(
-        rounds,
-        length,
-        || assert_eq!(icotable::read(black_box(&one)).number, 0),
-        || assert_eq!(plain::read(black_box(&other)), 0),
-    );
+    let [x, y, z] = &mut files;
+    assert_eq!((a.write(x), b.write(y), plain::write(&held, z)), (length, length, length));
+    assert!(x == y && y == z);
+    let write = least(rounds, length, [&mut || used(a.write(x)), &mut || used(b.write(y)), &mut || used(plain::write(black_box(&held), z))]);
+    assert_eq!(plain::read(z), 0);
+    let read = least(rounds, length, [&mut || landed::side::read(x), &mut || new::side::read(y), &mut || used(plain::read(black_box(z)))]);
     ([write, read], length as f64 / 1e6)
+}
+
+// Nanoseconds of E.
+pub fn exp(random: &mut Random) -> [f64; 3] {
+    let ys: Vec<f64> = (0..4096).map(|_| 8.0 * random.unit()).collect();
+    for &y in &ys {
+        let e = exponential(y).to_bits();
+        assert_eq!((landed::side::exp(y).to_bits(), new::side::exp(y).to_bits()), (e, e));
+    }
+    let [mut a, mut b] = [landed::side::exp, new::side::exp].map(|f| { let ys = &ys; move || each(ys, |&y| used(f(y))) });
+    least(400, ys.len(), [&mut a, &mut b, &mut || each(&ys, |&y| used(exponential(y)))])
 }
 
 // Microseconds of settle for a slab, by calls that end early: one that holds no energies has only the questions put, and one that is repulsive only its exponentials worked out.
 pub fn settle_stages(top: usize, rounds: usize, random: &mut Random) -> [f64; 3] {
     let (m, _) = meshes(top);
     let per = vertex_count(top).pow(2);
-    let mut l = Own::new(1, top);
-    let b = begun(settings(1, 1), top, &mut l, &m);
-    let questions = least(rounds, 1000, || assert_eq!(icotable::settle(b, &mut l.lent(), lent(&m), 0).number, 0), || ());
-    let kinds = [vec![20.0; per], energies(per, random)].map(|e| {
-        let l = std::cell::RefCell::new(Own::new(1, top));
-        let set = || assert_eq!(icotable::set(b, &mut l.borrow_mut().lent(), 0, 0, &e).number, 0);
+    let mut none = Building::fresh(1, 1, top, &m);
+    let questions = least_alone(rounds, 1000, || used(none.settle()));
+    let [all_exponentials, all] = [vec![20.0; per], energies(per, random)].map(|e| {
+        let b = std::cell::RefCell::new(Building::fresh(1, 1, top, &m));
+        let mut set = || b.borrow_mut().set(0, 0, &e);
         set();
-        least(rounds, 1000, || assert_eq!(icotable::settle(b, &mut l.borrow_mut().lent(), lent(&m), 0).number, 0), set)[0]
+        // what settle left is set again between the rounds
+        least(rounds, 1000, [&mut || (), &mut || used(b.borrow_mut().settle()), &mut set])[1]
     });
-    [questions[0], kinds[0], kinds[1]]
+    [questions, all_exponentials, all]
 }
 
 // Microseconds of write: of a table whose slabs all hold energies, and of one that has rows alone.
 pub fn write_stages(top: usize, slabs: usize, rounds: usize, random: &mut Random) -> [f64; 2] {
     let (m, _) = meshes(top);
     let per = vertex_count(top).pow(2);
-    let mut l = Own::new(slabs, top);
-    let b = begun(settings(slabs as u64, 1), top, &mut l, &m);
+    let mut b = Building::fresh(slabs, 1, top, &m);
     let mut output = vec![0; 200 + 10 * slabs + 4 * slabs * per];
-    let mut write = |l: &mut Own| least(rounds, 1000, || assert_eq!(icotable::write(b, l.lent().held(), lent(&m), &mut output).number, 0), || ())[0];
-    let rows = write(&mut l);
+    let rows = least_alone(rounds, 1000, || used(b.write(&mut output)));
     for ri in 0..slabs {
-        assert_eq!(icotable::set(b, &mut l.lent(), ri as u64, 0, &energies(per, random)).number, 0);
+        b.set(ri, 0, &energies(per, random));
     }
-    [rows, write(&mut l)]
+    [rows, least_alone(rounds, 1000, || used(b.write(&mut output)))]
 }

@@ -1,5 +1,5 @@
-// Times the exported operations beside the machine's own (E beside the C library's exp). Rounds are short and interleaved, and the fastest of each
-// counts, since other work on the machine can only slow a round down. That the results are equal is for tests/compare/leaves.
+// Times the exported operations of the library that landed (where LANDED is defined) and of the new one beside the machine's own (E beside the C library's exp). Rounds are short and interleaved, and
+// the fastest of each counts, since other work on the machine can only slow a round down. That the results are equal is for tests/compare/leaves.
 #include <math.h>
 #include <stddef.h>
 #include <stdint.h>
@@ -7,19 +7,37 @@
 #include <string.h>
 #include <time.h>
 
-double float_root(double x);
-double float_mul_add(double a, double b, double c);
-float float_narrow(double x);
-double float_exp(double y);
-void float_narrow_all(const double *xs, size_t xs_len, float *out, size_t out_len);
+#define LIBRARY(name) \
+    double name##_root(double x); \
+    double name##_mul_add(double a, double b, double c); \
+    float name##_narrow(double x); \
+    double name##_exp(double y); \
+    void name##_narrow_all(const double *xs, size_t xs_len, float *out, size_t out_len);
+LIBRARY(float)
+#ifdef LANDED
+LIBRARY(landed_float)
+enum { FIRST = 0 };
+#else
+// nothing of it is called
+#define landed_float_root float_root
+#define landed_float_mul_add float_mul_add
+#define landed_float_narrow float_narrow
+#define landed_float_exp float_exp
+#define landed_float_narrow_all float_narrow_all
+enum { FIRST = 1 };
+#endif
 
 enum { COUNT = 1024, ROUNDS = 8000 };
 
 static double positive[COUNT], a[COUNT], b[COUNT], c[COUNT], exponents[COUNT], out[COUNT];
 static float narrow_out[COUNT];
 
-// Both sides are called and not inlined, as a caller in C would have it.
+// All sides are called and not inlined, as a caller in C would have it.
 #define CALLED __attribute__((noinline)) static
+CALLED double root_landed(double x) { return landed_float_root(x); }
+CALLED double mul_add_landed(double x, double y, double z) { return landed_float_mul_add(x, y, z); }
+CALLED float narrow_landed(double x) { return landed_float_narrow(x); }
+CALLED double exp_landed(double x) { return landed_float_exp(x); }
 CALLED double root_ours(double x) { return float_root(x); }
 CALLED double root_machine(double x) { return sqrt(x); }
 CALLED double mul_add_ours(double x, double y, double z) { return float_mul_add(x, y, z); }
@@ -30,6 +48,7 @@ CALLED double exp_ours(double x) { return float_exp(x); }
 CALLED double exp_machine(double x) { return exp(x); }
 // Of the lists the compiler may learn nothing either: it would make the machine's loop anew for these two arrays and this one length.
 #define UNKNOWN __attribute__((noipa)) static
+UNKNOWN void narrow_all_landed(const double *xs, float *to, size_t n) { landed_float_narrow_all(xs, n, to, n); }
 UNKNOWN void narrow_all_ours(const double *xs, float *to, size_t n) { float_narrow_all(xs, n, to, n); }
 UNKNOWN void narrow_all_machine(const double *xs, float *to, size_t n) {
     for (size_t i = 0; i < n; i++) to[i] = (float)xs[i];
@@ -50,38 +69,41 @@ static double of_bits(uint64_t bits) {
 }
 
 // A round of calls whose results are added up, one of calls that do not wait for each other, and one where each result feeds the next call.
-// The sum mostly has to be in memory during a call, and that wait alone may take longer than the machine's operation. Both sides have it.
+// The sum mostly has to be in memory during a call, and that wait alone may take longer than the machine's operation. All sides have it.
 #define LOOP(name, before, each, after) static void name(void) { before; for (int i = 0; i < COUNT; i++) each; after; }
 #define SUMMED(name, value) LOOP(name, double sum = 0, sum += value, out[0] = sum)
 #define APART(name, to, value) LOOP(name, , to[i] = value, )
 #define LATENCY(name, value) LOOP(name, double v = 1.5, v = value, out[0] = v)
 
-#define BOTH(name, to, call, ...) \
-    SUMMED(name##_summed_ours, call##_ours(__VA_ARGS__)) \
-    SUMMED(name##_summed_machine, call##_machine(__VA_ARGS__)) \
-    APART(name##_apart_ours, to, call##_ours(__VA_ARGS__)) \
-    APART(name##_apart_machine, to, call##_machine(__VA_ARGS__))
+#define SIDE(name, side, to, call, ...) \
+    SUMMED(name##_summed_##side, call##_##side(__VA_ARGS__)) \
+    APART(name##_apart_##side, to, call##_##side(__VA_ARGS__))
+#define SIDES(name, to, call, ...) \
+    SIDE(name, landed, to, call, __VA_ARGS__) \
+    SIDE(name, ours, to, call, __VA_ARGS__) \
+    SIDE(name, machine, to, call, __VA_ARGS__)
 
-BOTH(root, out, root, positive[i])
-BOTH(mul_add, out, mul_add, a[i], b[i], c[i])
-BOTH(positives, out, mul_add, fabs(a[i]), fabs(b[i]), fabs(c[i]))
-BOTH(halves, out, mul_add, a[i], 0.5, 0.5)
-BOTH(narrow, narrow_out, narrow, a[i])
-BOTH(exp, out, exp, exponents[i])
-// Between two roots stands an addition, on both sides: roots alone would soon be 1.
-LATENCY(root_latency_ours, root_ours(v + positive[i]))
-LATENCY(root_latency_machine, root_machine(v + positive[i]))
-LATENCY(mul_add_latency_ours, mul_add_ours(v, 0.75, c[i]))
-LATENCY(mul_add_latency_machine, mul_add_machine(v, 0.75, c[i]))
-static void narrow_entry_ours(void) { narrow_all_ours(a, narrow_out, COUNT); }
-static void narrow_entry_machine(void) { narrow_all_machine(a, narrow_out, COUNT); }
+SIDES(root, out, root, positive[i])
+SIDES(mul_add, out, mul_add, a[i], b[i], c[i])
+SIDES(positives, out, mul_add, fabs(a[i]), fabs(b[i]), fabs(c[i]))
+SIDES(halves, out, mul_add, a[i], 0.5, 0.5)
+SIDES(narrow, narrow_out, narrow, a[i])
+SIDES(exp, out, exp, exponents[i])
+// Between two roots stands an addition, on all sides: roots alone would soon be 1.
+#define ALONE(side) \
+    LATENCY(root_latency_##side, root_##side(v + positive[i])) \
+    LATENCY(mul_add_latency_##side, mul_add_##side(v, 0.75, c[i])) \
+    static void narrow_entry_##side(void) { narrow_all_##side(a, narrow_out, COUNT); }
+ALONE(landed)
+ALONE(ours)
+ALONE(machine)
 
-// A bar is how many times the machine's time an operation may take; 0 for none.
-#define ROW(name, call, measure, bar) {name, #measure, call##_##measure##_ours, call##_##measure##_machine, bar, {1e9, 1e9}}
+// A bar is how many times the machine's time an operation may take; 0 for none. No operation may be slower than it was.
+#define ROW(name, call, measure, bar) {name, #measure, {call##_##measure##_landed, call##_##measure##_ours, call##_##measure##_machine}, bar, {1e9, 1e9, 1e9}}
 static struct {
     const char *name, *measure;
-    void (*ours)(void), (*machine)(void);
-    double bar, ns[2];
+    void (*sides[3])(void);
+    double bar, ns[3];
 } rows[] = {
     ROW("root", root, summed, 5),
     ROW("root", root, apart, 0),
@@ -123,20 +145,31 @@ static double timed(void (*round)(void)) {
     return ((to.tv_sec - from.tv_sec) * 1e9 + (to.tv_nsec - from.tv_nsec)) / COUNT;
 }
 
+// A bar or the landed library's time may be passed by a tenth in one run.
+static void print(int r) {
+    const double *ns = rows[r].ns, bar = rows[r].bar, ratio = ns[1] / ns[2];
+    const char *mark = (bar > 0 && ratio > 1.1 * bar) || (FIRST == 0 && ns[1] > 1.1 * ns[0]) ? "**" : "";
+    printf("| %s, %s | ns | ", rows[r].name, rows[r].measure);
+    if (FIRST == 0)
+        printf("%.2f | ", ns[0]);
+    printf("%.2f | %.2f | ", ns[1], ns[2]);
+    if (FIRST == 0)
+        printf("%.2f | ", ns[0] / ns[2]);
+    printf("%s%.2f%s | ", mark, ratio, mark);
+    if (bar > 0)
+        printf("%.0f, ", bar);
+    printf("landed |\n");
+}
+
 int main(void) {
     for (int round = 0; round < ROUNDS; round++)
         for (int r = 0; r < ROWS; r++) {
             draw();
-            for (int side = 0; side < 2; side++) {
-                double ns = timed(side == 0 ? rows[r].ours : rows[r].machine);
+            for (int side = FIRST; side < 3; side++) {
+                double ns = timed(rows[r].sides[side]);
                 if (ns < rows[r].ns[side]) rows[r].ns[side] = ns;
             }
         }
-    for (int r = 0; r < ROWS; r++) {
-        printf("| %s, %s | ns | %.2f | %.2f | %.2f | ", rows[r].name, rows[r].measure, rows[r].ns[0], rows[r].ns[1], rows[r].ns[0] / rows[r].ns[1]);
-        if (rows[r].bar == 0)
-            printf("- |\n");
-        else
-            printf("%.0f |\n", rows[r].bar);
-    }
+    for (int r = 0; r < ROWS; r++)
+        print(r);
 }

@@ -1,6 +1,12 @@
-/* A C program's pass over many queries, eight numbers each: r, omega and the two directions. The struct that a reading takes is copied for each
- * call by the caller's compiler. gcc copies its 136 bytes as it does any few words; LLVM, and so rustc, takes `rep movs` above 128 bytes. */
+/* A C program's pass over many queries, eight numbers each: r, omega and the two directions. Compiled for each library against its own header: before 0.6.0 a reading took
+ * the table by value. */
 #include "icotable.h"
+
+#if ICOTABLE_VERSION_MAJOR == 0 && ICOTABLE_VERSION_MINOR < 6
+#define TABLE(t) *(t)
+#else
+#define TABLE(t) (t)
+#endif
 
 void read_all(
     const icotable_table *t,
@@ -16,7 +22,7 @@ void read_all(
     for (size_t i = 0; i < count; i++) {
         const double *q = queries + 8 * i;
         out[i] = icotable_reading(
-            *t, file, file_count, vertices, vertices_count, cell_offsets, cell_offsets_count, cell_vertices, cell_vertices_count,
+            TABLE(t), file, file_count, vertices, vertices_count, cell_offsets, cell_offsets_count, cell_vertices, cell_vertices_count,
             face_offsets, face_offsets_count, faces, faces_count, q[0], q[1], q[2], q[3], q[4], q[5], q[6], q[7]);
     }
 }

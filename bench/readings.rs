@@ -1,5 +1,5 @@
 // A reading beside the Rust's lookup. All answers are compared first, bit for bit.
-use crate::icotable::{self, Lent, Query, Table, Value};
+use crate::icotable::Query;
 use crate::library::add_level;
 use crate::meshes::{icosphere, Random};
 use crate::oracle::{FaceGrid, Vector3};
@@ -7,7 +7,7 @@ use crate::pack::packed;
 use crate::reader::Lists;
 use crate::rust::{MeshLevel, SlabResolution, Table6DAdaptive};
 use crate::timing::{each, least, used};
-use std::hint::black_box;
+use crate::{landed, new};
 
 // The rows of a table: all of one kind.
 #[derive(Clone, Copy)]
@@ -17,35 +17,15 @@ pub enum Rows {
     Interpolated,
 }
 
-// Who calls the library: a loop in C (readings.c), or one in Rust, whose compiler copies the struct of a table, handed over by value, more slowly.
+// Who calls the library: a loop in C (readings.c), or one in Rust. Until version 0.6.0 a table was handed over by value, which rustc copies more slowly.
 #[derive(Clone, Copy)]
 pub enum Caller {
     C,
     Rust,
 }
 
-#[rustfmt::skip]
-extern "C" {
-    fn read_all(
-        table: *const Table, file: *const u8, a: usize, vertices: *const f64, b: usize, cell_offsets: *const u32, c: usize, cell_vertices: *const u16, d: usize,
-        face_offsets: *const u32, e: usize, faces: *const u16, f: usize, queries: *const Query, count: usize, out: *mut Value,
-    );
-}
-
-#[rustfmt::skip]
-fn read_from_c(table: &Table, l: Lent, queries: &[Query], out: &mut [Value]) {
-    assert_eq!(queries.len(), out.len());
-    unsafe {
-        read_all(
-            table, l.file.as_ptr(), l.file.len(), l.vertices.as_ptr(), l.vertices.len(), l.cell_offsets.as_ptr(), l.cell_offsets.len(),
-            l.cell_vertices.as_ptr(), l.cell_vertices.len(), l.face_offsets.as_ptr(), l.face_offsets.len(), l.faces.as_ptr(), l.faces.len(),
-            queries.as_ptr(), queries.len(), out.as_mut_ptr(),
-        )
-    }
-}
-
 // A table of n_r distances and n_omega angles, Mesh rows at the level; with its file and what is lent beside it.
-fn made(rows: Rows, level: usize, n_r: usize, n_omega: usize, random: &mut Random) -> (Table6DAdaptive<f32>, icotable::Table, Lists) {
+fn made(rows: Rows, level: usize, n_r: usize, n_omega: usize, random: &mut Random) -> (Table6DAdaptive<f32>, Lists) {
     let mut lists = Lists::default();
     let mut levels = Vec::new();
     for m in 0..=level {
@@ -78,29 +58,26 @@ fn made(rows: Rows, level: usize, n_r: usize, n_omega: usize, random: &mut Rando
             t.data.extend((0..per).map(|_| random.unit() as f32));
         }
     }
-    let (file, table) = packed(&t);
-    lists.file = file;
-    (t, table, lists)
+    lists.file = packed(&t).0;
+    (t, lists)
 }
 
 // Nanoseconds of a reading, and the megabytes of its file.
-pub fn measure(caller: Caller, rows: Rows, level: usize, bins: [usize; 2], queries: usize, rounds: usize, random: &mut Random) -> ([f64; 2], f64) {
-    let (t, table, lists) = made(rows, level, bins[0], bins[1], random);
-    let lent = lists.lent(&lists.lengths());
+pub fn measure(caller: Caller, rows: Rows, level: usize, bins: [usize; 2], queries: usize, rounds: usize, random: &mut Random) -> ([f64; 3], f64) {
+    let (t, lists) = made(rows, level, bins[0], bins[1], random);
+    let megabytes = lists.file.len() as f64 / 1e6;
     let far = |random: &mut Random| 10.0 + (random.unit() + 1.0) / 2.0 * (t.rmax - 10.0);
     let queries: Vec<Query> =
         (0..queries).map(|_| Query { r: far(random), omega: random.unit() * 6.0, a: random.direction(), b: random.direction() }).collect();
     let lookup = |q: &Query| t.lookup(q.r, q.omega, &Vector3::from(q.a), &Vector3::from(q.b));
-    let mut out = vec![Value::default(); queries.len()];
-    read_from_c(&table, lent, &queries, &mut out);
-    for (q, x) in queries.iter().zip(&out) {
-        let (y, wanted) = (icotable::reading(&table, lent, q), lookup(q).to_bits());
-        assert_eq!((x.number, x.energy.to_bits(), y.number, y.energy.to_bits()), (0, wanted, 0, wanted));
-    }
-    let theirs = || each(&queries, |q| used(lookup(q)));
+    let wanted: Vec<u64> = queries.iter().map(|q| lookup(q).to_bits()).collect();
+    let mut a = landed::side::Readings::new(lists.clone(), &queries, &wanted);
+    let mut b = new::side::Readings::new(lists.clone(), &queries, &wanted);
+    drop(lists);
+    let mut rust = || each(&queries, |q| used(lookup(q)));
     let time = match caller {
-        Caller::C => least(rounds, queries.len(), || read_from_c(&table, lent, black_box(&queries), black_box(&mut out)), theirs),
-        Caller::Rust => least(rounds, queries.len(), || each(&queries, |q| used(icotable::reading(&table, lent, q))), theirs),
+        Caller::C => least(rounds, queries.len(), [&mut || a.from_c(), &mut || b.from_c(), &mut rust]),
+        Caller::Rust => least(rounds, queries.len(), [&mut || a.from_rust(), &mut || b.from_rust(), &mut rust]),
     };
-    (time, lists.file.len() as f64 / 1e6)
+    (time, megabytes)
 }

@@ -1,5 +1,17 @@
-// How both sides are timed, and how a figure is printed.
+// How the sides are timed, and how a figure is printed. The sides are the library that landed, the new one and what they stand beside, in this order.
 use std::hint::black_box;
+use std::sync::atomic::{AtomicBool, AtomicUsize, Ordering::Relaxed};
+
+// Whether the landed library takes part: not where it was not built, nor for a profiler.
+pub static LANDED: AtomicBool = AtomicBool::new(cfg!(landed));
+static MISSES: AtomicUsize = AtomicUsize::new(0);
+
+// How much above its bar a ratio may be in one run.
+const NEAR: f64 = 1.1;
+
+pub fn landed() -> bool {
+    LANDED.load(Relaxed)
+}
 
 // A result that counts as used.
 pub fn used<T>(x: T) {
@@ -23,17 +35,27 @@ fn clock() -> i64 {
     time[0] * 1_000_000_000 + time[1]
 }
 
-// Nanoseconds of each side for each of `parts` parts. The sides take turns, round after round; the least counts, since whatever disturbs a round makes it longer.
-pub fn least(rounds: usize, parts: usize, mut ours: impl FnMut(), mut theirs: impl FnMut()) -> [f64; 2] {
-    let mut least = [i64::MAX; 2];
-    for _ in 0..rounds {
-        let start = clock();
-        ours();
-        let middle = clock();
-        theirs();
-        least = [least[0].min(middle - start), least[1].min(clock() - middle)];
+// Nanoseconds of each side for each of `parts` parts; NaN for the landed library where it takes no part. The sides take turns, round after round; the least counts, since whatever disturbs a round
+// makes it longer.
+pub fn least(rounds: usize, parts: usize, sides: [&mut dyn FnMut(); 3]) -> [f64; 3] {
+    let mut least = [i64::MAX; 3];
+    for round in 0..rounds {
+        for turn in 0..3 {
+            // forwards and backwards, so that no side always comes after the same one
+            let k = if round % 2 == 0 { turn } else { 2 - turn };
+            if k > 0 || landed() {
+                let start = clock();
+                sides[k]();
+                least[k] = least[k].min(clock() - start);
+            }
+        }
     }
-    least.map(|t| t as f64 / parts as f64)
+    least.map(|t| if t == i64::MAX { f64::NAN } else { t as f64 / parts as f64 })
+}
+
+// The same of the new library alone.
+pub fn least_alone(rounds: usize, parts: usize, mut run: impl FnMut()) -> f64 {
+    least(rounds, parts, [&mut || (), &mut run, &mut || ()])[1]
 }
 
 // A number with as many digits as it is worth.
@@ -45,8 +67,39 @@ pub fn figure(x: f64) -> String {
     }
 }
 
-// A line of the table; the bar is how many times the other side's time is allowed, 0 for none.
-pub fn row(what: &str, unit: &str, [ours, theirs]: [f64; 2], bar: f64) {
-    let bar = if bar > 0.0 { bar.to_string() } else { "-".into() };
-    println!("| {what} | {unit} | {} | {} | {:.2} | {bar} |", figure(ours), figure(theirs), ours / theirs);
+// What the new library is held to.
+#[derive(Clone, Copy)]
+pub enum Bar {
+    // so many times the other side's time
+    Times(f64),
+    // the landed library's time
+    Landed,
+    // the same as Times, of which a miss is no miss
+    Goal(f64),
+}
+
+// A line of the table.
+pub fn row(what: &str, unit: &str, [before, new, other]: [f64; 3], bar: Bar) {
+    let (held, words) = match bar {
+        Bar::Times(x) => (new / other <= x * NEAR, x.to_string()),
+        Bar::Landed => (!(new / before > NEAR), "landed".into()),
+        Bar::Goal(x) => (true, format!("goal {x}")),
+    };
+    MISSES.fetch_add(!held as usize, Relaxed);
+    let mark = if held { "" } else { "**" };
+    if landed() {
+        println!("| {what} | {unit} | {} | {} | {} | {:.2} | {mark}{:.2}{mark} | {words} |", figure(before), figure(new), figure(other), before / other, new / other);
+    } else {
+        println!("| {what} | {unit} | {} | {} | {mark}{:.2}{mark} | {words} |", figure(new), figure(other), new / other);
+    }
+}
+
+pub fn misses() -> usize {
+    MISSES.load(Relaxed)
+}
+
+// A figure of the new library, its ratio, and that of the landed one.
+pub fn with_ratio([before, new, other]: [f64; 3], parts: f64) -> String {
+    let was = if landed() { format!(", was {:.2}", before / other) } else { String::new() };
+    format!("{} ({:.2}{was})", figure(new * parts), new / other)
 }

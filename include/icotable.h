@@ -11,8 +11,9 @@
  * `b = icotable_set(b, ..).builder` never loses it.
  *
  * Lists. A list is a pointer and the count of its entries. It may be longer than needed: entries beyond what is needed
- * stay as they are. A pointer may be null where its count is 0. Lists must not overlap. The library keeps no state and
- * allocates nothing, so calls on different lists may run in different threads.
+ * stay as they are. A pointer may be null where its count is 0. Lists must not overlap. A pointer to a struct may not be
+ * null: one struct is read behind it, and nothing is kept. The library keeps no state and allocates nothing, so calls on
+ * different lists may run in different threads, and calls that only read a list or a struct on the same one.
  *
  * Sizes. Level m has n = 10*(m+1)*(m+1)+2 vertices, m from 0 to 15. A slab is one distance bin and one dihedral bin,
  * slab (ri, oi) is number ri*n_omega+oi, and a slab at a level holds n*n energies. A builder with S slabs and top level
@@ -29,8 +30,8 @@
  * no small number is flushed to zero: not in a program that is linked with -ffast-math, nor after fesetround. There an
  * answer can be another one. icotable_float_environment() of environment.h answers 0 where it is as it should be.
  *
- * Stack. No theorem bounds it. As measured on x86-64 and rounded up, settle takes 88 kB, locator 4 kB and every other
- * function 2 kB, whatever the level.
+ * Stack. No theorem bounds it. As measured on x86-64 and rounded up, settle takes 88 kB, locator 10 kB and every
+ * other function 2 kB, whatever the level.
  *
  * Numbers. ICOTABLE_REFUSALS below has each one in words, and docs/REFUSALS.md an example of each.
  */
@@ -43,7 +44,7 @@
 /* The version, raised where a struct, a function or the table file changes (CHANGELOG.md). The pkg-config file and the
  * tool take it from here; a test compares it with hosts/rust. */
 #define ICOTABLE_VERSION_MAJOR 0
-#define ICOTABLE_VERSION_MINOR 5
+#define ICOTABLE_VERSION_MINOR 6
 #define ICOTABLE_VERSION_PATCH 0
 
 #define ICOTABLE_STRING_(x) #x
@@ -208,12 +209,12 @@ uint64_t icotable_locator(
     uint16_t *faces, size_t faces_count);
 
 /* The energy at distance r, dihedral angle omega and two directions of any length, from a file, what read answered for
- * it, the vertices of all its levels and their locators, each level's at its needed lengths, one after another. Takes
+ * it (lent, so that no call copies it), the vertices of all its levels and their locators, each level's at its needed lengths, one after another. Takes
  * no notice of the table's number, nor of its rmax, threshold and beta. Question 18; then 0 for a distance outside the
  * table; then 19, 20. What concerns meshes and locators is asked only where a Mesh row is read, and of what is touched
  * alone. */
 icotable_value icotable_reading(
-    icotable_table table,
+    const icotable_table *table,
     const uint8_t *file, size_t file_count,
     const double *vertices, size_t vertices_count,
     const uint32_t *cell_offsets, size_t cell_offsets_count,

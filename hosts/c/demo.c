@@ -191,7 +191,7 @@ static int look_up(const work *w, const char *name, size_t length) {
         double r = settings.rmin + (double)ri * settings.dr, omega = (double)oi * settings.omega_step;
         direction(&state, a);
         direction(&state, b);
-        icotable_value v = icotable_reading(t, file, length, ICOTABLE_LOCATORS(&w->meshes), r, omega, a[0], a[1], a[2], b[0], b[1], b[2]);
+        icotable_value v = icotable_reading(&t, file, length, ICOTABLE_LOCATORS(&w->meshes), r, omega, a[0], a[1], a[2], b[0], b[1], b[2]);
         pose first = first_pose(a), second = second_pose(b, omega);
         double direct = pair_energy(&first, &second, r);
         refused += v.number != 0;

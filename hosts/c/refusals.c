@@ -55,7 +55,7 @@ static uint64_t read_with(size_t at, uint8_t byte) {
 }
 
 static uint64_t reading(icotable_table t, const icotable_meshes *m, double x) {
-    return icotable_reading(t, file, ROOM, ICOTABLE_LOCATORS(m), 0, 0, x, 0, 0, 0, 0, 1).number;
+    return icotable_reading(&t, file, ROOM, ICOTABLE_LOCATORS(m), 0, 0, x, 0, 0, 0, 0, 1).number;
 }
 
 static uint64_t settings_wrong(void) {

@@ -199,7 +199,7 @@ static void small_table(void) {
 }
 
 static icotable_value reading(double r, const double *p, const double *q) {
-    return icotable_reading(table, file, file_count, vertices, 3 * N, cell_offsets, CELLS, cell_vertices, 27 * N, face_offsets,
+    return icotable_reading(&table, file, file_count, vertices, 3 * N, cell_offsets, CELLS, cell_vertices, 27 * N, face_offsets,
                             N + 1, faces, faces_count, r, 0.1, p[0], p[1], p[2], q[0], q[1], q[2]);
 }
 

@@ -42,7 +42,7 @@ int main(int count, char **names) {
     }
     double q[8];
     while (read_query(q)) {
-        icotable_value v = icotable_reading(t, file, length, ICOTABLE_LOCATORS(&m), q[0], q[1], q[2], q[3], q[4], q[5], q[6], q[7]);
+        icotable_value v = icotable_reading(&t, file, length, ICOTABLE_LOCATORS(&m), q[0], q[1], q[2], q[3], q[4], q[5], q[6], q[7]);
         uint64_t bits;
         memcpy(&bits, &v.energy, sizeof bits);
         printf("%d %016" PRIX64 "\n", (int)v.number, bits);

@@ -29,7 +29,7 @@ static double energy(const icotable_meshes *m) {
     if (s.number != 0 || w.number != 0 || t.number != 0)
         return -2;
     const double *v = icotable_level_vertices(m, TOP);
-    icotable_value e = icotable_reading(t, file, w.length, ICOTABLE_LOCATORS(m), 0.5, 0, v[15], v[16], v[17], v[27], v[28], v[29]);
+    icotable_value e = icotable_reading(&t, file, w.length, ICOTABLE_LOCATORS(m), 0.5, 0, v[15], v[16], v[17], v[27], v[28], v[29]);
     return e.number == 0 ? e.energy : -3;
 }
 

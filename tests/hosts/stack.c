@@ -66,7 +66,7 @@ static void locator(void) {
 static void reading(void) {
     for (int i = 0; i < 4000; i++) {
         double r = i % 5 - 0.25, omega = i * 0.1, x = i % 7 - 3, y = i % 11 - 5, z = i % 13 - 6.5;
-        sink = icotable_reading(table, file, length, ICOTABLE_LOCATORS(&meshes), r, omega, x, y, z, z, x, y).energy;
+        sink = icotable_reading(&table, file, length, ICOTABLE_LOCATORS(&meshes), r, omega, x, y, z, z, x, y).energy;
     }
 }
 
@@ -93,7 +93,7 @@ static const operation operations[] = {
     {"settle", set, settle, 88},
     {"write", nothing, write_table, 2},
     {"read", nothing, read_table, 2},
-    {"locator", nothing, locator, 4},
+    {"locator", nothing, locator, 10},
     {"reading", nothing, reading, 2},
     {"root, exp, mul_add, narrow, vertices, cells", nothing, numbers, 2},
 };

@@ -26,7 +26,7 @@ static icotable_value reading(replay *r, const icotable_table *t, const lists *l
     double q[8];
     for (int n = 0; n < 8; n++)
         q[n] = number(r);
-    return icotable_reading(*t, l->file, f, l->vertices, v, l->cell_offsets, i, l->cell_vertices, j, l->face_offsets, k,
+    return icotable_reading(t, l->file, f, l->vertices, v, l->cell_offsets, i, l->cell_vertices, j, l->face_offsets, k,
         l->faces, m, q[0], q[1], q[2], q[3], q[4], q[5], q[6], q[7]);
 }
 

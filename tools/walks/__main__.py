@@ -7,7 +7,7 @@ statement by statement. Its steps name what they use by places in a list of what
 
 To change a walk, change the function or its contract in crates/CRATE/src, run this program, then `rt dev CRATE`:
 parameters, types and contracts are read from the source. To add one, give the function the body of a shape (lend.py,
-entry.py, bridge.py, through.py, each of which shows it at its head) and add a line to walks.py. What has to be written
+look.py, entry.py, bridge.py, through.py, each of which shows it at its head) and add a line to walks.py. What has to be written
 there are the names of laws: why the contract holds. A new shape is a class like those, of the steps that context.py,
 elements.py and calls.py have; `rt mir CRATE` prints the statements that it has to walk."""
 import argparse

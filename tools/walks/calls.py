@@ -27,7 +27,7 @@ class Call:
     def home(self):
         """The function's path, in another crate that of its root."""
         own = self.crate == self.walk.crate
-        return '%s.%s' % (self.function.source.module, self.function.name) if own else self.function.name
+        return self.function.path() if own else self.function.name
 
     def uses(self):
         home, prefix = self.walk.module('proofs', self.crate, self.home()), self.prefix

@@ -53,7 +53,7 @@ class Walk:
         raise Wrong('%s: %s: %s' % (self.source.file, self.function.name, words))
 
     def file(self):
-        return 'crates/%s/proofs/%s/%s/Proof.antt' % (self.crate, self.source.module, self.function.name)
+        return 'crates/%s/proofs/%s/Proof.antt' % (self.crate, self.function.path().replace('.', '/'))
 
     def text(self):
         body = self.stayed() + [line for call in self.calls for line in call.contract_lines()] + self.machine()
@@ -93,7 +93,7 @@ class Walk:
             made += ['use %s as %s' % (home, kind.letter), 'use %s.Laws as %s′' % (home, kind.letter)]
         for call in self.calls:
             made += call.uses()
-        home = self.module('proofs', self.crate, '%s.%s' % (self.source.module, self.function.name))
+        home = self.module('proofs', self.crate, self.function.path())
         made += ['use %s.Key.{name as %s}' % (home, self.key()), 'use %s as fn' % home]
         return made + ['use %s.%s as %s' % (home, name, name.split('.')[-1].lower()) for name in self.own_modules()]
 
@@ -150,10 +150,10 @@ class Walk:
         return made + self.holdings()
 
     def holdings(self):
-        """The tokens that are had together, and what a list owns that is passed on or looked into."""
+        """The tokens that are had together, and what a reference owns that is passed on or looked into."""
         tokens = ['‵ (flft %s %s)' % (param.lft, param.share) for param in self.lent[self.apart:]]
         made = definition('  ', 'Toks', 'Item 𝓤', ' ⊛ '.join(tokens + ['‵ ftrue']))
-        for param in self.slices:
+        for param in self.lent:
             if not param.mutable or param.given:
                 owned = '%s .own %s (%s ∷ [])' % (param.row, param.name, param.value)
                 made += definition('  ', param.own, 'Fml', owned)
@@ -178,7 +178,7 @@ class Walk:
         kept = [param for param in self.ending() if not param.given]
         made = [label + param.name for param in kept for label in ('obs-', 'bor-')] + self.tokens()
         made += [param.fin for param in self.ending() if param.given]
-        return made + [param.own for param in self.slices if not param.mutable]
+        return made + [param.own for param in self.lent if not param.mutable]
 
     def item(self, label, tracked='end'):
         """What a label stands for; tracked: which value of a parameter a borrow tracks, that at exit or `now`."""
@@ -203,8 +203,9 @@ class Walk:
         names, kinds = [param.end for param in ends], [param.ends for param in ends]
         items = listed(self.item(label) for label in self.remains())
         made = definition('  ', 'Left', arrows(kinds + ['List (Item 𝓤)']), items, names, 'what is left at exit')
-        firsts, lasts = {param.name: param.now for param in self.lent}, {param.name: param.end for param in ends}
-        said = translated(self.function.ensured().fact, {}, firsts, lasts)
+        firsts, lasts = {param.written: param.now for param in self.lent}, {param.written: param.end for param in ends}
+        values = {param.written: param.name for param in self.params if isinstance(param, params.Plain)}
+        said = translated(self.function.ensured().fact, values, firsts, lasts)
         kind = arrows([self.result.model] + kinds + ['Type 0'])
         made += definition('  ', 'Said', kind, said, [self.answer] + names, 'what is ensured')
         value, left = arg(self.result.value(self.answer)), arg(applied('Left', *names))

@@ -45,13 +45,13 @@ denote.Array: array-tells array-makes
 denote.Plain: Boolean bool-vals bool-tells bool-makes bool-lawful uint-vals uint-tells uint-makes uint-lawful
 denote.Floats: float-vals float-tells float-makes float-lawful passes
 denote.Builtin: u8 u16 u32 u64 usize f32 f64
-denote.Ref: RefT MutRef at-last ptr-vals mut-tells
+denote.Ref: RefT MutRef ShrRef at-last ptr-vals mut-tells shr-tells
 denote.Slice: sliceTy sliceVal MutSlice ShrSlice Room heres codedHoleys at-slice finally slice-vals mut-slice-tells
 denote.Slice: shr-slice-tells shr-slice-copy
 denote.Lend: Held lends-slice slice-back lends-ref ref-back
 denote.Index: row place-is place-byte elem-out elem-put elem-back opens-slice closes-slice looks-slice shuts-slice
 denote.Signature: plain
-denote.Steps: only opens closes owned peeks heard nothing
+denote.Steps: only opens closes looks shuts owned peeks heard nothing
 denote.Struct.Steps: spelt
 denote.Triple.Entry: Vals onEntry
 denote.Triple.Spec: Meets tripleOf
@@ -60,7 +60,7 @@ denote.Triple.Call: calls-at
 denote.Triple.Clauses: ensured lasts
 denote.Triple.Table: entered cited
 denote.Triple.Walked: says Stays stay-ref stay-none stay-slice stay-none-slice gave-slice walkOf AllGo goes-ref
-denote.Triple.Walked: goes-none goes-slice goes-none-slice goes-gave-slice Walks ends-at walked walk-meets
+denote.Triple.Walked: stay-none-ref goes-none-ref goes-none goes-slice goes-none-slice goes-gave-slice Walks ends-at walked walk-meets
 denote.Exit: yes
 '''
 # how the kit's meaning of a name is used that has another meaning too

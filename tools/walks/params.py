@@ -1,8 +1,12 @@
 """The parameters of a walked function by their kinds: how each is bound, passed, kept to the exit and given back."""
 import re
 
+import imports
 from source import Wrong
-from text import path
+from text import dashed, path
+
+# the kit's names that a walk uses without more
+KIT = {name for names in imports.kit().values() for name in names if name not in imports.USED_AS}
 
 
 def lifetime(letter, number):
@@ -11,7 +15,7 @@ def lifetime(letter, number):
 
 
 class Param:
-    """place: of its local; number: of its lifetime, where it has one; mutable: whether its value may change; given:
+    """written: its name in the source, which stands with a dash here where the kit has the same; place: of its local; number: of its lifetime, where it has one; mutable: whether its value may change; given:
     whether it is given up for good to a callee; own, fin: the labels of what it owns and of what says its value at
     exit, which is called end; long: that a list is as long at exit. In the logic: model, its type; row, its type with
     what it owns; value, its machine value; typed, that this has its type; vals, tells, the laws of that; facts, as a
@@ -19,9 +23,10 @@ class Param:
     number, mutable, given = None, False, False
 
     def __init__(self, name, kind, place):
-        self.name, self.type, self.place = name, kind, place
+        self.written, self.type, self.place = name, kind, place
+        self.name = dashed(name) + ('′' if name in KIT else '')
         self.known, self.own, self.end, self.long, self.fin = (
-            letters % name for letters in ('g-%s', 'Own-%s', 'z-%s', 'l-%s', 'fin-%s'))
+            letters % self.name for letters in ('g-%s', 'Own-%s', 'z-%s', 'l-%s', 'fin-%s'))
 
     def hypotheses(self):
         return ['(%s : %s)' % (name, fact) for name, fact, _ in self.facts]
@@ -37,8 +42,8 @@ class Plain(Param):
     def __init__(self, name, kind, place):
         super().__init__(name, kind, place)
         self.model, self.row, self.vals, self.tells = kind.model, kind.row, kind.vals, kind.tells
-        self.facts, self.value = kind.facts(name), kind.value(name)
-        self.typed, self.owned = kind.typed(name, self.known), kind.owned(name, self.known)
+        self.facts, self.value = kind.facts(self.name), kind.value(self.name)
+        self.typed, self.owned = kind.typed(self.name, self.known), kind.owned(self.name, self.known)
 
     def stays(self):
         return 'stay-none (λ _. %s) yes' % self.row
@@ -55,7 +60,7 @@ class Reference(Param):
         super().__init__(name, kind, place)
         self.number, self.mutable = number, mutable
         self.lft, self.share = lifetime('κ', number), lifetime('q', number)
-        self.now, self.at = '%s .now' % name, '(%s .ptr .0) (%s .ptr .1)' % (name, name)
+        self.now, self.at = '%s .now' % self.name, '(%s .ptr .0) (%s .ptr .1)' % (self.name, self.name)
 
     def rule(self, former, law=None):
         """A type or a law of the kit about references of this kind."""
@@ -69,18 +74,23 @@ class Reference(Param):
 
 
 class Struct(Reference):
-    """A struct that is lent to be altered."""
+    """A struct that is lent, to be altered or to be read."""
 
     def __init__(self, *parts):
         super().__init__(*parts)
         self.ends, self.facts, self.typed = self.type.model, [], '(tt, tt)'
-        self.model, self.value, self.row = 'RefT %s' % self.ends, 'vptr %s' % self.at, self.rule('MutRef')
-        self.vals, self.tells = 'ptr-vals', self.told('mut-tells')
+        self.model, self.value = 'RefT %s' % self.ends, 'vptr %s' % self.at
+        self.row = self.rule('MutRef' if self.mutable else 'ShrRef')
+        self.vals, self.tells = 'ptr-vals', self.told('mut-tells' if self.mutable else 'shr-tells')
 
     def stays(self):
+        if not self.mutable:
+            return self.kept('stay-none-ref (%d ∷ [])' % self.number) + ' yes'
         return self.kept('stay-ref (%d ∷ [])' % self.number)
 
     def goes(self, count):
+        if not self.mutable:
+            return self.kept('goes-none-ref 𝓤 H A W %d (%d ∷ [])' % (count, self.number)) + ' yes'
         return self.kept('goes-ref 𝓤 H A W %d %d' % (count, self.number))
 
     def borrowed(self, end):
@@ -121,7 +131,7 @@ def read(function, types):
     made, number = [], 0
     for place, (name, text) in enumerate(function.params, 1):
         reference, listed, inside = re.fullmatch(r'(&mut |&)?(\[(?!.*;))?(.*?)\]?', text).groups()
-        if reference == '&' and not listed or listed and not reference:
+        if listed and not reference:
             raise Wrong('%s: %s: no walk takes a parameter of type %s' % (function.source.file, function.name, text))
         kind = types.of(function.source, inside if reference else text)
         if not reference:

@@ -5,6 +5,8 @@ import re
 
 ROOT = os.path.normpath(os.path.join(os.path.dirname(os.path.abspath(__file__)), '..', '..'))
 CLOSERS = {'(': ')', '{': '}', '[': ']'}
+# the modules that are a crate's root
+ROOTS = 'lib', 'main'
 
 
 class Wrong(Exception):
@@ -79,6 +81,11 @@ class Function:
             raise Wrong('%s: %s ensures nothing' % (self.source.file, self.name))
         return self.clauses['ensures']
 
+    def path(self):
+        """Its module and its name."""
+        module = self.source.module
+        return self.name if module in ROOTS else '%s.%s' % (module, self.name)
+
     def is_body(self, wanted):
         """The body is the wanted one, but for where commas end a list."""
         def bare(text):
@@ -114,7 +121,7 @@ class Source:
     def home(self, name):
         """The crate of a declared type, and its module there, '' at the root."""
         if re.search(r'\b(struct|enum) %s\b' % name, self.text):
-            return self.crate, '' if self.module in ('lib', 'main') else self.module
+            return self.crate, '' if self.module in ROOTS else self.module
         if name not in self.used:
             raise Wrong('%s: no type %s is declared or used' % (self.file, name))
         return (self.crate if self.used[name] == 'crate' else self.used[name]), ''
@@ -139,6 +146,6 @@ def translated(fact, values, firsts, lasts):
             return lasts[at] if when == 'exit' else firsts[at or required]
         value = values.get(word, word)
         return '(%s)' % value if ' ' in value else value
-    lent = r'now \((\w+) \.(entry|exit)\)|now (\w+)'
+    lent = r'now \(«?(\w+)»? \.(entry|exit)\)|now (\w+)'
     text = re.sub(lent + r'|(?<![\w.′·-])([^\W\d]\w*)(?![\w′·-])(?! =)', put, fact)
     return re.sub(r'\(([\w-]+)\)', r'\1', text)

@@ -2,6 +2,7 @@
 from bridge import Gather, Spread
 from entry import Read, Replace
 from lend import Lend
+from look import Look
 from through import Through
 
 RECORDS = (('specs', 'Records'), ('proofs', 'Entries'))
@@ -9,6 +10,7 @@ RECORDS = (('specs', 'Records'), ('proofs', 'Entries'))
 
 def walks():
     return [
+        Look('icotable', 'lib', 'icotable_reading'),
         Lend('lent', 'calls', 'set_lent'),
         Lend('lent', 'calls', 'settle_lent'),
         Read('lent', 'records', 'row_at', RECORDS, 'none', 'read (rows .now) s', 'read-beyond (rows .now) s h'),

@@ -23,6 +23,17 @@ pub fn float32(b: u32) -> f32
     }
 }
 
+// The same at the wider format, which holds every f32: one test where two calls make two.
+pub fn widened(b: u32) -> f64
+    ensures { λ r. ⌜ r ≡ ofBits binary32 b ⌝ }
+{
+    if b % 0x8000_0000 > 0x7f80_0000 {
+        0.0 / 0.0
+    } else {
+        f32::from_bits(b) as f64
+    }
+}
+
 // The bit pattern of a float: one and the same for every NaN.
 pub fn bits64(x: f64) -> u64
     ensures { λ r. ⌜ r ≡ toBits binary64 x ⌝ }

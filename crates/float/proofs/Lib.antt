@@ -6,6 +6,9 @@ pub mod Fields
 pub mod Steps
 pub mod Truncation
 pub mod Powers
-pub mod Casts
 pub mod Remainders
 pub mod Order
+pub mod Signed
+pub mod Shifts
+pub mod Reach
+pub mod Ranks

@@ -17,6 +17,12 @@ use Rattle.float.proofs.Fields.{digits, digits-lt, field, parts}
 use Rattle.float.proofs.Steps.{bounds}
 use Rattle.float.proofs.Values.{other-scale, same-value}
 
+-- a number that the format holds is q * 2 ^ k units of its smallest value, and below the largest power of two
+pub units-under : (s : Bool) (m : ℕ) (e : ℤ) → T (fits binary64 (fin s m e)) → (q k : ℕ) → m * up e * 2 ^ low binary64 ≡ q * 2 ^ k * down e → q * 2 ^ k < 2 ^ (1074 + 1024)
+units-under s m e h q k v =
+    lt-of-mul-lt-mul-right (down e)
+    (lt-of-le-of-lt (le-of-eq (sym v)) (lt-of-lt-of-le (mul-lt-mul-of-pos-right (bounds binary64 s m e h .1) (pow-pos 1074)) (le-of-eq (mul-right-comm (2 ^ 1024) (down e) (2 ^ 1074) ∙ ap (λ (z : ℕ). z * down e) (mul-comm (2 ^ 1024) (2 ^ 1074) ∙ sym (pow-add 2 1074 1024))))))
+
 pub own-round : (s : Bool) (m : ℕ) (e : ℤ) → T (fits binary64 (fin s m e)) → round binary64 s (m * up e) (down e) ≡ fin s m e
 own-round s m e h =
     let x = fin s m e in
@@ -24,14 +30,9 @@ own-round s m e h =
     let k = field binary64 b - 1 in
     let q = digits binary64 (field binary64 b) (b % hid binary64) in
     let v : m * up e * 2 ^ low binary64 ≡ q * 2 ^ k * down e = parts binary64 s m e h .1 in
-    let r = round-exact binary64 s (m * up e) (down e) q k (down-pos e) (digits-lt (field binary64 b) (b % hid binary64) (mod-lt b (pow-pos 52))) (under q k v) v in
+    let r = round-exact binary64 s (m * up e) (down e) q k (down-pos e) (digits-lt (field binary64 b) (b % hid binary64) (mod-lt b (pow-pos 52))) (units-under s m e h q k v) v in
     same-value binary64 (round binary64 s (m * up e) (down e)) x s (q * 2 ^ k) (round-fits binary64 s (m * up e) (down e)) h
     (other-scale (round binary64 s (m * up e) (down e)) s (m * up e) (down e) (q * 2 ^ k) (2 ^ low binary64) (down-pos e) v r) (refl, v)
-  where
-    under : (q k : ℕ) → m * up e * 2 ^ low binary64 ≡ q * 2 ^ k * down e → q * 2 ^ k < 2 ^ (1074 + 1024)
-    under q k v =
-        lt-of-mul-lt-mul-right (down e)
-        (lt-of-le-of-lt (le-of-eq (sym v)) (lt-of-lt-of-le (mul-lt-mul-of-pos-right (bounds binary64 s m e h .1) (pow-pos 1074)) (le-of-eq (mul-right-comm (2 ^ 1024) (down e) (2 ^ 1074) ∙ ap (λ (z : ℕ). z * down e) (mul-comm (2 ^ 1024) (2 ^ 1074) ∙ sym (pow-add 2 1074 1024))))))
 
 -- ---- the remainder by y, of a number between -y and y
 rem-own : (s : Bool) (m : ℕ) (e : ℤ) (n : ℕ) (d : ℤ) → T (fits binary64 (fin s m e)) → m * up e * down d < n * up d * down e → rem binary64 (fin s m e) (fin false n d) ≡ fin s m e

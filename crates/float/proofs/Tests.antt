@@ -21,3 +21,30 @@ farther-by passes a b t h = ap (λ (u : Bool). cond u b a) (sym h) ∙ ap (λ (u
 pub angle-by : (x r : Float) (t : Bool) → r ≡ rem binary64 x tau → lt r (ofBits binary64 0) ≡ t → cond t (add binary64 r tau) r ≡ angle x
 unfolding angle
 angle-by x r t e h = ap (λ (u : Bool). cond u (add binary64 r tau) r) (sym h) ∙ ap (λ (y : Float). cond (lt y (ofBits binary64 0)) (add binary64 y tau) y) e
+
+-- ---- where E is worked out: y is a number from -708 to 709
+pub bounded-by : (y : Float) (t : Bool) → let a = ofBits binary64 0xC086_2000_0000_0000 in let b = ofBits binary64 0x4086_2800_0000_0000 in let z = ofBits binary64 0 in
+    ((ne y y || lt y a) || lt b y) ≡ t → cond t z y ≡ cond (isNan y) z (cond (lt y a) z (cond (lt b y) z y))
+bounded-by y t h = go (isNan y) _ _ (rw (nan-test y) at h)
+  where
+    go : (p q r : Bool) → ((p || q) || r) ≡ t → cond t (ofBits binary64 0) y ≡ cond p (ofBits binary64 0) (cond q (ofBits binary64 0) (cond r (ofBits binary64 0) y))
+    go true q r h = ap (λ (u : Bool). cond u (ofBits binary64 0) y) (sym h)
+    go false true r h = ap (λ (u : Bool). cond u (ofBits binary64 0) y) (sym h)
+    go false false r h = ap (λ (u : Bool). cond u (ofBits binary64 0) y) (sym h)
+
+pub record Inside (y : Float) : Type 0 where
+  pub number : isNan y ≡ false
+  pub least : lt y (ofBits binary64 0xC086_2000_0000_0000) ≡ false
+  pub most : lt (ofBits binary64 0x4086_2800_0000_0000) y ≡ false
+
+pub inside : (y : Float) → let z = ofBits binary64 0 in Inside (cond (isNan y) z (cond (lt y (ofBits binary64 0xC086_2000_0000_0000)) z (cond (lt (ofBits binary64 0x4086_2800_0000_0000) y) z y)))
+inside y = go (isNan y) (lt y (ofBits binary64 0xC086_2000_0000_0000)) (lt (ofBits binary64 0x4086_2800_0000_0000) y) refl refl refl
+  where
+    none : Inside (ofBits binary64 0)
+    none = unfold isNan lt ofBits in record { number = refl; least = refl; most = refl }
+
+    go : (p q r : Bool) → isNan y ≡ p → lt y (ofBits binary64 0xC086_2000_0000_0000) ≡ q → lt (ofBits binary64 0x4086_2800_0000_0000) y ≡ r → let z = ofBits binary64 0 in Inside (cond p z (cond q z (cond r z y)))
+    go true q r a b c = none
+    go false true r a b c = none
+    go false false true a b c = none
+    go false false false a b c = record { number = a; least = b; most = c }

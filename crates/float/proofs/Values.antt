@@ -1,30 +1,22 @@
 -- A value that a format holds is told by its sign and its size, the number without its sign, and patterns that are no NaN. Assumes nothing.
 use mathlib.Core.Path.{_≡_, sym, ap, _∙_, subst}
 use Prim.Native.Nat.{ℕ, zero, suc, _+_, _*_, _%_, _^_, _<_}
-use native.Mathlib.Nat.{add-mod-left, mod-eq-of-lt, mul-right-comm, eq-of-mul-eq-mul-right}
+use native.Mathlib.Nat.{add-mod-left, mod-eq-of-lt}
 use native.Mathlib.Omega.{arith}
 use mathlib.Core.Bool.{Bool, true, false, not}
 use lib.Dec.{T}
-use lib.Ieee.{Float, nan, inf, fin, Format, low, up, down, neg, top, toBits, ofBits, nanBits, fits, isNan}
+use lib.Ieee.{Float, nan, inf, fin, Format, low, neg, top, toBits, ofBits, fits, isNan}
 use lib.Ieee.Fits.{neg-fits}
-use lib.Ieee.Bits.{ofBits-toBits, toBits-lt, nanBits-is}
+use lib.Ieee.Bits.{ofBits-toBits, toBits-lt}
 use lib.Ieee.Exact.{HasValue}
 use Rattle.float.specs.Order.{magnitude}
 use Rattle.ieee.proofs.Pack.{toBits-val}
+pub use Rattle.ieee.proofs.Pack.{other-scale}
+pub use Rattle.ieee.proofs.Fields.{no-nan-bits}
 
 -- ---- a value in units of the smallest value
 pub same-value : (f : Format) (x y : Float) (s : Bool) (a : ℕ) → T (fits f x) → T (fits f y) → HasValue x s a (2 ^ low f) → HasValue y s a (2 ^ low f) → x ≡ y
 same-value f x y s a p q h k = sym (ofBits-toBits f x p) ∙ ap (ofBits f) (toBits-val f x s a h ∙ sym (toBits-val f y s a k)) ∙ ofBits-toBits f y q
-
--- from one fraction to another of the same size
-pub other-scale : (y : Float) (s : Bool) (a c w l : ℕ) → 0 < c → a * l ≡ w * c → HasValue y s a c → HasValue y s w l
-other-scale nan s a c w l p g v = v
-other-scale (inf t) s a c w l p g v = v
-other-scale (fin t m e) s a c w l p g v = (
-  v .0,
-  eq-of-mul-eq-mul-right c p (m * up e * l) (w * down e)
-      (mul-right-comm (m * up e) l c ∙ ap (λ (x : ℕ). x * l) (v .1) ∙ mul-right-comm a (down e) l ∙ ap (λ (x : ℕ). x * down e) g ∙ mul-right-comm w c (down e)),
-)
 
 -- ---- the sign cleared: the pattern without its highest place
 magnitude-fits : (f : Format) (x : Float) → T (fits f x) → T (fits f (magnitude x))
@@ -59,10 +51,6 @@ magnitude-bits f x h k =
 
 pub magnitude-is : (f : Format) (x : Float) → T (fits f x) → T (not (isNan x)) → ofBits f (toBits f x % top f) ≡ magnitude x
 magnitude-is f x h k = ap (ofBits f) (magnitude-bits f x h k) ∙ ofBits-toBits f (magnitude x) (magnitude-fits f x h)
-
--- a pattern that stands for a value that is no NaN is no NaN's
-pub no-nan-bits : (f : Format) (n : ℕ) (x : Float) → ofBits f n ≡ x → T (not (isNan x)) → T (not (nanBits f n))
-no-nan-bits f n x e h = subst (λ (t : Bool). T (not t)) (sym (nanBits-is f n ∙ ap isNan e)) h
 
 pub value-no-nan : (x : Float) (s : Bool) (a c : ℕ) → HasValue x s a c → T (not (isNan x))
 unfolding isNan

@@ -3,14 +3,14 @@
 // both formats.
 ghost use mathlib.Core.Path.{_≡_};
 ghost use mathlib.Core.Bool.{false, cond};
-ghost use Prim.Native.Nat.{_-_, _^_, _≤_, _<_};
+ghost use mathlib.Core.List.{map};
+ghost use Prim.Native.Nat.{_-_, _≤_};
 ghost use lib.Dec.{ltb};
 ghost use lib.IntN.{pos};
-ghost use lib.Signed.{mag};
-ghost use lib.Ieee.{binary64, round, rem, toUnsigned, toSigned, ofInt};
+ghost use lib.Ieee.{binary64, rem, toUnsigned, toSigned, ofInt, isNan, lt};
 ghost use Rattle.float.specs.Order.{magnitude, larger, smaller, rank, ordered, tau, angle};
 ghost use Rattle.float.specs.Whole.{floored, ceiled, truncation};
-ghost use Rattle.float.specs.Exp.{bits, inverseFactorials, horner, twoTo, exponential};
+ghost use Rattle.float.specs.Exp.{bits, inverseFactorials, horner, doublings, scaled, exponential};
 
 // Its bits are 401921FB54442D18.
 pub const TAU: f64 = 6.283185307179586;
@@ -164,56 +164,6 @@ pub fn ceiling(x: f64) -> f64
     if r < x { r + 1.0 } else { r }
 }
 
-// k where it is not negative, and -1 - k where it is.
-fn distance(k: i64) -> u64
-    ensures { λ r. ⌜ r ≡ mag k ⌝ }
-{
-    if k >= 0 { k as u64 } else { (-1 - k) as u64 }
-}
-
-// 2 ^ j of the smallest positive values, by its bit pattern: a digit alone, or the exponent's field alone.
-fn power_of_least(j: u64) -> f64
-    requires { ⌜ j < 2098 ⌝ }
-    ensures { λ r. ⌜ r ≡ round binary64 false (2 ^ j) (2 ^ 1074) ⌝ }
-{
-    if j < 52 {
-        return f64::from_bits(1 << j);
-    }
-    f64::from_bits((j - 51) * 0x10_0000_0000_0000)
-}
-
-// 2 ^ k, rounded. Every exponent of a normal number takes one path, whatever its sign.
-fn power_of_two(k: i64) -> f64
-    ensures { λ r. ⌜ r ≡ twoTo k ⌝ }
-{
-    if k >= -1022 {
-        if k < 1024 {
-            return power_of_least((k + 1074) as u64);
-        }
-        return 1.0 / 0.0;
-    }
-    let n = distance(k);
-    if n < 1074 {
-        return power_of_least(1073 - n);
-    }
-    0.0
-}
-
-// k, which is the floor of x, as an integer. The machine's cast serves small numbers.
-fn floor_to_i64(x: f64, k: f64) -> i64
-    requires { ⌜ k ≡ floored x ⌝ }
-    ensures { λ r. ⌜ r ≡ toSigned 63 k ⌝ }
-{
-    if x != 0.0 {
-        if x > -1024.0 {
-            if x < 1024.0 {
-                return k as i64;
-            }
-        }
-    }
-    to_i64(k)
-}
-
 // The sum of r ^ j / j! for j up to 13.
 fn series(r: f64) -> f64
     ensures { λ s. ⌜ s ≡ horner r (bits 0x3DE6_1246_13A8_6D09) inverseFactorials ⌝ }
@@ -234,10 +184,43 @@ fn series(r: f64) -> f64
     p * r + 1.0
 }
 
-// The exponential E(y): y is k * ln 2 + r with a small r, so the answer is the series at r, times 2 ^ k.
+// The floor of y * L + 0.5. Adding 1.5 * 2 ^ 52 rounds to a whole number, and taking it off again is exact; so there is no jump.
+fn doublings(y: f64) -> f64
+    requires { ⌜ (isNan y ≡ false) × (lt y (bits 0xC086_2000_0000_0000) ≡ false) × (lt (bits 0x4086_2800_0000_0000) y ≡ false) ⌝ }
+    ensures { λ r. ⌜ r ≡ doublings y ⌝ }
+{
+    let x = y * 1.4426950408889634 + 0.5;
+    let near = (x + 6755399441055744.0) - 6755399441055744.0;
+    if x < near { near - 1.0 } else { near }
+}
+
+// E from -708 to 709: y is k * ln 2 + r with a small r, so the answer is the series at r, times 2 ^ k. The last digits of k + 1023 + 1.5 * 2 ^ 52 are the exponent's field of 2 ^ k.
+fn exp_within(y: f64) -> f64
+    requires { ⌜ (isNan y ≡ false) × (lt y (bits 0xC086_2000_0000_0000) ≡ false) × (lt (bits 0x4086_2800_0000_0000) y ≡ false) ⌝ }
+    ensures { λ r. ⌜ r ≡ scaled y (doublings y) ⌝ }
+{
+    let k = doublings(y);
+    let r = (y - k * 0.6931471803691238) - k * 1.9082149292705877e-10;
+    let b = f64::to_bits(k + 6755399441056767.0);
+    series(r) * f64::from_bits(b % 2048 * 0x10_0000_0000_0000)
+}
+
+// y where E is worked out, and 0 where it is not.
+fn bounded(y: f64) -> f64
+    ensures { λ r. ⌜ r ≡ cond (isNan y) (bits 0) (cond (lt y (bits 0xC086_2000_0000_0000)) (bits 0) (cond (lt (bits 0x4086_2800_0000_0000) y) (bits 0) y)) ⌝ }
+{
+    if (y != y) | (y < -708.0) | (y > 709.0) {
+        0.0
+    } else {
+        y
+    }
+}
+
+// The exponential E(y). The ends are chosen last, so that a loop over it has no jump.
 pub fn exp(y: f64) -> f64
     ensures { λ r. ⌜ r ≡ exponential y ⌝ }
 {
+    let e = exp_within(bounded(y));
     if y != y {
         return y;
     }
@@ -247,8 +230,16 @@ pub fn exp(y: f64) -> f64
     if y > 709.0 {
         return 1.0 / 0.0;
     }
-    let x = y * 1.4426950408889634 + 0.5;
-    let k = floor(x);
-    let r = (y - k * 0.6931471803691238) - k * 1.9082149292705877e-10;
-    series(r) * power_of_two(floor_to_i64(x, k))
+    e
+}
+
+// E of each entry.
+pub fn exp_list(list: &mut [f64])
+    ensures { λ _. ⌜ now (list .exit) ≡ map exponential (now (list .entry)) ⌝ }
+{
+    let mut i = 0;
+    while i < list.len() {
+        list[i] = exp(list[i]);
+        i += 1;
+    }
 }

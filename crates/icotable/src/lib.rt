@@ -356,8 +356,7 @@ pub extern "C" fn icotable_locator(
     )
 }
 
-#[no_mangle]
-pub extern "C" fn icotable_reading(
+fn reading_of(
     table: TableAnswer,
     file: &[u8],
     vertices: &[f64],
@@ -403,6 +402,48 @@ pub extern "C" fn icotable_reading(
         b,
     );
     value_answer(answer)
+}
+
+// The table is lent, so that a caller copies no struct for each reading.
+#[no_mangle]
+pub extern "C" fn icotable_reading(
+    table: &TableAnswer,
+    file: &[u8],
+    vertices: &[f64],
+    cell_offsets: &[u32],
+    cell_vertices: &[u16],
+    face_offsets: &[u32],
+    faces: &[u16],
+    r: f64,
+    omega: f64,
+    ax: f64,
+    ay: f64,
+    az: f64,
+    bx: f64,
+    by: f64,
+    bz: f64,
+) -> ValueAnswer
+    ensures { λ z. ⌜ valueIn z ≡ readingOut (now (file .entry)) (tableFrom (now (table .entry))) (now (vertices .entry))
+        (locatorOf (now («cell_offsets» .entry)) (now («cell_vertices» .entry)) (now («face_offsets» .entry)) (now (faces .entry)))
+        (record { r = r; omega = omega; a = record { x = ax; y = ay; z = az }; b = record { x = bx; y = by; z = bz } }) ⌝ }
+{
+    reading_of(
+        *table,
+        file,
+        vertices,
+        cell_offsets,
+        cell_vertices,
+        face_offsets,
+        faces,
+        r,
+        omega,
+        ax,
+        ay,
+        az,
+        bx,
+        by,
+        bz,
+    )
 }
 
 // The vertices of a level; 0 above level 15.

@@ -4,15 +4,16 @@ use Prim.Native.Nat.{ℕ, zero, suc, _+_, _-_, _*_, _/_, _%_, _^_, _<_, min}
 use native.Mathlib.Nat.{mul-assoc, mul-comm, suc-ne-zero}
 use native.Mathlib.Omega.{arith}
 use mathlib.Core.Bool.{Bool, true, false, not, _&&_, Bool·beq, cond, true≢false, false≢true}
-use lib.Dec.{T, leb, eqb}
+use lib.Dec.{T, leb, ltb, eqb}
 use lib.Pow.{pow-add, pow-pos}
-use lib.Ieee.{Float, nan, inf, fin, Format, binary32, binary64, unlike, add, mul, prec, emax, low, up, down, odd, round, hid, ones, top, ofFields, ofBits, toBits, fits, isNan, ne, lt}
-use lib.Ieee.Fits.{eq→eqb, down-pos}
-use lib.Ieee.Bits.{ofBits-toBits}
+use lib.Ieee.{Float, nan, inf, fin, Format, binary32, binary64, unlike, add, mul, prec, emax, low, up, down, odd, units, round, hid, ones, top, ofFields, ofBits, toBits, fits, isNan, nanBits, ne, lt}
+use lib.Ieee.Fits.{eq→eqb, down-pos, nan-fits, inf-fits, round-fits}
+use lib.Ieee.Bits.{ofBits-toBits, nanBits-is}
 use lib.Ieee.Compare.{nan-differs}
 use lib.Ieee.Exact.{HasValue, odd-sign}
 use lib.Ieee.Scale.{round-same, finite}
 use borrow.Author.Tests.{ne-eqb}
+use Rattle.lists.proofs.Counting.{chosen}
 use Rattle.ieee.specs.Narrow.{narrowed}
 use Rattle.ieee.specs.Internal.{pattern}
 use Rattle.ieee.proofs.Steps.{float-law}
@@ -29,6 +30,20 @@ unfolding lt isNan
 less-no-nan nan y h = absurd (false≢true h)
 less-no-nan (inf s) y h = tt
 less-no-nan (fin s m e) y h = tt
+
+-- a pattern that stands for a value that is no NaN is no NaN's
+pub no-nan-bits : (f : Format) (n : ℕ) (x : Float) → ofBits f n ≡ x → T (not (isNan x)) → T (not (nanBits f n))
+no-nan-bits f n x e h = subst (λ (t : Bool). T (not t)) (sym (nanBits-is f n ∙ ap isNan e)) h
+
+pub more-no-nan : (x y : Float) → lt x y ≡ true → T (not (isNan y))
+unfolding lt isNan
+more-no-nan nan y h = absurd (false≢true h)
+more-no-nan (inf s) nan h = absurd (false≢true h)
+more-no-nan (inf s) (inf t) h = tt
+more-no-nan (inf s) (fin t n d) h = tt
+more-no-nan (fin s m e) nan h = absurd (false≢true h)
+more-no-nan (fin s m e) (inf t) h = tt
+more-no-nan (fin s m e) (fin t n d) h = tt
 
 -- ---- finite numbers
 pub finite-test : (x : Float) → (lt x (inf false) && lt (inf true) x) ≡ finite x
@@ -119,6 +134,33 @@ at-mid f s (suc x) t z n =
   where
     less : (x : ℕ) → suc x - 1 ≡ x
     less x = omega arith
+
+-- ---- rounding gives a number
+odd-number : (d : ℕ) (s : Bool) (q k l : ℕ) → isNan (odd d s q k l) ≡ false
+unfolding odd isNan
+odd-number d s zero k l = refl
+odd-number d s (suc q) k l = refl
+
+units-number : (f : Format) (s : Bool) (q k : ℕ) → isNan (units f s q k) ≡ false
+unfolding units isNan
+units-number f s q k = chosen (λ x. isNan x ≡ false) (ltb (q * 2 ^ k) (2 ^ (low f + suc (emax f)))) (odd (suc (prec f)) s q k (low f)) (inf s) (λ _. odd-number (suc (prec f)) s q k (low f)) refl
+
+round-number : (f : Format) (s : Bool) (n d : ℕ) → isNan (round f s n d) ≡ false
+unfolding round
+round-number f s n d = units-number f s _ _
+
+-- ---- `narrowed` is a value of the format, and a NaN only at one
+pub narrowed-fits : (x : Float) → T (fits binary32 (narrowed x))
+unfolding narrowed
+narrowed-fits nan = nan-fits binary32
+narrowed-fits (inf s) = inf-fits binary32 s
+narrowed-fits (fin s m e) = round-fits binary32 s (m * up e) (down e)
+
+pub narrowed-number : (x : Float) → isNan (narrowed x) ≡ isNan x
+unfolding narrowed isNan
+narrowed-number nan = refl
+narrowed-number (inf s) = refl
+narrowed-number (fin s m e) = round-number binary32 s (m * up e) (down e)
 
 -- ---- `narrowed`, at any fraction that the value equals
 pub narrowed-value : (x : Float) (s : Bool) (a c : ℕ) → 0 < c → HasValue x s a c → narrowed x ≡ round binary32 s a c

@@ -10,3 +10,5 @@ pub mod Squares
 pub mod OddRoot
 pub mod RootSteps
 pub mod Meaning
+pub mod NextToOne
+pub mod Plain

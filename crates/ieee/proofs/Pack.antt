@@ -3,13 +3,13 @@
 use mathlib.Core.Path.{_≡_, refl, sym, ap, _∙_, subst}
 use mathlib.Core.Logic.{_⊎_, inl, inr}
 use Prim.Native.Nat.{ℕ, suc, _+_, _-_, _*_, _/_, _%_, _^_, _≤_, _<_, compare, min}
-use native.Mathlib.Nat.{le-trans, le-of-eq, le-of-suc-le-suc, lt-of-lt-of-le, lt-of-le-of-lt, lt-of-not-le, not-le-of-lt, lt-irrefl, eq-zero-or-pos, eq-or-lt-of-le, add-assoc, add-mul, suc-mul, one-mul, mul-assoc, mul-comm, mul-le-mul-right, le-of-mul-le-mul-right, mul-div-cancel, pow-succ', div-div-eq-div-mul, le-div-iff-mul-le, min-eq-left, min-eq-right, le-add-right, add-le-add, le-refl}
+use native.Mathlib.Nat.{le-trans, le-of-eq, le-of-suc-le-suc, lt-of-lt-of-le, lt-of-le-of-lt, lt-of-not-le, not-le-of-lt, lt-irrefl, eq-zero-or-pos, eq-or-lt-of-le, add-assoc, add-mul, suc-mul, one-mul, mul-assoc, mul-comm, mul-right-comm, eq-of-mul-eq-mul-right, mul-le-mul-right, le-of-mul-le-mul-right, mul-div-cancel, pow-succ', div-div-eq-div-mul, le-div-iff-mul-le, min-eq-left, min-eq-right, le-add-right, add-le-add, le-refl}
 use native.Mathlib.Omega.{arith}
 use mathlib.Core.Bool.{Bool, true, false, not, cond}
 use lib.Dec.{T, leb, ltb, leb→le, nleb→lt}
 use lib.Pow.{pow-add, pow-pos, pow-mono, pow-lt, shl-lt, shl-shr}
 use lib.Arith.{le→nltb}
-use lib.Ieee.{Float, nan, inf, fin, Format, prec, emax, low, down, size, odd, units, round, hid, ones, top, toBits, ofBits, fits}
+use lib.Ieee.{Float, nan, inf, fin, Format, prec, emax, low, up, down, size, odd, units, round, hid, ones, top, toBits, ofBits, fits}
 use lib.Ieee.Digits.{size-lt, size-le, size-reaches}
 use lib.Ieee.Fits.{two, reach, two-le-pos, kept-lt, nearest-le, round-is, round-fits, down-pos}
 use lib.Ieee.Bits.{ofBits-toBits, cond-no}
@@ -148,6 +148,16 @@ beyond p e q k a b h g l =
   where
     above : (e k : ℕ) → 1 ≤ e → 2 * e + 1 ≡ k + 1 → 0 < k
     above e k h m = omega arith
+
+-- from one fraction to another of the same size
+pub other-scale : (y : Float) (s : Bool) (a c w l : ℕ) → 0 < c → a * l ≡ w * c → HasValue y s a c → HasValue y s w l
+other-scale nan s a c w l p g v = v
+other-scale (inf t) s a c w l p g v = v
+other-scale (fin t m e) s a c w l p g v = (
+  v .0,
+  eq-of-mul-eq-mul-right c p (m * up e * l) (w * down e)
+      (mul-right-comm (m * up e) l c ∙ ap (λ (x : ℕ). x * l) (v .1) ∙ mul-right-comm a (down e) l ∙ ap (λ (x : ℕ). x * down e) g ∙ mul-right-comm w c (down e)),
+)
 
 -- ---- the pattern of a value, by its size in units of the smallest value
 pub toBits-val : (f : Format) (v : Float) (s : Bool) (a : ℕ) → HasValue v s a (2 ^ low f) → toBits f v ≡ cond s (top f) 0 + ((size a - prec f) * hid f + a / 2 ^ (size a - prec f))

@@ -1,8 +1,8 @@
 -- What only the code and the proofs need; a reader need not believe it. Definitions only.
 use Prim.Native.Nat.{ℕ, _+_, _-_, _*_, _^_, _<_, _≤_, _/_, _%_}
 use lib.Ieee.Order.{drop, kept}
-use mathlib.Core.Bool.{Bool, cond, _&&_, Bool·beq}
-use lib.Ieee.{Float, binary64, sum}
+use mathlib.Core.Bool.{Bool, cond, _&&_, _||_, Bool·beq}
+use lib.Ieee.{Float, binary64, sum, ofBits, neg, lt, le, eq}
 use lib.Ieee.Exact.{HasValue}
 use mathlib.Core.Path.{_≡_}
 use mathlib.Core.Logic.{_⊎_}
@@ -23,6 +23,16 @@ pub record Unpacked (x : Float) (neg : Bool) (sig exp : ℕ) : Type 0 where
   pub value : HasValue x neg (sig * 2 ^ exp) (2 ^ 1074)
   pub digits : sig < 2 ^ 53
   pub scale : exp ≤ 2045
+
+-- ---- what is narrowed with no jump
+
+-- 0, or from 2 ^ -126 up to 2 ^ 127: the narrowed number is normal, and no infinity
+unfoldable pub plain : Float → Bool
+unfolding ofBits neg lt le eq
+plain x =
+    let most = ofBits binary64 0x47E0_0000_0000_0000 in
+    let least = ofBits binary64 0x3810_0000_0000_0000 in
+    (lt x most && lt (neg most) x) && ((le least x || le x (neg least)) || eq x (ofBits binary64 0))
 
 -- ---- numbers of two words, numbers that stand for a fraction by a sticky last digit, and numbers near a root
 

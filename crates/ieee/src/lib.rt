@@ -8,5 +8,7 @@ mod wide;
 
 pub use fused::mul_add;
 pub use narrowing::narrow;
+pub use narrowing::narrow_list;
 pub use roots::root;
+pub use roots::root_next_to_one;
 pub use rounding::is_finite;

@@ -146,3 +146,17 @@ pub fn root(x: f64) -> f64
     }
     0.0 / 0.0
 }
+
+// The same root, sooner where x is next to 1, as the square of a unit's length is: it is half as far from 1, counted in
+// last places, so that its pattern is the mean of the two.
+pub fn root_next_to_one(x: f64) -> f64
+    ensures { λ r. ⌜ r ≡ Root.root x ⌝ }
+{
+    if x > 0.0 {
+        let b = f64::to_bits(x);
+        if (0x3fef_ffff_fc00_0000 <= b) & (b < 0x3ff0_0000_0400_0000) {
+            return f64::from_bits((0x3ff0_0000_0000_0000 + b) / 2);
+        }
+    }
+    root(x)
+}

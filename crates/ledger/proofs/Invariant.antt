@@ -19,7 +19,7 @@ use Rattle.rows.specs.declared.SlabResolution.{SlabResolution}
 use Rattle.rows.specs.declared.SlabResolution.the-variants.{Scalar, Mesh as OnMesh, Repulsive}
 use Rattle.rows.specs.Rows.{Rows, kindOf, levelOf, valueOf, resolutionAt, replaced, known, Row, scalar, repulsive, mesh, rowWith}
 use Rattle.rows.proofs.Replaced.{Held, numbers-back}
-use Rattle.rows.proofs.Compared.{narrowed-fits}
+use Rattle.ieee.proofs.Fields.{narrowed-fits}
 use Rattle.settling.specs.Gradient.{allRepulsive, gradient, meanNarrowed}
 use Rattle.settling.specs.Settling.{byGradient, verdict, verdictOf, newRow, inPlaceOf, settledRows, fromLevel, rowEnergies, replacedBy}
 use Rattle.builder.specs.BuilderLists.{slabs, rowAt, rowsFrom, rowsKnown}

@@ -1,21 +1,22 @@
 -- The faces of a vertex, block by block: each block has those whose least vertex is one vertex.
 use mathlib.Core.Path.{_≡_, refl, sym, ap, _∙_}
-use mathlib.Core.Bool.{Bool, true, false, cond, _&&_}
+use mathlib.Core.Bool.{Bool, true, false, cond, _&&_, _||_}
 use mathlib.Core.List.{List, [], _∷_, _++_, append-assoc, append-nil}
 use mathlib.Core.Logic.{⊎-elim}
 use Prim.Native.Nat.{ℕ, zero, suc, _+_, _*_, _/_, _%_, _≤_, _<_}
 use native.Mathlib.Nat.{mul-add-div-right, mul-add-mod-self-right, mod-eq-of-lt, div-eq-of-lt, add-zero, add-suc, div-lt-iff-lt-mul, mod-lt, eq-or-lt-of-le, le-of-suc-le-suc}
 use native.Mathlib.Omega.{arith}
 use lib.ListN.{length, set}
-use lib.Dec.{eqb}
+use lib.Dec.{ltb, eqb}
+use borrow.Author.Tests.{le-ltb, ltb-true, ne-eqb}
 use Rattle.lists.specs.Lists.{put, joined, filter}
 use Rattle.mesh.specs.Mesh.{Mesh, degree, neighbour, within, lists}
 use Rattle.mesh.specs.Faces.{face, isFace, facesFrom, extractFaces, has}
 use Rattle.mesh.specs.declared.Face.{Face}
-use Rattle.lists.proofs.Counting.{any-none, or-none}
+use Rattle.lists.proofs.Counting.{any-none, or-none, and-no}
 use Rattle.lists.proofs.Written.{filter-append, joined-more, Written, nothing, pushed, chunk}
 use Rattle.search.specs.Cells.{facesOf, flat}
-use Rattle.locator.specs.Internal.{only, wanted, touches, block}
+use Rattle.locator.specs.Internal.{only, wanted, touches, thirds, block}
 
 module _ {A : Type 0} where
   -- lists that are equal one by one
@@ -69,35 +70,63 @@ unfolding flat
 length-flat [] = refl
 length-flat (x ∷ f) = omega (arith, length-flat f)
 
--- the faces of v whose least vertex is i, pair by pair of i's d neighbours
-abbrev pub pieceBy : Mesh → ℕ → ℕ → ℕ → ℕ → List Face
-pieceBy l v i d q =
-    only (wanted l i (neighbour l i (q / d)) (neighbour l i (q % d)) v) (face i (neighbour l i (q / d)) (neighbour l i (q % d)))
+-- the faces of v whose least vertices are i and its neighbour at place x
+abbrev pub blockRow : Mesh → ℕ → ℕ → ℕ → ℕ → List Face
+blockRow l v i d x = thirds l v i d (neighbour l i x)
 
-abbrev pub piece : Mesh → ℕ → ℕ → ℕ → List Face
-piece l v i q = pieceBy l v i (degree l i) q
+-- the faces of v whose least vertex is i, by i's neighbours: filter's joined twice over
+pub block-rows : (l : Mesh) (v i d : ℕ) → d ≡ degree l i → block l v i ≡ joined d (blockRow l v i d)
+unfolding block facesFrom wanted thirds
+block-rows l v i d e =
+    rw e
+    (filter-joined (has v) (degree l i) (λ x. joined (degree l i) (λ y. only (isFace l i (neighbour l i x) (neighbour l i y)) (face i (neighbour l i x) (neighbour l i y))))
+    ∙ joined-eq (degree l i) _ (blockRow l v i (degree l i))
+    (λ x lx. filter-joined (has v) (degree l i) (λ y. only (isFace l i (neighbour l i x) (neighbour l i y)) (face i (neighbour l i x) (neighbour l i y)))
+    ∙ joined-eq (degree l i) _ (λ y. only (wanted l i (neighbour l i x) (neighbour l i y) v) (face i (neighbour l i x) (neighbour l i y)))
+    (λ y ly. filter-only (has v) (isFace l i (neighbour l i x) (neighbour l i y)) (face i (neighbour l i x) (neighbour l i y)))))
 
--- filter's joined twice over
-pub block-is : (l : Mesh) (v i : ℕ) → block l v i ≡ joined (degree l i * degree l i) (piece l v i)
-unfolding block facesFrom wanted joined filter
-block-is l v i = by (degree l i) refl
+-- one of them, or none
+abbrev pub third : Mesh → ℕ → ℕ → ℕ → ℕ → List Face
+third l v i j y = only (wanted l i j (neighbour l i y) v) (face i j (neighbour l i y))
+
+pub thirds-are : (l : Mesh) (v i d j : ℕ) → thirds l v i d j ≡ joined d (third l v i j)
+unfolding thirds
+thirds-are l v i d j = refl
+
+pub no-thirds : (l : Mesh) (v i d j : ℕ) → ((k : ℕ) → wanted l i j k v ≡ false) → thirds l v i d j ≡ []
+unfolding thirds
+no-thirds l v i d j h = joined-none d _ (λ y ly. rw (h (neighbour l i y)))
+
+-- no face has its second vertex at or below its first
+pub not-above : (l : Mesh) (i j k v : ℕ) → j ≤ i → wanted l i j k v ≡ false
+unfolding wanted isFace
+not-above l i j k v h = rw (le-ltb i j h)
+
+-- v is none of the three
+pub unwanted : (l : Mesh) (i j k v : ℕ) → (i ≡ v → ⊥) → (i < j → j ≡ v → ⊥) → (i < j → j < k → k ≡ v → ⊥) → wanted l i j k v ≡ false
+unfolding wanted isFace has
+unwanted l i j k v a b c = by (ltb i j) (ltb j k) refl refl
   where
-    two : (d : ℕ) → 0 < d
-        → filter (has v) (joined d (λ x. joined d (λ y. only (isFace l i (neighbour l i x) (neighbour l i y)) (face i (neighbour l i x) (neighbour l i y)))))
-        ≡ joined (d * d) (λ q. only (wanted l i (neighbour l i (q / d)) (neighbour l i (q % d)) v) (face i (neighbour l i (q / d)) (neighbour l i (q % d))))
-    two d h =
-        filter-joined (has v) d (λ x. joined d (λ y. only (isFace l i (neighbour l i x) (neighbour l i y)) (face i (neighbour l i x) (neighbour l i y))))
-        ∙ joined-eq d _ (λ x. joined d (λ y. only (wanted l i (neighbour l i x) (neighbour l i y) v) (face i (neighbour l i x) (neighbour l i y))))
-        (λ x lx. filter-joined (has v) d (λ y. only (isFace l i (neighbour l i x) (neighbour l i y)) (face i (neighbour l i x) (neighbour l i y)))
-        ∙ joined-eq d _ (λ y. only (wanted l i (neighbour l i x) (neighbour l i y) v) (face i (neighbour l i x) (neighbour l i y)))
-        (λ y ly. filter-only (has v) (isFace l i (neighbour l i x) (neighbour l i y)) (face i (neighbour l i x) (neighbour l i y))))
-        ∙ joined-grid d d (λ x y. only (wanted l i (neighbour l i x) (neighbour l i y) v) (face i (neighbour l i x) (neighbour l i y))) h
+    by : (s t : Bool) → ltb i j ≡ s → ltb j k ≡ t → (s && (t && lists l j k)) && (eqb i v || (eqb j v || eqb k v)) ≡ false
+    by false t p q = refl
+    by true false p q = refl
+    by true true p q = rw (ne-eqb i v a, ne-eqb j v (b (ltb-true i j p)), ne-eqb k v (c (ltb-true i j p) (ltb-true j k q))) (and-no (lists l j k) false refl)
 
-    by : (d : ℕ) → degree l i ≡ d
-        → filter (has v) (joined d (λ x. joined d (λ y. only (isFace l i (neighbour l i x) (neighbour l i y)) (face i (neighbour l i x) (neighbour l i y)))))
-        ≡ joined (d * d) (λ q. only (wanted l i (neighbour l i (q / d)) (neighbour l i (q % d)) v) (face i (neighbour l i (q / d)) (neighbour l i (q % d))))
-    by zero e = refl
-    by (suc d) e = two (suc d) (omega arith)
+-- the same pair by pair
+abbrev pub piece : Mesh → ℕ → ℕ → ℕ → List Face
+piece l v i q =
+    only (wanted l i (neighbour l i (q / degree l i)) (neighbour l i (q % degree l i)) v) (face i (neighbour l i (q / degree l i)) (neighbour l i (q % degree l i)))
+
+pub block-is : (l : Mesh) (v i : ℕ) → block l v i ≡ joined (degree l i * degree l i) (piece l v i)
+unfolding thirds joined
+block-is l v i = block-rows l v i (degree l i) refl ∙ by (degree l i)
+  where
+    f : ℕ → ℕ → List Face
+    f x y = only (wanted l i (neighbour l i x) (neighbour l i y) v) (face i (neighbour l i x) (neighbour l i y))
+
+    by : (d : ℕ) → joined d (λ x. joined d (λ y. f x y)) ≡ joined (d * d) (λ q. f (q / d) (q % d))
+    by zero = refl
+    by (suc d) = joined-grid (suc d) (suc d) f (omega arith)
 
 -- i's pairs: both are neighbours
 pub pair : (d q : ℕ) → q < d * d → (0 < d) × (q / d < d) × (q % d < d)
@@ -122,6 +151,13 @@ untouched l v i e =
         by true = refl
         by false = refl
 
+-- nor has one whose least vertex is above v
+pub block-above : (l : Mesh) (v i : ℕ) → v < i → block l v i ≡ []
+block-above l v i h =
+    block-is l v i
+    ∙ joined-none (degree l i * degree l i) (piece l v i)
+    (λ q lq. rw (unwanted l i (neighbour l i (q / degree l i)) (neighbour l i (q % degree l i)) v (λ e. absurd (omega arith)) (λ p e. absurd (omega arith)) (λ p r e. absurd (omega arith))))
+
 pub three : (d : List ℕ) (p i j k : ℕ) → p + 3 ≤ length d → set (set (set d p i) (p + 1) j) (p + 2) k ≡ put d p (i ∷ j ∷ k ∷ [])
 three d p i j k h =
     let e : p + 1 + 1 ≡ p + 2 = omega arith in
@@ -139,9 +175,6 @@ more-flat at to f q out′ r h fits er eo =
 -- how far the writing has come
 pub come : {d out : List ℕ} (at to : ℕ) (w : List Face) → Written d (3 * at) (flat w) out (3 * to) → to ≡ at + length w
 come at to w h = omega (arith, h .next, length-flat w)
-
-pub block-by : (l : Mesh) (v i d : ℕ) → d ≡ degree l i → block l v i ≡ joined (d * d) (pieceBy l v i d)
-block-by l v i d e = rw e (block-is l v i)
 
 pub faces-of-is : (l : Mesh) (n v : ℕ) → facesOf l n v ≡ joined n (block l v)
 unfolding facesOf extractFaces block

@@ -18,7 +18,7 @@ use Rattle.lists.proofs.Written.{filter-append}
 use Rattle.search.specs.Geometry.{vertexAt, cubeFaceProject}
 use Rattle.search.specs.Geometry as Geometry
 use Rattle.search.specs.Cells.{near, cellNumber, nearCell, inCell, cell}
-use Rattle.locator.specs.Internal.{kept, nearKept, keyOf, vertexKey, hit, Keyed, keyCell}
+use Rattle.locator.specs.Internal.{kept, nearKept, keyOf, vertexKey, Keyed}
 
 pub kept-le : (c : ℤ) → kept c ≤ 65535
 unfolding kept
@@ -71,10 +71,11 @@ none-near i = rw (lt-leb (i + 1) 0 (omega arith))
 parts : (u w : ℕ) → w ≤ 65535 → ((u * 65536 + w) / 65536 ≡ u) × ((u * 65536 + w) % 65536 ≡ w)
 parts u w h = (omega arith, omega arith)
 
-hit-key : (g i j : ℕ) (u w d : Float) → i < 65500 → j < 65500
-    → hit (keyOf g u w d) i j ≡ not (le d Geometry.zero) && (near (cellNumber g u d) i && near (cellNumber g w d) j)
-unfolding hit keyOf
-hit-key g i j u w d hi hj = by (le d Geometry.zero)
+-- a key is near a row and a column where its cell numbers are
+key-near : (g i j : ℕ) (u w d : Float) → i < 65500 → j < 65500
+    → nearKept (keyOf g u w d / 65536) i && nearKept (keyOf g u w d % 65536) j ≡ not (le d Geometry.zero) && (near (cellNumber g u d) i && near (cellNumber g w d) j)
+unfolding keyOf
+key-near g i j u w d hi hj = by (le d Geometry.zero)
   where
     by : (t : Bool) → (let k = cond t 0 (kept (cellNumber g u d) * 65536 + kept (cellNumber g w d)) in nearKept (k / 65536) i && nearKept (k % 65536) j)
         ≡ not t && (near (cellNumber g u d) i && near (cellNumber g w d) j)
@@ -83,7 +84,7 @@ hit-key g i j u w d hi hj = by (le d Geometry.zero)
         let p = parts (kept (cellNumber g u d)) (kept (cellNumber g w d)) (kept-le (cellNumber g w d)) in
         rw (p .0, p .1, near-kept (cellNumber g u d) i hi, near-kept (cellNumber g w d) j hj)
 
-filter-eq : (p q : ℕ → Bool) (n : ℕ) → ((v : ℕ) → v < n → p v ≡ q v) → filter p (below n) ≡ filter q (below n)
+pub filter-eq : (p q : ℕ → Bool) (n : ℕ) → ((v : ℕ) → v < n → p v ≡ q v) → filter p (below n) ≡ filter q (below n)
 unfolding filter below
 filter-eq p q zero h = refl
 filter-eq p q (suc n) h =
@@ -94,15 +95,16 @@ pub spots : (g c : ℕ) → 0 < g → (c % (g * g) / g < g) × (c % (g * g) % g 
 spots g c h =
     (div-lt-iff-lt-mul {k = g} {x = c % (g * g)} {y = g} h .1 (mod-lt c {m = g * g} (mul-pos h h)), mod-lt (c % (g * g)) {m = g} h)
 
-pub keyed-cell : (vs : List Float) (n g c : ℕ) (keys : List ℕ) → 0 < g → g < 65500 → Keyed vs n g (c / (g * g)) keys → keyCell keys n g c ≡ cell vs n g c
-unfolding keyCell cell inCell nearCell vertexKey
+pub keyed-cell : (vs : List Float) (n g c : ℕ) (keys : List ℕ) → 0 < g → g < 65500 → Keyed vs n g (c / (g * g)) keys
+    → filter (λ v. nearKept (getD keys v 0 / 65536) (c % (g * g) / g) && nearKept (getD keys v 0 % 65536) (c % (g * g) % g)) (below n) ≡ cell vs n g c
+unfolding cell inCell nearCell vertexKey
 keyed-cell vs n g c keys h hg k =
     let x = spots g c h in
     let i = c % (g * g) / g in
     let j = c % (g * g) % g in
-    filter-eq (λ v. hit (getD keys v 0) i j) (inCell vs g c) n (λ v l.
+    filter-eq (λ v. nearKept (getD keys v 0 / 65536) i && nearKept (getD keys v 0 % 65536) j) (inCell vs g c) n (λ v l.
     let s = cubeFaceProject (c / (g * g)) (vertexAt vs v) in
-    rw (k .each v l) (hit-key g i j (s .u) (s .w) (s .d) (omega arith) (omega arith)))
+    rw (k .each v l) (key-near g i j (s .u) (s .w) (s .d) (omega arith) (omega arith)))
 
 -- a cell that is not the first of its face has the face of the cell before it
 pub same-face : (a c : ℕ) → 0 < a → 0 < (c + 1) % a → (c + 1) / a ≡ c / a

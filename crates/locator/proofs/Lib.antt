@@ -1,5 +1,6 @@
 -- Laws that belong to no one function.
 pub mod Keys
+pub mod Rows
 pub mod Room
 pub mod Blocks
 pub mod Bound

@@ -37,16 +37,17 @@ keyOf g u w d = cond (le d Geometry.zero) 0 (kept (cellNumber g u d) * 65536 + k
 unfoldable pub vertexKey : List Float → ℕ → ℕ → ℕ → ℕ
 vertexKey vs g f v = let s = cubeFaceProject f (vertexAt vs v) in keyOf g (s .u) (s .w) (s .d)
 
-unfoldable pub hit : ℕ → ℕ → ℕ → Bool
-hit k i j = nearKept (k / 65536) i && nearKept (k % 65536) j
-
 -- keys holds the keys of the n vertices at face f
 pub record Keyed (vs : List Float) (n g f : ℕ) (keys : List ℕ) : Type 0 where
   pub each : (v : ℕ) → v < n → getD keys v 0 ≡ vertexKey vs g f v
 
--- the vertices of cell c, by their keys
-unfoldable pub keyCell : List ℕ → ℕ → ℕ → ℕ → List ℕ
-keyCell keys n g c = let k = c % (g * g) in filter (λ v. hit (getD keys v 0) (k / g) (k % g)) (below n)
+-- the vertices near row i of a face's cells, by their keys
+unfoldable pub keyRow : List ℕ → ℕ → ℕ → List ℕ
+keyRow keys n i = filter (λ v. nearKept (getD keys v 0 / 65536) i) (below n)
+
+-- those that are near column j
+unfoldable pub inColumn : List ℕ → ℕ → List ℕ → List ℕ
+inColumn keys j = filter (λ v. nearKept (getD keys v 0 % 65536) j)
 
 pub record CellsOut : Type 0 where
   pub offsets : List ℕ
@@ -76,6 +77,10 @@ wanted m i j k v = isFace m i j k && has v (face i j k)
 -- v is i, or one of its neighbours
 unfoldable pub touches : Mesh → ℕ → ℕ → Bool
 touches m i v = eqb i v || lists m i v
+
+-- the faces of v whose least vertices are i and j, the third among i's first d neighbours
+unfoldable pub thirds : Mesh → ℕ → ℕ → ℕ → ℕ → List Face
+thirds m v i d j = joined d (λ y. only (wanted m i j (neighbour m i y) v) (face i j (neighbour m i y)))
 
 -- the faces of v whose least vertex is i
 unfoldable pub block : Mesh → ℕ → ℕ → List Face

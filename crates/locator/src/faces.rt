@@ -2,13 +2,14 @@
 // neighbours, which are gone through ascending.
 ghost use mathlib.Core.Path.{_≡_};
 ghost use mathlib.Core.List.{[], _∷_};
-ghost use Prim.Native.Nat.{_+_, _*_, _<_, _≤_};
+ghost use Prim.Native.Nat.{ℕ, _+_, _*_, _<_, _≤_};
 ghost use lib.ListN.{length};
 ghost use Rattle.lists.specs.Lists.{put, joined};
+ghost use Rattle.mesh.specs.Mesh.{neighbour};
 ghost use Rattle.mesh.specs.Faces.{face};
 ghost use Rattle.mesh.specs.Internal.{links};
 ghost use Rattle.search.specs.Cells.{facesOf, flat};
-ghost use Rattle.locator.specs.Internal.{Graph, only, wanted, touches, block, Next, FacesOut, facesOut};
+ghost use Rattle.locator.specs.Internal.{Graph, only, wanted, touches, thirds, block, Next, FacesOut, facesOut};
 
 // i, j, k is a face, and v is a vertex of it.
 fn wanted(counts: &[u8], neighbours: &[u16], i: u32, j: u32, k: u32, v: u32) -> bool
@@ -69,6 +70,38 @@ fn touches(counts: &[u8], neighbours: &[u16], i: u32, v: u32) -> bool
     mesh::lists(counts, neighbours, i, v)
 }
 
+// The faces of v whose least vertices are i and j, the third among i's first c neighbours.
+fn put_third(
+    counts: &[u8],
+    neighbours: &[u16],
+    c: u32,
+    i: u32,
+    j: u32,
+    v: u32,
+    out: &mut [u16],
+    at: usize,
+) -> usize
+    requires { ⌜ (i < 65536) × (j < 65536) × ((y : ℕ) → y < c → neighbour (links (now counts) (now neighbours)) i y < 65536)
+        × (3 * (at + length (thirds (links (now counts) (now neighbours)) v i c j)) ≤ length (now out)) ⌝ }
+    ensures { λ r. ⌜ (r ≡ at + length (thirds (links (now (counts .entry)) (now (neighbours .entry))) v i c j))
+        × (now (out .exit) ≡ put (now (out .entry)) (3 * at) (flat (thirds (links (now (counts .entry)) (now (neighbours .entry))) v i c j))) ⌝ }
+{
+    if j <= i {
+        return at;
+    }
+    if (i < v) & (v < j) {
+        return at;
+    }
+    let mut to = at;
+    let mut y: u32 = 0;
+    while y < c {
+        let k = mesh::neighbour(neighbours, i, y);
+        to = put_wanted(counts, neighbours, i, j, k, v, out, to);
+        y += 1;
+    }
+    to
+}
+
 // The faces of v whose least vertex is i.
 fn put_block(
     counts: &[u8],
@@ -88,14 +121,12 @@ fn put_block(
         return at;
     }
     let c = mesh::degree(counts, i);
-    let m = c * c;
     let mut to = at;
-    let mut q: u32 = 0;
-    while q < m {
-        let j = mesh::neighbour(neighbours, i, q / c);
-        let k = mesh::neighbour(neighbours, i, q % c);
-        to = put_wanted(counts, neighbours, i, j, k, v, out, to);
-        q += 1;
+    let mut x: u32 = 0;
+    while x < c {
+        let j = mesh::neighbour(neighbours, i, x);
+        to = put_third(counts, neighbours, c, i, j, v, out, to);
+        x += 1;
     }
     to
 }
@@ -125,7 +156,7 @@ fn next(counts: &[u8], neighbours: &[u16], n: u32, v: u32, from: u32) -> u32
     best
 }
 
-// The faces of v.
+// The faces of v: the least vertex of none is above v.
 fn put_faces_of(
     counts: &[u8],
     neighbours: &[u16],
@@ -141,7 +172,7 @@ fn put_faces_of(
 {
     let mut to = at;
     let mut i = next(counts, neighbours, n, v, 0);
-    while i < n {
+    while i <= v {
         to = put_block(counts, neighbours, n, i, v, out, to);
         i = next(counts, neighbours, n, v, i + 1);
     }

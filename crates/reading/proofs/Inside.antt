@@ -151,15 +151,15 @@ module _ (file : List ℕ) (t : Table) (vs : List Float) (l : Locator) (q : Quer
       (chosen Numbered (eqb (e .kind) 1) _ _ (λ h. refl)
       (chosen Numbered (leb (e .kind) 3 && ltb (e .level) (t .levels)) _ _ (λ h. picks-numbered (eqb (e .kind) 3) (e .offset) _ (search-numbered (e .level) (eqb (e .kind) 3))) refl))
 
+  resolved-numbered : (a b c : Bool) (s : ℕ) → Numbered (readSlab file t vs l q (cond a (cond b beyond (cond c (slabAt s) (unresolved 19))) (unresolved 18)))
+  resolved-numbered true true c s = refl
+  resolved-numbered true false true s = chosen Numbered (rowInside file t s) _ _ (λ h. entry-numbered (entryAt file t s)) refl
+  resolved-numbered true false false s = refl
+  resolved-numbered false b c s = refl
+
   slab-numbered : Numbered (readSlab file t vs l q (resolve (t .grid) q))
   unfolding resolve
-  slab-numbered =
-      let P : Resolved → Type 0 = λ w. Numbered (readSlab file t vs l q w) in
-      let s = slabOf (t .grid) (q .r) (q .omega) in
-      let some = ltb 0 (t .grid .«n_r») && ltb 0 (t .grid .«n_omega») in
-      chosen P (queryValid q) (cond (outside (t .grid) (q .r)) beyond (cond some (slabAt s) (unresolved 19))) (unresolved 18)
-      (λ e. chosen P (outside (t .grid) (q .r)) beyond (cond some (slabAt s) (unresolved 19)) (λ f. refl)
-      (chosen P some (slabAt s) (unresolved 19) (λ f. chosen Numbered (rowInside file t s) _ _ (λ h. entry-numbered (entryAt file t s)) refl) refl)) refl
+  slab-numbered = resolved-numbered (queryValid q) (outside (t .grid) (q .r)) (ltb 0 (t .grid .«n_r») && ltb 0 (t .grid .«n_omega»)) _
 
   -- the answer by the row's place
   pub reading-by : (p r : RowPlace) (z : Reading) → z ≡ readPlaced file t vs l q r → p ≡ rowPlace file t (resolve (t .grid) q) → p ≡ r

@@ -9,6 +9,7 @@ ghost use Rattle.reading.specs.Reading.{readPicks};
 ghost use Rattle.reading.specs.Internal.{NearestBelow, LocatedBelow, Small, RowInside, placesBelow, facePlacesBelow, rowTerms, faceTerms};
 use crate::Reading;
 use crate::places::items_inside;
+use crate::places::u32_inside;
 use mesh::Face;
 use search::Located;
 use search::Nearest;
@@ -30,7 +31,7 @@ fn energy(file: &[u8], start: u64, k: u64) -> f64
     requires { ⌜ start + k * 4 + 4 ≤ length (now file) ⌝ }
     ensures { λ r. ⌜ r ≡ widened (numberAt 4 (now (file .entry)) (start + k * 4)) ⌝ }
 {
-    float::widen(bits::float32(table::u32_at(file, start + k * 4)))
+    bits::widened(u32_inside(file, start + k * 4))
 }
 
 // The energy of a pair of vertices.

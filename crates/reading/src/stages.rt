@@ -11,6 +11,7 @@ ghost use Rattle.reading.specs.Internal.{toward, readResolution};
 use crate::Reading;
 use crate::gather::read_interpolated;
 use crate::gather::read_nearest;
+use crate::places::u32_inside;
 use crate::resolve::RowPlace;
 use crate::resolve::row_place;
 use rows::SlabResolution;
@@ -96,8 +97,8 @@ fn read_row(
     let i = at as usize;
     let kind = file[i];
     let level = file[i + 1];
-    let offset = table::u32_at(file, at + 2) as u64;
-    let scalar = table::u32_at(file, at + 6);
+    let offset = u32_inside(file, at + 2) as u64;
+    let scalar = u32_inside(file, at + 6);
     let row = rows::resolution_of(kind, level, scalar);
     read_resolution(
         t,

@@ -150,10 +150,16 @@ inside vs n v = ltb v n && leb (3 * v + 3) (length vs)
 entry : (l : List ℕ) (i j v : ℕ) → j ≡ i + 1 → i < length l → v ≡ getD l i 0 → drop i l ≡ v ∷ drop j l
 entry l i j v e h p = rw (e, add-one i, p) (drop-cons l i 0 h)
 
-three : (l : List ℕ) (i a b c : ℕ) → i + 3 ≤ length l → a ≡ getD l i 0 → b ≡ getD l (i + 1) 0 → c ≡ getD l (i + 2) 0 → drop i l ≡ a ∷ b ∷ c ∷ drop (i + 3) l
+pub three : (l : List ℕ) (i a b c : ℕ) → i + 3 ≤ length l → a ≡ getD l i 0 → b ≡ getD l (i + 1) 0 → c ≡ getD l (i + 2) 0 → drop i l ≡ a ∷ b ∷ c ∷ drop (i + 3) l
 three l i a b c h p q r =
     entry l i (i + 1) a refl (omega arith) p
     ∙ ap (λ (t : List ℕ). a ∷ t) (entry l (i + 1) (i + 2) b (omega arith) (omega arith) q ∙ ap (λ (t : List ℕ). b ∷ t) (entry l (i + 2) (i + 3) c (omega arith) (omega arith) r))
+
+pub stops : (p q r s : Bool) → (p && (q && r)) ≡ false → (p && (q && (r && s))) ≡ false
+stops true true true s h = absurd (true≢false h)
+stops true true false s h = refl
+stops true false r s h = refl
+stops false q r s h = refl
 
 module _ (vs : List Float) (n : ℕ) (p : Vector3) (l : List ℕ) where
   pub fit-turn : (best : Fit) (i a b c : ℕ) → i + 3 ≤ length l → a ≡ getD l i 0 → b ≡ getD l (i + 1) 0 → c ≡ getD l (i + 2) 0
@@ -169,12 +175,6 @@ module _ (vs : List Float) (n : ℕ) (p : Vector3) (l : List ℕ) where
       → (inside vs n a && (inside vs n b && inside vs n c)) ≡ false → fitOver vs n p best (drop i l) ≡ notLocated 19
   unfolding fitOver every triples vertexInside
   fit-stop best i a b c h x y z t = rw (three l i a b c h x y z, stops (inside vs n a) (inside vs n b) (inside vs n c) (every (vertexInside vs n) (drop (i + 3) l)) t)
-    where
-      stops : (p q r s : Bool) → (p && (q && r)) ≡ false → (p && (q && (r && s))) ≡ false
-      stops true true true s h = absurd (true≢false h)
-      stops true true false s h = refl
-      stops true false r s h = refl
-      stops false q r s h = refl
 
   pub fit-end : (best : Fit) (i : ℕ) → length l ≤ i → fitOver vs n p best (drop i l) ≡ locatedFit best
   unfolding fitOver every triples fitFrom

@@ -1,13 +1,13 @@
 // The nearest vertex of a direction's cell, over lent lists that may be damaged.
 ghost use mathlib.Core.Path.{_≡_};
-ghost use mathlib.Core.Bool.{false, _&&_};
+ghost use mathlib.Core.Bool.{false, cond, _&&_};
 ghost use Prim.Native.Nat.{_+_, _*_, _≤_, _<_};
 ghost use lib.ListN.{length};
 ghost use lib.Dec.{leb, ltb};
 ghost use Rattle.mesh.specs.Levels.{vertexCount, gridSize};
 ghost use Rattle.search.specs.Geometry.{vertexAt};
 ghost use Rattle.search.specs.Search.{notNearest, nearer, nearestInCells};
-ghost use Rattle.search.specs.Internal.{spanOf, nearestOver};
+ghost use Rattle.search.specs.Internal.{spanOf, nearestOver, Measured, limitOf};
 use crate::Nearest;
 use crate::Vector3;
 use crate::geometry::cell_index;
@@ -126,7 +126,7 @@ fn nearer(vertices: &[f64], p: Vector3, best: Nearest, v: usize) -> Nearest
 }
 
 // The nearest of the vertices that a cell lists; 20 where it lists none.
-fn nearest_in_cell(cell: &[u16], vertices: &[f64], n: usize, p: Vector3) -> Nearest
+fn nearest_by_order(cell: &[u16], vertices: &[f64], n: usize, p: Vector3) -> Nearest
     ensures { λ r. ⌜ r ≡ nearestOver (now (vertices .entry)) n p (notNearest 20) (now (cell .entry)) ⌝ }
 {
     let mut best = not_nearest(20);
@@ -140,6 +140,77 @@ fn nearest_in_cell(cell: &[u16], vertices: &[f64], n: usize, p: Vector3) -> Near
         i += 1;
     }
     best
+}
+
+// Vertex v where it is nearer. A distance has a clear sign, so beside a number the plain order will do, and both answers
+// are such that the compiler needs no jump.
+fn closer(vertices: &[f64], p: Vector3, best: Nearest, v: usize) -> Nearest
+    requires { ⌜ (3 * v + 3 ≤ length (now vertices)) × Measured best ⌝ }
+    ensures { λ r. ⌜ r ≡ nearer (now (vertices .entry)) p best v ⌝ }
+{
+    let vertex = best.vertex;
+    let least = best.distance;
+    let d = difference(p, vertex_at(vertices, v));
+    let distance = dot(d, d);
+    if distance < least {
+        return Nearest {
+            number: 0,
+            vertex: v as u64,
+            distance,
+        };
+    }
+    Nearest {
+        number: 0,
+        vertex,
+        distance: least,
+    }
+}
+
+// The nearest of the vertices that a list has and of one before; numbers below `limit` are inside.
+fn nearest_of(list: &[u16], vertices: &[f64], limit: usize, p: Vector3, first: Nearest) -> Nearest
+    requires { ⌜ (3 * limit ≤ length (now vertices)) × Measured first ⌝ }
+    ensures { λ r. ⌜ r ≡ nearestOver (now (vertices .entry)) limit p first (now (list .entry)) ⌝ }
+{
+    let mut best = first;
+    let mut i = 0;
+    while i < list.len() {
+        let v = wide16(list[i]);
+        if limit <= v {
+            return not_nearest(19);
+        }
+        best = closer(vertices, p, best, v);
+        i += 1;
+    }
+    best
+}
+
+// How many of n vertices have their coordinates inside `places`.
+pub(crate) fn limit_of(n: usize, places: usize) -> usize
+    ensures { λ r. ⌜ r ≡ limitOf n places ⌝ }
+{
+    let m = places / 3;
+    if n < m { n } else { m }
+}
+
+// The nearest of the vertices that a cell lists; 20 where it lists none. The first one sets the measure, unless its
+// distance is a NaN.
+fn nearest_in_cell(cell: &[u16], vertices: &[f64], n: usize, p: Vector3) -> Nearest
+    ensures { λ r. ⌜ r ≡ nearestOver (now (vertices .entry)) n p (notNearest 20) (now (cell .entry)) ⌝ }
+{
+    let limit = limit_of(n, vertices.len());
+    if cell.len() == 0 {
+        return not_nearest(20);
+    }
+    let v = wide16(cell[0]);
+    if limit <= v {
+        return not_nearest(19);
+    }
+    let first = nearer(vertices, p, not_nearest(20), v);
+    let distance = first.distance;
+    if distance != distance {
+        return nearest_by_order(cell, vertices, n, p);
+    }
+    nearest_of(&cell[1..cell.len()], vertices, limit, p, first)
 }
 
 // The nearest vertex to a direction p of length 1. The lists are those of one level, from its first entry on.

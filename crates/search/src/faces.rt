@@ -6,16 +6,19 @@ ghost use Rattle.mesh.specs.Levels.{vertexCount, gridSize};
 ghost use Rattle.mesh.specs.Faces.{face};
 ghost use Rattle.search.specs.Geometry.{vertexAt, projectedBarycentric};
 ghost use Rattle.search.specs.Search.{noFit, notLocated, better, locateIn, locatorOf};
-ghost use Rattle.search.specs.Internal.{locatedFit, fitOver};
+ghost use Rattle.search.specs.Internal.{locatedFit, fitOver, sifted, siftOver};
 use crate::Located;
 use crate::Vector3;
 use crate::Weights;
 use crate::cells::find_nearest_vertex;
 use crate::cells::inside;
+use crate::cells::limit_of;
 use crate::cells::span_of;
 use crate::cells::vertex_at;
 use crate::cells::wide16;
+use crate::triangle::is_past;
 use crate::triangle::projected_barycentric;
+use crate::triangle::sides_of;
 use mesh::Face;
 
 // The face that fits best so far, and the least of its weights.
@@ -108,8 +111,8 @@ fn better(vertices: &[f64], p: Vector3, best: Fit, a: usize, b: usize, c: usize)
     best
 }
 
-// The best of the faces that are listed, three places each.
-fn best_face(faces: &[u16], vertices: &[f64], n: usize, p: Vector3) -> Located
+// The best of the faces that are listed, three places each, one after another.
+fn best_of_all(faces: &[u16], vertices: &[f64], n: usize, p: Vector3) -> Located
     requires { ⌜ length (now faces) % 3 ≡ 0 ⌝ }
     ensures { λ r. ⌜ r ≡ fitOver (now (vertices .entry)) n p noFit (now (faces .entry)) ⌝ }
 {
@@ -127,6 +130,74 @@ fn best_face(faces: &[u16], vertices: &[f64], n: usize, p: Vector3) -> Located
         i += 3;
     }
     fitted(best)
+}
+
+// Of the faces that are listed those that p is not told to be past: whether there are none, one or more (0, 1, 2), and the
+// place of the last one.
+struct Within {
+    count: usize,
+    at: usize,
+}
+
+// The same with face a, b, c, which is listed from place i on.
+fn sifted(vertices: &[f64], p: Vector3, w: Within, i: usize, a: usize, b: usize, c: usize) -> Within
+    requires { ⌜ (3 * a + 3 ≤ length (now vertices)) × (3 * b + 3 ≤ length (now vertices)) × (3 * c + 3 ≤ length (now vertices)) ⌝ }
+    ensures { λ r. ⌜ r ≡ sifted (now (vertices .entry)) p w i (face a b c) ⌝ }
+{
+    let count = w.count;
+    let va = vertex_at(vertices, a);
+    let vb = vertex_at(vertices, b);
+    let vc = vertex_at(vertices, c);
+    if is_past(sides_of(p, va, vb, vc)) {
+        return w;
+    }
+    Within {
+        count: 1 + (count != 0) as usize,
+        at: i,
+    }
+}
+
+// One pass over the faces; as if there were more where a vertex is not inside.
+fn sift(faces: &[u16], vertices: &[f64], limit: usize, p: Vector3) -> Within
+    requires { ⌜ (length (now faces) % 3 ≡ 0) × (3 * limit ≤ length (now vertices)) ⌝ }
+    ensures { λ r. ⌜ r ≡ siftOver (now (vertices .entry)) limit p 0 (record { count = 0; at = 0 }) (now (faces .entry)) ⌝ }
+{
+    let mut w = Within { count: 0, at: 0 };
+    let mut i = 0;
+    while i < faces.len() {
+        let a = wide16(faces[i]);
+        let b = wide16(faces[i + 1]);
+        let c = wide16(faces[i + 2]);
+        if !((a < limit) & ((b < limit) & (c < limit))) {
+            return Within { count: 2, at: 0 };
+        }
+        w = sifted(vertices, p, w, i, a, b, c);
+        i += 3;
+    }
+    w
+}
+
+// The best of the faces that are listed, three places each.
+fn best_face(faces: &[u16], vertices: &[f64], n: usize, p: Vector3) -> Located
+    requires { ⌜ length (now faces) % 3 ≡ 0 ⌝ }
+    ensures { λ r. ⌜ r ≡ fitOver (now (vertices .entry)) n p noFit (now (faces .entry)) ⌝ }
+{
+    let w = sift(faces, vertices, limit_of(n, vertices.len()), p);
+    let count = w.count;
+    let at = w.at;
+    if (1 < count) | (faces.len() == 0) {
+        return best_of_all(faces, vertices, n, p);
+    }
+    let a = wide16(faces[at]);
+    let b = wide16(faces[at + 1]);
+    let c = wide16(faces[at + 2]);
+    let fit = better(vertices, p, no_fit(), a, b, c);
+    let least = fit.least;
+    // p is past every other face, so none of those has a least weight above 0
+    if (0.0 < least) | ((count == 0) & (0.0 <= least)) {
+        return fitted(fit);
+    }
+    best_of_all(faces, vertices, n, p)
 }
 
 // The face and weights of a direction p of length 1. The lists are those of one level, from its first entry on.

@@ -1,10 +1,10 @@
 // Directions, and their projection to the cube and its cells.
 ghost use mathlib.Core.Path.{_≡_};
-ghost use mathlib.Core.Bool.{_&&_};
-ghost use lib.Ieee.{lt};
+ghost use mathlib.Core.Bool.{cond, _&&_};
+ghost use lib.Ieee.{lt, le};
 ghost use lib.Ieee.Scale.{finite};
 ghost use Rattle.mesh.specs.Levels.{vertexCount, gridSize};
-ghost use Rattle.search.specs.Geometry.{zero, over, dot, norm, unit, difference, cubeFaceProject, cubeProject, inCells, clamp, cellCoordinate, cellIndex};
+ghost use Rattle.search.specs.Geometry.{zero, dot, norm, unit, difference, cubeFaceProject, cubeProject, inCells, clamp, cellCoordinate, cellIndex};
 use crate::Projected;
 use crate::Seen;
 use crate::Vector3;
@@ -18,7 +18,8 @@ pub fn dot(a: Vector3, b: Vector3) -> f64
 pub fn norm(a: Vector3) -> f64
     ensures { λ r. ⌜ r ≡ norm a ⌝ }
 {
-    ieee::root(dot(a, a))
+    // most directions come as units
+    ieee::root_next_to_one(dot(a, a))
 }
 
 // A length that is finite and above 0. It is so where its square is, so no root is taken; d - d is 0 for a finite d alone.
@@ -68,17 +69,32 @@ pub fn cube_face_project(face: u64, v: Vector3) -> Seen
     }
 }
 
-fn projected(face: u64, u: f64, w: f64, d: f64) -> Projected
-    ensures { λ r. ⌜ r ≡ record { face = face; u = over u d; w = over w d } ⌝ }
+fn either(first: bool, a: f64, b: f64) -> f64
+    ensures { λ r. ⌜ r ≡ cond first a b ⌝ }
 {
-    Projected {
-        face,
-        u: u / d,
-        w: w / d,
-    }
+    if first { a } else { b }
 }
 
-// The face by the largest coordinate, and the point on it.
+// Of three numbers the one that goes with the largest of ax, ay and az.
+fn largest(ax: f64, ay: f64, az: f64, x: f64, y: f64, z: f64) -> f64
+    ensures { λ r. ⌜ r ≡ cond (le ay ax && le az ax) x (cond (le az ay) y z) ⌝ }
+{
+    let other = either(ay >= az, y, z);
+    either(ax >= ay, either(ax >= az, x, other), other)
+}
+
+// The first number of the pair of faces that the largest of ax, ay and az is for.
+fn pair_of(ax: f64, ay: f64, az: f64) -> u64
+    ensures { λ r. ⌜ r ≡ cond (le ay ax && le az ax) 0 (cond (le az ay) 2 4) ⌝ }
+{
+    if (ax >= ay) & (ax >= az) {
+        return 0;
+    }
+    if ay >= az { 2 } else { 4 }
+}
+
+// The face by the largest coordinate, and the point on it. With no jump, since the face cannot be foreseen: each choice
+// is by one comparison. What is seen from behind has the other sign, and so has what it is divided by.
 pub fn cube_project(v: Vector3) -> Projected
     ensures { λ r. ⌜ r ≡ cubeProject v ⌝ }
 {
@@ -88,29 +104,24 @@ pub fn cube_project(v: Vector3) -> Projected
     let ax = float::abs(x);
     let ay = float::abs(y);
     let az = float::abs(z);
-    if (ax >= ay) & (ax >= az) {
-        if x > 0.0 {
-            return projected(0, y, z, x);
-        }
-        return projected(1, -y, z, -x);
+    let a = largest(ax, ay, az, x, y, z);
+    let u = largest(ax, ay, az, y, x, x);
+    let w = largest(ax, ay, az, z, z, y);
+    let front = a > 0.0;
+    let d = either(front, a, -a);
+    Projected {
+        face: pair_of(ax, ay, az) + !front as u64,
+        u: u / a,
+        w: w / d,
     }
-    if ay >= az {
-        if y > 0.0 {
-            return projected(2, x, z, y);
-        }
-        return projected(3, -x, z, -y);
-    }
-    if z > 0.0 {
-        return projected(4, x, y, z);
-    }
-    projected(5, -x, y, -z)
 }
 
 // A coordinate of a face, counted in cells.
 pub fn in_cells(g: u64, u: f64) -> f64
     ensures { λ r. ⌜ r ≡ inCells g u ⌝ }
 {
-    ieee::mul_add(u, 0.5, 0.5) * float::of_u64(g)
+    // rounded twice, this is the fused product: half of u is exact, or too small to matter
+    (u * 0.5 + 0.5) * float::of_u64(g)
 }
 
 fn clamp(low: f64, high: f64, x: f64) -> f64

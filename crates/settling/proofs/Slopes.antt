@@ -119,7 +119,7 @@ module _ (m : Mesh) (n : ℕ) (beta : Float) (e : List Float) where
   entry i j k hi hj q = rw (q, lt-ltb i n hi, lt-ltb j n hj) (sym (rw (weight-none beta) at (map-at (weight beta) e (i * n + j) nan)))
 
   past : (from step k : ℕ) → n ≤ k → getD (lineWeights beta e from step n) k nan ≡ nan
-  past from step k h = List·getD-eq-default (lineWeights beta e from step n) nan (omega (arith, length-line beta e from step n))
+  past from step k h = List·getD-eq-default (lineWeights beta e from step n) nan (omega (arith, length-line (weight beta) e from step n))
 
   in-row : (i j : ℕ) → i < n → getD (lineWeights beta e (n * i) 1 n) j nan ≡ at i j
   unfolding at pairWeight
@@ -127,7 +127,7 @@ module _ (m : Mesh) (n : ℕ) (beta : Float) (e : List Float) where
     where
       by : (n ≤ j) ⊎ (j < n) → getD (lineWeights beta e (n * i) 1 n) j nan ≡ at i j
       by (inl h) = past (n * i) 1 j h ∙ rw (lt-ltb i n hi, le-ltb j n h)
-      by (inr h) = line-at beta e (n * i) 1 n j h ∙ entry i j (n * i + 1 * j) hi h (simp (mul-comm, one-mul))
+      by (inr h) = line-at (weight beta) e (n * i) 1 n j h ∙ entry i j (n * i + 1 * j) hi h (simp (mul-comm, one-mul))
 
   in-column : (i j : ℕ) → j < n → getD (lineWeights beta e (1 * j) n n) i nan ≡ at i j
   unfolding at pairWeight
@@ -135,7 +135,7 @@ module _ (m : Mesh) (n : ℕ) (beta : Float) (e : List Float) where
     where
       by : (n ≤ i) ⊎ (i < n) → getD (lineWeights beta e (1 * j) n n) i nan ≡ at i j
       by (inl h) = past (1 * j) n i h ∙ rw (le-ltb i n h)
-      by (inr h) = line-at beta e (1 * j) n n i h ∙ entry i j (1 * j + n * i) h hj (simp (mul-comm, one-mul, add-comm))
+      by (inr h) = line-at (weight beta) e (1 * j) n n i h ∙ entry i j (1 * j + n * i) h hj (simp (mul-comm, one-mul, add-comm))
 
   rows : (s : Float) → linesGradient m n beta e n 1 s ≡ forEach n (λ i. forEach n (second i)) s
   unfolding linesGradient lineGradient second

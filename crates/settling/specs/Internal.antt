@@ -3,7 +3,7 @@ use mathlib.Core.Bool.{Bool, true, false, cond, _&&_, _||_}
 use mathlib.Core.List.{List, [], _∷_, _++_}
 use Prim.Native.Nat.{ℕ, zero, suc, _+_, _*_}
 use lib.ListN.{getD}
-use lib.Ieee.{Float, nan}
+use lib.Ieee.{Float, nan, binary64, mul, neg}
 use Rattle.lists.specs.Lists.{forEach}
 use Rattle.mesh.specs.Mesh.{Mesh}
 use Rattle.rows.specs.Rows.{Row}
@@ -16,10 +16,17 @@ use Rattle.settling.specs.declared.Tally.{Tally}
 use Rattle.settling.specs.declared.Verdict.{Verdict}
 use Rattle.settling.specs.declared.Verdict.the-variants.{Empty, Blocked, Isotropic, Smooth, Rough}
 
--- the weights of n energies, from place `from` on, `step` places apart: a row or a column of a slab
-unfoldable pub lineWeights : Float → List Float → ℕ → ℕ → ℕ → List Float
-lineWeights beta e from step zero = []
-lineWeights beta e from step (suc n) = lineWeights beta e from step n ++ (weight beta (getD e (from + step * n) nan) ∷ [])
+-- what f makes of n energies, from place `from` on, `step` places apart: a row or a column of a slab
+unfoldable pub lineOf : (Float → Float) → List Float → ℕ → ℕ → ℕ → List Float
+lineOf f e from step zero = []
+lineOf f e from step (suc n) = lineOf f e from step n ++ (f (getD e (from + step * n) nan) ∷ [])
+
+-- the weights of a line, and their exponents
+abbrev pub lineWeights : Float → List Float → ℕ → ℕ → ℕ → List Float
+lineWeights beta = lineOf (weight beta)
+
+abbrev pub lineExponents : Float → List Float → ℕ → ℕ → ℕ → List Float
+lineExponents beta = lineOf (mul binary64 (neg beta))
 
 -- the gradient along a line of weights, one for each vertex
 unfoldable pub lineGradient : Mesh → ℕ → List Float → Float → Float

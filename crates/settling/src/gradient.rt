@@ -1,14 +1,16 @@
-// The gradient of a slab. No list of weights is kept: the weights of a row, or of a column, fit into a local array, so that each entry is weighed twice.
+// The gradient of a slab. No list of weights is kept: the weights of a row, or of a column, fit into an array, so that each entry is weighed twice. The arrays are made once for a slab and lent
+// from line to line, since making one clears it; what they hold before does not count.
 ghost use mathlib.Core.Path.{_≡_};
-ghost use mathlib.Core.List.{[]};
+ghost use mathlib.Core.List.{[], map};
 ghost use Prim.Native.Nat.{_+_, _*_, _/_, _≤_};
-ghost use lib.ListN.{length, getD};
+ghost use lib.ListN.{length, take, getD};
 ghost use mathlib.Core.Bool.{false};
-ghost use lib.Ieee.{nan, isNan};
+ghost use lib.Ieee.{nan, isNan, binary64, mul, neg};
 ghost use Rattle.mesh.specs.Mesh.{meshOf};
 ghost use Rattle.lists.specs.Lists.{put};
+ghost use Rattle.float.specs.Exp.{exponential};
 ghost use Rattle.settling.specs.Gradient.{weight, steeper, alongNeighbours};
-ghost use Rattle.settling.specs.Internal.{lineWeights, lineGradient, fourColumns, firstColumns, linesGradient, byLines};
+ghost use Rattle.settling.specs.Internal.{lineExponents, lineWeights, lineGradient, fourColumns, firstColumns, linesGradient, byLines};
 
 // The Boltzmann weight of an energy.
 pub(crate) fn weight(beta: f64, e: f64) -> f64
@@ -31,28 +33,28 @@ fn steeper(x: f64, y: f64, angle: f64, g: f64) -> f64
     g
 }
 
-// The weight at place i of a line.
-fn weight_at(beta: f64, energies: &[f64], from: usize, step: usize, i: usize) -> f64
+// The exponent of the weight at place i of a line.
+fn exponent_at(beta: f64, energies: &[f64], from: usize, step: usize, i: usize) -> f64
     requires { ⌜ (from ≤ 6563844) × (step ≤ 2562) × (i ≤ 2562) ⌝ }
-    ensures { λ r. ⌜ r ≡ weight beta (getD (now (energies .entry)) (from + step * i) nan) ⌝ }
+    ensures { λ r. ⌜ r ≡ mul binary64 (neg beta) (getD (now (energies .entry)) (from + step * i) nan) ⌝ }
 {
-    weight(beta, mesh::entry(energies, from + step * i))
+    -beta * mesh::entry(energies, from + step * i)
 }
 
-// The weights of a line.
-fn weigh(beta: f64, energies: &[f64], from: usize, step: usize, n: usize, weights: &mut [f64])
+// The exponents of a line.
+fn exponents(beta: f64, energies: &[f64], from: usize, step: usize, n: usize, weights: &mut [f64])
     requires { ⌜ (n ≤ length (now weights)) × (n ≤ 2562) × (step ≤ 2562) × (from ≤ 6563844) ⌝ }
-    ensures { λ _. ⌜ now (weights .exit) ≡ put (now (weights .entry)) 0 (lineWeights beta (now (energies .entry)) from step n) ⌝ }
+    ensures { λ _. ⌜ now (weights .exit) ≡ put (now (weights .entry)) 0 (lineExponents beta (now (energies .entry)) from step n) ⌝ }
 {
     let mut i = 0;
     while i < n {
-        weights[i] = weight_at(beta, energies, from, step, i);
+        weights[i] = exponent_at(beta, energies, from, step, i);
         i += 1;
     }
 }
 
-// The weights of four lines that begin side by side, so that what is read for one serves the others.
-fn weigh_four(
+// The exponents of four lines that begin side by side, so that what is read for one serves the others.
+fn exponents_four(
     beta: f64,
     energies: &[f64],
     from: usize,
@@ -64,17 +66,17 @@ fn weigh_four(
     fourth: &mut [f64],
 )
     requires { ⌜ (n ≤ length (now first)) × (n ≤ length (now second)) × (n ≤ length (now third)) × (n ≤ length (now fourth)) × (n ≤ 2562) × (step ≤ 2562) × (from ≤ 2562) ⌝ }
-    ensures { λ _. ⌜ (now (first .exit) ≡ put (now (first .entry)) 0 (lineWeights beta (now (energies .entry)) from step n))
-        × (now (second .exit) ≡ put (now (second .entry)) 0 (lineWeights beta (now (energies .entry)) (from + 1) step n))
-        × (now (third .exit) ≡ put (now (third .entry)) 0 (lineWeights beta (now (energies .entry)) (from + 2) step n))
-        × (now (fourth .exit) ≡ put (now (fourth .entry)) 0 (lineWeights beta (now (energies .entry)) (from + 3) step n)) ⌝ }
+    ensures { λ _. ⌜ (now (first .exit) ≡ put (now (first .entry)) 0 (lineExponents beta (now (energies .entry)) from step n))
+        × (now (second .exit) ≡ put (now (second .entry)) 0 (lineExponents beta (now (energies .entry)) (from + 1) step n))
+        × (now (third .exit) ≡ put (now (third .entry)) 0 (lineExponents beta (now (energies .entry)) (from + 2) step n))
+        × (now (fourth .exit) ≡ put (now (fourth .entry)) 0 (lineExponents beta (now (energies .entry)) (from + 3) step n)) ⌝ }
 {
     let mut i = 0;
     while i < n {
-        first[i] = weight_at(beta, energies, from, step, i);
-        second[i] = weight_at(beta, energies, from + 1, step, i);
-        third[i] = weight_at(beta, energies, from + 2, step, i);
-        fourth[i] = weight_at(beta, energies, from + 3, step, i);
+        first[i] = exponent_at(beta, energies, from, step, i);
+        second[i] = exponent_at(beta, energies, from + 1, step, i);
+        third[i] = exponent_at(beta, energies, from + 2, step, i);
+        fourth[i] = exponent_at(beta, energies, from + 3, step, i);
         i += 1;
     }
 }
@@ -125,7 +127,25 @@ fn line_gradient(
     h
 }
 
-// A line's weights, and the gradient along it.
+// The weights of a line by its exponents, and the gradient along it.
+fn weighed(
+    counts: &[u8],
+    neighbours: &[u16],
+    angles: &[f64],
+    weights: &mut [f64],
+    n: u32,
+    g: f64,
+) -> f64
+    requires { ⌜ (n ≤ length (now weights)) × (isNan g ≡ false) ⌝ }
+    ensures { λ r. ⌜ r ≡ lineGradient (meshOf [] (now (counts .entry)) (now (neighbours .entry)) (now (angles .entry))) n
+        (map exponential (take n (now (weights .entry)))) g ⌝ }
+{
+    let m = n as usize;
+    float::exp_list(&mut weights[0..m]);
+    line_gradient(counts, neighbours, angles, &weights[0..m], n, g)
+}
+
+// The gradient along a line.
 fn line(
     counts: &[u8],
     neighbours: &[u16],
@@ -136,18 +156,18 @@ fn line(
     step: usize,
     n: u32,
     g: f64,
+    weights: &mut [f64],
 ) -> f64
-    requires { ⌜ (n ≤ 2562) × (step ≤ 2562) × (from ≤ 6563844) × (isNan g ≡ false) ⌝ }
+    requires { ⌜ (n ≤ 2562) × (step ≤ 2562) × (from ≤ 6563844) × (isNan g ≡ false) × (n ≤ length (now weights)) ⌝ }
     ensures { λ r. ⌜ r ≡ lineGradient (meshOf [] (now (counts .entry)) (now (neighbours .entry)) (now (angles .entry))) n
         (lineWeights beta (now (energies .entry)) from step n) g ⌝ }
 {
-    let mut weights = [0.0; 2562];
     let m = n as usize;
-    weigh(beta, energies, from, step, m, &mut weights);
-    line_gradient(counts, neighbours, angles, &weights[0..m], n, g)
+    exponents(beta, energies, from, step, m, weights);
+    weighed(counts, neighbours, angles, weights, n, g)
 }
 
-// Four columns side by side.
+// The gradient along four columns side by side.
 fn four_columns(
     counts: &[u8],
     neighbours: &[u16],
@@ -157,30 +177,20 @@ fn four_columns(
     from: usize,
     n: u32,
     g: f64,
+    first: &mut [f64],
+    second: &mut [f64],
+    third: &mut [f64],
+    fourth: &mut [f64],
 ) -> f64
-    requires { ⌜ (n ≤ 2562) × (from ≤ 2562) × (isNan g ≡ false) ⌝ }
+    requires { ⌜ (n ≤ 2562) × (from ≤ 2562) × (isNan g ≡ false) × (n ≤ length (now first)) × (n ≤ length (now second)) × (n ≤ length (now third)) × (n ≤ length (now fourth)) ⌝ }
     ensures { λ r. ⌜ r ≡ fourColumns (meshOf [] (now (counts .entry)) (now (neighbours .entry)) (now (angles .entry))) n beta (now (energies .entry)) from g ⌝ }
 {
-    let mut first = [0.0; 2562];
-    let mut second = [0.0; 2562];
-    let mut third = [0.0; 2562];
-    let mut fourth = [0.0; 2562];
     let m = n as usize;
-    weigh_four(
-        beta,
-        energies,
-        from,
-        m,
-        m,
-        &mut first,
-        &mut second,
-        &mut third,
-        &mut fourth,
-    );
-    let h = line_gradient(counts, neighbours, angles, &first[0..m], n, g);
-    let h = line_gradient(counts, neighbours, angles, &second[0..m], n, h);
-    let h = line_gradient(counts, neighbours, angles, &third[0..m], n, h);
-    line_gradient(counts, neighbours, angles, &fourth[0..m], n, h)
+    exponents_four(beta, energies, from, m, m, first, second, third, fourth);
+    let h = weighed(counts, neighbours, angles, first, n, g);
+    let h = weighed(counts, neighbours, angles, second, n, h);
+    let h = weighed(counts, neighbours, angles, third, n, h);
+    weighed(counts, neighbours, angles, fourth, n, h)
 }
 
 // The columns of a slab, four at a time, as far as that goes.
@@ -191,10 +201,14 @@ fn fours(
     energies: &[f64],
     beta: f64,
     n: u32,
+    first: &mut [f64],
 ) -> f64
-    requires { ⌜ n ≤ 2562 ⌝ }
+    requires { ⌜ (n ≤ 2562) × (n ≤ length (now first)) ⌝ }
     ensures { λ r. ⌜ r ≡ firstColumns (meshOf [] (now (counts .entry)) (now (neighbours .entry)) (now (angles .entry))) n beta (now (energies .entry)) (n / 4 * 4) ⌝ }
 {
+    let mut second = [0.0; 2562];
+    let mut third = [0.0; 2562];
+    let mut fourth = [0.0; 2562];
     let mut h = 0.0;
     let mut i: u32 = 0;
     while i < n / 4 {
@@ -207,6 +221,10 @@ fn fours(
             i as usize * 4,
             n,
             h,
+            first,
+            &mut second,
+            &mut third,
+            &mut fourth,
         );
         i += 1;
     }
@@ -221,12 +239,13 @@ fn columns(
     energies: &[f64],
     beta: f64,
     n: u32,
+    weights: &mut [f64],
 ) -> f64
-    requires { ⌜ n ≤ 2562 ⌝ }
+    requires { ⌜ (n ≤ 2562) × (n ≤ length (now weights)) ⌝ }
     ensures { λ r. ⌜ r ≡ firstColumns (meshOf [] (now (counts .entry)) (now (neighbours .entry)) (now (angles .entry))) n beta (now (energies .entry)) n ⌝ }
 {
     let m = n as usize;
-    let mut h = fours(counts, neighbours, angles, energies, beta, n);
+    let mut h = fours(counts, neighbours, angles, energies, beta, n, weights);
     let mut t = n / 4 * 4;
     while t < n {
         h = line(
@@ -239,6 +258,7 @@ fn columns(
             m,
             n,
             h,
+            weights,
         );
         t += 1;
     }
@@ -256,8 +276,9 @@ fn lines(
     step: usize,
     n: u32,
     g: f64,
+    weights: &mut [f64],
 ) -> f64
-    requires { ⌜ (n ≤ 2562) × (step ≤ 2562) × (apart ≤ 2562) × (isNan g ≡ false) ⌝ }
+    requires { ⌜ (n ≤ 2562) × (step ≤ 2562) × (apart ≤ 2562) × (isNan g ≡ false) × (n ≤ length (now weights)) ⌝ }
     ensures { λ r. ⌜ r ≡ linesGradient (meshOf [] (now (counts .entry)) (now (neighbours .entry)) (now (angles .entry))) n beta (now (energies .entry)) apart step g ⌝ }
 {
     let mut h = g;
@@ -273,6 +294,7 @@ fn lines(
             step,
             n,
             h,
+            weights,
         );
         t += 1;
     }
@@ -291,7 +313,19 @@ pub(crate) fn gradient(
     requires { ⌜ n ≤ 2562 ⌝ }
     ensures { λ r. ⌜ r ≡ byLines (meshOf [] (now (counts .entry)) (now (neighbours .entry)) (now (angles .entry))) n beta (now (energies .entry)) ⌝ }
 {
+    let mut weights = [0.0; 2562];
     let m = n as usize;
-    let h = columns(counts, neighbours, angles, energies, beta, n);
-    lines(counts, neighbours, angles, energies, beta, m, 1, n, h)
+    let h = columns(counts, neighbours, angles, energies, beta, n, &mut weights);
+    lines(
+        counts,
+        neighbours,
+        angles,
+        energies,
+        beta,
+        m,
+        1,
+        n,
+        h,
+        &mut weights,
+    )
 }

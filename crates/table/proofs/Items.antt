@@ -1,6 +1,6 @@
 -- The items of a section, one after another. Assumes nothing.
-use mathlib.Core.Path.{_≡_, refl, ap, _∙_}
-use mathlib.Core.Bool.{Bool, true, false, cond, _&&_, _||_}
+use mathlib.Core.Path.{_≡_, refl, sym, ap, _∙_}
+use mathlib.Core.Bool.{Bool, true, false, cond, _&&_, _||_, and-true, and-assoc}
 use mathlib.Core.List.{List, [], _∷_}
 use Prim.Native.Nat.{ℕ, zero, suc, _+_, _-_, _≤_, _<_}
 use native.Mathlib.Nat.{add-zero}
@@ -35,6 +35,24 @@ module _ {A : Type 0} (dec : List ℕ → A) (w : ℕ) (file : List ℕ) where
   pub every-end : (p : A → Bool) (at n : ℕ) → n ≤ 0 → every p (items dec w file at n) ≡ true
   unfolding every items
   every-end p at n h = let e : n ≡ 0 = omega arith in rw e
+
+  -- the same in a loop that goes on to the end, two a turn, h being what was found so far; then the last one, or none
+  pub every-two : (p : A → Bool) (at n : ℕ) (h : Bool) → 1 < n
+      → ((h && (p (dec (take w (drop at file))) && p (dec (take w (drop (at + w) file))))) && every p (items dec w file (at + w + w) (n - 2))) ≡ (h && every p (items dec w file at n))
+  unfolding every
+  every-two p at n h l =
+      let x = p (dec (take w (drop at file))) in
+      let y = p (dec (take w (drop (at + w) file))) in
+      let r = every p (items dec w file (at + w + w) (n - 2)) in
+      let m : n - 1 - 1 ≡ n - 2 = omega arith in
+      rw (items-cons at n (omega arith), items-cons (at + w) (n - 1) (omega arith), m) (and-assoc h (x && y) r ∙ ap (λ (b : Bool). h && b) (and-assoc x y r))
+
+  pub every-one : (p : A → Bool) (at n : ℕ) (h : Bool) → n ≡ 1 → (h && p (dec (take w (drop at file)))) ≡ (h && every p (items dec w file at n))
+  unfolding every items
+  every-one p at n h e = rw e (ap (λ (x : Bool). h && x) (sym (and-true (p (dec (take w (drop at file)))))))
+
+  pub every-none : (p : A → Bool) (at n : ℕ) (h : Bool) → n ≤ 0 → h ≡ (h && every p (items dec w file at n))
+  every-none p at n h l = rw (every-end p at n l) (sym (and-true h))
 
 -- ---- rows
 

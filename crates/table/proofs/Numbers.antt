@@ -1,6 +1,6 @@
 -- The number in some bytes of a file, byte by byte. Assumes nothing.
 use mathlib.Core.Path.{_≡_, refl, _∙_}
-use mathlib.Core.List.{List, []}
+use mathlib.Core.List.{List, [], _∷_}
 use mathlib.Core.Logic.{⊎-elim}
 use Prim.Native.Nat.{ℕ, suc, _+_, _*_, _≤_}
 use native.Mathlib.Numerals.{add-one}
@@ -44,6 +44,10 @@ above w file at =
 
 pub four : (file : List ℕ) (at : ℕ) → numberAt 4 file at ≡ ((getD file (at + 3) 0 * 256 + getD file (at + 2) 0) * 256 + getD file (at + 1) 0) * 256 + getD file at 0
 four file at = above 0 file at ∙ omega (arith, no-bytes file (at + 4))
+
+pub four-bytes : (file : List ℕ) (at : ℕ) → numberOf (getD file at 0 ∷ getD file (at + 1) 0 ∷ getD file (at + 2) 0 ∷ getD file (at + 3) 0 ∷ []) ≡ numberAt 4 file at
+unfolding numberOf
+four-bytes file at = omega (arith, four file at)
 
 pub eight : (file : List ℕ) (at : ℕ) → numberAt 8 file at ≡ numberAt 4 file (at + 4) * 4294967296 + numberAt 4 file at
 eight file at = above 4 file at ∙ omega (arith, four file at)

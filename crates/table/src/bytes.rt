@@ -1,8 +1,16 @@
 // Little-endian numbers in a file.
 ghost use mathlib.Core.Path.{_≡_};
-ghost use Prim.Native.Nat.{_+_, _≤_, _<_};
+ghost use mathlib.Core.List.{[], _∷_};
+ghost use Prim.Native.Nat.{_+_, _/_, _%_, _≤_, _<_};
 ghost use lib.ListN.{length};
-ghost use Rattle.table.specs.Bytes.{numberAt};
+ghost use Rattle.table.specs.Bytes.{numberOf, numberAt};
+
+// The number that four bytes are, the lowest first.
+pub fn u32_from_le_bytes(a: u8, b: u8, c: u8, d: u8) -> u32
+    ensures { λ r. ⌜ r ≡ numberOf (a ∷ b ∷ c ∷ d ∷ []) ⌝ }
+{
+    ((d as u32 * 256 + c as u32) * 256 + b as u32) * 256 + a as u32
+}
 
 // Four bytes that are inside the file: no place is questioned.
 pub(crate) fn u32_in(file: &[u8], at: u64) -> u32
@@ -10,17 +18,13 @@ pub(crate) fn u32_in(file: &[u8], at: u64) -> u32
     ensures { λ r. ⌜ r ≡ numberAt 4 (now (file .entry)) at ⌝ }
 {
     let i = at as usize;
-    let a = file[i] as u32;
-    let b = file[i + 1] as u32;
-    let c = file[i + 2] as u32;
-    let d = file[i + 3] as u32;
-    ((d * 256 + c) * 256 + b) * 256 + a
+    u32_from_le_bytes(file[i], file[i + 1], file[i + 2], file[i + 3])
 }
 
-// Eight bytes that are inside the file.
+// Eight bytes that are inside the file: also two numbers of four.
 pub(crate) fn u64_in(file: &[u8], at: u64) -> u64
     requires { ⌜ at + 8 ≤ length (now file) ⌝ }
-    ensures { λ r. ⌜ r ≡ numberAt 8 (now (file .entry)) at ⌝ }
+    ensures { λ r. ⌜ (r ≡ numberAt 8 (now (file .entry)) at) × (r % 4294967296 ≡ numberAt 4 (now (file .entry)) at) × (r / 4294967296 ≡ numberAt 4 (now (file .entry)) (at + 4)) ⌝ }
 {
     let low = u32_in(file, at) as u64;
     let high = u32_in(file, at + 4) as u64;
@@ -47,7 +51,7 @@ fn u32_rest(file: &[u8], at: u64) -> u32
 }
 
 // Four bytes of any place; those beyond the end count as 0.
-pub fn u32_at(file: &[u8], at: u64) -> u32
+pub(crate) fn u32_at(file: &[u8], at: u64) -> u32
     ensures { λ r. ⌜ r ≡ numberAt 4 (now (file .entry)) at ⌝ }
 {
     let n = file.len() as u64;

@@ -6,7 +6,7 @@ mod questions;
 mod reader;
 mod walk;
 
-pub use bytes::u32_at;
+pub use bytes::u32_from_le_bytes;
 pub use reader::read;
 
 // Where each section after the first begins, with its count, and where the last one ends.

@@ -1,6 +1,6 @@
 // The questions 14 to 17 that read puts to a file, each one loop over a section.
 ghost use mathlib.Core.Path.{_≡_};
-ghost use mathlib.Core.Bool.{not};
+ghost use mathlib.Core.Bool.{not, _&&_};
 ghost use Prim.Native.Nat.{_+_, _*_, _≤_};
 ghost use lib.ListN.{length, take, drop};
 ghost use lib.Dec.{eqb};
@@ -13,6 +13,7 @@ ghost use Rattle.table.specs.Read.{tableValid, scalarValid, entryValid, 
 ghost use Rattle.table.specs.Internal.{Inside, tableQuestion, placedAt, nextPlace};
 use crate::Table;
 use crate::bytes::u32_in;
+use crate::bytes::u64_in;
 
 // Each vertex count is its level's.
 fn levels_valid(file: &[u8], start: u64, levels: u64) -> bool
@@ -149,21 +150,35 @@ fn rows_tiled(file: &[u8], start: u64, rows: u64, energies: u64) -> bool
     o == energies
 }
 
-// Question 17.
+// The two energies at a byte are numbers. They are read as one, since a test of a number made of four bytes is not compiled
+// to many at a time.
+fn pair_valid(file: &[u8], at: u64) -> bool
+    requires { ⌜ at + 8 ≤ length (now file) ⌝ }
+    ensures { λ r. ⌜ r ≡ not (nanBits binary32 (numberAt 4 (now (file .entry)) at)) && not (nanBits binary32 (numberAt 4 (now (file .entry)) (at + 4))) ⌝ }
+{
+    let y = u64_in(file, at);
+    let low = (y % 4294967296) as u32;
+    let high = (y / 4294967296) as u32;
+    !nan_bits(low) & !nan_bits(high)
+}
+
+// Question 17. With no way out of the loop, so that it is compiled to many energies at a time.
 fn energies_valid(file: &[u8], start: u64, energies: u64) -> bool
     requires { ⌜ start + energies * 4 ≤ length (now file) ⌝ }
     ensures { λ r. ⌜ r ≡ every (λ x. not (nanBits binary32 x)) (items numberOf 4 (now (file .entry)) start energies) ⌝ }
 {
     let mut at = start;
-    let mut left = energies;
+    let mut left = energies / 2;
+    let mut held = true;
     while 0 < left {
-        if nan_bits(u32_in(file, at)) {
-            return false;
-        }
-        at += 4;
+        held = held & pair_valid(file, at);
+        at += 8;
         left -= 1;
     }
-    true
+    if energies % 2 == 1 {
+        return held & !nan_bits(u32_in(file, at));
+    }
+    held
 }
 
 // Questions 14 to 17: the number of the first one that is answered no, or 0.

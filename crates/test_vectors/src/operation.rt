@@ -37,7 +37,9 @@ pub const REM_TAU: usize = 14;
 
 pub const EXP: usize = 15;
 
-pub const COUNT: usize = 16;
+pub const EXP_LIST: usize = 16;
+
+pub const COUNT: usize = 17;
 
 // The name, with blanks behind it.
 fn name(op: usize) -> [u8; 12] {
@@ -58,6 +60,7 @@ fn name(op: usize) -> [u8; 12] {
         IS_FINITE => *b"is_finite   ",
         REM_TAU => *b"rem_tau     ",
         EXP => *b"exp         ",
+        EXP_LIST => *b"exp_list    ",
         _ => *b"            ",
     }
 }
@@ -146,6 +149,13 @@ fn low(n: u64) -> u32 {
     (n % 0x1_0000_0000) as u32
 }
 
+// E by the list: long enough for what the compiler does several entries at a time.
+fn exp_in_list(x: f64) -> f64 {
+    let mut list = [x; 9];
+    float::exp_list(&mut list);
+    list[4]
+}
+
 // The bits of what the operation gives of its operands' bits.
 pub fn run(op: usize, a: u64, b: u64, c: u64) -> u64 {
     let x = bits::float64(a);
@@ -167,6 +177,7 @@ pub fn run(op: usize, a: u64, b: u64, c: u64) -> u64 {
         IS_FINITE => ieee::is_finite(x) as u64,
         REM_TAU => bits::bits64(float::rem_tau(x)),
         EXP => bits::bits64(float::exp(x)),
+        EXP_LIST => bits::bits64(exp_in_list(x)),
         _ => 0,
     }
 }

@@ -1,14 +1,16 @@
 -- The sections of a file, row by row and energy by energy. Assumes nothing.
 use mathlib.Core.Path.{_≡_, refl, ap, _∙_}
-use mathlib.Core.List.{List, [], _∷_, _++_, map, append-nil, map-append}
+use mathlib.Core.List.{List, [], _∷_, _++_, map, append-nil, map-append, map-map}
 use Prim.Native.Nat.{ℕ, zero, suc, _+_, _-_, _*_, _≤_, _<_}
 use native.Mathlib.Nat.{suc-mul, mod-eq-of-lt}
 use native.Mathlib.Numerals.{add-one}
 use native.Mathlib.Omega.{arith}
 use lib.ListN.{length, getD, take, drop, length-append, length-map, length-drop}
-use lib.Seq.{drop-cons, length-take-le}
-use lib.Ieee.{Float, nan}
+use lib.Seq.{drop-cons, drop-drop, take-add, take-all, take-at, length-take-le}
+use lib.Ieee.{Float, binary32, nan, toBits}
 use Rattle.lists.specs.Lists.{below, put}
+use Rattle.lists.proofs.Loops.{part-is}
+use Rattle.ieee.specs.Narrow.{narrowed}
 use Rattle.mesh.specs.Levels.{vertexCount}
 use Rattle.rows.specs.declared.SlabResolution.{SlabResolution}
 use Rattle.rows.specs.Rows.{Rows, resolutionAt, narrowBits}
@@ -99,25 +101,44 @@ entries-length r o s n =
 
 -- ---- energies
 
-pub taken-length : (store : List Float) (p k : ℕ) → p + k ≤ length store → length (map narrowBits (take k (drop p store))) ≡ k
-taken-length store p k h = length-map (take k (drop p store)) narrowBits ∙ length-take-le k (drop p store) (omega (arith, length-drop p store))
+-- k numbers of a list from place p on, each made to bits by g
+module _ (g : Float → ℕ) (store : List Float) (p k : ℕ) where
+  pub taken-length : p + k ≤ length store → length (map g (take k (drop p store))) ≡ k
+  taken-length h = length-map (take k (drop p store)) g ∙ length-take-le k (drop p store) (omega (arith, length-drop p store))
 
-pub taken-bytes : (store : List Float) (p k : ℕ) → p + k ≤ length store → length (packed (bytesOf 4) (map narrowBits (take k (drop p store)))) ≡ k * 4
-taken-bytes store p k h =
-    packed-length (bytesOf 4) 4 (bytes-length 4) (map narrowBits (take k (drop p store))) ∙ ap (λ (n : ℕ). n * 4) (taken-length store p k h)
+  pub taken-bytes : p + k ≤ length store → length (packed (bytesOf 4) (map g (take k (drop p store)))) ≡ k * 4
+  taken-bytes h = packed-length (bytesOf 4) 4 (bytes-length 4) (map g (take k (drop p store))) ∙ ap (λ (n : ℕ). n * 4) (taken-length h)
 
-pub taken-turn : (store : List Float) (p k : ℕ) → 0 < k → p < length store
-    → packed (bytesOf 4) (map narrowBits (take k (drop p store)))
-    ≡ bytesOf 4 (narrowBits (getD store p nan)) ++ packed (bytesOf 4) (map narrowBits (take (k - 1) (drop (p + 1) store)))
-unfolding packed
-taken-turn store p zero h l = absurd (omega arith)
-taken-turn store p (suc k) h l =
-    let e : suc k - 1 ≡ k = omega arith in
-    rw (e, drop-cons store p nan l, add-one)
+  -- the first i of them, and the others
+  pub taken-split : (i : ℕ) → i ≤ k
+      → packed (bytesOf 4) (map g (take k (drop p store)))
+      ≡ packed (bytesOf 4) (map g (take i (drop p store))) ++ packed (bytesOf 4) (map g (take (k - i) (drop (p + i) store)))
+  taken-split i h =
+      let e : i + (k - i) ≡ k = omega arith in
+      rw (← packed-append (bytesOf 4) (map g (take i (drop p store))) (map g (take (k - i) (drop (p + i) store))), ← map-append g (take i (drop p store)) (take (k - i) (drop (p + i) store)), ← drop-drop i p store, ← take-add i (k - i) (drop p store), e)
 
-pub taken-end : (store : List Float) (p k : ℕ) → k ≤ 0 → packed (bytesOf 4) (map narrowBits (take k (drop p store))) ≡ []
-unfolding packed
-taken-end store p k h = let e : k ≡ 0 = omega arith in rw e
+  pub taken-turn : 0 < k → p < length store
+      → packed (bytesOf 4) (map g (take k (drop p store)))
+      ≡ bytesOf 4 (g (getD store p nan)) ++ packed (bytesOf 4) (map g (take (k - 1) (drop (p + 1) store)))
+  unfolding packed
+  taken-turn h l =
+      let e : take 1 (drop p store) ≡ getD store p nan ∷ [] = ap (take 1) (drop-cons store p nan l) in
+      taken-split 1 h ∙ rw (e, append-nil (bytesOf 4 (g (getD store p nan))))
+
+  pub taken-end : k ≤ 0 → packed (bytesOf 4) (map g (take k (drop p store))) ≡ []
+  unfolding packed
+  taken-end h = let e : k ≡ 0 = omega arith in rw e
+
+-- the bits of what was narrowed into a block
+pub block-bits : (store block b : List Float) (p n : ℕ) → p + n ≤ length store → n ≤ length block → b ≡ put block 0 (map narrowed (take (length block) (take (p + n - p) (drop p store))))
+    → map (toBits binary32) (take n b) ≡ map narrowBits (take n (drop p store))
+unfolding put
+block-bits store block b p n h g e =
+    let l = take n (drop p store) in
+    let s : length l ≡ n = length-take-le n (drop p store) (omega (arith, length-drop p store)) in
+    let a : take (length block) (take (p + n - p) (drop p store)) ≡ l = ap (take (length block)) (part-is store p n) ∙ take-all (length block) l (omega (arith, s)) in
+    ap (λ (y : List Float). map (toBits binary32) (take n y)) e
+    ∙ rw a (ap (map (toBits binary32)) (take-at (map narrowed l) (drop (0 + length (map narrowed l)) block) n (length-map l narrowed ∙ s)) ∙ map-map (toBits binary32) narrowed l)
 
 -- as many energies as the rows hold, where they are inside the store
 pub energies-length : (z : ℕ) (store : List Float) (p : ℕ) (xs : List SlabResolution) → Bounded z xs → p + length xs * z ≤ length store → length (energiesFor z store p xs) ≡ total xs
@@ -126,7 +147,7 @@ energies-length z store p [] b h = refl
 energies-length z store p (x ∷ xs) b h =
     let m : p + (length xs * z + z) ≤ length store = rw suc-mul at h in
     length-append (map narrowBits (take (heldBy x) (drop p store))) (energiesFor z store (p + z) xs)
-    ∙ omega (arith, taken-length store p (heldBy x) (omega (arith, m, b .0)), energies-length z store (p + z) xs (b .1) (omega (arith, m)))
+    ∙ omega (arith, taken-length narrowBits store p (heldBy x) (omega (arith, m, b .0)), energies-length z store (p + z) xs (b .1) (omega (arith, m)))
 
 pub energies-bytes : (z : ℕ) (store : List Float) (p : ℕ) (xs : List SlabResolution) → Bounded z xs → p + length xs * z ≤ length store
     → length (packed (bytesOf 4) (energiesFor z store p xs)) ≡ total xs * 4

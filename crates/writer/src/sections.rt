@@ -1,9 +1,9 @@
 // The bytes of each section of a table file.
 ghost use mathlib.Core.Path.{_≡_};
 ghost use mathlib.Core.List.{[], _∷_, map};
-ghost use Prim.Native.Nat.{_+_, _*_, _≤_};
+ghost use Prim.Native.Nat.{_+_, _*_, _≤_, min};
 ghost use lib.ListN.{length, take, drop};
-ghost use lib.Ieee.{binary64, toBits};
+ghost use lib.Ieee.{binary32, binary64, toBits};
 ghost use Rattle.lists.specs.Lists.{put, below};
 ghost use Rattle.mesh.specs.Levels.{vertexCount};
 ghost use Rattle.rows.specs.Rows.{narrowBits, rowsOf};
@@ -136,21 +136,64 @@ pub(crate) fn energy_total(kinds: &[u8], levels: &[u8], values: &[u32], n: u64) 
     o
 }
 
-// The energies of one row, narrowed.
-fn put_energies(out: &mut [u8], at: u64, store: &[f64], from: u64, n: u64)
-    requires { ⌜ (at + n * 4 ≤ length (now out)) × (from + n ≤ length (now store)) ⌝ }
+// The first n of some numbers.
+fn put_floats(out: &mut [u8], at: u64, list: &[f32], n: u64)
+    requires { ⌜ (at + n * 4 ≤ length (now out)) × (n ≤ length (now list)) ⌝ }
+    ensures { λ _. ⌜ now (out .exit) ≡ put (now (out .entry)) at (packed (bytesOf 4) (map (toBits binary32) (take n (now (list .entry))))) ⌝ }
+{
+    let mut p: u64 = 0;
+    let mut left = n;
+    let mut to = at;
+    while 0 < left {
+        let i = p as usize;
+        put_u32(out, to, bits::bits32(list[i]));
+        p += 1;
+        to += 4;
+        left -= 1;
+    }
+}
+
+// Energies that the block has room for, narrowed.
+fn put_block(out: &mut [u8], at: u64, store: &[f64], from: u64, n: u64, block: &mut [f32])
+    requires { ⌜ (at + n * 4 ≤ length (now out)) × (from + n ≤ length (now store)) × (n ≤ length (now block)) ⌝ }
+    ensures { λ _. ⌜ now (out .exit) ≡ put (now (out .entry)) at (packed (bytesOf 4) (map narrowBits (take n (drop from (now (store .entry)))))) ⌝ }
+{
+    let start = from as usize;
+    let end = (from + n) as usize;
+    ieee::narrow_list(&store[start..end], block);
+    put_floats(out, at, block, n);
+}
+
+fn block_size(left: u64) -> u64
+    ensures { λ r. ⌜ r ≡ min left 256 ⌝ }
+{
+    if left < 256 { left } else { 256 }
+}
+
+// A block at a time.
+fn put_blocks(out: &mut [u8], at: u64, store: &[f64], from: u64, n: u64, block: &mut [f32])
+    requires { ⌜ (at + n * 4 ≤ length (now out)) × (from + n ≤ length (now store)) × (256 ≤ length (now block)) ⌝ }
     ensures { λ _. ⌜ now (out .exit) ≡ put (now (out .entry)) at (packed (bytesOf 4) (map narrowBits (take n (drop from (now (store .entry)))))) ⌝ }
 {
     let mut p = from;
     let mut left = n;
     let mut to = at;
     while 0 < left {
-        let i = p as usize;
-        put_u32(out, to, bits::bits32(ieee::narrow(store[i])));
-        p += 1;
-        to += 4;
-        left -= 1;
+        let k = block_size(left);
+        put_block(out, to, store, p, k, block);
+        p += k;
+        to += 4 * k;
+        left -= k;
     }
+}
+
+// The energies of one row, narrowed.
+fn put_energies(out: &mut [u8], at: u64, store: &[f64], from: u64, n: u64)
+    requires { ⌜ (at + n * 4 ≤ length (now out)) × (from + n ≤ length (now store)) ⌝ }
+    ensures { λ _. ⌜ now (out .exit) ≡ put (now (out .entry)) at (packed (bytesOf 4) (map narrowBits (take n (drop from (now (store .entry)))))) ⌝ }
+{
+    let mut block: [f32; 256] = [0.0; 256];
+    put_blocks(out, at, store, from, n, &mut block);
 }
 
 // The energies of all rows, in row order; slabs are z places apart in the store.

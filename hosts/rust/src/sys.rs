@@ -89,7 +89,7 @@ extern "C" {
         cell_offsets: *mut u32, e: usize, cell_vertices: *mut u16, f: usize, face_offsets: *mut u32, g: usize, faces: *mut u16, h: usize,
     ) -> u64;
     fn icotable_reading(
-        table: Table, file: *const u8, a: usize, vertices: *const f64, b: usize, cell_offsets: *const u32, c: usize, cell_vertices: *const u16, d: usize,
+        table: *const Table, file: *const u8, a: usize, vertices: *const f64, b: usize, cell_offsets: *const u32, c: usize, cell_vertices: *const u16, d: usize,
         face_offsets: *const u32, e: usize, faces: *const u16, f: usize, r: f64, omega: f64, ax: f64, ay: f64, az: f64, bx: f64, by: f64, bz: f64,
     ) -> Value;
     fn icotable_vertices(level: u64) -> u64;
@@ -223,7 +223,7 @@ pub fn reading(table: &Table, l: Lent, q: &Query) -> Value {
     let (a, b) = (q.a, q.b);
     unsafe {
         icotable_reading(
-            *table, l.file.as_ptr(), l.file.len(), l.vertices.as_ptr(), l.vertices.len(), l.cell_offsets.as_ptr(), l.cell_offsets.len(),
+            table, l.file.as_ptr(), l.file.len(), l.vertices.as_ptr(), l.vertices.len(), l.cell_offsets.as_ptr(), l.cell_offsets.len(),
             l.cell_vertices.as_ptr(), l.cell_vertices.len(), l.face_offsets.as_ptr(), l.face_offsets.len(), l.faces.as_ptr(), l.faces.len(),
             q.r, q.omega, a[0], a[1], a[2], b[0], b[1], b[2],
         )

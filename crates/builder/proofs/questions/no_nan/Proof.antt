@@ -1,31 +1,24 @@
 -- `no_nan` meets its contract. Assumes nothing.
-use mathlib.Core.Path.{_≡_, refl, sym, _∙_}
-use Rattle.lists.proofs.Counting.{yes, no}
-use mathlib.Core.Bool.{not}
+use mathlib.Core.Path.{_≡_, refl, _∙_}
+use mathlib.Core.Bool.{not, _&&_}
 use Prim.Native.Nat.{_-_}
 use native.Mathlib.Omega.{arith}
 use lib.ListN.{length, drop}
 use lib.Ieee.{nan, isNan}
 use borrow.Author.Needs.{needs}
 use Rattle.lists.specs.Lists.{every}
-use Rattle.lists.proofs.Loops.{every-fails, every-next, every-end}
+use Rattle.lists.proofs.Loops.{every-turn, every-all}
 use Rattle.builder.proofs.questions.no_nan.Statement.{statement}
 use Rattle.builder.proofs.questions.no_nan.Tie as tie
 
 abbrev Inv-loop : tie.InvT-loop
-Inv-loop e i₀ i = every (λ x. not (isNan x)) (drop i e) ≡ every (λ x. not (isNan x)) e
+Inv-loop e held₀ i₀ held i = (held && every (λ x. not (isNan x)) (drop i e)) ≡ every (λ x. not (isNan x)) e
 
 abbrev μ-loop : tie.MeasureT-loop
-μ-loop e i₀ i = length e - i
+μ-loop e held₀ i₀ held i = length e - i
 
 loop-holds : tie.Need-loop-holds Inv-loop μ-loop
 loop-holds c = refl
-
-returns : tie.Need-returns Inv-loop μ-loop
-returns c =
-    let l = c .before .before .before .before in
-    let e = l .before .before .args .e .now in
-    sym (every-fails (λ x. not (isNan x)) e (l .loop .i) nan (omega arith) (no (c .before .is-number .ensures) (c .if1 .taken))) ∙ l .loop .inv
 
 add-i : tie.Need-add-i Inv-loop μ-loop
 add-i c = omega arith
@@ -35,16 +28,16 @@ loop-less c = omega arith
 
 loop-again : tie.Need-loop-again Inv-loop μ-loop
 loop-again c =
-    let l = c .before .before .before .before in
+    let l = c .before .before .before in
     let e = l .before .before .args .e .now in
-    sym (every-next (λ x. not (isNan x)) e (l .loop .i) nan (omega arith) (yes (c .before .is-number .ensures) (c .if1 .left))) ∙ l .loop .inv
+    every-turn (λ x. not (isNan x)) e (l .loop .i) nan (l .loop .held) (c .is-number .result) (omega arith) (c .is-number .ensures) ∙ l .loop .inv
 
-returns-2 : tie.Need-returns-2 Inv-loop μ-loop
-returns-2 c =
+returns : tie.Need-returns Inv-loop μ-loop
+returns c =
     let e = c .before .before .before .args .e .now in
-    sym (every-end (λ x. not (isNan x)) e _ nan (c .loop-test .left)) ∙ c .before .loop .inv
+    every-all (λ x. not (isNan x)) e (c .before .loop .i) nan (c .before .loop .held) (c .loop-test .left) ∙ c .before .loop .inv
 
 pub no-nan-spec : {M : Type 1} → statement M
 no-nan-spec =
     tie.close
-    (tie.spec Inv-loop μ-loop loop-holds (λ c. search needs) (λ c. search needs) (λ c κs. search needs) returns add-i loop-less loop-again returns-2)
+    (tie.spec Inv-loop μ-loop loop-holds (λ c. search needs) (λ c. search needs) (λ c κs. search needs) add-i loop-less loop-again returns)

@@ -1,75 +1,61 @@
 -- `nearest_in_cell` meets its contract. Assumes nothing.
-use mathlib.Core.Path.{_≡_, refl, sym, _∙_}
-use Rattle.lists.proofs.Counting.{yes, no}
-use mathlib.Core.Bool.{and-eq-true-iff}
-use Prim.Native.Nat.{_+_, _-_, _*_, _≤_}
+use mathlib.Core.Path.{_≡_, sym, _∙_}
+use Prim.Native.Nat.{_<_}
 use native.Mathlib.Omega.{arith}
-use lib.ListN.{length, drop}
-use lib.Dec.{leb, ltb}
+use lib.ListN.{length}
 use borrow.Author.Needs.{needs}
-use borrow.Author.Tests.{leb-true}
-use Rattle.search.specs.Search.{notNearest}
-use Rattle.search.specs.Internal.{nearestOver}
-use Rattle.search.proofs.Laws.{nearest-turn, nearest-stop, nearest-end}
+use Rattle.ieee.proofs.Fields.{no-nan-of-same}
+use Rattle.search.specs.Search.{notNearest, nearer}
+use Rattle.search.specs.Internal.{limitOf}
+use Rattle.search.proofs.Laws.{nearest-end}
+use Rattle.search.proofs.Nearness.{first-measured, limit-room, first-stop, first-turn}
 use Rattle.search.proofs.cells.nearest_in_cell.Statement.{statement}
 use Rattle.search.proofs.cells.nearest_in_cell.Tie as tie
 
-abbrev Inv-loop : tie.InvT-loop
-Inv-loop cell vertices n p best₀ i₀ best i = (i ≤ length cell) × (nearestOver vertices n p best (drop i cell) ≡ nearestOver vertices n p best₀ cell)
-
-abbrev μ-loop : tie.MeasureT-loop
-μ-loop cell vertices n p best₀ i₀ best i = length cell - i
-
--- the loop starts with 20
-start : (l : tie.At-loop Inv-loop μ-loop)
-    → (let a = l .before .before .before .before .args in
-    nearestOver (a .vertices .now) (a .n) (a .p) (l .before .not-nearest .result) (a .cell .now) ≡ nearestOver (a .vertices .now) (a .n) (a .p) (notNearest 20) (a .cell .now))
-start l = rw (l .before .not-nearest .ensures)
-
-loop-holds : tie.Need-loop-holds Inv-loop μ-loop
-loop-holds c = (omega arith, refl)
-
-inside-requires : tie.Need-inside-requires Inv-loop μ-loop
-inside-requires c κs = omega (arith, c .wide16 .ensures, c .before .shared-slice-known3 .given (c .before .before .before .loop .i))
-
-returns : tie.Need-returns Inv-loop μ-loop
+returns : tie.Need-returns
 returns c =
-    let e = c .before .before .before in
-    let l = e .before .before .before in
-    let a = l .before .before .before .before .args in
+    let a = c .before .before .before .before .before .args in
+    c .not-nearest .ensures ∙ sym (nearest-end (a .vertices .now) (a .n) (a .p) (a .cell .now) (notNearest 20) 0 (omega (arith, c .before .if1 .taken)))
+
+returns-2 : tie.Need-returns-2
+returns-2 c =
+    let w = c .before .before in
+    let a = w .before .before .before .before .before .before .args in
     c .not-nearest2 .ensures
-    ∙ sym (nearest-stop (a .vertices .now) (a .n) (a .p) (a .cell .now) (l .loop .best) (l .loop .i) (e .wide16 .result) (omega arith) (e .wide16 .ensures) (no (c .before .before .inside .ensures) (c .before .if1 .taken)))
-    ∙ l .loop .inv .1 ∙ start l
+    ∙ sym (first-stop (a .vertices .now) (a .n) (a .p) (a .cell .now) (w .wide16 .result) (omega arith) (w .wide16 .ensures) (rw (← w .before .before .before .limit-of .ensures) (c .before .if2 .taken)))
 
--- the vertex was found inside what was lent
-room : (c : tie.Else1 Inv-loop μ-loop) → 3 * c .before .before .wide16 .result + 3 ≤ length (c .before .before .before .before .before .before .before .before .before .args .vertices .now)
-room c =
-    let v = c .before .before .wide16 .result in
-    let a = c .before .before .before .before .before .before .before .before .before .args in
-    leb-true _ _ (and-eq-true-iff (ltb v (a .n)) (leb (3 * v + 3) (length (a .vertices .now))) .0 (yes (c .before .inside .ensures) (c .if1 .left)) .1)
+-- the first vertex is inside what was lent
+first-inside : (c : tie.Else2) → (let w = c .before in let a = w .before .before .before .before .before .before .args in w .wide16 .result < limitOf (a .n) (length (a .vertices .now)))
+first-inside c = rw (← c .before .before .before .before .limit-of .ensures) (c .if2 .left)
 
-nearer-requires : tie.Need-nearer-requires Inv-loop μ-loop
+nearer-requires : tie.Need-nearer-requires
 nearer-requires c κs =
-    room c
+    let a = c .before .before .before .before .before .before .before .before .args in
+    omega (arith, first-inside (c .before), limit-room (a .n) (length (a .vertices .now)))
 
-loop-again : tie.Need-loop-again Inv-loop μ-loop
-loop-again c =
-    let e = c .before .before .before in
-    let l = e .before .before .before in
-    let a = l .before .before .before .before .args in (
-      omega arith,
-      rw (c .nearer .ensures)
-          (sym (nearest-turn (a .vertices .now) (a .n) (a .p) (a .cell .now) (l .loop .best) (l .loop .i) (e .wide16 .result) (omega arith) (e .wide16 .ensures) (yes (c .before .before .inside .ensures) (c .before .if1 .left)))
-          ∙ l .loop .inv .1),
+-- what the first vertex is measured by
+first-found : (c : tie.After-nearer) → (let o = c .before in let a = o .before .before .before .before .before .before .before .before .args in
+    c .nearer .result ≡ nearer (a .vertices .now) (a .p) (notNearest 20) (o .before .before .wide16 .result))
+first-found c = rw (c .nearer .ensures, c .before .not-nearest3 .ensures)
+
+nearest-of-requires : tie.Need-nearest-of-requires
+nearest-of-requires c κs =
+    let n = c .before .before in
+    let w = n .before .before .before in
+    let a = w .before .before .before .before .before .before .args in (
+      rw (w .before .before .before .limit-of .ensures) (limit-room (a .n) (length (a .vertices .now))),
+      rw (first-found n) (first-measured (a .vertices .now) (a .p) (notNearest 20) (w .wide16 .result) (rw (first-found n) at (no-nan-of-same (n .nearer .result .distance) (c .before .if3 .left)))),
     )
 
-returns-2 : tie.Need-returns-2 Inv-loop μ-loop
-returns-2 c =
-    let l = c .before in
-    let a = l .before .before .before .before .args in
-    sym (nearest-end (a .vertices .now) (a .n) (a .p) (a .cell .now) (l .loop .best) (l .loop .i) (omega arith)) ∙ l .loop .inv .1 ∙ start l
+returns-4 : tie.Need-returns-4
+returns-4 c =
+    let n = c .before .before .before in
+    let w = n .before .before .before in
+    let a = w .before .before .before .before .before .before .args in
+    rw (c .nearest-of .ensures, first-found n, w .before .before .before .limit-of .ensures)
+    (sym (first-turn (a .vertices .now) (a .n) (a .p) (a .cell .now) (w .wide16 .result) (omega arith) (w .wide16 .ensures) (first-inside (n .before .before))))
 
 pub nearest-in-cell-spec : {M : Type 1} → statement M
 nearest-in-cell-spec =
     tie.close
-    (tie.spec Inv-loop μ-loop (λ c κs. tt) loop-holds (λ c. search needs) (λ c. search needs) (λ c κs. tt) inside-requires (λ c κs. tt) returns nearer-requires (λ c. search needs) (λ c. search needs) loop-again returns-2)
+    (tie.spec (λ c κs. tt) (λ c κs. tt) returns (λ c. search needs) (λ c κs. tt) (λ c κs. tt) returns-2 (λ c κs. tt) nearer-requires (λ c κs. tt) (λ c. search needs) (λ c. search needs) (λ c. search needs) (λ c. search needs) nearest-of-requires returns-4)

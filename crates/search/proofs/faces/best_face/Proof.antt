@@ -1,119 +1,117 @@
 -- `best_face` meets its contract. Assumes nothing.
-use mathlib.Core.Path.{_≡_, refl, sym, _∙_}
-use Rattle.lists.proofs.Counting.{yes, no}
-use mathlib.Core.Bool.{true, _&&_, and-eq-true-iff}
-use mathlib.Core.List.{List}
-use lib.Ieee.{Float}
-use Prim.Native.Nat.{ℕ, _+_, _-_, _*_, _%_, _≤_}
+use mathlib.Core.Path.{_≡_, refl, _∙_}
+use mathlib.Core.Bool.{Bool, true, false, _||_, true≢false}
+use mathlib.Core.Logic.{_⊎_, inl, inr}
+use Prim.Native.Nat.{ℕ, _+_, _%_, _≤_, _<_}
 use native.Mathlib.Omega.{arith}
-use lib.ListN.{length, drop}
-use lib.Dec.{leb, ltb}
+use lib.ListN.{length}
+use lib.Dec.{ltb, eqb}
+use lib.Ieee.{ofBits}
 use borrow.Author.Needs.{needs}
-use borrow.Author.Tests.{leb-true}
-use Rattle.search.specs.Search.{noFit}
-use Rattle.search.specs.Internal.{fitOver}
-use Rattle.search.proofs.Laws.{inside, fit-turn, fit-stop, fit-end}
+use borrow.Author.Tests.{ltb-false, eqb-false}
+use Rattle.ieee.proofs.Pack.{le-or-lt}
+use Rattle.search.specs.Search.{better}
+use Rattle.search.specs.Internal.{limitOf, siftOver}
+use Rattle.search.proofs.Nearness.{limit-room}
+use Rattle.search.proofs.Sifting.{told-room, told-inside, told-best}
 use Rattle.search.proofs.faces.best_face.Statement.{statement}
 use Rattle.search.proofs.faces.best_face.Tie as tie
 
-abbrev Inv-loop : tie.InvT-loop
-Inv-loop faces vertices n p places best₀ i₀ best i = (i ≤ length faces) × (i % 3 ≡ 0) × (fitOver vertices n p best (drop i faces) ≡ fitOver vertices n p best₀ faces)
+sift-requires : tie.Need-sift-requires
+sift-requires c κs =
+    let o = c .before .before .before in
+    (o .pre, rw (c .limit-of .ensures) (limit-room (o .args .n) (length (o .args .vertices .now))))
 
-abbrev μ-loop : tie.MeasureT-loop
-μ-loop faces vertices n p places best₀ i₀ best i = length faces - i
+-- what the pass answered
+passed : (c : tie.After-sift) → (let a = c .before .before .before .before .args in
+    c .sift .result ≡ siftOver (a .vertices .now) (limitOf (a .n) (length (a .vertices .now))) (a .p) 0 (record { count = 0; at = 0 }) (a .faces .now))
+passed c = rw (c .sift .ensures, c .before .limit-of .ensures)
 
--- the loop starts with no face
-start : (l : tie.At-loop Inv-loop μ-loop)
-    → (let a = l .before .before .before .before .args in
-    fitOver (a .vertices .now) (a .n) (a .p) (l .before .no-fit .result) (a .faces .now) ≡ fitOver (a .vertices .now) (a .n) (a .p) noFit (a .faces .now))
-start l = rw (l .before .no-fit .ensures)
+neither : (s t : Bool) → (s || t) ≡ false → (s ≡ false) × (t ≡ false)
+neither true t h = absurd (true≢false h)
+neither false t h = (refl, h)
 
--- the tests of the three vertices
-tests : (c : tie.After-inside3 Inv-loop μ-loop)
-    → (let z = c .before .before .before in let y = z .before .before in let x = y .before .before in let a = x .before .before .before .before .before .before .before .args in
-    (c .before .before .inside .result && (c .before .inside2 .result && c .inside3 .result))
-    ≡ (inside (a .vertices .now) (a .n) (x .wide16 .result) && (inside (a .vertices .now) (a .n) (y .wide162 .result) && inside (a .vertices .now) (a .n) (z .wide163 .result))))
-tests c = rw (c .before .before .inside .ensures, c .before .inside2 .ensures, c .inside3 .ensures)
+-- there is a face, and none or one that p is not past
+few : (c : tie.Else1) → c .before .sift .result .count ≤ 1
+few c = ltb-false 1 (c .before .sift .result .count) (neither (ltb 1 (c .before .sift .result .count)) (eqb (length (c .before .before .before .before .before .args .faces .now)) 0) (c .if1 .left) .0)
 
-room : (vs : List Float) (n v : ℕ) → inside vs n v ≡ true → 3 * v + 3 ≤ length vs
-room vs n v h = leb-true _ _ (and-eq-true-iff (ltb v n) (leb (3 * v + 3) (length vs)) .0 h .1)
+some : (c : tie.Else1) → 3 ≤ length (c .before .before .before .before .before .args .faces .now)
+some c =
+    let o = c .before .before .before .before .before in
+    three (length (o .args .faces .now)) (o .pre) (eqb-false (length (o .args .faces .now)) 0 (neither (ltb 1 (c .before .sift .result .count)) (eqb (length (o .args .faces .now)) 0) (c .if1 .left) .1))
+  where
+    three : (n : ℕ) → n % 3 ≡ 0 → (n ≡ 0 → ⊥) → 3 ≤ n
+    three n m z = by (le-or-lt 3 n)
+      where
+        by : (3 ≤ n) ⊎ (n < 3) → 3 ≤ n
+        by (inl h) = h
+        by (inr h) = absurd (z (omega arith))
 
-loop-holds : tie.Need-loop-holds Inv-loop μ-loop
-loop-holds c = (omega arith, omega arith, refl)
+-- the place is one of the list's
+room : (c : tie.Else1) → c .before .sift .result .at + 3 ≤ length (c .before .before .before .before .before .args .faces .now)
+room c =
+    let a = c .before .before .before .before .before .args in
+    told-room (a .vertices .now) (a .n) (a .p) (a .faces .now) (c .before .sift .result) (passed (c .before)) (few c) (some c)
 
-shared-slice-read-wide16-2 : tie.Need-shared-slice-read-wide16-2 Inv-loop μ-loop
-shared-slice-read-wide16-2 c = omega arith
+mul-wide16 : tie.Need-mul-wide16
+mul-wide16 c = omega (arith, room c)
 
-shared-slice-read-wide16-3 : tie.Need-shared-slice-read-wide16-3 Inv-loop μ-loop
-shared-slice-read-wide16-3 c = omega arith
+read-wide16 : tie.Need-shared-slice-read-wide16
+read-wide16 c = omega (arith, room (c .before))
 
-inside-requires : tie.Need-inside-requires Inv-loop μ-loop
-inside-requires c κs =
-    let a = c .before .before .before .before in
-    omega (arith, a .wide16 .ensures, a .before .shared-slice-known3 .given (a .before .before .before .loop .i))
+add-wide16 : tie.Need-add-wide16
+add-wide16 c = omega (arith, room (c .before .before))
 
-inside-requires-2 : tie.Need-inside-requires-2 Inv-loop μ-loop
-inside-requires-2 c κs =
-    let b = c .before .before .before in
-    omega (arith, b .wide162 .ensures, b .before .shared-slice-known4 .given (b .before .before .before .before .before .loop .i + 1))
+mul-wide16-2 : tie.Need-mul-wide16-2
+mul-wide16-2 c = omega (arith, room (c .before .before))
 
-inside-requires-3 : tie.Need-inside-requires-3 Inv-loop μ-loop
-inside-requires-3 c κs =
-    let d = c .before .before in
-    omega (arith, d .wide163 .ensures, d .before .shared-slice-known5 .given (d .before .before .before .before .before .before .before .loop .i + 2))
+read-wide16-2 : tie.Need-shared-slice-read-wide16-2
+read-wide16-2 c = omega (arith, room (c .before .before .before))
 
-returns : tie.Need-returns Inv-loop μ-loop
-returns c =
-    let i = c .before .before in
-    let z = i .before .before .before in
-    let y = z .before .before in
-    let x = y .before .before in
-    let l = x .before .before .before in
-    let a = l .before .before .before .before .args in
-    c .not-located .ensures
-    ∙ sym (fit-stop (a .vertices .now) (a .n) (a .p) (a .faces .now) (l .loop .best) (l .loop .i) (x .wide16 .result) (y .wide162 .result) (z .wide163 .result) (omega arith) (x .wide16 .ensures) (y .wide162 .ensures) (z .wide163 .ensures) (no (tests i) (c .before .if1 .taken)))
-    ∙ l .loop .inv .2 ∙ start l
+add-wide16-2 : tie.Need-add-wide16-2
+add-wide16-2 c = omega (arith, room (c .before .before .before .before))
 
-better-requires : tie.Need-better-requires Inv-loop μ-loop
+mul-wide16-3 : tie.Need-mul-wide16-3
+mul-wide16-3 c = omega (arith, room (c .before .before .before .before))
+
+read-wide16-3 : tie.Need-shared-slice-read-wide16-3
+read-wide16-3 c = omega (arith, room (c .before .before .before .before .before))
+
+best-of-all-requires-2 : tie.Need-best-of-all-requires-2
+best-of-all-requires-2 c κs = c .before .before .before .before .before .before .before .before .before .before .before .before .before .before .pre
+
+better-requires : tie.Need-better-requires
 better-requires c κs =
-    let i = c .before in
-    let z = i .before .before .before in
+    let z = c .before in
     let y = z .before .before in
     let x = y .before .before in
-    let a = x .before .before .before .before .before .before .before .args in
-    let t = yes (tests i) (c .if1 .left) in
-    let k = and-eq-true-iff (inside (a .vertices .now) (a .n) (x .wide16 .result)) (inside (a .vertices .now) (a .n) (y .wide162 .result) && inside (a .vertices .now) (a .n) (z .wide163 .result)) .0 t in
-    let m = and-eq-true-iff (inside (a .vertices .now) (a .n) (y .wide162 .result)) (inside (a .vertices .now) (a .n) (z .wide163 .result)) .0 (k .1) in
-    (room (a .vertices .now) (a .n) (x .wide16 .result) (k .0), room (a .vertices .now) (a .n) (y .wide162 .result) (m .0), room (a .vertices .now) (a .n) (z .wide163 .result) (m .1))
-
-add-i : tie.Need-add-i Inv-loop μ-loop
-add-i c = omega arith
-
-loop-less : tie.Need-loop-less Inv-loop μ-loop
-loop-less c = omega arith
-
-loop-again : tie.Need-loop-again Inv-loop μ-loop
-loop-again c =
-    let i = c .before .before in
-    let z = i .before .before .before in
-    let y = z .before .before in
-    let x = y .before .before in
-    let l = x .before .before .before in
-    let a = l .before .before .before .before .args in (
-      omega arith,
-      omega arith,
-      rw (c .better .ensures)
-          (sym (fit-turn (a .vertices .now) (a .n) (a .p) (a .faces .now) (l .loop .best) (l .loop .i) (x .wide16 .result) (y .wide162 .result) (z .wide163 .result) (omega arith) (x .wide16 .ensures) (y .wide162 .ensures) (z .wide163 .ensures) (yes (tests i) (c .before .if1 .left)))
-          ∙ l .loop .inv .2),
+    let e = x .before .before in
+    let a = e .before .before .before .before .before .args in
+    let w = e .before .sift .result in
+    let in-list = told-inside (a .vertices .now) (a .n) (a .p) (a .faces .now) w (passed (e .before)) (few e) in (
+      rw (x .wide16 .ensures) (in-list (w .at) (omega (arith, room e))),
+      rw (y .wide162 .ensures) (in-list (w .at + 1) (omega (arith, room e))),
+      rw (z .wide163 .ensures) (in-list (w .at + 2) (omega (arith, room e))),
     )
 
-returns-2 : tie.Need-returns-2 Inv-loop μ-loop
+returns-2 : tie.Need-returns-2
+unfolding ofBits
 returns-2 c =
-    let l = c .before .before in
-    let a = l .before .before .before .before .args in
-    c .fitted .ensures ∙ sym (fit-end (a .vertices .now) (a .n) (a .p) (a .faces .now) (l .loop .best) (l .loop .i) (omega arith)) ∙ l .loop .inv .2 ∙ start l
+    let g = c .before .before in
+    let f = g .before in
+    let z = f .before in
+    let y = z .before .before in
+    let x = y .before .before in
+    let e = x .before .before in
+    let a = e .before .before .before .before .before .args in
+    let w = e .before .sift .result in
+    c .fitted .ensures
+    ∙ told-best (a .vertices .now) (a .n) (a .p) (a .faces .now) w (passed (e .before)) (few e) (some e) (g .better .result)
+    (rw (g .better .ensures, f .no-fit .ensures, x .wide16 .ensures, y .wide162 .ensures, z .wide163 .ensures)) (c .before .if2 .taken)
 
 pub best-face-spec : {M : Type 1} → statement M
 best-face-spec =
     tie.close
-    (tie.spec Inv-loop μ-loop (λ c κs. tt) loop-holds (λ c. search needs) (λ c. search needs) (λ c κs. tt) (λ c. search needs) (λ c. search needs) shared-slice-read-wide16-2 (λ c κs. tt) (λ c. search needs) (λ c. search needs) shared-slice-read-wide16-3 (λ c κs. tt) inside-requires inside-requires-2 inside-requires-3 (λ c κs. tt) returns better-requires add-i loop-less loop-again (λ c κs. tt) returns-2)
+    (tie.spec (λ c κs. tt) sift-requires (λ c κs. search needs) (λ c. search needs)
+    mul-wide16 read-wide16 (λ c κs. tt) add-wide16 mul-wide16-2 read-wide16-2 (λ c κs. tt) add-wide16-2 mul-wide16-3 read-wide16-3 (λ c κs. tt)
+    (λ c κs. tt) better-requires (λ c κs. tt) returns-2 best-of-all-requires-2 (λ c. search needs))

@@ -5,7 +5,7 @@ use Rattle.search.proofs.geometry.norm.Tie as tie
 
 returns : tie.Need-returns
 unfolding norm
-returns c = rw (c .root .ensures, c .before .dot .ensures)
+returns c = rw (c .root-next-to-one .ensures, c .before .dot .ensures)
 
 pub norm-spec : {M : Type 1} → statement M
 norm-spec = tie.close

@@ -1,64 +1,14 @@
 -- `u32_in` meets its contract. Assumes nothing.
-use mathlib.Core.Path.{sym}
-use Prim.Native.Nat.{_+_}
-use native.Mathlib.Omega.{arith}
+use mathlib.Core.Path.{_∙_}
 use borrow.Author.Needs.{needs}
-use Rattle.table.proofs.Numbers.{four}
+use Rattle.table.proofs.Numbers.{four-bytes}
 use Rattle.table.proofs.bytes.u32_in.Statement.{statement}
 use Rattle.table.proofs.bytes.u32_in.Tie as tie
 
-cast-a : tie.Need-cast-a
-cast-a c = omega (arith, c .shared-slice-known .given (c .before .args .at))
-
-cast-b : tie.Need-cast-b
-cast-b c = omega (arith, c .shared-slice-known2 .given (c .before .before .args .at + 1))
-
-cast-c : tie.Need-cast-c
-cast-c c = omega (arith, c .shared-slice-known3 .given (c .before .before .before .args .at + 2))
-
-cast-d : tie.Need-cast-d
-cast-d c = omega (arith, c .shared-slice-known4 .given (c .before .before .before .before .args .at + 3))
-
-mul-result : tie.Need-mul-result
-mul-result c =
-    let at = c .before .before .before .before .args .at in
-    let g = c .shared-slice-known4 .given in
-    omega (arith, g at, g (at + 1), g (at + 2), g (at + 3))
-
-add-result : tie.Need-add-result
-add-result c =
-    let at = c .before .before .before .before .args .at in
-    let g = c .shared-slice-known4 .given in
-    omega (arith, g at, g (at + 1), g (at + 2), g (at + 3))
-
-mul-result-2 : tie.Need-mul-result-2
-mul-result-2 c =
-    let at = c .before .before .before .before .args .at in
-    let g = c .shared-slice-known4 .given in
-    omega (arith, g at, g (at + 1), g (at + 2), g (at + 3))
-
-add-result-2 : tie.Need-add-result-2
-add-result-2 c =
-    let at = c .before .before .before .before .args .at in
-    let g = c .shared-slice-known4 .given in
-    omega (arith, g at, g (at + 1), g (at + 2), g (at + 3))
-
-mul-result-3 : tie.Need-mul-result-3
-mul-result-3 c =
-    let at = c .before .before .before .before .args .at in
-    let g = c .shared-slice-known4 .given in
-    omega (arith, g at, g (at + 1), g (at + 2), g (at + 3))
-
-add-result-3 : tie.Need-add-result-3
-add-result-3 c =
-    let at = c .before .before .before .before .args .at in
-    let g = c .shared-slice-known4 .given in
-    omega (arith, g at, g (at + 1), g (at + 2), g (at + 3))
-
 returns : tie.Need-returns
-returns c = let s = c .before .before .before .before in sym (four (s .args .file .now) (s .args .at))
+returns c = let a = c .before .before .before .before .before .before .args in c .u32-from-le-bytes .ensures ∙ four-bytes (a .file .now) (a .at)
 
 pub u32-in-spec : {M : Type 1} → statement M
 u32-in-spec =
     tie.close
-    (tie.spec (λ c. search needs) cast-a (λ c. search needs) (λ c. search needs) cast-b (λ c. search needs) (λ c. search needs) cast-c (λ c. search needs) (λ c. search needs) cast-d mul-result add-result mul-result-2 add-result-2 mul-result-3 add-result-3 returns)
+    (tie.spec (λ c. search needs) (λ c. search needs) (λ c. search needs) (λ c. search needs) (λ c. search needs) (λ c. search needs) (λ c. search needs) (λ c κs. search needs) returns)

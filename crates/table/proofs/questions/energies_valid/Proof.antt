@@ -1,35 +1,36 @@
 -- `energies_valid` meets its contract. Assumes nothing.
-use mathlib.Core.Path.{_≡_, refl, sym, ap, _∙_}
-use mathlib.Core.Bool.{not}
-use Prim.Native.Nat.{_+_, _*_, _≤_}
+use mathlib.Core.Path.{_≡_, _∙_}
+use mathlib.Core.Bool.{Bool, not, _&&_}
+use Prim.Native.Nat.{ℕ, _+_, _-_, _*_, _/_, _%_, _≤_}
 use native.Mathlib.Omega.{arith}
 use lib.ListN.{length}
 use lib.Ieee.{binary32, nanBits}
 use borrow.Author.Needs.{needs}
 use Rattle.lists.specs.Lists.{every}
 use Rattle.table.specs.Bytes.{numberOf, numberAt, items}
-use Rattle.table.proofs.Items.{every-stop, every-next, every-end}
+use Rattle.table.proofs.Items.{every-one, every-two, every-none}
 use Rattle.table.proofs.questions.energies_valid.Statement.{statement}
 use Rattle.table.proofs.questions.energies_valid.Tie as tie
 
+abbrev number : ℕ → Bool
+number x = not (nanBits binary32 x)
+
+-- `left` pairs are left, and the last energy where their count is odd
 abbrev Inv-loop : tie.InvT-loop
-Inv-loop file start energies at₀ left₀ at left = (at + left * 4 ≤ length file) × (every (λ x. not (nanBits binary32 x)) (items numberOf 4 file at left) ≡ every (λ x. not (nanBits binary32 x)) (items numberOf 4 file start energies))
+Inv-loop file start energies at₀ left₀ held₀ at left held =
+    (at + (left * 2 + energies % 2) * 4 ≤ length file) × ((held && every number (items numberOf 4 file at (left * 2 + energies % 2))) ≡ every number (items numberOf 4 file start energies))
 
 abbrev μ-loop : tie.MeasureT-loop
-μ-loop file start energies at₀ left₀ at left = left
+μ-loop file start energies at₀ left₀ held₀ at left held = left
 
 loop-holds : tie.Need-loop-holds Inv-loop μ-loop
-loop-holds c = (c .before .pre, refl)
+loop-holds c =
+    let n = c .before .args .energies in
+    let e : n / 2 * 2 + n % 2 ≡ n = omega arith in
+    (omega (arith, c .before .pre), rw e)
 
-u32-in-requires : tie.Need-u32-in-requires Inv-loop μ-loop
-u32-in-requires c κs = omega arith
-
-returns : tie.Need-returns Inv-loop μ-loop
-unfolding numberAt
-returns c =
-    let l = c .before .before .before .before in
-    let a = l .before .before .args in
-    sym (every-stop numberOf 4 (a .file .now) (λ x. not (nanBits binary32 x)) (l .loop .at) (l .loop .left) (omega arith) (ap not (sym (c .before .nan-bits .ensures ∙ ap (nanBits binary32) (c .before .before .u32-in .ensures)) ∙ c .if1 .taken))) ∙ l .loop .inv .1
+pair-valid-requires : tie.Need-pair-valid-requires Inv-loop μ-loop
+pair-valid-requires c κs = omega arith
 
 add-at : tie.Need-add-at Inv-loop μ-loop
 add-at c = omega arith
@@ -43,17 +44,32 @@ loop-less c = omega arith
 loop-again : tie.Need-loop-again Inv-loop μ-loop
 unfolding numberAt
 loop-again c =
+    let l = c .before .before in
+    let f = l .before .before .args .file .now in
+    let n = l .before .before .args .energies % 2 in
+    let at = l .loop .at in
+    let left = l .loop .left in
+    let z : at + 8 ≡ at + 4 + 4 = omega arith in
+    let m : (left - 1) * 2 + n ≡ left * 2 + n - 2 = omega arith in
+    (omega arith, rw (z, m, c .pair-valid .ensures) (every-two numberOf 4 f number at (left * 2 + n) (l .loop .held) (omega arith) ∙ l .loop .inv .1))
+
+u32-in-requires : tie.Need-u32-in-requires Inv-loop μ-loop
+u32-in-requires c κs = omega arith
+
+returns : tie.Need-returns Inv-loop μ-loop
+unfolding numberAt
+returns c =
     let l = c .before .before .before .before in
-    let a = l .before .before .args in
-    (omega arith, sym (every-next numberOf 4 (a .file .now) (λ x. not (nanBits binary32 x)) (l .loop .at) (l .loop .left) (omega arith) (ap not (sym (c .before .nan-bits .ensures ∙ ap (nanBits binary32) (c .before .before .u32-in .ensures)) ∙ c .if1 .left))) ∙ l .loop .inv .1)
+    let f = l .before .before .args .file .now in
+    rw (c .nan-bits .ensures, c .before .u32-in .ensures) (every-one numberOf 4 f number (l .loop .at) _ (l .loop .held) (omega arith) ∙ l .loop .inv .1)
 
 returns-2 : tie.Need-returns-2 Inv-loop μ-loop
 returns-2 c =
-    let l = c .before in
-    let a = l .before .before .args in
-    sym (every-end numberOf 4 (a .file .now) (λ x. not (nanBits binary32 x)) (l .loop .at) (l .loop .left) (omega arith)) ∙ l .loop .inv .1
+    let l = c .before .before in
+    let f = l .before .before .args .file .now in
+    every-none numberOf 4 f number (l .loop .at) _ (l .loop .held) (omega (arith, c .if1 .left)) ∙ l .loop .inv .1
 
 pub energies-valid-spec : {M : Type 1} → statement M
 energies-valid-spec =
     tie.close
-    (tie.spec Inv-loop μ-loop loop-holds u32-in-requires (λ c κs. search needs) returns add-at sub-left loop-less loop-again returns-2)
+    (tie.spec Inv-loop μ-loop loop-holds pair-valid-requires add-at sub-left loop-less loop-again u32-in-requires (λ c κs. search needs) returns returns-2)

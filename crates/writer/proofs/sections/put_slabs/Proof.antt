@@ -79,7 +79,7 @@ loop-again c =
       step (l .loop .inv .4) (packed (bytesOf 4) (map narrowBits (take k (drop (l .loop .p) (a .store .now))))) _ _ _
           (energies-turn (rows l) (a .z) (a .store .now) (l .loop .p) (l .loop .s) (l .loop .left) (omega arith) ∙ rw (← e))
           (c .before .before .put-energies .ensures)
-          (omega (arith, taken-bytes (a .store .now) (l .loop .p) k (t .inside))),
+          (omega (arith, taken-bytes narrowBits (a .store .now) (l .loop .p) k (t .inside))),
     )
 
 same-length : tie.Need-same-length Inv-loop μ-loop
