@@ -1,12 +1,13 @@
 """Answers in exact arithmetic, each rounded once by hand to the nearest value, a tie to the even one.
     exact.py exp          writes the vectors of exp
+    exact.py ln           writes those of ln, by the steps of document 02's paper 1
     exact.py check FILE   works out root, mul_add, narrow, of_u64 and rem_tau of FILE's lines again, and names each line that differs"""
 import sys
 from fractions import Fraction
 from math import isqrt
 
 TOP, INFINITE, NAN = 1 << 63, 0x7FF << 52, 0x7FF8 << 48
-TAU = 0x401921FB54442D18
+TAU, ROOT2 = 0x401921FB54442D18, 0x3FF6A09E667F3BCD
 LOG2E, LN2_HIGH, LN2_LOW = 0x3FF71547652B82FE, 0x3FE62E42FEE00000, 0x3DEA39EF35793C76
 # 1/j! for j from 0 to 13
 COEFFICIENTS = [int(word, 16) for word in """3FF0000000000000 3FF0000000000000 3FE0000000000000 3FC5555555555555
@@ -91,6 +92,11 @@ def rem_tau(b):
     return rounded(tau - rest) if x < 0 and rest != 0 else rounded(rest, sign=b >> 63)
 
 
+def step(x):
+    """x, rounded once."""
+    return value(rounded(x))
+
+
 def exp(b):
     """E: the exponent's whole part is taken off in two pieces, and 14 terms of the series are summed from the smallest."""
     if is_nan(b):
@@ -101,15 +107,38 @@ def exp(b):
     if y < -708 or y > 709:
         return 0 if y < 0 else INFINITE
 
-    def step(x):
-        return value(rounded(x))
-
     k = step(step(y * value(LOG2E)) + Fraction(1, 2)).__floor__()
     r = step(step(y - step(k * value(LN2_HIGH))) - step(k * value(LN2_LOW)))
     p = value(COEFFICIENTS[13])
     for j in range(12, -1, -1):
         p = step(step(p * r) + value(COEFFICIENTS[j]))
     return rounded(p * Fraction(2) ** k)
+
+
+def ln(b):
+    """The logarithm of m * 2^e by the series of the inverse hyperbolic tangent of (m - 1) / (m + 1), 11 terms of it."""
+    if is_nan(b):
+        return NAN
+    if b & ~TOP == 0:
+        return TOP | INFINITE
+    if b & TOP:
+        return NAN
+    if is_infinite(b):
+        return INFINITE
+    x = value(b)
+    e = x.numerator.bit_length() - x.denominator.bit_length()
+    m = x / Fraction(2) ** e
+    if m < 1:
+        m, e = 2 * m, e - 1
+    if m > value(ROOT2):
+        m, e = m / 2, e + 1
+    s = step(step(m - 1) / step(m + 1))
+    t = step(s * s)
+    q = step(Fraction(1, 21))
+    for j in range(9, -1, -1):
+        q = step(step(q * t) + step(Fraction(1, 2 * j + 1)))
+    small = step(step(step(2 * s) * q) + step(e * value(LN2_LOW)))
+    return rounded(step(e * value(LN2_HIGH)) + small)
 
 
 class Random:
@@ -151,6 +180,33 @@ def exp_operands():
     yield rounded(Fraction(-7, 4))
 
 
+def ln_operands():
+    """All powers of two, numbers beside them, beside 1 and beside the root of 2 at many exponents, subnormal and other random numbers; some below 0."""
+    random = Random(0x9E3779B97F4A7C15)
+    for b in (0, 1, 2, 3, (1 << 52) - 1, 1 << 52, INFINITE - 1, INFINITE, INFINITE + 1, NAN, TOP - 1, ROOT2, 1023 << 52):
+        yield b
+        yield b | TOP
+    for j in range(52):
+        yield 1 << j
+    for field in range(1, 2047):
+        yield field << 52
+    for field in range(1, 2047, 8):
+        yield from ((field << 52) - 1, (field << 52) + 1)
+    for field in [1, 2, 1021, 1022, 1023, 1024, 1025, 2046] + list(range(5, 2046, 40)):
+        for turn in range(-3, 4):
+            yield (ROOT2 & (1 << 52) - 1 | field << 52) + turn
+    for turn in range(-40, 41):
+        yield (1023 << 52) + turn
+    for j in range(52):
+        yield from ((1023 << 52) + (1 << j), (1023 << 52) - (1 << j))
+    for turn in range(500):
+        yield random.bits() % (1 << 52) >> random.bits() % 52
+    for turn in range(1800):
+        yield [random.bits() % INFINITE, random.float(-3, 4) & ~TOP, random.float(-60, 60) & ~TOP, random.float(-1, 1) & ~TOP][turn % 4]
+    for turn in range(100):
+        yield TOP | random.bits()
+
+
 def check(path):
     again = {"root": root, "mul_add": mul_add, "narrow": narrow, "rem_tau": rem_tau, "of_u64": lambda n: rounded(Fraction(n))}
     bad = 0
@@ -164,8 +220,10 @@ def check(path):
     return bad
 
 
-if sys.argv[1] == "exp":
-    for b in dict.fromkeys(exp_operands()):
-        print("exp %016X %016X" % (b, exp(b)))
+answers = {"exp": (exp, exp_operands), "ln": (ln, ln_operands)}
+if sys.argv[1] in answers:
+    answer, operands = answers[sys.argv[1]]
+    for b in dict.fromkeys(operands()):
+        print("%s %016X %016X" % (sys.argv[1], b, answer(b)))
 else:
     sys.exit(1 if check(sys.argv[2]) else 0)

@@ -12,3 +12,4 @@ pub mod Signed
 pub mod Shifts
 pub mod Reach
 pub mod Ranks
+pub mod Leading

@@ -2,10 +2,11 @@
 use mathlib.Core.Path.{_≡_, refl}
 use mathlib.Core.Bool.{true, false}
 use lib.IntN.{pos, negsuc}
-use lib.Ieee.{nan, inf, fin, binary64, round, add, sub, mul, lt, isNan, toBits, ofBits, toSigned}
+use lib.Ieee.{nan, inf, fin, binary64, size, round, add, sub, mul, div, lt, isNan, toBits, ofBits, ofInt, toSigned}
 use Rattle.float.specs.Order.{farther, larger, rank, ordered}
 use Rattle.float.specs.Whole.{integral, floored, ceiled}
 use Rattle.float.specs.Exp.{bits, twoTo, doublings, residue, scaled, exponential}
+use Rattle.float.specs.Log.{ratio, combined, over, places, logarithm}
 
 -- the floors of -0.5 and -0.0, and the ceiling of -0.5
 directions : (floored (fin true 1 (negsuc 0)) ≡ fin true 1 (pos 0)) × (floored (fin true 0 (pos 0)) ≡ fin true 0 (pos 0)) × (ceiled (fin true 1 (negsuc 0)) ≡ fin true 0 (pos 0))
@@ -29,3 +30,11 @@ exponentials : (toBits binary64 (exponential (bits 0xC086_2000_0000_0000)) ≡ 0
     × (toBits binary64 (exponential (bits 0xBFFC_0000_0000_0000)) ≡ 0x3FC6_3E39_7E02_2072)
 unfolding toBits ofBits exponential isNan lt scaled mul add residue sub doublings integral twoTo toSigned
 exponentials = (refl, refl, refl, refl)
+
+-- the logarithms of 1, of 2 ^ -1074, of 1.4142135623730951 and of the next number, whose m is halved
+logarithms : (toBits binary64 (logarithm (bits 0x3FF0_0000_0000_0000)) ≡ 0)
+    × (toBits binary64 (logarithm (bits 1)) ≡ 0xC087_4385_446D_71C3)
+    × (toBits binary64 (logarithm (bits 0x3FF6_A09E_667F_3BCD)) ≡ 0x3FD6_2E42_FEFA_39F1)
+    × (toBits binary64 (logarithm (bits 0x3FF6_A09E_667F_3BCE)) ≡ 0x3FD6_2E42_FEFA_39F3)
+unfolding toBits ofBits logarithm combined ratio over places size lt mul add sub div ofInt
+logarithms = (refl, refl, refl, refl)

@@ -26,6 +26,13 @@ abbrev pub horner : Float → Float → List ℕ → Float
 horner r p [] = p
 horner r p (c ∷ cs) = horner r (add binary64 (mul binary64 p r) (bits c)) cs
 
+-- ln 2 is H + W, of which H has few digits (S2.13)
+abbrev pub H : ℕ
+H = 0x3FE6_2E42_FEE0_0000
+
+abbrev pub W : ℕ
+W = 0x3DEA_39EF_3579_3C76
+
 -- k = floor(y * L + 0.5) (S2.13)
 unfoldable pub doublings : Float → Float
 doublings y = floored (add binary64 (mul binary64 y (bits 0x3FF7_1547_652B_82FE)) (bits 0x3FE0_0000_0000_0000))
@@ -33,7 +40,7 @@ doublings y = floored (add binary64 (mul binary64 y (bits 0x3FF7_1547_652B_82FE)
 -- (y - k * H) - k * W (S2.13)
 unfoldable pub residue : Float → Float → Float
 residue y k =
-    sub binary64 (sub binary64 y (mul binary64 k (bits 0x3FE6_2E42_FEE0_0000))) (mul binary64 k (bits 0x3DEA_39EF_3579_3C76))
+    sub binary64 (sub binary64 y (mul binary64 k (bits H))) (mul binary64 k (bits W))
 
 -- p * 2 ^ k, with p = 1/13! and then the steps down to 1/0!
 unfoldable pub scaled : Float → Float → Float

@@ -1,5 +1,6 @@
--- A reader has to believe `Order`, `Whole` and `Exp`. `Examples` has checks by computation.
+-- A reader has to believe `Order`, `Whole`, `Exp` and `Log`. `Examples` has checks by computation.
 pub mod Order
 pub mod Whole
 pub mod Exp
+pub mod Log
 pub mod Examples

@@ -4,13 +4,16 @@
 ghost use mathlib.Core.Path.{_≡_};
 ghost use mathlib.Core.Bool.{false, cond};
 ghost use mathlib.Core.List.{map};
-ghost use Prim.Native.Nat.{_-_, _≤_};
-ghost use lib.Dec.{ltb};
+ghost use Prim.Native.Nat.{_+_, _-_, _*_, _/_, _%_, _^_, _≤_, _<_};
+ghost use mir.Val.{boolByte};
+ghost use lib.Dec.{T, ltb};
 ghost use lib.IntN.{pos};
-ghost use lib.Ieee.{binary64, rem, toUnsigned, toSigned, ofInt, isNan, lt};
+ghost use lib.Ieee.{Float, binary64, rem, toUnsigned, toSigned, ofInt, isNan, lt, fits};
+ghost use lib.Ieee.Exact.{HasValue};
 ghost use Rattle.float.specs.Order.{magnitude, larger, smaller, rank, ordered, tau, angle};
 ghost use Rattle.float.specs.Whole.{floored, ceiled, truncation};
 ghost use Rattle.float.specs.Exp.{bits, inverseFactorials, horner, doublings, scaled, exponential};
+ghost use Rattle.float.specs.Log.{inverseOdds, ratio, combined, logarithm};
 
 // Its bits are 401921FB54442D18.
 pub const TAU: f64 = 6.283185307179586;
@@ -242,4 +245,71 @@ pub fn exp_list(list: &mut [f64])
         list[i] = exp(list[i]);
         i += 1;
     }
+}
+
+// The sum of t ^ j / (2 * j + 1) for j up to 10.
+fn odd_series(t: f64) -> f64
+    ensures { λ q. ⌜ q ≡ horner t (bits 0x3FA8_6186_1861_8618) inverseOdds ⌝ }
+{
+    let q = 0.047619047619047616;
+    let q = q * t + 0.05263157894736842;
+    let q = q * t + 0.058823529411764705;
+    let q = q * t + 0.06666666666666667;
+    let q = q * t + 0.07692307692307693;
+    let q = q * t + 0.09090909090909091;
+    let q = q * t + 0.1111111111111111;
+    let q = q * t + 0.14285714285714285;
+    let q = q * t + 0.2;
+    let q = q * t + 0.3333333333333333;
+    q * t + 1.0
+}
+
+// The logarithm of m * 2 ^ e: the last steps.
+fn ln_by(m: f64, e: f64) -> f64
+    ensures { λ r. ⌜ r ≡ combined (ratio m) e ⌝ }
+{
+    let s = (m - 1.0) / (m + 1.0);
+    let q = odd_series(s * s);
+    e * 0.6931471803691238 + (2.0 * s * q + e * 1.9082149292705877e-10)
+}
+
+// How often an m with these digits behind its leading one is halved: once where it is above 1.4142135623730951.
+fn halvings(digits: u64) -> u64
+    ensures { λ r. ⌜ (r ≡ boolByte (ltb 0x6_A09E_667F_3BCD digits)) × (r ≤ 1) ⌝ }
+{
+    (digits > 0x6_a09e_667f_3bcd) as u64
+}
+
+// The logarithm of the number with the digits of the normal pattern b, and with its field less `bias` for an exponent.
+// m gets the exponent's field of 1, or one less, which halves it; so there is no jump.
+fn ln_digits(b: u64, bias: u64) -> f64
+    requires { ⌜ (2 ^ 52 ≤ b) × (b < 2047 * 2 ^ 52) × (bias ≤ 1086) ⌝ }
+    ensures { λ r. ⌜ ((x : Float) → T (fits binary64 x) → HasValue x false ((2 ^ 52 + b % 2 ^ 52) * 2 ^ (b / 2 ^ 52 - 1)) (2 ^ (51 + bias)) → r ≡ logarithm x) ⌝ }
+{
+    let digits = b % 0x10_0000_0000_0000;
+    let up = halvings(digits);
+    let m = f64::from_bits((1023 - up) * 0x10_0000_0000_0000 + digits);
+    let field = b / 0x10_0000_0000_0000 + up;
+    ln_by(m, field as f64 - bias as f64)
+}
+
+// The logarithm. A subnormal number's digits are moved up by its leading zeros to be a normal number's.
+pub fn ln(x: f64) -> f64
+    ensures { λ r. ⌜ r ≡ logarithm x ⌝ }
+{
+    if x > 0.0 {
+        let b = f64::to_bits(x);
+        if b < 0x10_0000_0000_0000 {
+            let z = u64::leading_zeros(b) as u64 - 11;
+            return ln_digits(b << z, 1023 + z);
+        }
+        if b < 0x7ff0_0000_0000_0000 {
+            return ln_digits(b, 1023);
+        }
+        return x;
+    }
+    if x == 0.0 {
+        return -1.0 / 0.0;
+    }
+    0.0 / 0.0
 }

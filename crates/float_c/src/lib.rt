@@ -1,6 +1,5 @@
 // The number operations for a caller in C or Rust: each one under its own definition.
 ghost use mathlib.Core.Path.{_≡_};
-ghost use Prim.Native.Nat.{min};
 ghost use Rattle.ieee.specs.Root.{root};
 ghost use Rattle.ieee.specs.Fused.{fused};
 ghost use Rattle.ieee.specs.Narrow.{narrowed};
@@ -124,21 +123,10 @@ pub extern "C" fn float_rem_tau(x: f64) -> f64
     float::rem_tau(x)
 }
 
-fn least(a: usize, b: usize) -> usize
-    ensures { λ r. ⌜ r ≡ min a b ⌝ }
-{
-    if a < b { a } else { b }
-}
-
 // Narrows as many as both lists have. What `out` has beyond that stays.
 #[no_mangle]
 pub extern "C" fn float_narrow_all(xs: &[f64], out: &mut [f32])
     ensures { λ _. ⌜ now (out .exit) ≡ narrowedAll (now (xs .entry)) (now (out .entry)) ⌝ }
 {
-    let n = least(xs.len(), out.len());
-    let mut i = 0;
-    while i < n {
-        out[i] = ieee::narrow(xs[i]);
-        i += 1;
-    }
+    ieee::narrow_list(xs, out);
 }

@@ -7,17 +7,17 @@ use native.Mathlib.Nat.{mod-lt, suc-ne-zero, le-trans, le-of-eq, lt-of-lt-of-le,
 use native.Mathlib.Omega.{arith}
 use lib.Dec.{T, leb, eqb, lit≤, lit<}
 use lib.Pow.{pow-add, pow-pos, pow-lt, shl-lt}
-use lib.Ieee.{Float, nan, inf, fin, binary32, binary64, up, down, below, level, units, round, hid, ones, top, ofFields, ofBits, toBits, fits, isNan, neg, lt, le, eq}
+use lib.Ieee.{Float, nan, inf, fin, binary32, binary64, up, down, below, level, units, ofFields, ofBits, toBits, fits, isNan, neg, lt, le, eq}
 use lib.Ieee.Fits.{down-pos, nearest-le, round-is, fits-widens}
 use lib.Ieee.Bits.{ofBits-toBits, toBits-lt}
 use lib.Ieee.Exact.{HasValue, units-val}
 use lib.Ieee.Nearest.{closest, nearest-ge}
-use lib.Ieee.Order.{drop, kept}
+use lib.Ieee.Order.{kept}
 use lib.Ieee.Scale.{finite}
 use borrow.Author.Tests.{ltb-true, le-ltb, eqb-true, ne-eqb}
 use Rattle.ieee.specs.Narrow.{narrowed}
 use Rattle.ieee.specs.Internal.{plain}
-use Rattle.ieee.proofs.Pack.{le-or-lt, pow-le-back, pow-lt-back, value-bits, other-scale}
+use Rattle.ieee.proofs.Pack.{le-or-lt, pow-lt-back, value-bits, other-scale}
 use Rattle.ieee.proofs.Sticky.{closest-lt, closest-eq, closest-gt, cut-law}
 use Rattle.ieee.proofs.Fields.{as-fields, at-low, at-mid, finite-field, finite-no-nan, narrowed-value, narrowed-fits, narrowed-number}
 

@@ -212,27 +212,27 @@ above-zero (fin false m e) s a c C l h = (sym (h .0), factor-pos a (down e) (sub
     first : (x y : ℕ) → x < y * 1 → 0 < y
     first x y h = omega arith
 
--- above zero, and not finite
-pub root-unbounded : (x : Float) → lt nought x ≡ true → finite x ≡ false → x ≡ root x
-unfolding lt root
-root-unbounded nan l h = absurd (false≢true l)
-root-unbounded (inf true) l h = absurd (false≢true l)
-root-unbounded (inf false) l h = refl
-root-unbounded (fin s m e) l h = absurd (true≢false h)
+-- what a number is, by its tests against zero: above zero and not finite, zero, and neither of them
+pub unbounded : (P : Float → Type 0) → P (inf false) → (x : Float) → lt nought x ≡ true → finite x ≡ false → P x
+unfolding lt
+unbounded P p nan l h = absurd (false≢true l)
+unbounded P p (inf true) l h = absurd (false≢true l)
+unbounded P p (inf false) l h = p
+unbounded P p (fin s m e) l h = absurd (true≢false h)
 
-pub root-zero : (x : Float) → eq x nought ≡ true → x ≡ root x
-unfolding eq root
-root-zero nan h = absurd (false≢true h)
-root-zero (inf s) h = absurd (false≢true h)
-root-zero (fin s zero e) h = refl
-root-zero (fin s (suc m) e) h = absurd (ne-of-gt (size-pos m e) (eqb-true (suc m * up e * 1) (0 * 1 * down e) (and-eq-true-iff (eqb (suc m * up e * 1) (0 * 1 * down e)) (Bool·beq s false || eqb (suc m * up e * 1) 0) .0 h .0) ∙ zero-mul (down e)))
+pub zero-alone : (P : Float → Type 0) → ((s : Bool) (e : ℤ) → P (fin s zero e)) → (x : Float) → eq x nought ≡ true → P x
+unfolding eq
+zero-alone P p nan h = absurd (false≢true h)
+zero-alone P p (inf s) h = absurd (false≢true h)
+zero-alone P p (fin s zero e) h = p s e
+zero-alone P p (fin s (suc m) e) h = absurd (ne-of-gt (size-pos m e) (eqb-true (suc m * up e * 1) (0 * 1 * down e) (and-eq-true-iff (eqb (suc m * up e * 1) (0 * 1 * down e)) (Bool·beq s false || eqb (suc m * up e * 1) 0) .0 h .0) ∙ zero-mul (down e)))
 
-pub root-none : (x : Float) → lt nought x ≡ false → eq x nought ≡ false → nan ≡ root x
-unfolding lt eq root
-root-none nan l h = refl
-root-none (inf true) l h = refl
-root-none (inf false) l h = absurd (true≢false l)
-root-none (fin s zero e) l h = absurd (true≢false (sym (whole s) ∙ h))
+pub neither : (P : Float → Type 0) → P nan → P (inf true) → ((m : ℕ) (e : ℤ) → P (fin true (suc m) e)) → (x : Float) → lt nought x ≡ false → eq x nought ≡ false → P x
+unfolding lt eq
+neither P p q r nan l h = p
+neither P p q r (inf true) l h = q
+neither P p q r (inf false) l h = absurd (true≢false l)
+neither P p q r (fin s zero e) l h = absurd (true≢false (sym (whole s) ∙ h))
   where
     nil : 0 * up e * 1 ≡ 0
     nil = ap (λ (x : ℕ). x * 1) (zero-mul (up e))
@@ -243,8 +243,20 @@ root-none (fin s zero e) l h = absurd (true≢false (sym (whole s) ∙ h))
         last : (s : Bool) → (Bool·beq s false || eqb (0 * up e * 1) 0) ≡ true
         last true = eq-eqb (0 * up e * 1) 0 nil
         last false = refl
-root-none (fin true (suc m) e) l h = sym (ap (λ (b : Bool). cond b (fin true (suc m) e) nan) (not-zero m))
-root-none (fin false (suc m) e) l h = absurd (true≢false (sym (lt-ltb (0 * 1 * down e) (suc m * up e * 1) (subst (λ (x : ℕ). x < suc m * up e * 1) (sym (zero-mul (down e))) (size-pos m e))) ∙ l))
+neither P p q r (fin true (suc m) e) l h = r m e
+neither P p q r (fin false (suc m) e) l h = absurd (true≢false (sym (lt-ltb (0 * 1 * down e) (suc m * up e * 1) (subst (λ (x : ℕ). x < suc m * up e * 1) (sym (zero-mul (down e))) (size-pos m e))) ∙ l))
+
+pub root-unbounded : (x : Float) → lt nought x ≡ true → finite x ≡ false → x ≡ root x
+unfolding root
+root-unbounded = unbounded (λ x. x ≡ root x) refl
+
+pub root-zero : (x : Float) → eq x nought ≡ true → x ≡ root x
+unfolding root
+root-zero = zero-alone (λ x. x ≡ root x) (λ s e. refl)
+
+pub root-none : (x : Float) → lt nought x ≡ false → eq x nought ≡ false → nan ≡ root x
+unfolding root
+root-none = neither (λ x. nan ≡ root x) refl refl (λ m e. sym (ap (λ (b : Bool). cond b (fin true (suc m) e) nan) (not-zero m)))
 
 pub root-positive : (x : Float) (a : ℕ) → HasValue x false a (2 ^ 1074) → 0 < a → rootOf (a * 2 ^ 1076) ≡ root x
 unfolding root

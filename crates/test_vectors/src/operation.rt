@@ -39,7 +39,9 @@ pub const EXP: usize = 15;
 
 pub const EXP_LIST: usize = 16;
 
-pub const COUNT: usize = 17;
+pub const LN: usize = 17;
+
+pub const COUNT: usize = 18;
 
 // The name, with blanks behind it.
 fn name(op: usize) -> [u8; 12] {
@@ -61,6 +63,7 @@ fn name(op: usize) -> [u8; 12] {
         REM_TAU => *b"rem_tau     ",
         EXP => *b"exp         ",
         EXP_LIST => *b"exp_list    ",
+        LN => *b"ln          ",
         _ => *b"            ",
     }
 }
@@ -178,6 +181,7 @@ pub fn run(op: usize, a: u64, b: u64, c: u64) -> u64 {
         REM_TAU => bits::bits64(float::rem_tau(x)),
         EXP => bits::bits64(float::exp(x)),
         EXP_LIST => bits::bits64(exp_in_list(x)),
+        LN => bits::bits64(float::ln(x)),
         _ => 0,
     }
 }
