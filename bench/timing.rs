@@ -58,13 +58,18 @@ pub fn least_alone(rounds: usize, parts: usize, mut run: impl FnMut()) -> f64 {
     least(rounds, parts, [&mut || (), &mut run, &mut || ()])[1]
 }
 
-// A number with as many digits as it is worth.
+// A number with as many digits as it is worth; a NaN where nothing was timed.
 pub fn figure(x: f64) -> String {
     match x {
+        x if x.is_nan() => "-".into(),
         x if x < 10.0 => format!("{x:.2}"),
         x if x < 100.0 => format!("{x:.1}"),
         _ => format!("{x:.0}"),
     }
+}
+
+fn ratio(x: f64) -> String {
+    if x.is_nan() { "-".into() } else { format!("{x:.2}") }
 }
 
 // What the new library is held to.
@@ -88,7 +93,7 @@ pub fn row(what: &str, unit: &str, [before, new, other]: [f64; 3], bar: Bar) {
     MISSES.fetch_add(!held as usize, Relaxed);
     let mark = if held { "" } else { "**" };
     if landed() {
-        println!("| {what} | {unit} | {} | {} | {} | {:.2} | {mark}{:.2}{mark} | {words} |", figure(before), figure(new), figure(other), before / other, new / other);
+        println!("| {what} | {unit} | {} | {} | {} | {} | {mark}{:.2}{mark} | {words} |", figure(before), figure(new), figure(other), ratio(before / other), new / other);
     } else {
         println!("| {what} | {unit} | {} | {} | {mark}{:.2}{mark} | {words} |", figure(new), figure(other), new / other);
     }

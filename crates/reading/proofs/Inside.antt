@@ -22,8 +22,8 @@ use Rattle.search.specs.declared.Nearest.{Nearest}
 use Rattle.search.specs.declared.Located.{Located}
 use Rattle.table.specs.File.{Entry}
 use Rattle.table.specs.declared.Table.{Table}
-use Rattle.reading.specs.Resolve.{readingValues, readingNumbered, Query, Resolved, unresolved, beyond, slabAt, queryValid, outside, resolve, Picks, unpicked, picked, joint, nearestPick, facePick, widened}
-use Rattle.reading.specs.Reading.{rowInside, energyInside, entryAt, readEntry, readSlab, readingOut, searchIn, readPicks}
+use Rattle.reading.specs.Resolve.{readingValues, readingNumbered, Query, Way, wayValid, Resolved, unresolved, beyond, slabAt, queryValid, outside, resolve, Picks, unpicked, picked, joint, nearestPick, facePick, widened}
+use Rattle.reading.specs.Reading.{rowInside, energyInside, entryAt, readEntry, readSlab, readingBy, searchIn, readPicks}
 use Rattle.reading.specs.Internal.{itemsInside, slabOf, rowPlace, toward, readPlaced, readResolution}
 use Rattle.reading.specs.declared.Reading.{Reading}
 use Rattle.reading.specs.declared.Reading.the-variants.{Energy, Refused}
@@ -119,14 +119,14 @@ faces-numbered : (n : ℕ) (a b : Located) → picksNumbered (facePick n a b) �
 unfolding facePick
 faces-numbered n a b = let r = joint (a .number) (b .number) in found-numbered (eqb r 0) r _ _ _ refl
 
-module _ (file : List ℕ) (t : Table) (vs : List Float) (l : Locator) (q : Query) where
-  placed-slab : (x : Resolved) → readSlab file t vs l q x ≡ readPlaced file t vs l q (rowPlace file t x)
+module _ (file : List ℕ) (t : Table) (vs : List Float) (l : Locator) (way : Way) (q : Query) where
+  placed-slab : (x : Resolved) → readSlab file t vs l way q x ≡ readPlaced file t vs l way q (rowPlace file t x)
   unfolding entryAt
   placed-slab (unresolved n) = refl
   placed-slab beyond = refl
   placed-slab (slabAt s) = by (rowInside file t s)
     where
-      by : (b : Bool) → cond b (readEntry file t vs l q (entryAt file t s)) (Refused 19) ≡ readPlaced file t vs l q (cond b (At (t .«rows_start» + s * 10)) (NoRow 19))
+      by : (b : Bool) → cond b (readEntry file t vs l way q (entryAt file t s)) (Refused 19) ≡ readPlaced file t vs l way q (cond b (At (t .«rows_start» + s * 10)) (NoRow 19))
       by true = refl
       by false = refl
 
@@ -134,7 +134,7 @@ module _ (file : List ℕ) (t : Table) (vs : List Float) (l : Locator) (q : Quer
   abbrev Numbered : Reading → Type 0
   Numbered z = readingNumbered z ≡ true
 
-  picks-numbered : (i : Bool) (o : ℕ) (p : Picks) → picksNumbered p ≡ true → Numbered (readPicks file t i o p)
+  picks-numbered : (i : Bool) (o : ℕ) (p : Picks) → picksNumbered p ≡ true → Numbered (readPicks file t way i o p)
   unfolding picksNumbered
   picks-numbered i o (unpicked n) e = e
   picks-numbered i o (picked ks u v) e = chosen Numbered (every (λ k. energyInside file t (o + k)) ks) _ _ (λ h. refl) refl
@@ -144,46 +144,47 @@ module _ (file : List ℕ) (t : Table) (vs : List Float) (l : Locator) (q : Quer
   search-numbered v true = faces-numbered _ _ _
   search-numbered v false = vertices-numbered _ _ _
 
-  entry-numbered : (e : Entry) → Numbered (readEntry file t vs l q e)
+  entry-numbered : (e : Entry) → Numbered (readEntry file t vs l way q e)
   unfolding readEntry
   entry-numbered e =
       chosen Numbered (eqb (e .kind) 0) _ _ (λ h. refl)
       (chosen Numbered (eqb (e .kind) 1) _ _ (λ h. refl)
       (chosen Numbered (leb (e .kind) 3 && ltb (e .level) (t .levels)) _ _ (λ h. picks-numbered (eqb (e .kind) 3) (e .offset) _ (search-numbered (e .level) (eqb (e .kind) 3))) refl))
 
-  resolved-numbered : (a b c : Bool) (s : ℕ) → Numbered (readSlab file t vs l q (cond a (cond b beyond (cond c (slabAt s) (unresolved 19))) (unresolved 18)))
-  resolved-numbered true true c s = refl
-  resolved-numbered true false true s = chosen Numbered (rowInside file t s) _ _ (λ h. entry-numbered (entryAt file t s)) refl
-  resolved-numbered true false false s = refl
-  resolved-numbered false b c s = refl
+  resolved-numbered : (a v b c : Bool) (s : ℕ) → Numbered (readSlab file t vs l way q (cond a (cond v (cond b beyond (cond c (slabAt s) (unresolved 19))) (unresolved 21)) (unresolved 18)))
+  resolved-numbered true true true c s = refl
+  resolved-numbered true true false true s = chosen Numbered (rowInside file t s) _ _ (λ h. entry-numbered (entryAt file t s)) refl
+  resolved-numbered true true false false s = refl
+  resolved-numbered true false b c s = refl
+  resolved-numbered false v b c s = refl
 
-  slab-numbered : Numbered (readSlab file t vs l q (resolve (t .grid) q))
+  slab-numbered : Numbered (readSlab file t vs l way q (resolve (wayValid way) (t .grid) q))
   unfolding resolve
-  slab-numbered = resolved-numbered (queryValid q) (outside (t .grid) (q .r)) (ltb 0 (t .grid .«n_r») && ltb 0 (t .grid .«n_omega»)) _
+  slab-numbered = resolved-numbered (queryValid q) (wayValid way) (outside (t .grid) (q .r)) (ltb 0 (t .grid .«n_r») && ltb 0 (t .grid .«n_omega»)) _
 
   -- the answer by the row's place
-  pub reading-by : (p r : RowPlace) (z : Reading) → z ≡ readPlaced file t vs l q r → p ≡ rowPlace file t (resolve (t .grid) q) → p ≡ r
-      → Numbered z × readingValues z ≡ readingOut file t vs l q
-  unfolding readingOut
+  pub reading-by : (p r : RowPlace) (z : Reading) → z ≡ readPlaced file t vs l way q r → p ≡ rowPlace file t (resolve (wayValid way) (t .grid) q) → p ≡ r
+      → Numbered z × readingValues z ≡ readingBy file t vs l way q
+  unfolding readingBy
   reading-by p r z a e h =
-      let w : z ≡ readSlab file t vs l q (resolve (t .grid) q) = a ∙ ap (λ (z : RowPlace). readPlaced file t vs l q z) (sym h ∙ e) ∙ sym (placed-slab (resolve (t .grid) q)) in
+      let w : z ≡ readSlab file t vs l way q (resolve (wayValid way) (t .grid) q) = a ∙ ap (λ (z : RowPlace). readPlaced file t vs l way q z) (sym h ∙ e) ∙ sym (placed-slab (resolve (wayValid way) (t .grid) q)) in
       (ap readingNumbered w ∙ slab-numbered, ap readingValues w)
 
   -- a row's answer has no use for the distance and the angle
-  pub entry-toward : (e : Entry) → readEntry file t vs l (toward (q .a) (q .b)) e ≡ readEntry file t vs l q e
+  pub entry-toward : (e : Entry) → readEntry file t vs l way (toward (q .a) (q .b)) e ≡ readEntry file t vs l way q e
   unfolding readEntry searchIn
   entry-toward e = refl
 
   -- the answer by the row as the enum
-  pub entry-by : (e : Entry) → readResolution file t vs l q (e .kind) (e .offset) (resolutionOf (e .kind) (e .level) (e .scalar)) ≡ readEntry file t vs l q e
+  pub entry-by : (e : Entry) → readResolution file t vs l way q (e .kind) (e .offset) (resolutionOf (e .kind) (e .level) (e .scalar)) ≡ readEntry file t vs l way q e
   unfolding readEntry resolutionOf
   entry-by e = by (eqb (e .kind) 0) (eqb (e .kind) 1)
     where
       by : (a b : Bool)
-          → readResolution file t vs l q (e .kind) (e .offset) (cond a (Scalar (ofBits binary32 (e .scalar))) (cond b Repulsive (Mesh (e .level) (eqb (e .kind) 3))))
+          → readResolution file t vs l way q (e .kind) (e .offset) (cond a (Scalar (ofBits binary32 (e .scalar))) (cond b Repulsive (Mesh (e .level) (eqb (e .kind) 3))))
           ≡ cond a (Energy (widened (e .scalar)))
           (cond b (Energy (inf false))
-          (cond (leb (e .kind) 3 && ltb (e .level) (t .levels)) (readPicks file t (eqb (e .kind) 3) (e .offset) (searchIn vs l q (e .level) (eqb (e .kind) 3))) (Refused 19)))
+          (cond (leb (e .kind) 3 && ltb (e .level) (t .levels)) (readPicks file t way (eqb (e .kind) 3) (e .offset) (searchIn vs l q (e .level) (eqb (e .kind) 3))) (Refused 19)))
       by true b = refl
       by false true = refl
       by false false = refl
@@ -209,24 +210,43 @@ bins-none a b h =
     rw (lt-ltb 0 a l, z))
     (le-or-lt a 0)
 
-module _ (file : List ℕ) (t : Table) (q : Query) where
-  pub refused-18 : queryValid q ≡ false → NoRow 18 ≡ rowPlace file t (resolve (t .grid) q)
+module _ (file : List ℕ) (t : Table) (valid : Bool) (q : Query) where
+  pub refused-18 : queryValid q ≡ false → NoRow 18 ≡ rowPlace file t (resolve valid (t .grid) q)
   unfolding resolve
   refused-18 h = rw h
 
-  module _ (h : queryValid q ≡ true) where
-    pub beyond-out : outside (t .grid) (q .r) ≡ true → Outside ≡ rowPlace file t (resolve (t .grid) q)
-    unfolding resolve
-    beyond-out k = rw (h, k)
+  pub refused-21 : queryValid q ≡ true → valid ≡ false → NoRow 21 ≡ rowPlace file t (resolve valid (t .grid) q)
+  unfolding resolve
+  refused-21 h k = rw (h, k)
 
-    pub no-bins : outside (t .grid) (q .r) ≡ false → (eqb (t .grid .«n_r») 0 || eqb (t .grid .«n_omega») 0) ≡ true → NoRow 19 ≡ rowPlace file t (resolve (t .grid) q)
+  module _ (h : queryValid q ≡ true) (v : valid ≡ true) where
+    pub beyond-out : outside (t .grid) (q .r) ≡ true → Outside ≡ rowPlace file t (resolve valid (t .grid) q)
     unfolding resolve
-    no-bins k e = rw (h, k, bins-none (t .grid .«n_r») (t .grid .«n_omega») e)
+    beyond-out k = rw (h, v, k)
+
+    pub no-bins : outside (t .grid) (q .r) ≡ false → (eqb (t .grid .«n_r») 0 || eqb (t .grid .«n_omega») 0) ≡ true → NoRow 19 ≡ rowPlace file t (resolve valid (t .grid) q)
+    unfolding resolve
+    no-bins k e = rw (h, v, k, bins-none (t .grid .«n_r») (t .grid .«n_omega») e)
 
     pub some-bins : outside (t .grid) (q .r) ≡ false → (eqb (t .grid .«n_r») 0 || eqb (t .grid .«n_omega») 0) ≡ false
-        → rowPlace file t (slabAt (slabOf (t .grid) (q .r) (q .omega))) ≡ rowPlace file t (resolve (t .grid) q)
+        → rowPlace file t (slabAt (slabOf (t .grid) (q .r) (q .omega))) ≡ rowPlace file t (resolve valid (t .grid) q)
     unfolding resolve
-    some-bins k e = let b = bins-some (t .grid .«n_r») (t .grid .«n_omega») e in rw (h, k, lt-ltb 0 (t .grid .«n_r») (b .0), lt-ltb 0 (t .grid .«n_omega») (b .1))
+    some-bins k e = let b = bins-some (t .grid .«n_r») (t .grid .«n_omega») e in rw (h, v, k, lt-ltb 0 (t .grid .«n_r») (b .0), lt-ltb 0 (t .grid .«n_omega») (b .1))
+
+-- a row is placed only where 21 is answered yes
+pub placed-valid : (file : List ℕ) (t : Table) (valid : Bool) (q : Query) (at : ℕ) → rowPlace file t (resolve valid (t .grid) q) ≡ At at → valid ≡ true
+unfolding resolve
+placed-valid file t true q at e = refl
+placed-valid file t false q at e = by (queryValid q) e
+  where
+    tag : RowPlace → ℕ
+    tag (At a) = 1
+    tag Outside = 0
+    tag (NoRow n) = 0
+
+    by : (b : Bool) → rowPlace file t (cond b (unresolved 21) (unresolved 18)) ≡ At at → false ≡ true
+    by true e = absurd (let z : 0 ≡ 1 = ap tag e in omega arith)
+    by false e = absurd (let z : 0 ≡ 1 = ap tag e in omega arith)
 
 -- ---- the row as the enum
 
@@ -241,15 +261,15 @@ kept k v n =
     (λ h. rw (lt-leb k 3 h, lt-ltb 3 k h))
     (le-or-lt k 3)
 
-module _ (file : List ℕ) (t : Table) (vs : List Float) (l : Locator) (q : Query) (kind o : ℕ) (row : SlabResolution) where
-  pub row-scalar : (x : Float) → row ≡ Scalar x → Energy x ≡ readResolution file t vs l q kind o row
+module _ (file : List ℕ) (t : Table) (vs : List Float) (l : Locator) (way : Way) (q : Query) (kind o : ℕ) (row : SlabResolution) where
+  pub row-scalar : (x : Float) → row ≡ Scalar x → Energy x ≡ readResolution file t vs l way q kind o row
   row-scalar x e = rw e
 
-  pub row-repulsive : row ≡ Repulsive → Energy (inf false) ≡ readResolution file t vs l q kind o row
+  pub row-repulsive : row ≡ Repulsive → Energy (inf false) ≡ readResolution file t vs l way q kind o row
   row-repulsive e = rw e
 
-  pub row-unknown : (v : ℕ) (b : Bool) → row ≡ Mesh v b → (ltb 3 kind || leb (t .levels) v) ≡ true → Refused 19 ≡ readResolution file t vs l q kind o row
+  pub row-unknown : (v : ℕ) (b : Bool) → row ≡ Mesh v b → (ltb 3 kind || leb (t .levels) v) ≡ true → Refused 19 ≡ readResolution file t vs l way q kind o row
   row-unknown v b e h = rw (e, kept kind v (t .levels), h)
 
-  pub row-mesh : (v : ℕ) (b i : Bool) → row ≡ Mesh v b → b ≡ i → (ltb 3 kind || leb (t .levels) v) ≡ false → readPicks file t i o (searchIn vs l q v i) ≡ readResolution file t vs l q kind o row
+  pub row-mesh : (v : ℕ) (b i : Bool) → row ≡ Mesh v b → b ≡ i → (ltb 3 kind || leb (t .levels) v) ≡ false → readPicks file t way i o (searchIn vs l q v i) ≡ readResolution file t vs l way q kind o row
   row-mesh v b i e z h = rw (e, z, kept kind v (t .levels), h)

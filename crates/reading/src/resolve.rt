@@ -55,6 +55,7 @@ fn slab_row(t: Table, file: &[u8], r: f64, omega: f64) -> RowPlace
     RowPlace::NoRow(19)
 }
 
+// 21 is put by the caller, who hands in its answer.
 pub(crate) fn row_place(
     t: Table,
     file: &[u8],
@@ -62,14 +63,18 @@ pub(crate) fn row_place(
     omega: f64,
     a: Vector3,
     b: Vector3,
+    valid: bool,
 ) -> RowPlace
-    ensures { λ z. ⌜ z ≡ rowPlace (now (file .entry)) t (resolve (t .grid) (record { r = r; omega = omega; a = a; b = b })) ⌝ }
+    ensures { λ z. ⌜ z ≡ rowPlace (now (file .entry)) t (resolve valid (t .grid) (record { r = r; omega = omega; a = a; b = b })) ⌝ }
 {
     let g = t.grid;
     let n_r = g.n_r;
     let n_omega = g.n_omega;
     if !query_valid(r, omega, a, b) {
         return RowPlace::NoRow(18);
+    }
+    if !valid {
+        return RowPlace::NoRow(21);
     }
     if outside(t, r) {
         return RowPlace::Outside;

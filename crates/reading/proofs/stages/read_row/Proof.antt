@@ -1,7 +1,7 @@
 -- `read_row` meets its contract. Assumes nothing.
 use borrow.Author.Needs.{needs}
 use Rattle.search.specs.Search.{Locator, locatorOf}
-use Rattle.reading.specs.Internal.{toward}
+use Rattle.reading.specs.Internal.{wayOf, toward}
 use Rattle.table.proofs.Items.{entryAt, entry-at}
 use Rattle.reading.proofs.Inside.{entry-by}
 use Rattle.reading.proofs.stages.read_row.Statement.{statement}
@@ -14,7 +14,7 @@ returns : tie.Need-returns
 returns c =
     let s = c .before .before .before .before .before .before .before .before .before .before .before .before in
     let a = s .args in
-    rw (entry-at (a .file .now) (a .at), c .read-resolution .ensures, c .before .resolution-of .ensures, c .before .before .u32-inside2 .ensures, c .before .before .before .u32-inside .ensures) (entry-by (a .file .now) (a .t) (a .vertices .now) (lists s) (toward (a .a) (a .b)) (entryAt (a .file .now) (a .at)))
+    rw (entry-at (a .file .now) (a .at), c .read-resolution .ensures, c .before .resolution-of .ensures, c .before .before .u32-inside2 .ensures, c .before .before .before .u32-inside .ensures) (entry-by (a .file .now) (a .t) (a .vertices .now) (lists s) (wayOf (a .beta)) (toward (a .a) (a .b)) (entryAt (a .file .now) (a .at)))
 
 pub read-row-spec : {M : Type 1} → statement M
 read-row-spec =
