@@ -1,5 +1,9 @@
 // The benchmark beside the Rust: rows of the table that bench/run prints, and two tables of how cost grows.
 #[allow(dead_code, clippy::all)]
+mod average {
+    include!(concat!(env!("COMPARE"), "/average.rs"));
+}
+#[allow(dead_code, clippy::all)]
 mod builder {
     include!(concat!(env!("COMPARE"), "/builder.rs"));
 }
@@ -10,6 +14,17 @@ mod oracle {
 #[allow(dead_code, clippy::all)]
 mod rust {
     include!(concat!(env!("COMPARE"), "/lookup.rs"));
+}
+// The Rust's table with the machine's `exp` and `ln` in its weighted readings.
+#[allow(dead_code, clippy::all)]
+mod native {
+    use crate::oracle;
+    mod average {
+        include!(concat!(env!("COMPARE"), "/native.rs"));
+    }
+    pub mod rust {
+        include!(concat!(env!("COMPARE"), "/lookup.rs"));
+    }
 }
 #[path = "../tests/compare/caller.rs"]
 #[allow(dead_code)]
@@ -58,6 +73,7 @@ mod new;
 mod readings;
 mod searches;
 mod timing;
+mod weighted;
 
 use meshes::{vertex_count, Random};
 use readings::{Caller, Rows};
@@ -120,6 +136,10 @@ fn reading_rows(random: &mut Random) {
             row(&format!("reading, {what}, {}, called from {from}", size(megabytes)), "ns", time, Bar::Times(bar));
         }
     }
+    for (caller, from) in [(Caller::C, "C"), (Caller::Rust, "Rust")] {
+        let (time, megabytes) = readings::weighted(caller, 3, [1, 8], 4096, 200, random);
+        row(&format!("reading, weighted, level 3, {}, called from {from}", size(megabytes)), "ns", time, Bar::Times(1.5));
+    }
 }
 
 // Cost by level: a slab, a locator call, a reading of a table with one slab.
@@ -179,7 +199,8 @@ fn only(what: &str, random: &mut Random) {
         "scalar" => reading(Rows::Scalar, random),
         "nearest" => reading(Rows::Nearest, random),
         "interpolated" => reading(Rows::Interpolated, random),
-        _ => panic!("settle, stages, file, scalar, nearest or interpolated"),
+        "weighted" => used(readings::weighted(Caller::C, 3, [1, 8], 4096, 1000, random)),
+        _ => panic!("settle, stages, file, scalar, nearest, interpolated or weighted"),
     }
 }
 

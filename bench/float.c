@@ -1,4 +1,4 @@
-// Times the exported operations of the library that landed (where LANDED is defined) and of the new one beside the machine's own (E beside the C library's exp). Rounds are short and interleaved, and
+// Times the exported operations of the library that landed (where LANDED is defined) and of the new one beside the machine's own (E and ln beside the C library's exp and log). Rounds are short and interleaved, and
 // the fastest of each counts, since other work on the machine can only slow a round down. That the results are equal is for tests/compare/leaves.
 #include <math.h>
 #include <stddef.h>
@@ -12,19 +12,25 @@
     double name##_mul_add(double a, double b, double c); \
     float name##_narrow(double x); \
     double name##_exp(double y); \
+    double name##_ln(double x); \
     void name##_narrow_all(const double *xs, size_t xs_len, float *out, size_t out_len);
 LIBRARY(float)
 #ifdef LANDED
 LIBRARY(landed_float)
 enum { FIRST = 0 };
+// what the library that landed may not have yet
+#pragma weak landed_float_ln
+static int has_landed(const char *name) { return strcmp(name, "ln") != 0 || landed_float_ln != NULL; }
 #else
 // nothing of it is called
 #define landed_float_root float_root
 #define landed_float_mul_add float_mul_add
 #define landed_float_narrow float_narrow
 #define landed_float_exp float_exp
+#define landed_float_ln float_ln
 #define landed_float_narrow_all float_narrow_all
 enum { FIRST = 1 };
+static int has_landed(const char *name) { return name == NULL; }
 #endif
 
 enum { COUNT = 1024, ROUNDS = 8000 };
@@ -38,6 +44,7 @@ CALLED double root_landed(double x) { return landed_float_root(x); }
 CALLED double mul_add_landed(double x, double y, double z) { return landed_float_mul_add(x, y, z); }
 CALLED float narrow_landed(double x) { return landed_float_narrow(x); }
 CALLED double exp_landed(double x) { return landed_float_exp(x); }
+CALLED double ln_landed(double x) { return landed_float_ln(x); }
 CALLED double root_ours(double x) { return float_root(x); }
 CALLED double root_machine(double x) { return sqrt(x); }
 CALLED double mul_add_ours(double x, double y, double z) { return float_mul_add(x, y, z); }
@@ -46,6 +53,8 @@ CALLED float narrow_ours(double x) { return float_narrow(x); }
 CALLED float narrow_machine(double x) { return (float)x; }
 CALLED double exp_ours(double x) { return float_exp(x); }
 CALLED double exp_machine(double x) { return exp(x); }
+CALLED double ln_ours(double x) { return float_ln(x); }
+CALLED double ln_machine(double x) { return log(x); }
 // Of the lists the compiler may learn nothing either: it would make the machine's loop anew for these two arrays and this one length.
 #define UNKNOWN __attribute__((noipa)) static
 UNKNOWN void narrow_all_landed(const double *xs, float *to, size_t n) { landed_float_narrow_all(xs, n, to, n); }
@@ -89,6 +98,7 @@ SIDES(positives, out, mul_add, fabs(a[i]), fabs(b[i]), fabs(c[i]))
 SIDES(halves, out, mul_add, a[i], 0.5, 0.5)
 SIDES(narrow, narrow_out, narrow, a[i])
 SIDES(exp, out, exp, exponents[i])
+SIDES(ln, out, ln, positive[i])
 // Between two roots stands an addition, on all sides: roots alone would soon be 1.
 #define ALONE(side) \
     LATENCY(root_latency_##side, root_##side(v + positive[i])) \
@@ -120,6 +130,8 @@ static struct {
     ROW("narrow, a list", narrow, entry, 4),
     ROW("exp", exp, summed, 0),
     ROW("exp", exp, apart, 0),
+    ROW("ln", ln, summed, 0),
+    ROW("ln", ln, apart, 0),
 };
 enum { ROWS = sizeof rows / sizeof rows[0] };
 
@@ -148,13 +160,14 @@ static double timed(void (*round)(void)) {
 // A bar or the landed library's time may be passed by a tenth in one run.
 static void print(int r) {
     const double *ns = rows[r].ns, bar = rows[r].bar, ratio = ns[1] / ns[2];
-    const char *mark = (bar > 0 && ratio > 1.1 * bar) || (FIRST == 0 && ns[1] > 1.1 * ns[0]) ? "**" : "";
+    int landed = has_landed(rows[r].name);
+    const char *mark = (bar > 0 && ratio > 1.1 * bar) || (landed && ns[1] > 1.1 * ns[0]) ? "**" : "";
     printf("| %s, %s | ns | ", rows[r].name, rows[r].measure);
     if (FIRST == 0)
-        printf("%.2f | ", ns[0]);
+        landed ? printf("%.2f | ", ns[0]) : printf("- | ");
     printf("%.2f | %.2f | ", ns[1], ns[2]);
     if (FIRST == 0)
-        printf("%.2f | ", ns[0] / ns[2]);
+        landed ? printf("%.2f | ", ns[0] / ns[2]) : printf("- | ");
     printf("%s%.2f%s | ", mark, ratio, mark);
     if (bar > 0)
         printf("%.0f, ", bar);
@@ -165,7 +178,7 @@ int main(void) {
     for (int round = 0; round < ROUNDS; round++)
         for (int r = 0; r < ROWS; r++) {
             draw();
-            for (int side = FIRST; side < 3; side++) {
+            for (int side = has_landed(rows[r].name) ? 0 : 1; side < 3; side++) {
                 double ns = timed(rows[r].sides[side]);
                 if (ns < rows[r].ns[side]) rows[r].ns[side] = ns;
             }

@@ -2,11 +2,13 @@
 use crate::icotable::Query;
 use crate::library::add_level;
 use crate::meshes::{icosphere, Random};
+use crate::native::rust as native;
 use crate::oracle::{FaceGrid, Vector3};
 use crate::pack::packed;
 use crate::reader::Lists;
 use crate::rust::{MeshLevel, SlabResolution, Table6DAdaptive};
 use crate::timing::{each, least, used};
+use crate::weighted::Weighted;
 use crate::{landed, new};
 
 // The rows of a table: all of one kind.
@@ -62,13 +64,57 @@ fn made(rows: Rows, level: usize, n_r: usize, n_omega: usize, random: &mut Rando
     (t, lists)
 }
 
+fn drawn(count: usize, t: &Table6DAdaptive<f32>, random: &mut Random) -> Vec<Query> {
+    let far = |random: &mut Random| 10.0 + (random.unit() + 1.0) / 2.0 * (t.rmax - 10.0);
+    (0..count).map(|_| Query { r: far(random), omega: random.unit() * 6.0, a: random.direction(), b: random.direction() }).collect()
+}
+
+// The same table, for the machine's `exp` and `ln`.
+fn native(t: Table6DAdaptive<f32>) -> native::Table6DAdaptive<f32> {
+    let row = |r: SlabResolution| match r {
+        SlabResolution::Scalar(x) => native::SlabResolution::Scalar(x),
+        SlabResolution::Repulsive => native::SlabResolution::Repulsive,
+        SlabResolution::Mesh { level, interpolate } => native::SlabResolution::Mesh { level, interpolate },
+    };
+    native::Table6DAdaptive {
+        metadata: None,
+        rmin: t.rmin,
+        rmax: t.rmax,
+        dr: t.dr,
+        n_r: t.n_r,
+        omega_step: t.omega_step,
+        n_omega: t.n_omega,
+        levels: t.levels.into_iter().map(|l| native::MeshLevel { n_vertices: l.n_vertices, grid: l.grid }).collect(),
+        slab_res: t.slab_res.into_iter().map(row).collect(),
+        slab_offsets: t.slab_offsets,
+        data: t.data,
+    }
+}
+
+// Nanoseconds of a weighted reading of an interpolated row, beside the Rust's with the machine's `exp` and `ln`. What the library answers is compared with the Rust's over E and document 02's
+// logarithm. The library that landed is not asked: the first with this reading has none before it.
+pub fn weighted(caller: Caller, level: usize, bins: [usize; 2], queries: usize, rounds: usize, random: &mut Random) -> ([f64; 3], f64) {
+    const BETA: f64 = 0.4;
+    let (t, lists) = made(Rows::Interpolated, level, bins[0], bins[1], random);
+    let megabytes = lists.file.len() as f64 / 1e6;
+    let queries = drawn(queries, &t, random);
+    let wanted: Vec<u64> = queries.iter().map(|q| t.lookup_boltzmann(q.r, q.omega, &Vector3::from(q.a), &Vector3::from(q.b), BETA).to_bits()).collect();
+    let mut ours = Weighted::new(lists, &queries, BETA, &wanted);
+    let t = native(t);
+    let mut rust = || each(&queries, |q| used(t.lookup_boltzmann(q.r, q.omega, &Vector3::from(q.a), &Vector3::from(q.b), BETA)));
+    let mut time = match caller {
+        Caller::C => least(rounds, queries.len(), [&mut || (), &mut || ours.from_c(), &mut rust]),
+        Caller::Rust => least(rounds, queries.len(), [&mut || (), &mut || ours.from_rust(), &mut rust]),
+    };
+    time[0] = f64::NAN;
+    (time, megabytes)
+}
+
 // Nanoseconds of a reading, and the megabytes of its file.
 pub fn measure(caller: Caller, rows: Rows, level: usize, bins: [usize; 2], queries: usize, rounds: usize, random: &mut Random) -> ([f64; 3], f64) {
     let (t, lists) = made(rows, level, bins[0], bins[1], random);
     let megabytes = lists.file.len() as f64 / 1e6;
-    let far = |random: &mut Random| 10.0 + (random.unit() + 1.0) / 2.0 * (t.rmax - 10.0);
-    let queries: Vec<Query> =
-        (0..queries).map(|_| Query { r: far(random), omega: random.unit() * 6.0, a: random.direction(), b: random.direction() }).collect();
+    let queries = drawn(queries, &t, random);
     let lookup = |q: &Query| t.lookup(q.r, q.omega, &Vector3::from(q.a), &Vector3::from(q.b));
     let wanted: Vec<u64> = queries.iter().map(|q| lookup(q).to_bits()).collect();
     let mut a = landed::side::Readings::new(lists.clone(), &queries, &wanted);

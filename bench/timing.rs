@@ -41,8 +41,8 @@ pub fn least(rounds: usize, parts: usize, sides: [&mut dyn FnMut(); 3]) -> [f64;
     let mut least = [i64::MAX; 3];
     for round in 0..rounds {
         for turn in 0..3 {
-            // forwards and backwards, so that no side always comes after the same one
-            let k = if round % 2 == 0 { turn } else { 2 - turn };
+            // each side comes after each of the others, and none after itself, whose lists would still be in the cache
+            let k = if round % 2 == 0 { turn } else { (3 - turn) % 3 };
             if k > 0 || landed() {
                 let start = clock();
                 sides[k]();
@@ -58,13 +58,18 @@ pub fn least_alone(rounds: usize, parts: usize, mut run: impl FnMut()) -> f64 {
     least(rounds, parts, [&mut || (), &mut run, &mut || ()])[1]
 }
 
-// A number with as many digits as it is worth.
+// A number with as many digits as it is worth; a NaN where nothing was timed.
 pub fn figure(x: f64) -> String {
     match x {
+        x if x.is_nan() => "-".into(),
         x if x < 10.0 => format!("{x:.2}"),
         x if x < 100.0 => format!("{x:.1}"),
         _ => format!("{x:.0}"),
     }
+}
+
+fn ratio(x: f64) -> String {
+    if x.is_nan() { "-".into() } else { format!("{x:.2}") }
 }
 
 // What the new library is held to.
@@ -88,7 +93,7 @@ pub fn row(what: &str, unit: &str, [before, new, other]: [f64; 3], bar: Bar) {
     MISSES.fetch_add(!held as usize, Relaxed);
     let mark = if held { "" } else { "**" };
     if landed() {
-        println!("| {what} | {unit} | {} | {} | {} | {:.2} | {mark}{:.2}{mark} | {words} |", figure(before), figure(new), figure(other), before / other, new / other);
+        println!("| {what} | {unit} | {} | {} | {} | {} | {mark}{:.2}{mark} | {words} |", figure(before), figure(new), figure(other), ratio(before / other), new / other);
     } else {
         println!("| {what} | {unit} | {} | {} | {mark}{:.2}{mark} | {words} |", figure(new), figure(other), new / other);
     }

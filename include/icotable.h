@@ -30,8 +30,8 @@
  * no small number is flushed to zero: not in a program that is linked with -ffast-math, nor after fesetround. There an
  * answer can be another one. icotable_float_environment() of environment.h answers 0 where it is as it should be.
  *
- * Stack. No theorem bounds it. As measured on x86-64 and rounded up, settle takes 88 kB, locator 10 kB and every
- * other function 2 kB, whatever the level.
+ * Stack. No theorem bounds it. As measured on x86-64 and rounded up, settle takes 88 kB, locator 10 kB, a reading
+ * 3 kB and every other function 2 kB, whatever the level.
  *
  * Numbers. ICOTABLE_REFUSALS below has each one in words, and docs/REFUSALS.md an example of each.
  */
@@ -44,7 +44,7 @@
 /* The version, raised where a struct, a function or the table file changes (CHANGELOG.md). The pkg-config file and the
  * tool take it from here; a test compares it with hosts/rust. */
 #define ICOTABLE_VERSION_MAJOR 0
-#define ICOTABLE_VERSION_MINOR 6
+#define ICOTABLE_VERSION_MINOR 7
 #define ICOTABLE_VERSION_PATCH 0
 
 #define ICOTABLE_STRING_(x) #x
@@ -73,7 +73,8 @@
     X(17, FILE_NAN, "an energy of the file is a NaN") \
     X(18, QUERY, "r is a NaN, omega not finite, or the length of a direction not finite or 0") \
     X(19, NOT_LENT, "a bin count is 0, a row's kind is unknown or its level not held, or a row, energy, cell or mesh entry that the reading touches is not inside what was lent, an end offset is below its start, or a vertex number not below n") \
-    X(20, EMPTY_CELL, "the cell that a direction falls into lists no vertex")
+    X(20, EMPTY_CELL, "the cell that a direction falls into lists no vertex") \
+    X(21, READING_BETA, "a reading's own beta is not finite and above 0")
 
 #define ICOTABLE_REFUSAL_(number, name, words) ICOTABLE_##name = number,
 enum icotable_refusal { ICOTABLE_REFUSALS(ICOTABLE_REFUSAL_) ICOTABLE_ACCEPTED = 0 };
@@ -209,10 +210,10 @@ uint64_t icotable_locator(
     uint16_t *faces, size_t faces_count);
 
 /* The energy at distance r, dihedral angle omega and two directions of any length, from a file, what read answered for
- * it (lent, so that no call copies it), the vertices of all its levels and their locators, each level's at its needed lengths, one after another. Takes
- * no notice of the table's number, nor of its rmax, threshold and beta. Question 18; then 0 for a distance outside the
- * table; then 19, 20. What concerns meshes and locators is asked only where a Mesh row is read, and of what is touched
- * alone. */
+ * it (lent, so that no call copies it), the vertices of all its levels and their locators, each level's at its needed
+ * lengths, one after another. Takes no notice of the table's number, nor of its rmax, threshold and beta. Question 18;
+ * then 0 for a distance outside the table; then 19, 20. What concerns meshes and locators is asked only where a Mesh
+ * row is read, and of what is touched alone. */
 icotable_value icotable_reading(
     const icotable_table *table,
     const uint8_t *file, size_t file_count,
@@ -226,14 +227,35 @@ icotable_value icotable_reading(
     double ax, double ay, double az,
     double bx, double by, double bz);
 
+/* The same, weighted by temperature, with a beta of its own: one over the unit of energies, and never the table's.
+ * Where a Mesh row is interpolated it is -ln(the sum of w*exp(-beta*e))/beta over the nine energies e and their weights
+ * w, in place of the sum of w*e; a weight not above 0 drops its energy. Rows read at the nearest vertices, Scalar and
+ * Repulsive ones answer as icotable_reading does. Question 18; then 21, where beta is not finite and above 0, whatever
+ * the row is; then 0 for a distance outside the table; then 19, 20. */
+icotable_value icotable_boltzmann(
+    const icotable_table *table,
+    const uint8_t *file, size_t file_count,
+    const double *vertices, size_t vertices_count,
+    const uint32_t *cell_offsets, size_t cell_offsets_count,
+    const uint16_t *cell_vertices, size_t cell_vertices_count,
+    const uint32_t *face_offsets, size_t face_offsets_count,
+    const uint16_t *faces, size_t faces_count,
+    double r,
+    double omega,
+    double ax, double ay, double az,
+    double bx, double by, double bz,
+    double beta);
+
 /* n of a level, and 6*g*g+1: what a host sizes its lists with. 0 for a level above 15. */
 uint64_t icotable_vertices(uint64_t level);
 uint64_t icotable_cells(uint64_t level);
 
-/* The square root, a*b+c rounded once and the nearest float, as IEEE 754 has them; and the exponential that settling
- * uses. */
+/* The square root, a*b+c rounded once and the nearest float, as IEEE 754 has them; the exponential that settling and
+ * weighted readings use; and the logarithm of weighted readings: NaN for a NaN or below 0, -infinity for a zero of
+ * either sign. */
 double icotable_root(double x);
 double icotable_exp(double y);
+double icotable_ln(double x);
 double icotable_mul_add(double a, double b, double c);
 float icotable_narrow(double x);
 

@@ -171,6 +171,12 @@ static uint64_t empty_cell(void) {
     return number;
 }
 
+/* Asked whatever the row is, and before the distance: 9 is outside the table. */
+static uint64_t no_beta(void) {
+    icotable_table t = icotable_read(file, whole_file());
+    return icotable_boltzmann(&t, file, ROOM, ICOTABLE_LOCATORS(&held), 9, 0, 1, 0, 0, 0, 0, 1, 0).number;
+}
+
 typedef struct example {
     uint64_t (*give)(void);
     const char *words;
@@ -198,6 +204,7 @@ static const example examples[] = {
     {no_direction, "a reading with the direction 0, 0, 0"},
     {no_rows, "a reading with an answer of read in which the host put 0 rows"},
     {empty_cell, "a reading over a mesh whose vertices are all 0, in a direction whose cell they are not in"},
+    {no_beta, "a weighted reading with beta 0, at a distance outside the table"},
 };
 
 static const char *const names[] = {
@@ -216,9 +223,9 @@ int main(void) {
         return 1;
     puts("# Refusals\n\nA call that is refused answers the number of the first question that was answered no, and alters "
          "nothing: no list, no\nbuilder, no file. `include/icotable.h` has the table (`ICOTABLE_REFUSALS`, "
-         "`icotable_words`), `hosts/rust` the same as\nan enum (`Refusal`); docs/SPEC.md has each question, S5.1 to S5.20, "
-         "and their order. Each example below is run by\n`hosts/c/refusals.c`, which writes this page; the gate compares "
-         "the page with what it writes.\n\n"
+         "`icotable_words`), `hosts/rust` the same as\nan enum (`Refusal`); docs/SPEC.md has each question, S5.1 to S5.20 "
+         "and S5.24, and their order. Each example below is\nrun by `hosts/c/refusals.c`, which writes this page; the gate "
+         "compares the page with what it writes.\n\n"
          "| number | name | what was answered no | an example |\n|---|---|---|---|");
     for (uint64_t number = 1; number <= NUMBERS; number++) {
         uint64_t given = examples[number - 1].give();

@@ -1,8 +1,9 @@
 /* A host in C: an empty table of level 0 from its settings, written, printed and read back; a slab set and settled; calls
- * that are refused; the locator of the icosahedron; readings, also with locator lists that were altered; sizes and numbers.
- * Every answer is compared with what document 01 says, and the status is 1 where one differs. */
+ * that are refused; the locator of the icosahedron; readings, also weighted and with locator lists that were altered;
+ * sizes and numbers. Every answer is compared with what documents 01 and 02 say, and the status is 1 where one differs. */
 #include "icotable.h"
 
+#include <math.h>
 #include <stdio.h>
 #include <string.h>
 
@@ -224,6 +225,48 @@ static void readings(void) {
     expect("reading of a table that says it has no rows", reading(0.5, vertices, vertices).number, 19);
 }
 
+static icotable_value weighted(double r, const double *p, const double *q, double beta) {
+    return icotable_boltzmann(&table, file, file_count, vertices, 3 * N, cell_offsets, CELLS, cell_vertices, 27 * N, face_offsets,
+                              N + 1, faces, faces_count, r, 0.1, p[0], p[1], p[2], q[0], q[1], q[2], beta);
+}
+
+/* Weighted readings: at the vertices; half way between vertex 0 and a neighbour, where the energies are 0 and at least
+ * 100, each of weight a half; at the nearest vertices; and 21 after 18, before a distance outside and 19. */
+static void weighted_readings(void) {
+    static const double none[3] = {0, 0, 0}, refused[] = {0, -0.0, -1, INFINITY, -INFINITY, NAN};
+    const double *a = vertices, *b = vertices + 3 * neighbours[0];
+    double middle[3] = {a[0] + b[0], a[1] + b[1], a[2] + b[2]};
+    small_table();
+    int far = 0;
+    for (int i = 0; i < N; i++)
+        for (int j = 0; j < N; j++) {
+            icotable_value v = weighted(0.5, vertices + 3 * i, vertices + 3 * j, 0.001);
+            double d = v.energy - (100 * i + j);
+            if (v.number != 0 || d * d > 1e-12)
+                far++;
+        }
+    expect("weighted readings at vertices that are not the energy there", far, 0);
+    icotable_value v = weighted(0.5, middle, a, 1);
+    expect("weighted reading between two vertices", v.number, 0);
+    expect("its energy is ln(2)", fabs(v.energy - icotable_ln(2)) < 1e-6, 1);
+    expect("weighted reading with beta 5e-324", weighted(0.5, a, b, 5e-324).number, 0);
+    for (size_t i = 0; i < sizeof refused / sizeof refused[0]; i++) {
+        expect("weighted reading with a beta that is not finite and above 0", weighted(0.5, a, b, refused[i]).number, 21);
+        expect("the same beyond rmax", weighted(1.5, a, b, refused[i]).number, 21);
+        expect("the same of no direction", weighted(0.5, none, b, refused[i]).number, 18);
+    }
+    v = weighted(1.5, a, b, 1);
+    expect("weighted reading beyond rmax", v.number, 0);
+    expect("its energy is 0", v.energy == 0, 1);
+    file[ROW] = 2;
+    v = weighted(0.5, b, a, 1);
+    expect("weighted reading at the nearest vertices", v.number, 0);
+    expect("its energy is the plain one", v.energy == reading(0.5, b, a).energy && v.energy == 100 * neighbours[0], 1);
+    table.rows = 0;
+    expect("weighted reading of a table that says it has no rows", weighted(0.5, a, b, 1).number, 19);
+    expect("the same with beta 0", weighted(0.5, a, b, 0).number, 21);
+}
+
 /* A span whose start is its end touches no entry, wherever its end lies: an empty cell is 20, an empty span of faces
  * leaves face 0 0 0 with weights 0. */
 static void empty_spans(void) {
@@ -255,6 +298,12 @@ static void sizes_and_numbers(void) {
     expect("bits of the root of 2", bits, 0x3FF6A09E667F3BCD);
     expect("E(0) is 1", icotable_exp(0) == 1, 1);
     expect("E(-709) is 0", icotable_exp(-709) == 0, 1);
+    x = icotable_ln(5e-324);
+    memcpy(&bits, &x, sizeof bits);
+    expect("bits of the logarithm of 2^-1074", bits, 0xC0874385446D71C3);
+    expect("the logarithm of 1 is 0", icotable_ln(1) == 0, 1);
+    expect("the logarithm of -0 is -infinity", icotable_ln(-0.0) == -INFINITY, 1);
+    expect("the logarithm of -1 is a NaN", isnan(icotable_ln(-1)) != 0, 1);
     double tiny = 1.0 / (1 << 30);
     expect("fused (1 + 2^-30)(1 - 2^-30) - 1 is -2^-60", icotable_mul_add(1 + tiny, 1 - tiny, -1) == -tiny * tiny, 1);
     expect("16777217, narrowed", (uint64_t)icotable_narrow(16777217), 16777216);
@@ -268,6 +317,7 @@ int main(void) {
     refused();
     locator();
     readings();
+    weighted_readings();
     empty_spans();
     sizes_and_numbers();
     printf("%d answers differ\n", differing);

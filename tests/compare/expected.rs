@@ -1,6 +1,10 @@
 // The sixteen places where the Rust and document 01 are known to part (docs/DIFFERENCES.md), each on its smallest input: the Rust is run as it stands, a panic being caught, and so is the static
 // library; what each does is compared with what is expected of it, and a line printed. Built with overflow checks, as a debug build of the Rust has them. Status 1 where anything is otherwise.
 #[allow(dead_code, clippy::all)]
+mod average {
+    include!(concat!(env!("COMPARE"), "/average.rs"));
+}
+#[allow(dead_code, clippy::all)]
 mod builder {
     include!(concat!(env!("COMPARE"), "/builder.rs"));
 }

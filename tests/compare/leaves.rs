@@ -1,11 +1,15 @@
 // Compares each operation on numbers of the static library libfloat_c.a with the machine's or Rust's own, bit for bit (any NaN is equal to any other): leaves SEED short|long.
-// Edges first, then inputs at random; the long run has widen go through every f32. Max, min, the total order and the remainder are written out here as document 01 has them; E is
-// the oracle's. Prints a line for each operation, and ends with status 1 where one of them differs.
+// Edges first, then inputs at random; the long run has widen go through every f32. Max, min, the total order and the remainder are written out here as document 01 has them; E and
+// ln are the oracle's. Prints a line for each operation, and ends with status 1 where one of them differs.
 mod arguments;
 #[allow(dead_code)]
 mod lines;
 #[allow(dead_code)]
 mod meshes;
+#[allow(dead_code, clippy::all)]
+mod average {
+    include!(concat!(env!("COMPARE"), "/average.rs"));
+}
 #[allow(dead_code, clippy::all)]
 mod builder {
     include!(concat!(env!("COMPARE"), "/builder.rs"));
@@ -24,6 +28,7 @@ extern "C" {
     fn float_narrow(x: f64) -> f32;
     fn float_narrow_all(xs: *const f64, a: usize, out: *mut f32, b: usize);
     fn float_exp(y: f64) -> f64;
+    fn float_ln(x: f64) -> f64;
     fn float_is_finite(x: f64) -> bool;
     fn float_widen(x: f32) -> f64;
     fn float_floor(x: f64) -> f64;
@@ -230,6 +235,7 @@ fn main() {
         wrong += unary("is_finite", n, r, some, |x| float_is_finite(x) as u64, |x| x.is_finite() as u64);
         wrong += unary("rem_tau", n, r, near_multiple, |x| bits(float_rem_tau(x)), |x| bits(rem_tau(x)));
         wrong += unary("E", n, r, samples::exponent, |x| bits(float_exp(x)), |x| bits(builder::exponential(x)));
+        wrong += unary("ln", n, r, samples::logarithm, |x| bits(float_ln(x)), |x| bits(average::logarithm(x)));
     }
     println!("leaves: {wrong} differences");
     std::process::exit((wrong > 0) as i32);

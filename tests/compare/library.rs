@@ -2,7 +2,7 @@
 use crate::caller::{self, Answer, Call, What};
 use crate::icotable::{self, Builder, Grid, Meshes, Query, Table};
 use crate::lines::bits;
-use crate::meshes::Mesh;
+use crate::meshes::{Mesh, Random};
 use crate::oracle::FaceGrid;
 use crate::reader;
 use crate::reading;
@@ -177,15 +177,23 @@ pub fn add_level(mesh: &Mesh, grid: &FaceGrid, more: usize, entry: impl FnMut() 
     entries
 }
 
-// A reading, and the file that it is of.
-pub fn same_reading(table: &Table, lent: icotable::Lent, q: &Query, number: u64, energy: f64) {
+fn same_value(name: &str, got: icotable::Value, table: &Table, lent: icotable::Lent, asked: impl Fn() -> String, number: u64, energy: f64) {
     report::input();
-    let got = icotable::reading(table, lent, q);
     if (got.number, bits(got.energy)) != (number, bits(energy)) {
         let lengths = [lent.file.len(), lent.vertices.len(), lent.cell_offsets.len(), lent.cell_vertices.len(), lent.face_offsets.len(), lent.faces.len()];
-        let input = format!("{q:?} of {table:?}, lent {lengths:?}");
-        differ("reading", input, format!("{}, {:e}", got.number, got.energy), format!("{number}, {energy:e}"));
+        let input = format!("{} of {table:?}, lent {lengths:?}", asked());
+        differ(name, input, format!("{}, {:e}", got.number, got.energy), format!("{number}, {energy:e}"));
     }
+}
+
+// A reading, and the file that it is of.
+pub fn same_reading(table: &Table, lent: icotable::Lent, q: &Query, number: u64, energy: f64) {
+    same_value("reading", icotable::reading(table, lent, q), table, lent, || format!("{q:?}"), number, energy);
+}
+
+// The same, weighted.
+pub fn same_weighted(table: &Table, lent: icotable::Lent, q: &Query, beta: f64, number: u64, energy: f64) {
+    same_value("weighted reading", icotable::boltzmann(table, lent, q, beta), table, lent, || format!("{q:?}, beta {beta:e}"), number, energy);
 }
 
 // A file in words: the first bytes of it, where it is long.
@@ -206,6 +214,9 @@ pub struct Readings {
     pub answered: u64,
     pub refused: u64,
     pub files: u64,
+    // each reading is weighted, too, by a beta of its own
+    pub random: Random,
+    pub weighted: u64,
 }
 
 impl reader::Sink for Readings {
@@ -228,5 +239,14 @@ impl reader::Sink for Readings {
     fn reading(&mut self, table: &Table, lists: &reader::Lists, lent: &[usize; 6], q: &Query, a: &reading::Answer, _: usize) {
         same_reading(table, lists.lent(lent), q, a.number, a.energy);
         *if a.number == 0 { &mut self.answered } else { &mut self.refused } += 1;
+        let beta = reader::beta(&mut self.random);
+        let w = reading::weighted(table, lists.lent(lent), q, beta);
+        same_weighted(table, lists.lent(lent), q, beta, w.number, w.energy);
+        self.weighted += 1;
+    }
+
+    fn weighted(&mut self, table: &Table, lists: &reader::Lists, lent: &[usize; 6], q: &Query, beta: f64, a: &reading::Answer) {
+        same_weighted(table, lists.lent(lent), q, beta, a.number, a.energy);
+        self.weighted += 1;
     }
 }

@@ -2,9 +2,9 @@
 // made by a host, and that of document 01's text (reading.rs) where something was.
 use crate::icotable::{Lent, Query, Table};
 use crate::lines::bits;
-use crate::meshes::Mesh;
+use crate::meshes::{Mesh, Random};
 use crate::oracle::{FaceGrid, Vector3};
-use crate::reading::{cell_offsets_below, reading, vertices_below, Answer};
+use crate::reading::{cell_offsets_below, reading, vertices_below, weighted, Answer};
 use crate::report::differ;
 use crate::rust::Table6DAdaptive;
 use std::collections::BTreeMap;
@@ -82,6 +82,8 @@ pub trait Sink {
     fn hold(&mut self, held: &Table, table: &Table);
     // A reading, its answer, and whose it is: 0 that of document 01's text, else the Rust's, by kind.
     fn reading(&mut self, table: &Table, lists: &Lists, lent: &[usize; 6], q: &Query, a: &Answer, kind: usize);
+    // A weighted reading, and its answer: the Rust's where it is not refused.
+    fn weighted(&mut self, table: &Table, lists: &Lists, lent: &[usize; 6], q: &Query, beta: f64, a: &Answer);
 }
 
 pub struct Reader<'a> {
@@ -95,6 +97,8 @@ pub struct Reader<'a> {
     pub rust: Option<Table6DAdaptive<f32>>,
     pub cases: BTreeMap<String, usize>,
     pub counts: BTreeMap<&'static str, usize>,
+    // of the betas
+    random: Random,
 }
 
 // Where 01 admits a reading of the file as it was written, the Rust has to answer the same.
@@ -105,8 +109,27 @@ pub fn same_as_rust(rust: &Table6DAdaptive<f32>, t: &Table, q: &Query, energy: f
     }
 }
 
+// The same of a weighted reading.
+pub fn weighted_as_rust(rust: &Table6DAdaptive<f32>, t: &Table, q: &Query, beta: f64, energy: f64) {
+    let theirs = rust.lookup_boltzmann(q.r, q.omega, &Vector3::from(q.a), &Vector3::from(q.b), beta);
+    if bits(theirs) != bits(energy) {
+        differ("the Rust's lookup_boltzmann and document 02's text", format!("{q:?}, beta {beta:e}, of {t:?}"), format!("{energy:e}"), format!("{theirs:e}"));
+    }
+}
+
+// The beta of a weighted reading: subnormal, tiny, usual, huge; one in eight is refused.
+pub fn beta(random: &mut Random) -> f64 {
+    match random.below(8) {
+        0 => [0.0, -0.0, -1.0, -5e-324, f64::NAN, f64::INFINITY, f64::NEG_INFINITY, -random.finite().abs()][random.below(8)],
+        1 => f64::from_bits(1 + (random.bits() >> 12 >> random.below(52))),
+        2 => [5e-324, f64::MIN_POSITIVE, 1e-300, 1e-20, 1e20, 1e300, f64::MAX][random.below(7)],
+        3 => random.finite().abs().max(5e-324),
+        _ => (1.0 + random.unit()) * [0.01, 1.0, 10.0, 1000.0][random.below(4)] + 1e-3,
+    }
+}
+
 // What the replay counts, in the order in which it prints them.
-pub const COUNTED: [&str; 11] = [
+pub const COUNTED: [&str; 13] = [
     "meshes and their locators",
     "files read",
     "outside the distances, as the Rust",
@@ -118,6 +141,8 @@ pub const COUNTED: [&str; 11] = [
     "refused with 18",
     "refused with 19",
     "refused with 20",
+    "weighted, as the Rust",
+    "weighted, refused",
 ];
 
 impl<'a> Reader<'a> {
@@ -140,6 +165,7 @@ impl<'a> Reader<'a> {
             rust: None,
             cases: BTreeMap::new(),
             counts: COUNTED.iter().map(|&words| (words, 0)).collect(),
+            random: Random::of(21),
         }
     }
 
@@ -236,6 +262,19 @@ impl<'a> Reader<'a> {
         }
         self.hold(d.table);
         self.hand(&d.lent, q, &a, true);
+        self.weigh(&d, q);
+    }
+
+    // The same reading, weighted.
+    fn weigh(&mut self, d: &Damage, q: &Query) {
+        let beta = beta(&mut self.random);
+        let a = weighted(&d.table, self.lists.lent(&d.lent), q, beta);
+        if a.number == 0 {
+            weighted_as_rust(self.rust.as_ref().unwrap(), &d.table, q, beta, a.energy);
+        }
+        self.sink.weighted(&d.table, &self.lists, &d.lent, q, beta, &a);
+        self.count(COUNTED[if a.number == 0 { 11 } else { 12 }]);
+        *self.cases.entry(format!("{:2} {}, with a beta", a.number, a.words)).or_default() += 1;
     }
 
     // Damages, reads, and puts it right again; entries that follow each other in a list go together.

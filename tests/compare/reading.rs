@@ -1,5 +1,6 @@
-// The reading of a table file, from document 01's text and from nothing else: the number of the first question that is answered no, or 0 and the energy; and which case it is. What a host hands in may be
-// any number, so places are whole numbers of 128 bits.
+// The reading of a table file, from document 01's text and from nothing else, and the weighted one, from document 02's: the number of the first question that is answered no, or 0 and the energy; and
+// which case it is. What a host hands in may be any number, so places are whole numbers of 128 bits.
+use crate::average::{exponential, logarithm};
 use crate::icotable::{Lent, Query, Table};
 use crate::search::{self, cell_of, cells_along, length, vertices_of, Refusal, Search};
 use std::f64::consts::TAU;
@@ -66,7 +67,32 @@ fn found(lent: &Lent, level: u64, d: [f64; 3], interpolate: bool) -> Result<(Vec
     search.nearest().map(|(v, _)| (vec![v], [0.0; 3]))
 }
 
-fn mesh_row(t: &Table, lent: Lent, q: &Query, level: u64, offset: u32, interpolate: bool) -> Result<f64, Refusal> {
+// "A weight not above 0 drops its corner": of the others the least, the sum of the weights by their distance from it, and its logarithm.
+fn weighted_average(wa: [f64; 3], wb: [f64; 3], energies: &[f64], beta: f64) -> (f64, &'static str) {
+    let weights: Vec<f64> = (0..9).map(|k| wa[k / 3] * wb[k % 3]).collect();
+    let kept: Vec<(f64, f64)> = weights.iter().copied().zip(energies.iter().copied()).filter(|c| c.0 > 0.0).collect();
+    let least = kept.iter().fold(f64::INFINITY, |u, c| if c.1 < u { c.1 } else { u });
+    if least.is_infinite() {
+        return (f64::INFINITY, "weighted, the least infinite");
+    }
+    let sum = kept.iter().fold(0.0, |sum, c| sum + c.0 * exponential(-beta * (c.1 - least)));
+    if sum <= 0.0 {
+        return (f64::INFINITY, "weighted, no sum");
+    }
+    let energy = least - logarithm(sum) / beta;
+    let underflown = (0..9).any(|k| weights[k] == 0.0 && wa[k / 3] != 0.0 && wb[k % 3] != 0.0);
+    let words = match () {
+        _ if energy.is_nan() => "weighted, a NaN",
+        _ if energy.is_infinite() => "weighted, infinite",
+        _ if underflown => "weighted, a weight underflows",
+        _ if weights.iter().any(|w| *w < 0.0) => "weighted, a weight below 0",
+        _ if kept.len() < 9 => "weighted, a weight of 0",
+        _ => "weighted, nine corners",
+    };
+    (energy, words)
+}
+
+fn mesh_row(t: &Table, lent: Lent, q: &Query, beta: Option<f64>, level: u64, offset: u32, interpolate: bool) -> Result<(f64, &'static str), Refusal> {
     let (a, b) = (found(&lent, level, q.a, interpolate), found(&lent, level, q.b, interpolate));
     // 19 of either direction before 20 of either
     for number in [19, 20] {
@@ -88,7 +114,10 @@ fn mesh_row(t: &Table, lent: Lent, q: &Query, level: u64, offset: u32, interpola
         }
     }
     if !interpolate {
-        return Ok(energies[0]);
+        return Ok((energies[0], "nearest"));
+    }
+    if let Some(beta) = beta {
+        return Ok(weighted_average(wa, wb, &energies, beta));
     }
     let mut sum = 0.0;
     for i in 0..3 {
@@ -96,10 +125,10 @@ fn mesh_row(t: &Table, lent: Lent, q: &Query, level: u64, offset: u32, interpola
             sum += wa[i] * energies[i * 3 + j] * wb[j];
         }
     }
-    Ok(sum)
+    Ok((sum, "interpolated"))
 }
 
-fn row(t: &Table, lent: Lent, q: &Query) -> Result<(f64, &'static str), Refusal> {
+fn row(t: &Table, lent: Lent, q: &Query, beta: Option<f64>) -> Result<(f64, &'static str), Refusal> {
     if q.r.is_nan() {
         return Err((18, "r is a NaN"));
     }
@@ -112,6 +141,9 @@ fn row(t: &Table, lent: Lent, q: &Query) -> Result<(f64, &'static str), Refusal>
     }
     if !held(q.b) {
         return Err((18, "the length of the second direction"));
+    }
+    if beta.is_some_and(|beta| !(beta.is_finite() && beta > 0.0)) {
+        return Err((21, "beta"));
     }
     if q.r < t.grid.rmin || q.r > (t.grid.n_r as f64).mul_add(t.grid.dr, t.grid.rmin) {
         return Ok((0.0, if q.r < t.grid.rmin { "below rmin" } else { "above rmax" }));
@@ -131,13 +163,21 @@ fn row(t: &Table, lent: Lent, q: &Query) -> Result<(f64, &'static str), Refusal>
         0 => Ok((f32::from_bits(u32_of(&bytes[6..])) as f64, "Scalar")),
         1 => Ok((f64::INFINITY, "Repulsive")),
         2 | 3 if level >= t.levels => Err((19, "a level that is not held")),
-        2 | 3 => mesh_row(t, lent, q, level, u32_of(&bytes[2..6]), interpolate).map(|e| (e, if interpolate { "interpolated" } else { "nearest" })),
+        2 | 3 => mesh_row(t, lent, q, beta, level, u32_of(&bytes[2..6]), interpolate),
         _ => Err((19, "an unknown kind")),
     }
 }
 
 pub fn reading(t: &Table, lent: Lent, q: &Query) -> Answer {
-    match row(t, lent, q) {
+    answer(t, lent, q, None)
+}
+
+pub fn weighted(t: &Table, lent: Lent, q: &Query, beta: f64) -> Answer {
+    answer(t, lent, q, Some(beta))
+}
+
+fn answer(t: &Table, lent: Lent, q: &Query, beta: Option<f64>) -> Answer {
+    match row(t, lent, q, beta) {
         Ok((energy, words)) => Answer { number: 0, energy, words },
         Err((number, words)) => Answer { number, energy: 0.0, words },
     }

@@ -5,6 +5,10 @@ mod lines;
 #[allow(dead_code)]
 mod meshes;
 #[allow(dead_code, clippy::all)]
+mod average {
+    include!(concat!(env!("COMPARE"), "/average.rs"));
+}
+#[allow(dead_code, clippy::all)]
 mod oracle {
     include!(concat!(env!("COMPARE"), "/oracle.rs"));
 }
@@ -17,7 +21,9 @@ mod rust {
 mod icotable;
 mod pack;
 mod queries;
+#[allow(dead_code)]
 mod reader;
+#[allow(dead_code)]
 mod reading;
 #[allow(dead_code)]
 mod report;
@@ -38,6 +44,7 @@ const HEAD: &[&str] = &[
     "03 meshes of levels 0 and 1, in the 24 lines' letters behind it: vertices, neighbour counts, neighbours; the locator call is made for each.",
     "04 read: the number answered, and behind it how much of the file is lent. Its answer is held, until one of a host takes its place:",
     "05 rmin, rmax, dr, omega step, threshold, beta, both bin counts; 06 the counts of levels, rows and energies, and the starts of the five sections.",
+    "07 beta: the reading behind it, which says 06, is weighted by it; its energy is the Rust's.",
 ];
 
 const LINE: usize = 192;
@@ -129,6 +136,13 @@ impl Sink for Written {
         line.words([q.r, q.omega, q.a[0], q.a[1], q.a[2], q.b[0], q.b[1], q.b[2]].map(bits));
         self.out.extend(line.0);
     }
+
+    fn weighted(&mut self, table: &Table, lists: &Lists, lent: &[usize; 6], q: &Query, beta: f64, a: &Answer) {
+        let mut line = Line::new(7);
+        line.put(56, 16, bits(beta));
+        self.out.extend(line.0);
+        self.reading(table, lists, lent, q, a, 6);
+    }
 }
 
 // Cases that the readings are to have: of both kinds, of those that nothing was done to, and of damaged ones.
@@ -146,6 +160,10 @@ const NEEDED: &[&str] = &[
     "18 the length of the first direction",
     "18 the length of the second direction",
     "20 an empty cell",
+    "21 beta, with a beta",
+    " 0 weighted, nine corners, with a beta",
+    " 0 weighted, a weight of 0, with a beta",
+    " 0 weighted, the least infinite, with a beta",
 ];
 const NEEDED_DAMAGED: &[&str] = &[
     "19 no bins",

@@ -134,6 +134,17 @@ pub fn exponent(random: &mut Random) -> f64 {
     }
 }
 
+// Numbers above 0: beside 1, beside the root of 2 at any exponent, of any field; and any.
+pub fn logarithm(random: &mut Random) -> f64 {
+    let field = between(random, 0, 2046);
+    match random.below(4) {
+        0 => sample(random),
+        1 => step(1.0, few(random) << random.below(52)),
+        2 => step(f64::from_bits(std::f64::consts::SQRT_2.to_bits() & 0x000f_ffff_ffff_ffff | (field as u64) << 52), few(random)),
+        _ => with_field(random, field).abs(),
+    }
+}
+
 // For a fused product and sum: the addend is near the product, almost undoes it, or decides a tie of it from far below.
 pub fn cancelling(random: &mut Random) -> [f64; 3] {
     let kind = random.below(6);

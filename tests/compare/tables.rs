@@ -2,6 +2,10 @@
 // kinds; after each list write, read, damaged copies of the file, and readings; then rounds of readings over damaged lists and tables made by a host. Every answer and every entry of
 // every lent list is compared: with the Rust where document 01 admits a call, with independent readings of 01's text (refusals.rs, plain.rs, reading.rs) where not.
 #[allow(dead_code, clippy::all)]
+mod average {
+    include!(concat!(env!("COMPARE"), "/average.rs"));
+}
+#[allow(dead_code, clippy::all)]
 mod builder {
     include!(concat!(env!("COMPARE"), "/builder.rs"));
 }
@@ -36,20 +40,21 @@ mod report;
 #[allow(dead_code)]
 mod samples;
 mod search;
+mod weighted;
 mod worlds;
 
 use arguments::arguments;
 use bounds::{drawn, CASES};
 use caller::Caller;
 use icotable::{Grid, Query, Table};
-use library::{builder_of, file_words, lists_of, same_reading, same_table, Library, Readings};
+use library::{builder_of, file_words, lists_of, same_reading, same_table, same_weighted, Library, Readings};
 use lines::bits;
 use lists::{needed_lengths, wrong, wrong_mesh, WRONG, WRONG_MESH};
 use meshes::Random;
 use oracle::FaceGrid;
 use pack::packed;
 use queries::{asked, query, query_at};
-use reader::{same_as_rust, Reader};
+use reader::{same_as_rust, weighted_as_rust, Reader};
 use refusals::{Held, Lists};
 use report::differ;
 use std::collections::BTreeMap;
@@ -268,6 +273,13 @@ fn readings(world: &World, t: &Table, table: &rust::Table6DAdaptive<f32>, file: 
         }
         same_reading(t, lent, &q, a.number, a.energy);
         found[a.number as usize] += 1;
+        let beta = reader::beta(random);
+        let w = reading::weighted(t, lent, &q, beta);
+        if w.number == 0 {
+            weighted_as_rust(table, t, &q, beta, w.energy);
+        }
+        same_weighted(t, lent, &q, beta, w.number, w.energy);
+        tally.add("weighted reading, as written", 1);
     }
     for (number, &n) in found.iter().enumerate().filter(|f| *f.1 > 0) {
         tally.add(&format!("reading, as written, answered {number}"), n);
@@ -311,7 +323,7 @@ fn lists(mut world: World, count: u64, many: usize, random: &mut Random, tally: 
     tally.add("entries of lent lists", library.entries);
 }
 
-// The functions that no table needs, by answers worked out elsewhere: the two sizes by document 01's words, the four numbers by the machine's.
+// The functions that no table needs, by answers worked out elsewhere: the two sizes by document 01's words, the five numbers by the machine's.
 fn signatures(random: &mut Random) {
     for level in (0..20).chain([u64::MAX, 1 << 32]) {
         let n = 10 * (level as u128 + 1) * (level as u128 + 1) + 2;
@@ -323,11 +335,26 @@ fn signatures(random: &mut Random) {
         let [a, b, c] = samples::cancelling(random);
         assert_eq!(bits(icotable::root(a)), bits(a.sqrt()));
         assert_eq!(bits(icotable::exp(a)), bits(builder::exponential(a)));
+        assert_eq!(bits(icotable::ln(a)), bits(average::logarithm(a)));
         assert_eq!(bits(icotable::mul_add(a, b, c)), bits(a.mul_add(b, c)));
         assert_eq!(bits(icotable::narrow(a) as f64), bits(a as f32 as f64));
     }
-    println!("signatures: vertices, cells, root, exp, mul_add and narrow answer as they should");
+    println!("signatures: vertices, cells, root, exp, ln, mul_add and narrow answer as they should");
 }
+
+// Cases of weighted readings that every run has.
+const WEIGHTED: [&str; 10] = [
+    "0: Scalar",
+    "0: Repulsive",
+    "0: nearest",
+    "0: below rmin",
+    "0: weighted, nine corners",
+    "0: weighted, a weight of 0",
+    "0: weighted, infinite",
+    "0: weighted, the least infinite",
+    "0: weighted, a NaN",
+    "21: beta",
+];
 
 // Cases that have to have occurred.
 fn needed() -> Vec<String> {
@@ -338,14 +365,15 @@ fn needed() -> Vec<String> {
     words.extend([1, 2, 3, 4, 5, 6, 7, 12, 15].map(|n| format!("write, refused with {n}")));
     words.extend([0, 13, 14, 15, 16, 17].map(|n| format!("read, damaged copies answered {n}")));
     words.extend([0, 18, 20].map(|n| format!("reading, as written, answered {n}")));
+    words.extend(WEIGHTED.map(|case| format!("weighted reading, answered {case}")));
     words.extend(CASES.map(String::from));
     words
 }
 
 fn main() {
     let (mut random, length) = arguments();
-    // lists of calls at low levels; levels from 6 on, and lists at each; rounds of readings
-    let (all, high, each, rounds) = length.choose((5000, 6..=8, 4, 20), (100_000, 6..=15, 12, 100));
+    // lists of calls at low levels; levels from 6 on, and lists at each; rounds of readings; tables of weighted readings
+    let (all, high, each, rounds, tables) = length.choose((5000, 6..=8, 4, 20, 60), (100_000, 6..=15, 12, 100, 6000));
     // readings after a list
     let many = 100;
     let mut tally = Tally::default();
@@ -359,7 +387,8 @@ fn main() {
     for top in high {
         (0..each).for_each(|_| lists(World::new(top, &mut random), 1, many, &mut random, &mut tally));
     }
-    let mut sink = Readings { answered: 0, refused: 0, files: 0 };
+    let random_beta = Random::of(random.bits());
+    let mut sink = Readings { answered: 0, refused: 0, files: 0, random: random_beta, weighted: 0 };
     for _ in 0..rounds {
         asked(&mut Reader::new(&mut sink), &mut random, 20, usize::MAX);
     }
@@ -368,6 +397,12 @@ fn main() {
     tally.add("read, files packed by the Rust", sink.files);
     let readings: u64 = tally.0.iter().filter(|t| t.0.starts_with("reading")).map(|t| t.1).sum();
     tally.add("all readings", readings);
+    tally.add("weighted reading, of tables made by hand, damaged or by a host", sink.weighted);
+    for _ in 0..tables {
+        weighted::weighted(1000, &mut random, &mut |words, n| tally.add(words, n));
+    }
+    let weighted: u64 = tally.0.iter().filter(|t| t.0.starts_with("weighted")).map(|t| t.1).sum();
+    tally.add("all weighted readings", weighted);
     for (words, n) in &tally.0 {
         println!("{n:12} {words}");
     }

@@ -119,6 +119,20 @@ impl World {
         table_of(caller.held.settings, levels, caller.rust.as_ref().unwrap())
     }
 
+    // A table of these rows, one a distance, every energy 0.
+    pub fn of_rows(&mut self, rows: Vec<SlabResolution>) -> Table6DAdaptive<f32> {
+        let levels = std::mem::take(&mut self.levels);
+        let n: Vec<usize> = levels.iter().map(|l| l.n_vertices).collect();
+        let mut b = AdaptiveBuilder::with_subdivision(levels, 1.0, 1.0 + 0.5 * rows.len() as f64, 0.5, 6.0, self.top, 0.1, 1.0);
+        let energies = |row: &SlabResolution| match *row {
+            SlabResolution::Mesh { level, .. } => Some(vec![0.0; n[level as usize] * n[level as usize]]),
+            _ => None,
+        };
+        b.slab_data = rows.iter().map(energies).collect();
+        b.slab_res = rows;
+        b.build()
+    }
+
     // The levels went into the table.
     pub fn take_back(&mut self, table: Table6DAdaptive<f32>) {
         self.levels = table.levels;

@@ -23,7 +23,7 @@ static void check(const char *what, uint64_t number) {
 
 int main(void) {
     uint64_t ri = 3, oi = 2;
-    double r = 3.25, omega = 1.05, ax = 1, ay = 0, az = 0, bx = 0, by = 1, bz = 0;
+    double r = 3.25, omega = 1.05, ax = 1, ay = 0, az = 0, bx = 0, by = 1, bz = 0, beta = 0.40339;
     for (int i = 0; i < n * n; i++)
         energies[i] = 7;
 """
@@ -32,7 +32,7 @@ BETWEEN = """    icotable_free_meshes(&m);
         uint8_t *file = output;
         size_t length = w.length;
 """
-TAIL = """        printf("energy %g\\n", v.energy);
+TAIL = """        printf("energy %g, weighted %g\\n", v.energy, x.energy);
         icotable_free_meshes(&m);
     }
     return 0;
@@ -56,6 +56,7 @@ def main():
         snippets(page, "Building a table", 7),
         BETWEEN,
         snippets(page, "Reading in a simulation", 4),
+        snippets(page, "Readings weighted by temperature", 4),
         TAIL,
     ]
     sys.stdout.write("".join(parts))

@@ -67,13 +67,14 @@ static void reading(void) {
     for (int i = 0; i < 4000; i++) {
         double r = i % 5 - 0.25, omega = i * 0.1, x = i % 7 - 3, y = i % 11 - 5, z = i % 13 - 6.5;
         sink = icotable_reading(&table, file, length, ICOTABLE_LOCATORS(&meshes), r, omega, x, y, z, z, x, y).energy;
+        sink = icotable_boltzmann(&table, file, length, ICOTABLE_LOCATORS(&meshes), r, omega, x, y, z, z, x, y, 1).energy;
     }
 }
 
 static void numbers(void) {
     for (int i = 0; i < 2000; i++) {
         double x = (double)(i - 500) * 1e-3, y = x * 1e-308;
-        sink = icotable_root(x) + icotable_exp(x) + icotable_mul_add(x, y, x) + icotable_mul_add(y, y, y) + (double)icotable_narrow(y);
+        sink = icotable_root(x) + icotable_exp(x) + icotable_ln(x) + icotable_ln(y) + icotable_mul_add(x, y, x) + icotable_mul_add(y, y, y) + (double)icotable_narrow(y);
     }
     sink = (double)(icotable_vertices(15) + icotable_cells(15));
 }
@@ -94,8 +95,8 @@ static const operation operations[] = {
     {"write", nothing, write_table, 2},
     {"read", nothing, read_table, 2},
     {"locator", nothing, locator, 10},
-    {"reading", nothing, reading, 2},
-    {"root, exp, mul_add, narrow, vertices, cells", nothing, numbers, 2},
+    {"reading, boltzmann", nothing, reading, 3},
+    {"root, exp, ln, mul_add, narrow, vertices, cells", nothing, numbers, 2},
 };
 
 typedef struct run {

@@ -4,7 +4,7 @@
  * damaged or a host made the table. */
 #include "replay.h"
 
-enum { MESHES, FILES, OUTSIDE, DAMAGED = 7, QUERY, ENTRIES, CELLS };
+enum { MESHES, FILES, OUTSIDE, DAMAGED = 7, QUERY, ENTRIES, CELLS, WEIGHTED, UNWEIGHTED };
 
 /* The meshes of levels 0 and 1 and their locators, in each list one level's part after the other's. */
 enum { N0 = 12, N = N0 + 42, CELLS0 = 25, CELL_OFFSETS = CELLS0 + 97, FILE_ROOM = 16384 };
@@ -20,20 +20,26 @@ typedef struct lists {
 
 /* ---- a reading */
 
-static icotable_value reading(replay *r, const icotable_table *t, const lists *l) {
+/* Weighted where there is a beta. */
+static icotable_value reading(replay *r, const icotable_table *t, const lists *l, const double *beta) {
     size_t f = lent(r, FILE_ROOM), v = lent(r, 3 * N), i = lent(r, CELL_OFFSETS), j = lent(r, 27 * N),
            k = lent(r, N + 2), m = lent(r, 45 * N);
     double q[8];
     for (int n = 0; n < 8; n++)
         q[n] = number(r);
+    if (beta)
+        return icotable_boltzmann(t, l->file, f, l->vertices, v, l->cell_offsets, i, l->cell_vertices, j,
+            l->face_offsets, k, l->faces, m, q[0], q[1], q[2], q[3], q[4], q[5], q[6], q[7], *beta);
     return icotable_reading(t, l->file, f, l->vertices, v, l->cell_offsets, i, l->cell_vertices, j, l->face_offsets, k,
         l->faces, m, q[0], q[1], q[2], q[3], q[4], q[5], q[6], q[7]);
 }
 
 /* By the number that is stored, then by whose answer it is: 1 to 5 the Rust's, for distances outside and each kind of
- * row. */
+ * row; 6 a weighted reading's. */
 static int kind_of(replay *r) {
     uint64_t whose = word(r, 2), wanted = digits(r, 2);
+    if (whose == 6)
+        return wanted == 0 ? WEIGHTED : UNWEIGHTED;
     if (wanted == 18 || wanted == 19)
         return wanted == 18 ? QUERY : ENTRIES;
     if (wanted != 0)
@@ -42,11 +48,11 @@ static int kind_of(replay *r) {
 }
 
 /* Whose answer it is, the number and the energy stand before what is asked; the energy of a refused reading is 0. */
-static void replay_reading(replay *r, const icotable_table *t, const lists *l) {
+static void replay_reading(replay *r, const icotable_table *t, const lists *l, const double *beta) {
     size_t answer = r->at + 3;
     int kind = kind_of(r);
     r->at = answer + 3 + 17;
-    icotable_value a = reading(r, t, l);
+    icotable_value a = reading(r, t, l, beta);
     size_t end = r->at;
     r->at = answer;
     bool agrees = same(r, kind, 2, a.number);
@@ -120,17 +126,29 @@ static void read_sections(replay *r, icotable_table *t) {
         t->start[k] = word(r, 16);
 }
 
-/* A line: 1 a reading, 2 entries, 3 meshes, 4 a file, 5 and 6 parts of a table that a host made. */
+/* A beta, and the reading that is weighted by it in the line behind. */
+static void replay_weighted(replay *r, size_t start, const icotable_table *held, const lists *l) {
+    r->at = start + 56;
+    double beta = number(r);
+    end_line(r);
+    if (word(r, 2) != 1)
+        bad_data(r, "a reading should stand behind a beta");
+    replay_reading(r, held, l, &beta);
+}
+
+/* A line: 1 a reading, 2 entries, 3 meshes, 4 a file, 5 and 6 parts of a table that a host made,
+ * 7 a weighted reading. */
 static void replay_line(replay *r, lists *l, icotable_table *held) {
     enum { MADE = 56 };
     size_t start = r->at;
     switch (word(r, 2)) {
-    case 1: replay_reading(r, held, l); break;
+    case 1: replay_reading(r, held, l, NULL); break;
     case 2: read_entries(r, l, put); break;
     case 3: replay_meshes(r, l); break;
     case 4: replay_file(r, start, l, held); break;
     case 5: r->at = start + MADE, held->grid = read_grid(r); break;
     case 6: r->at = start + MADE, read_sections(r, held); break;
+    case 7: replay_weighted(r, start, held, l); break;
     default: bad_data(r, "there is no such line");
     }
 }

@@ -190,6 +190,8 @@ static kind_count readings[] = {
     {.words = "refused with 18"},
     {.words = "refused with 19"},
     {.words = "refused with 20"},
+    {.words = "weighted, as the Rust"},
+    {.words = "weighted, refused"},
     {0},
 };
 static kind_count damaged[] = {

@@ -11,6 +11,7 @@ RECORDS = (('specs', 'Records'), ('proofs', 'Entries'))
 def walks():
     return [
         Look('icotable', 'lib', 'icotable_reading'),
+        Look('icotable', 'lib', 'icotable_boltzmann'),
         Lend('lent', 'calls', 'set_lent'),
         Lend('lent', 'calls', 'settle_lent'),
         Read('lent', 'records', 'row_at', RECORDS, 'none', 'read (rows .now) s', 'read-beyond (rows .now) s h'),

@@ -9,6 +9,7 @@ ghost use lib.Ieee.Scale.{finite};
 ghost use Rattle.float.specs.Order.{magnitude, larger, smaller, ordered, angle};
 ghost use Rattle.float.specs.Whole.{floored, ceiled};
 ghost use Rattle.float.specs.Exp.{exponential};
+ghost use Rattle.float.specs.Log.{logarithm};
 ghost use Rattle.float_c.specs.Narrows.{narrowedAll};
 
 #[no_mangle]
@@ -37,6 +38,13 @@ pub extern "C" fn float_exp(y: f64) -> f64
     ensures { λ r. ⌜ r ≡ exponential y ⌝ }
 {
     float::exp(y)
+}
+
+#[no_mangle]
+pub extern "C" fn float_ln(x: f64) -> f64
+    ensures { λ r. ⌜ r ≡ logarithm x ⌝ }
+{
+    float::ln(x)
 }
 
 #[no_mangle]

@@ -7,12 +7,13 @@ ghost use Rattle.ieee.specs.Root.{root};
 ghost use Rattle.ieee.specs.Fused.{fused};
 ghost use Rattle.ieee.specs.Narrow.{narrowed};
 ghost use Rattle.float.specs.Exp.{exponential};
+ghost use Rattle.float.specs.Log.{logarithm};
 ghost use Rattle.builder.specs.Calls.{BuiltOut, SettleOut, builtValues, settledValues, noBuilder, freshOut, setOut, settleOut};
 ghost use Rattle.writer.specs.Write.{WriteOut, writtenValues, writeOut};
 ghost use Rattle.table.specs.Read.{readValues, readOut};
 ghost use Rattle.locator.specs.Locator.{LocatorOut, locatorOut};
-ghost use Rattle.reading.specs.Resolve.{readingValues};
-ghost use Rattle.reading.specs.Reading.{readingOut};
+ghost use Rattle.reading.specs.Resolve.{boltzmann, readingValues};
+ghost use Rattle.reading.specs.Reading.{readingBy, readingOut};
 ghost use Rattle.icotable.specs.Sizes.{heldVertices, heldCells};
 ghost use Rattle.icotable.specs.Answers.{builtIn, settledIn, writtenIn, valueIn, tableWith, tableAnswer, tableFrom};
 use builder::Builder;
@@ -446,6 +447,100 @@ pub extern "C" fn icotable_reading(
     )
 }
 
+fn boltzmann_of(
+    table: TableAnswer,
+    file: &[u8],
+    vertices: &[f64],
+    cell_offsets: &[u32],
+    cell_vertices: &[u16],
+    face_offsets: &[u32],
+    faces: &[u16],
+    r: f64,
+    omega: f64,
+    ax: f64,
+    ay: f64,
+    az: f64,
+    bx: f64,
+    by: f64,
+    bz: f64,
+    beta: f64,
+) -> ValueAnswer
+    ensures { λ z. ⌜ valueIn z ≡ readingBy (now (file .entry)) (tableFrom table) (now (vertices .entry))
+        (locatorOf (now («cell_offsets» .entry)) (now («cell_vertices» .entry)) (now («face_offsets» .entry)) (now (faces .entry)))
+        (boltzmann beta) (record { r = r; omega = omega; a = record { x = ax; y = ay; z = az }; b = record { x = bx; y = by; z = bz } }) ⌝ }
+{
+    let t = table_from(table);
+    let a = Vector3 {
+        x: ax,
+        y: ay,
+        z: az,
+    };
+    let b = Vector3 {
+        x: bx,
+        y: by,
+        z: bz,
+    };
+    let answer = reading::lookup_boltzmann(
+        t,
+        file,
+        vertices,
+        cell_offsets,
+        cell_vertices,
+        face_offsets,
+        faces,
+        r,
+        omega,
+        a,
+        b,
+        beta,
+    );
+    value_answer(answer)
+}
+
+// The same, weighted by temperature.
+#[no_mangle]
+pub extern "C" fn icotable_boltzmann(
+    table: &TableAnswer,
+    file: &[u8],
+    vertices: &[f64],
+    cell_offsets: &[u32],
+    cell_vertices: &[u16],
+    face_offsets: &[u32],
+    faces: &[u16],
+    r: f64,
+    omega: f64,
+    ax: f64,
+    ay: f64,
+    az: f64,
+    bx: f64,
+    by: f64,
+    bz: f64,
+    beta: f64,
+) -> ValueAnswer
+    ensures { λ z. ⌜ valueIn z ≡ readingBy (now (file .entry)) (tableFrom (now (table .entry))) (now (vertices .entry))
+        (locatorOf (now («cell_offsets» .entry)) (now («cell_vertices» .entry)) (now («face_offsets» .entry)) (now (faces .entry)))
+        (boltzmann beta) (record { r = r; omega = omega; a = record { x = ax; y = ay; z = az }; b = record { x = bx; y = by; z = bz } }) ⌝ }
+{
+    boltzmann_of(
+        *table,
+        file,
+        vertices,
+        cell_offsets,
+        cell_vertices,
+        face_offsets,
+        faces,
+        r,
+        omega,
+        ax,
+        ay,
+        az,
+        bx,
+        by,
+        bz,
+        beta,
+    )
+}
+
 // The vertices of a level; 0 above level 15.
 #[no_mangle]
 pub extern "C" fn icotable_vertices(level: u64) -> u64
@@ -481,6 +576,13 @@ pub extern "C" fn icotable_exp(y: f64) -> f64
     ensures { λ r. ⌜ r ≡ exponential y ⌝ }
 {
     float::exp(y)
+}
+
+#[no_mangle]
+pub extern "C" fn icotable_ln(x: f64) -> f64
+    ensures { λ r. ⌜ r ≡ logarithm x ⌝ }
+{
+    float::ln(x)
 }
 
 #[no_mangle]

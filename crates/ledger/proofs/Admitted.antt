@@ -1,7 +1,7 @@
 -- The reading rule refuses with 18 and 20 alone. Assumes nothing.
 use mathlib.Core.Path.{_≡_, refl}
 use Rattle.lists.proofs.Counting.{chosen}
-use mathlib.Core.Bool.{Bool, cond, _&&_}
+use mathlib.Core.Bool.{Bool, true, false, cond, _&&_}
 use mathlib.Core.List.{List, [], _∷_}
 use mathlib.Core.Logic.{_⊎_, inl, inr}
 use Prim.Native.Nat.{ℕ, _+_, _*_, _<_}
@@ -21,8 +21,8 @@ use Rattle.search.specs.Search.{squared, notNearest, nearer, nearestFrom, neare
 use Rattle.search.specs.declared.Vector3.{Vector3}
 use Rattle.search.specs.declared.Nearest.{Nearest}
 use Rattle.search.specs.declared.Located.{Located}
-use Rattle.reading.specs.Resolve.{readingValues, Query, queryValid, outside, Resolved, unresolved, beyond, slabAt, resolve, Picks, unpicked, picked, joint, nearestPick, facePick}
-use Rattle.reading.specs.Rule.{search, rulePicks, ruleRow, ruleSlab, ruled}
+use Rattle.reading.specs.Resolve.{readingValues, Query, Way, wayValid, queryValid, outside, Resolved, unresolved, beyond, slabAt, resolve, Picks, unpicked, picked, joint, nearestPick, facePick}
+use Rattle.reading.specs.Rule.{search, rulePicks, ruleRow, ruleSlab, ruledBy}
 use Rattle.ledger.specs.Promise.{Answered}
 
 -- 20 or nothing, of a search
@@ -30,9 +30,9 @@ abbrev Searched : ℕ → Type 0
 Searched n = (n ≡ 0) ⊎ (n ≡ 20)
 
 -- .. and so of a reading
-of-search : {n : ℕ} → Searched n → Answered n
-of-search (inl e) = inl e
-of-search (inr e) = inr (inr e)
+of-search : {n : ℕ} (way : Way) → Searched n → Answered way n
+of-search way (inl e) = inl e
+of-search way (inr e) = inr (inr (inl e))
 
 -- ---- a search over a mesh
 
@@ -85,21 +85,28 @@ search-searched m q v b =
     (λ e. face-picks n (locate l n g (unit (q .a))) (locate l n g (unit (q .b))) (locate-searched l n g (unit (q .a))) (locate-searched l n g (unit (q .b))))
     (nearest-picks n (nearestOf l n g (unit (q .a))) (nearestOf l n g (unit (q .b))) (nearest-searched l n g (unit (q .a))) (nearest-searched l n g (unit (q .b))))
 
-picks-answered : (b : Bool) (es : List ℕ) (x : Picks) → PicksSearched x → Answered (readingValues (rulePicks b es x) .number)
-picks-answered b es (unpicked n) h = of-search h
-picks-answered b es (picked ks x y) h = inl refl
+module _ (way : Way) where
+  picks-answered : (b : Bool) (es : List ℕ) (x : Picks) → PicksSearched x → Answered way (readingValues (rulePicks way b es x) .number)
+  picks-answered b es (unpicked n) h = of-search way h
+  picks-answered b es (picked ks x y) h = inl refl
 
-row-answered : (m : Mesh) (q : Query) (r : Row ℕ) → Answered (readingValues (ruleRow m q r) .number)
-row-answered m q (scalar x) = inl refl
-row-answered m q repulsive = inl refl
-row-answered m q (mesh v b es) = picks-answered b es (search m q v b) (search-searched m q v b)
+  row-answered : (m : Mesh) (q : Query) (r : Row ℕ) → Answered way (readingValues (ruleRow m way q r) .number)
+  row-answered m q (scalar x) = inl refl
+  row-answered m q repulsive = inl refl
+  row-answered m q (mesh v b es) = picks-answered b es (search m q v b) (search-searched m q v b)
 
--- over a grid with bins
-pub rule-answered : (g : Grid) (rs : List (Row ℕ)) (m : Mesh) (q : Query) → 0 < g .«n_r» → 0 < g .«n_omega» → Answered (ruled g rs m q .number)
-unfolding ruled resolve
-rule-answered g rs m q a b =
-    let P : Resolved → Type 0 = λ w. Answered (readingValues (ruleSlab rs m q w) .number) in
-    let s = distanceBin (q .r) (g .rmin) (g .dr) (g .«n_r») * g .«n_omega» + dihedralBin (q .omega) (g .«omega_step») (g .«n_omega») in
-    rw (lt-ltb 0 (g .«n_r») a, lt-ltb 0 (g .«n_omega») b)
-    (chosen P (queryValid q) (cond (outside g (q .r)) beyond (slabAt s)) (unresolved 18)
-    (λ e. chosen P (outside g (q .r)) beyond (slabAt s) (λ f. inl refl) (row-answered m q (getD rs s repulsive))) (inr (inl refl)))
+  -- over a grid with bins
+  pub rule-answered : (g : Grid) (rs : List (Row ℕ)) (m : Mesh) (q : Query) → 0 < g .«n_r» → 0 < g .«n_omega» → Answered way (ruledBy g rs m way q .number)
+  unfolding ruledBy resolve
+  rule-answered g rs m q a b =
+      let P : Resolved → Type 0 = λ w. Answered way (readingValues (ruleSlab rs m way q w) .number) in
+      let s = distanceBin (q .r) (g .rmin) (g .dr) (g .«n_r») * g .«n_omega» + dihedralBin (q .omega) (g .«omega_step») (g .«n_omega») in
+      rw (lt-ltb 0 (g .«n_r») a, lt-ltb 0 (g .«n_omega») b)
+      (chosen P (queryValid q) (cond (wayValid way) (cond (outside g (q .r)) beyond (slabAt s)) (unresolved 21)) (unresolved 18)
+      (λ e. by (cond (outside g (q .r)) beyond (slabAt s)) (wayValid way) refl (chosen P (outside g (q .r)) beyond (slabAt s) (λ f. inl refl) (row-answered m q (getD rs s repulsive))))
+      (inr (inl refl)))
+    where
+      by : (w : Resolved) (t : Bool) → wayValid way ≡ t → Answered way (readingValues (ruleSlab rs m way q w) .number)
+          → Answered way (readingValues (ruleSlab rs m way q (cond t w (unresolved 21))) .number)
+      by w true v h = h
+      by w false v h = inr (inr (inr (v, refl)))

@@ -30,10 +30,10 @@ use Rattle.table.proofs.Back.{All}
 use Rattle.table.proofs.Sound.{Fine}
 use Rattle.table.proofs.OfRows.{before}
 use Rattle.table.proofs.OfFile.{Filable, gridIn, tableIn, file-length, entry-of, energy-of}
-use Rattle.reading.specs.Resolve.{readingValues, Query, queryValid, outside, Resolved, unresolved, beyond, slabAt, resolve, Picks, unpicked, picked, joint, pairPlace, nearestPick, facePick}
-use Rattle.reading.specs.Reading.{rowInside, energyInside, entryAt, energyAt, searchIn, readPicks, readEntry, readSlab, readingOut}
+use Rattle.reading.specs.Resolve.{readingValues, Query, Way, wayValid, queryValid, outside, Resolved, unresolved, beyond, slabAt, resolve, Picks, unpicked, picked, joint, pairPlace, nearestPick, facePick}
+use Rattle.reading.specs.Reading.{rowInside, energyInside, entryAt, energyAt, searchIn, readPicks, readEntry, readSlab, readingBy}
 use Rattle.reading.proofs.Picked.{both-found}
-use Rattle.reading.specs.Rule.{search, rulePicks, ruleRow, ruleSlab, ruled}
+use Rattle.reading.specs.Rule.{search, rulePicks, ruleRow, ruleSlab, ruledBy}
 use Rattle.ledger.proofs.Store.{all-at}
 
 -- ---- a slab that a reading asks for is one of the grid's
@@ -43,9 +43,9 @@ SlabBelow n (unresolved k) = Unit {0}
 SlabBelow n beyond = Unit {0}
 SlabBelow n (slabAt s) = s < n
 
-resolve-below : (g : Grid) (q : Query) → 0 < g .«n_r» → 0 < g .«n_omega» → SlabBelow (slabs g) (resolve g q)
+resolve-below : (valid : Bool) (g : Grid) (q : Query) → 0 < g .«n_r» → 0 < g .«n_omega» → SlabBelow (slabs g) (resolve valid g q)
 unfolding resolve
-resolve-below g q a b =
+resolve-below valid g q a b =
     let n = g .«n_omega» in
     let s = distanceBin (q .r) (g .rmin) (g .dr) (g .«n_r») * n + dihedralBin (q .omega) (g .«omega_step») n in
     let h : s < slabs g =
@@ -55,8 +55,10 @@ resolve-below g q a b =
           (omega (arith, dihedral-below (q .omega) (g .«omega_step») n b)),
     ) in
     let some = ltb 0 (g .«n_r») && ltb 0 n in
-    chosen (SlabBelow (slabs g)) (queryValid q) (cond (outside g (q .r)) beyond (cond some (slabAt s) (unresolved 19))) (unresolved 18)
-    (λ e. chosen (SlabBelow (slabs g)) (outside g (q .r)) beyond (cond some (slabAt s) (unresolved 19)) (λ f. tt) (chosen (SlabBelow (slabs g)) some (slabAt s) (unresolved 19) (λ f. h) tt)) tt
+    let inner = cond (outside g (q .r)) beyond (cond some (slabAt s) (unresolved 19)) in
+    chosen (SlabBelow (slabs g)) (queryValid q) (cond valid inner (unresolved 21)) (unresolved 18)
+    (λ e. chosen (SlabBelow (slabs g)) valid inner (unresolved 21)
+    (λ v. chosen (SlabBelow (slabs g)) (outside g (q .r)) beyond (cond some (slabAt s) (unresolved 19)) (λ f. tt) (chosen (SlabBelow (slabs g)) some (slabAt s) (unresolved 19) (λ f. h) tt)) tt) tt
 
 -- ---- places that a search picks are a slab's
 
@@ -110,7 +112,7 @@ every-yes P p h (k ∷ ks) q = rw (h k (q .0), every-yes P p h ks (q .1))
 
 -- ---- the meshes of an accepted fresh, and locators made of them
 
-module _ (top : ℕ) (m : Mesh) (l : Locator) (low : top ≤ 15) (held : meshLong (verticesBelow (suc top)) m ≡ true) (kept : meshesKeep top m ≡ true) (roomy : Roomy top l) (q : Query) where
+module _ (top : ℕ) (m : Mesh) (l : Locator) (low : top ≤ 15) (held : meshLong (verticesBelow (suc top)) m ≡ true) (kept : meshesKeep top m ≡ true) (roomy : Roomy top l) (way : Way) (q : Query) where
   search-same : (v : ℕ) (b : Bool) → v ≤ top → searchIn (m .vertices) (locators top m l) q v b ≡ search m q v b
   unfolding searchIn search
   search-same v b h =
@@ -154,7 +156,7 @@ module _ (top : ℕ) (m : Mesh) (l : Locator) (low : top ≤ 15) (held : meshLon
     unfolding energyAt
     found s h k i = let e = energy-of g (suc top) rows ok s k h i in (energy-in (before (suc top) rows s + k) (e .0), e .1)
 
-    picks-read : (o n : ℕ) (b : Bool) (e : List ℕ) → length e ≡ n → Found o e → (x : Picks) → PicksBelow n x → readPicks file t b o x ≡ rulePicks b e x
+    picks-read : (o n : ℕ) (b : Bool) (e : List ℕ) → length e ≡ n → Found o e → (x : Picks) → PicksBelow n x → readPicks file t way b o x ≡ rulePicks way b e x
     picks-read o n b e c f (unpicked k) p = refl
     picks-read o n b e c f (picked ks x y) p =
         rw (
@@ -166,17 +168,17 @@ module _ (top : ℕ) (m : Mesh) (l : Locator) (low : top ≤ 15) (held : meshLon
     ls = locators top m l
 
     mesh-read : (o v : ℕ) (b : Bool) (e : List ℕ) → v < suc top → length e ≡ per v → Found o e
-        → readPicks file t b o (searchIn (m .vertices) ls q v b) ≡ rulePicks b e (search m q v b)
+        → readPicks file t way b o (searchIn (m .vertices) ls q v b) ≡ rulePicks way b e (search m q v b)
     mesh-read o v b e h c f = rw (search-same v b (omega arith)) (picks-read o (per v) b e c f (search m q v b) (search-below v b (omega arith)))
 
-    row-read : (o : ℕ) (r : Row ℕ) → Fine (suc top) r → Found o (energiesIn r) → readEntry file t (m .vertices) ls q (entry o r) ≡ ruleRow m q r
+    row-read : (o : ℕ) (r : Row ℕ) → Fine (suc top) r → Found o (energiesIn r) → readEntry file t (m .vertices) ls way q (entry o r) ≡ ruleRow m way q r
     unfolding readEntry
     row-read o (scalar x) z f = refl
     row-read o repulsive z f = refl
     row-read o (mesh v true e) z f = rw (lt-ltb v (suc top) (z .0)) (mesh-read o v true e (z .0) (z .1) f)
     row-read o (mesh v false e) z f = rw (lt-ltb v (suc top) (z .0)) (mesh-read o v false e (z .0) (z .1) f)
 
-    slab-read : (w : Resolved) → SlabBelow (slabs g) w → readSlab file t (m .vertices) ls q w ≡ ruleSlab rows m q w
+    slab-read : (w : Resolved) → SlabBelow (slabs g) w → readSlab file t (m .vertices) ls way q w ≡ ruleSlab rows m way q w
     unfolding entryAt
     slab-read (unresolved n) h = refl
     slab-read beyond h = refl
@@ -185,12 +187,12 @@ module _ (top : ℕ) (m : Mesh) (l : Locator) (low : top ≤ 15) (held : meshLon
         rw (row-in s i, entry-of g (suc top) rows ok s i)
         (row-read (before (suc top) rows s) (getD rows s repulsive) (all-at (Fine (suc top)) rows s repulsive i (ok .fine)) (found s i))
 
-    grid-same : resolve (gridIn g (suc top) rows) q ≡ resolve g q
+    grid-same : (valid : Bool) → resolve valid (gridIn g (suc top) rows) q ≡ resolve valid g q
     unfolding resolve outside
-    grid-same = refl
+    grid-same valid = refl
 
-    pub reads : readingOut file t (m .vertices) ls q ≡ ruled g rows m q
-    unfolding readingOut ruled
+    pub reads : readingBy file t (m .vertices) ls way q ≡ ruledBy g rows m way q
+    unfolding readingBy ruledBy
     reads =
         let n = some-bins g (suc top) (ok .held) in
-        rw grid-same (ap readingValues (slab-read (resolve g q) (resolve-below g q (n .0) (n .1))))
+        rw (grid-same (wayValid way)) (ap readingValues (slab-read (resolve (wayValid way) g q) (resolve-below (wayValid way) g q (n .0) (n .1))))

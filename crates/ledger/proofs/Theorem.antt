@@ -27,8 +27,8 @@ use Rattle.writer.specs.Write.{fileFrom, writeRefusal, writeOut}
 use Rattle.search.specs.Search.{Locator}
 use Rattle.locator.specs.Several.{Roomy}
 use Rattle.locator.proofs.Laid.{made-yes}
-use Rattle.reading.specs.Resolve.{Query}
-use Rattle.reading.specs.Rule.{ruled}
+use Rattle.reading.specs.Resolve.{Query, Way}
+use Rattle.reading.specs.Rule.{ruledBy}
 use Rattle.table.proofs.OfRows.{fine-rows}
 use Rattle.table.proofs.OfFile.{Filable, file-accepted, file-holds}
 use Rattle.ledger.specs.Ledger.{Ledger, opened, ledger}
@@ -113,10 +113,10 @@ module _ (h : History) (ok : Accepted h) where
         fine = fine-rows (h .top) (last .rows) (agree .fit .good);
       }
 
-  reads-rows : (l : Locator) → Roomy (h .top) l → (q : Query) → readingOf h l q ≡ ruled g (rows h) (h .meshes) q
-  reads-rows l r q =
+  reads-rows : (l : Locator) → Roomy (h .top) l → (way : Way) (q : Query) → readingOf h l way q ≡ ruledBy g (rows h) (h .meshes) way q
+  reads-rows l r way q =
       rw (file-is, file-accepted g (suc (h .top)) (rows h) filable)
-      (reads (h .top) (h .meshes) l (yes-all .asked .top-le) (basis .held) (basis .kept) r q g (rows h) filable)
+      (reads (h .top) (h .meshes) l (yes-all .asked .top-le) (basis .held) (basis .kept) r way q g (rows h) filable)
 
   kept : Kept h
   kept =
@@ -124,7 +124,7 @@ module _ (h : History) (ok : Accepted h) where
         read = rw (file-is, file-accepted g (suc (h .top)) (rows h) filable) refl;
         locator-calls = λ l r. made-yes (h .top) (h .meshes) l (yes-all .asked .top-le) (basis .held) (basis .kept) r;
         readings = reads-rows;
-        answers = λ l r q. let some = some-bins g (suc (h .top)) (filable .held) in rw (reads-rows l r q) (rule-answered g (rows h) (h .meshes) q (some .0) (some .1));
+        answers = λ l r way q. let some = some-bins g (suc (h .top)) (filable .held) in rw (reads-rows l r way q) (rule-answered way g (rows h) (h .meshes) q (some .0) (some .1));
       }
 
 -- ---- two lists of calls

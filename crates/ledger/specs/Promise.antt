@@ -1,4 +1,5 @@
 -- Demand 3 as one type.
+use mathlib.Core.Bool.{false}
 use mathlib.Core.Path.{_≡_}
 use mathlib.Core.List.{List, map}
 use mathlib.Core.Logic.{_↔_, _⊎_}
@@ -17,9 +18,9 @@ use Rattle.builder.specs.BuilderLists.{BuilderLists, slabs}
 use Rattle.builder.specs.Calls.{BuiltOut, freshOut}
 use Rattle.writer.specs.Write.{WriteOut, writeOut}
 use Rattle.table.specs.Read.{readOut}
-use Rattle.reading.specs.Resolve.{Query, ReadingValues}
-use Rattle.reading.specs.Reading.{readingOut}
-use Rattle.reading.specs.Rule.{ruled}
+use Rattle.reading.specs.Resolve.{Query, Way, wayValid, ReadingValues}
+use Rattle.reading.specs.Reading.{readingBy}
+use Rattle.reading.specs.Rule.{ruledBy}
 use Rattle.ledger.specs.Ledger.{Call, State, run, opened, ledger}
 
 -- "lists of set, settle and write calls, refused ones included, each from a fresh builder": what is handed to fresh (lists of any contents
@@ -77,11 +78,11 @@ pub record Same (a b : History) : Type 0 where
 -- ---- what is promised of one list's file
 
 -- "In demand 3 a reading is handed its file, what read returned for it, the meshes of its builder and the locators"
-abbrev pub readingOf : History → Locator → Query → ReadingValues
-readingOf h l q = readingOut (file h) (readOut (file h) .table) (h .meshes .vertices) (locators (h .top) (h .meshes) l) q
+abbrev pub readingOf : History → Locator → Way → Query → ReadingValues
+readingOf h l way q = readingBy (file h) (readOut (file h) .table) (h .meshes .vertices) (locators (h .top) (h .meshes) l) way q
 
-abbrev pub Answered : ℕ → Type 0
-Answered n = (n ≡ 0) ⊎ ((n ≡ 18) ⊎ (n ≡ 20))
+abbrev pub Answered : Way → ℕ → Type 0
+Answered way n = (n ≡ 0) ⊎ ((n ≡ 18) ⊎ ((n ≡ 20) ⊎ ((wayValid way ≡ false) × (n ≡ 21))))
 
 -- S14.6
 pub record Kept (h : History) : Type 0 where
@@ -91,9 +92,10 @@ pub record Kept (h : History) : Type 0 where
   pub locator-calls : (l : Locator) → Roomy (h .top) l → (m : ℕ) → m ≤ h .top → locatorOut m (levelPart m (h .meshes)) (locatorPart m l) .number ≡ 0
   -- "Every admitted reading gives what the reading rule gives from that ledger's rows": "a reading is handed its file, what read returned for it, the
   -- meshes of its builder and the locators that the locator call made of them". A reading that is refused is refused by the rule too, with the same number.
-  pub readings : (l : Locator) → Roomy (h .top) l → (q : Query) → readingOf h l q ≡ ruled (counted (h .grid)) (rows h) (h .meshes) q
-  -- 18 and 20 are the only numbers that refuse it: never 19
-  pub answers : (l : Locator) → Roomy (h .top) l → (q : Query) → Answered (readingOf h l q .number)
+  -- By every way of reading: the plain one, and document 02's weighting with any beta.
+  pub readings : (l : Locator) → Roomy (h .top) l → (way : Way) (q : Query) → readingOf h l way q ≡ ruledBy (counted (h .grid)) (rows h) (h .meshes) way q
+  -- 18, 20 and, for a beta that is not finite and above 0, 21 are the only numbers that refuse it: never 19
+  pub answers : (l : Locator) → Roomy (h .top) l → (way : Way) (q : Query) → Answered way (readingOf h l way q .number)
 
 -- ---- demand 3
 

@@ -24,7 +24,7 @@ use Rattle.builder.proofs.Laws.{meshed}
 use Rattle.builder.specs.Calls.{BuiltOut, SettleOut, freshBuilder, filled, freshOut, setLists, setOut, settledLists, settleAccepted, settleOut}
 use Rattle.writer.specs.Write.{WriteOut, writeRefusal, writeOut}
 use Rattle.table.specs.Read.{readOut}
-use Rattle.reading.specs.Reading.{readingOut}
+use Rattle.reading.specs.Reading.{readingBy}
 use Rattle.ledger.specs.Ledger.{Call, set-call, settle-call, write-call, State, called, run}
 use Rattle.ledger.specs.Promise.{ended, lastWrite, file}
 use Rattle.lent.specs.declared.RowRecord.{RowRecord}
@@ -160,7 +160,7 @@ module _ (h : LentHistory) (long : Long (h .start .rows) (h .start .work)) where
         state = ends;
         last-write = ap writeReply writes;
         bytes = same-file;
-        readings = λ vertices l q. ap (λ (f : List ℕ). readingOut f (readOut f .table) vertices l q) same-file;
+        readings = λ vertices l way q. ap (λ (f : List ℕ). readingBy f (readOut f .table) vertices l way q) same-file;
       }
 
 pub either-form : EitherForm

@@ -14,8 +14,8 @@ use Rattle.builder.specs.declared.Builder.{Builder}
 use Rattle.builder.specs.Calls.{BuiltOut, freshOut, setOut, settleOut}
 use Rattle.writer.specs.Write.{WriteOut, writeOut}
 use Rattle.table.specs.Read.{readOut}
-use Rattle.reading.specs.Resolve.{Query}
-use Rattle.reading.specs.Reading.{readingOut}
+use Rattle.reading.specs.Resolve.{Query, Way}
+use Rattle.reading.specs.Reading.{readingBy}
 use Rattle.ledger.specs.Ledger.{Call, set-call, settle-call, write-call, State, called}
 use Rattle.ledger.specs.Promise.{History, fresh, ended, lastWrite, file}
 use Rattle.lent.specs.declared.RowRecord.{RowRecord}
@@ -137,8 +137,8 @@ pub record CallsAlike (h : LentHistory) : Type 0 where
   pub state : asState (endedLent h) ≡ ended (byValue h)
   pub last-write : writeReply (lastWriteLent h) ≡ writeReply (lastWrite (byValue h))
   pub bytes : fileLent h ≡ file (byValue h)
-  pub readings : (vertices : List Float) (l : Locator) (q : Query) →
-      readingOut (fileLent h) (readOut (fileLent h) .table) vertices l q ≡ readingOut (file (byValue h)) (readOut (file (byValue h)) .table) vertices l q
+  pub readings : (vertices : List Float) (l : Locator) (way : Way) (q : Query) →
+      readingBy (fileLent h) (readOut (fileLent h) .table) vertices l way q ≡ readingBy (file (byValue h)) (readOut (file (byValue h)) .table) vertices l way q
 
 -- all calls, files and readings answer alike through either form
 abbrev pub EitherForm : Type 0

@@ -7,6 +7,7 @@ use native.Mathlib.Nat.{mul-le-mul}
 use native.Mathlib.Omega.{arith}
 use lib.ListN.{length}
 use lib.Dec.{leb, ltb, eqb}
+use lib.Ieee.{Float}
 use borrow.Author.Tests.{lt-ltb, le-ltb, ltb-true, leb-true, eqb-true, eqb-false, ne-eqb}
 use Rattle.lists.specs.Lists.{every, forEach}
 use Rattle.mesh.specs.declared.Face.{Face}
@@ -15,9 +16,9 @@ use Rattle.search.specs.declared.Nearest.{Nearest}
 use Rattle.search.specs.declared.Located.{Located}
 use Rattle.table.specs.Bytes.{numberAt}
 use Rattle.table.specs.declared.Table.{Table}
-use Rattle.reading.specs.Resolve.{joint, nearestPick, facePick, combined, nineTerms, widened}
+use Rattle.reading.specs.Resolve.{Way, linear, boltzmann, Picks, unpicked, picked, joint, nearestPick, facePick, combined, nineTerms, overCorners, boltzmannAverage, widened}
 use Rattle.reading.specs.Reading.{energyInside, energyAt, readPicks}
-use Rattle.reading.specs.Internal.{Small, itemsInside, placesBelow, facePlacesBelow, PlaceInside, RowInside, rowTerms, faceTerms}
+use Rattle.reading.specs.Internal.{Small, itemsInside, placesBelow, facePlacesBelow, PlaceInside, RowInside, rowTerms, faceTerms, rowCorners, faceCorners, faceAverage}
 use Rattle.reading.specs.declared.Reading.the-variants.{Energy, Refused}
 use Rattle.reading.proofs.Inside.{items-inside}
 
@@ -63,12 +64,12 @@ module _ (file : List ℕ) (t : Table) (held : ℕ) (H : held ≡ itemsInside (t
   -- ---- nearest
 
   module _ (o n : ℕ) (x y : Nearest) (e : joint (x .number) (y .number) ≡ 0) where
-    pub nearest-out : held ≤ o + (x .vertex * n + y .vertex) → Refused 19 ≡ readPicks file t false o (nearestPick n x y)
+    pub nearest-out : held ≤ o + (x .vertex * n + y .vertex) → Refused 19 ≡ readPicks file t linear false o (nearestPick n x y)
     unfolding nearestPick every
     nearest-out h = rw (e, energy-held (o + (x .vertex * n + y .vertex)), le-ltb (o + (x .vertex * n + y .vertex)) held h)
 
     pub nearest-in : o + (x .vertex * n + y .vertex) < held
-        → Energy (widened (numberAt 4 file (t .«energies_start» + (o + (x .vertex * n + y .vertex)) * 4))) ≡ readPicks file t false o (nearestPick n x y)
+        → Energy (widened (numberAt 4 file (t .«energies_start» + (o + (x .vertex * n + y .vertex)) * 4))) ≡ readPicks file t linear false o (nearestPick n x y)
     unfolding nearestPick every combined energyAt
     nearest-in h = rw (e, energy-held (o + (x .vertex * n + y .vertex)), lt-ltb (o + (x .vertex * n + y .vertex)) held h)
 
@@ -104,25 +105,41 @@ module _ (file : List ℕ) (t : Table) (held : ℕ) (H : held ≡ itemsInside (t
         (three (low (f .b) (g .a)) (low (f .b) (g .b)) (low (f .b) (g .c)) _
         ∙ ap (λ (z : Bool). placesBelow held o (f .b * n) g && z) (three (low (f .c) (g .a)) (low (f .c) (g .b)) (low (f .c) (g .c)) true ∙ and-true (placesBelow held o (f .c * n) g)))
 
-    nine-sum : (p q : Weights) → combined true p q (map (λ k. energyAt file t (o + k)) places) ≡ faceTerms file (t .«energies_start») o n f g p q
+    nine-sum : (p q : Weights) → combined linear true p q (map (λ k. energyAt file t (o + k)) places) ≡ faceTerms file (t .«energies_start») o n f g p q
     unfolding combined nineTerms forEach energyAt faceTerms rowTerms
     nine-sum p q = refl
 
+    nine-average : (beta : Float) (p q : Weights) → combined (boltzmann beta) true p q (map (λ k. energyAt file t (o + k)) places) ≡ faceAverage file (t .«energies_start») o n f g p q beta
+    unfolding combined boltzmannAverage overCorners forEach energyAt faceAverage faceCorners rowCorners
+    nine-average beta p q = refl
+
   module _ (o n : ℕ) (x y : Located) (e : joint (x .number) (y .number) ≡ 0) where
-    pub face-out : facePlacesBelow held o n (x .face) (y .face) ≡ false → Refused 19 ≡ readPicks file t true o (facePick n x y)
+    pub face-out : (way : Way) → facePlacesBelow held o n (x .face) (y .face) ≡ false → Refused 19 ≡ readPicks file t way true o (facePick n x y)
     unfolding facePick
-    face-out h = rw (e, nine-held o n (x .face) (y .face), h)
+    face-out way h = rw (e, nine-held o n (x .face) (y .face), h)
 
     pub face-in : facePlacesBelow held o n (x .face) (y .face) ≡ true
-        → Energy (faceTerms file (t .«energies_start») o n (x .face) (y .face) (x .weights) (y .weights)) ≡ readPicks file t true o (facePick n x y)
+        → Energy (faceTerms file (t .«energies_start») o n (x .face) (y .face) (x .weights) (y .weights)) ≡ readPicks file t linear true o (facePick n x y)
     unfolding facePick
     face-in h = rw (e, nine-held o n (x .face) (y .face), h, nine-sum o n (x .face) (y .face) (x .weights) (y .weights))
 
+    pub face-weighted : (beta : Float) → facePlacesBelow held o n (x .face) (y .face) ≡ true
+        → Energy (faceAverage file (t .«energies_start») o n (x .face) (y .face) (x .weights) (y .weights) beta) ≡ readPicks file t (boltzmann beta) true o (facePick n x y)
+    unfolding facePick
+    face-weighted beta h = rw (e, nine-held o n (x .face) (y .face), h, nine-average o n (x .face) (y .face) beta (x .weights) (y .weights))
+
 -- a search that did not answer
-pub nearest-none : (file : List ℕ) (t : Table) (o n : ℕ) (x y : Nearest) (k : ℕ) → k ≡ joint (x .number) (y .number) → (k ≡ 0 → ⊥) → Refused k ≡ readPicks file t false o (nearestPick n x y)
+pub nearest-none : (file : List ℕ) (t : Table) (o n : ℕ) (x y : Nearest) (k : ℕ) → k ≡ joint (x .number) (y .number) → (k ≡ 0 → ⊥) → Refused k ≡ readPicks file t linear false o (nearestPick n x y)
 unfolding nearestPick
 nearest-none file t o n x y k e h = rw (← e, ne-eqb k 0 h)
 
-pub face-none : (file : List ℕ) (t : Table) (o n : ℕ) (x y : Located) (k : ℕ) → k ≡ joint (x .number) (y .number) → (k ≡ 0 → ⊥) → Refused k ≡ readPicks file t true o (facePick n x y)
+pub face-none : (file : List ℕ) (t : Table) (way : Way) (o n : ℕ) (x y : Located) (k : ℕ) → k ≡ joint (x .number) (y .number) → (k ≡ 0 → ⊥) → Refused k ≡ readPicks file t way true o (facePick n x y)
 unfolding facePick
-face-none file t o n x y k e h = rw (← e, ne-eqb k 0 h)
+face-none file t way o n x y k e h = rw (← e, ne-eqb k 0 h)
+
+-- a nearest reading is the same by every way
+pub nearest-way : (file : List ℕ) (t : Table) (way : Way) (o : ℕ) (p : Picks) → readPicks file t linear false o p ≡ readPicks file t way false o p
+unfolding combined
+nearest-way file t linear o p = refl
+nearest-way file t (boltzmann beta) o (unpicked n) = refl
+nearest-way file t (boltzmann beta) o (picked ks a b) = refl

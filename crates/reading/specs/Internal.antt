@@ -3,9 +3,12 @@ use mathlib.Core.Path.{_≡_}
 use mathlib.Core.Bool.{Bool, false, cond, _&&_}
 use mathlib.Core.List.{List}
 use Prim.Native.Nat.{ℕ, _+_, _-_, _*_, _/_, _≤_, _<_, min}
-use lib.ListN.{length, take, drop}
+use lib.ListN.{length}
 use lib.Dec.{leb, ltb}
-use lib.Ieee.{Float, inf, binary64, ofBits, add, mul}
+use lib.Ieee.{Float, inf, binary64, ofBits, neg, add, sub, mul, div, lt, le}
+use Rattle.float.specs.Order.{smaller}
+use Rattle.float.specs.Exp.{exponential}
+use Rattle.float.specs.Log.{logarithm}
 use Rattle.mesh.specs.declared.Face.{Face}
 use Rattle.grid.specs.Bins.{distanceBin, dihedralBin}
 use Rattle.grid.specs.declared.Grid.{Grid}
@@ -17,14 +20,11 @@ use Rattle.search.specs.declared.Weights.{Weights}
 use Rattle.search.specs.declared.Nearest.{Nearest}
 use Rattle.search.specs.declared.Located.{Located}
 use Rattle.table.specs.Bytes.{numberAt}
-use Rattle.table.specs.File.{entryOf}
 use Rattle.table.specs.declared.Table.{Table}
-use Rattle.reading.specs.Resolve.{Query, Resolved, unresolved, beyond, slabAt, widened}
-use Rattle.reading.specs.Reading.{rowInside, searchIn, readPicks, readEntry}
+use Rattle.reading.specs.Resolve.{Query, Way, linear, boltzmann, widened, infinite}
+use Rattle.reading.specs.Reading.{searchIn, readPicks}
 use Rattle.reading.specs.declared.Reading.{Reading}
 use Rattle.reading.specs.declared.Reading.the-variants.{Energy, Refused}
-use Rattle.reading.specs.declared.resolve.RowPlace.{RowPlace}
-use Rattle.reading.specs.declared.resolve.RowPlace.the-variants.{At, Outside, NoRow}
 
 -- how many of a section's items, w bytes each from byte start on, are below its count and inside a file of n bytes
 unfoldable pub itemsInside : ℕ → ℕ → ℕ → ℕ → ℕ
@@ -35,27 +35,35 @@ itemsInside start w count n = min count ((n - start) / w)
 abbrev pub slabOf : Grid → Float → Float → ℕ
 slabOf g r omega = distanceBin r (g .rmin) (g .dr) (g .«n_r») * g .«n_omega» + dihedralBin omega (g .«omega_step») (g .«n_omega»)
 
--- the byte at which the row of a slab starts, or why no row is read
-abbrev pub rowPlace : List ℕ → Table → Resolved → RowPlace
-rowPlace file t (unresolved n) = NoRow n
-rowPlace file t beyond = Outside
-rowPlace file t (slabAt s) = cond (rowInside file t s) (At (t .«rows_start» + s * 10)) (NoRow 19)
+-- a table of which a row's answer asks the levels and the place and number of the energies alone
+abbrev pub rowsTable : ℕ → ℕ → ℕ → Table
+rowsTable levels start count =
+    let z = ofBits binary64 0 in
+    record {
+      grid = record { rmin = z; rmax = z; dr = z; «omega_step» = z; threshold = z; beta = z; «n_r» = 0; «n_omega» = 0 };
+      levels = levels;
+      rows = 0;
+      energies = count;
+      «grid_start» = 0;
+      «bins_start» = 0;
+      «levels_start» = 0;
+      «rows_start» = 0;
+      «energies_start» = start;
+    }
+
+-- the way that a number stands for once 21 has been asked: a beta, or 0 for the plain sum
+abbrev pub wayOf : Float → Way
+wayOf beta = cond (lt (ofBits binary64 0) beta) (boltzmann beta) linear
 
 -- the two directions alone: neither a row nor a search asks for the distance and the angle
 abbrev pub toward : Vector3 → Vector3 → Query
 toward a b = record { r = ofBits binary64 0; omega = ofBits binary64 0; a = a; b = b }
 
 -- the row as the enum, of a kind and an offset
-abbrev pub readResolution : List ℕ → Table → List Float → Locator → Query → ℕ → ℕ → SlabResolution → Reading
-readResolution file t vertices l q kind o (Scalar x) = Energy x
-readResolution file t vertices l q kind o Repulsive = Energy (inf false)
-readResolution file t vertices l q kind o (Mesh v b) = cond (leb kind 3 && ltb v (t .levels)) (readPicks file t b o (searchIn vertices l q v b)) (Refused 19)
-
--- the answer by the place of the row
-abbrev pub readPlaced : List ℕ → Table → List Float → Locator → Query → RowPlace → Reading
-readPlaced file t vertices l q (NoRow n) = Refused n
-readPlaced file t vertices l q Outside = Energy (ofBits binary64 0)
-readPlaced file t vertices l q (At at) = readEntry file t vertices l q (entryOf (take 10 (drop at file)))
+abbrev pub readResolution : List ℕ → Table → List Float → Locator → Way → Query → ℕ → ℕ → SlabResolution → Reading
+readResolution file t vertices l way q kind o (Scalar x) = Energy x
+readResolution file t vertices l way q kind o Repulsive = Energy (inf false)
+readResolution file t vertices l way q kind o (Mesh v b) = cond (leb kind 3 && ltb v (t .levels)) (readPicks file t way b o (searchIn vertices l q v b)) (Refused 19)
 
 -- where a level's part of a list of n entries begins: at the list's end, where the list is shorter
 unfoldable pub partFrom : ℕ → ℕ → ℕ
@@ -94,6 +102,32 @@ term file start w k v x = add binary64 x (mul binary64 (mul binary64 w (widened 
 unfoldable pub rowTerms : List ℕ → ℕ → ℕ → ℕ → Face → Float → Weights → Float → Float
 rowTerms file start o k f w q x =
     term file start w (o + (k + f .c)) (q .c) (term file start w (o + (k + f .b)) (q .b) (term file start w (o + (k + f .a)) (q .a) x))
+
+-- one corner of the least energy, and one of the weighted sum, added to x
+abbrev pub lesser : Float → Float → Float → Float
+lesser w e x = cond (lt (ofBits binary64 0) w) (smaller x e) x
+
+abbrev pub weighed : Float → Float → Float → Float → Float → Float
+weighed beta u w e x = cond (lt (ofBits binary64 0) w) (add binary64 x (mul binary64 w (exponential (mul binary64 (neg beta) (sub binary64 e u))))) x
+
+-- f at the corners of a vertex of weight w against a face, and at those of two faces
+abbrev corner : List ℕ → ℕ → (Float → Float → Float → Float) → Float → ℕ → Float → Float → Float
+corner file start f w k v x = f (mul binary64 w v) (widened (numberAt 4 file (start + k * 4))) x
+
+unfoldable pub rowCorners : List ℕ → ℕ → (Float → Float → Float → Float) → ℕ → ℕ → Face → Float → Weights → Float → Float
+rowCorners file start f o k g w q x =
+    corner file start f w (o + (k + g .c)) (q .c) (corner file start f w (o + (k + g .b)) (q .b) (corner file start f w (o + (k + g .a)) (q .a) x))
+
+unfoldable pub faceCorners : List ℕ → ℕ → (Float → Float → Float → Float) → ℕ → ℕ → Face → Face → Weights → Weights → Float → Float
+faceCorners file start h o n f g p q x =
+    rowCorners file start h o (f .c * n) g (p .c) q (rowCorners file start h o (f .b * n) g (p .b) q (rowCorners file start h o (f .a * n) g (p .a) q x))
+
+unfoldable pub faceAverage : List ℕ → ℕ → ℕ → ℕ → Face → Face → Weights → Weights → Float → Float
+faceAverage file start o n f g p q beta =
+    let u = faceCorners file start lesser o n f g p q (inf false) in
+    let sum = faceCorners file start (weighed beta u) o n f g p q (ofBits binary64 0) in
+    cond (infinite u) (inf false)
+    (cond (le sum (ofBits binary64 0)) (inf false) (sub binary64 u (div binary64 (logarithm sum) beta)))
 
 unfoldable pub faceTerms : List ℕ → ℕ → ℕ → ℕ → Face → Face → Weights → Weights → Float
 faceTerms file start o n f g p q =

@@ -12,7 +12,7 @@ use Rattle.search.specs.Search.{Locator, locatorFrom, verticesFrom, nearestIn, 
 use Rattle.table.specs.Bytes.{numberAt}
 use Rattle.table.specs.File.{Entry, entryOf}
 use Rattle.table.specs.declared.Table.{Table}
-use Rattle.reading.specs.Resolve.{ReadingValues, readingValues, Query, Resolved, unresolved, beyond, slabAt, resolve, Picks, unpicked, picked, nearestPick, facePick, widened, combined}
+use Rattle.reading.specs.Resolve.{ReadingValues, readingValues, Query, Way, linear, wayValid, Resolved, unresolved, beyond, slabAt, resolve, Picks, unpicked, picked, nearestPick, facePick, widened, combined}
 use Rattle.reading.specs.declared.Reading.{Reading}
 use Rattle.reading.specs.declared.Reading.the-variants.{Energy, Refused}
 
@@ -41,26 +41,30 @@ searchIn vertices l q v interpolate =
     (nearestPick n (nearestIn p vs n g (unit (q .a))) (nearestIn p vs n g (unit (q .b))))
 
 -- the energies picked, from a row's offset o on; the last of 19
-abbrev pub readPicks : List ℕ → Table → Bool → ℕ → Picks → Reading
-readPicks file t interpolate o (unpicked n) = Refused n
-readPicks file t interpolate o (picked ks a b) =
+abbrev pub readPicks : List ℕ → Table → Way → Bool → ℕ → Picks → Reading
+readPicks file t way interpolate o (unpicked n) = Refused n
+readPicks file t way interpolate o (picked ks a b) =
     cond (every (λ k. energyInside file t (o + k)) ks)
-    (Energy (combined interpolate a b (map (λ k. energyAt file t (o + k)) ks)))
+    (Energy (combined way interpolate a b (map (λ k. energyAt file t (o + k)) ks)))
     (Refused 19)
 
 -- "the row's kind known, a Mesh row's level held"; "then the row: Scalar as f64, Repulsive infinity, nearest or the nine-term sum"
-unfoldable pub readEntry : List ℕ → Table → List Float → Locator → Query → Entry → Reading
-readEntry file t vertices l q e =
+unfoldable pub readEntry : List ℕ → Table → List Float → Locator → Way → Query → Entry → Reading
+readEntry file t vertices l way q e =
     cond (eqb (e .kind) 0) (Energy (widened (e .scalar)))
     (cond (eqb (e .kind) 1) (Energy (inf false))
     (cond (leb (e .kind) 3 && ltb (e .level) (t .levels))
-    (readPicks file t (eqb (e .kind) 3) (e .offset) (searchIn vertices l q (e .level) (eqb (e .kind) 3)))
+    (readPicks file t way (eqb (e .kind) 3) (e .offset) (searchIn vertices l q (e .level) (eqb (e .kind) 3)))
     (Refused 19)))
 
-abbrev pub readSlab : List ℕ → Table → List Float → Locator → Query → Resolved → Reading
-readSlab file t vertices l q (unresolved n) = Refused n
-readSlab file t vertices l q beyond = Energy (ofBits binary64 0)
-readSlab file t vertices l q (slabAt s) = cond (rowInside file t s) (readEntry file t vertices l q (entryAt file t s)) (Refused 19)
+abbrev pub readSlab : List ℕ → Table → List Float → Locator → Way → Query → Resolved → Reading
+readSlab file t vertices l way q (unresolved n) = Refused n
+readSlab file t vertices l way q beyond = Energy (ofBits binary64 0)
+readSlab file t vertices l way q (slabAt s) = cond (rowInside file t s) (readEntry file t vertices l way q (entryAt file t s)) (Refused 19)
 
-unfoldable pub readingOut : List ℕ → Table → List Float → Locator → Query → ReadingValues
-readingOut file t vertices l q = readingValues (readSlab file t vertices l q (resolve (t .grid) q))
+unfoldable pub readingBy : List ℕ → Table → List Float → Locator → Way → Query → ReadingValues
+readingBy file t vertices l way q = readingValues (readSlab file t vertices l way q (resolve (wayValid way) (t .grid) q))
+
+-- document 01's reading
+abbrev pub readingOut : List ℕ → Table → List Float → Locator → Query → ReadingValues
+readingOut file t vertices l q = readingBy file t vertices l linear q

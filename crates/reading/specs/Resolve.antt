@@ -1,11 +1,14 @@
--- The first stages of a reading, which the reading of a file and the rule share: 18, the distance, the slab; and how energies are combined. Definitions only.
+-- The first stages of a reading, which the reading of a file and the rule share: 18, 21, the distance, the slab; and how energies are combined. Definitions only.
 use mathlib.Core.Bool.{Bool, true, false, not, cond, _&&_, _||_}
 use mathlib.Core.List.{List, [], _∷_, _++_}
-use Prim.Native.Nat.{ℕ, _+_, _*_}
+use Prim.Native.Nat.{ℕ, _+_, _*_, _/_, _%_}
 use lib.ListN.{getD}
 use lib.Dec.{ltb, eqb}
-use lib.Ieee.{Float, nan, binary32, binary64, ofBits, add, mul, lt, isNan}
+use lib.Ieee.{Float, nan, inf, binary32, binary64, ofBits, neg, add, sub, mul, div, lt, le, isNan}
 use lib.Ieee.Scale.{finite}
+use Rattle.float.specs.Order.{smaller}
+use Rattle.float.specs.Exp.{exponential}
+use Rattle.float.specs.Log.{logarithm}
 use Rattle.lists.specs.Lists.{forEach}
 use Rattle.mesh.specs.declared.Face.{Face}
 use Rattle.grid.specs.Bins.{tableRmax, distanceBin, dihedralBin}
@@ -44,6 +47,16 @@ pub record Query : Type 0 where
 unfoldable pub queryValid : Query → Bool
 queryValid q = not (isNan (q .r)) && (finite (q .omega) && (above (norm (q .a)) && above (norm (q .b))))
 
+-- how one energy is made of a face's nine: by the plain sum, or weighted with a beta of the reading's own ("Temperature-weighted readings")
+pub data Way : Type 0 where
+  linear : Way
+  boltzmann : Float → Way
+
+-- 21: refused "where the reading's beta is not finite and above 0"
+unfoldable pub wayValid : Way → Bool
+wayValid linear = true
+wayValid (boltzmann beta) = above beta
+
 -- "A distance below rmin or above rmax"; "a reading's rmax is this one, not the settings'" (S12.2)
 unfoldable pub outside : Grid → Float → Bool
 outside g r = lt r (g .rmin) || lt (tableRmax (g .«n_r») (g .dr) (g .rmin)) r
@@ -53,14 +66,16 @@ pub data Resolved : Type 0 where
   beyond : Resolved
   slabAt : ℕ → Resolved
 
--- `resolve_slab_idx`, after 18; of 19: "Are bin counts above 0" (S12.2)
-unfoldable pub resolve : Grid → Query → Resolved
-resolve g q =
+-- `resolve_slab_idx`, after 18 and 21, whose answer is handed in: "after 18 and before the 0.0 of a distance outside"; of 19: "Are bin counts above 0" (S12.2)
+unfoldable pub resolve : Bool → Grid → Query → Resolved
+resolve valid g q =
     cond (queryValid q)
+    (cond valid
     (cond (outside g (q .r)) beyond
     (cond (ltb 0 (g .«n_r») && ltb 0 (g .«n_omega»))
     (slabAt (distanceBin (q .r) (g .rmin) (g .dr) (g .«n_r») * g .«n_omega» + dihedralBin (q .omega) (g .«omega_step») (g .«n_omega»)))
     (unresolved 19)))
+    (unresolved 21))
     (unresolved 18)
 
 -- ---- what a Mesh row is asked for
@@ -114,7 +129,27 @@ unfolding weightAt
 nineTerms a b es =
     forEach 3 (λ i. forEach 3 (λ j x. add binary64 x (mul binary64 (mul binary64 (weightAt a i) (widened (getD es (i * 3 + j) 0))) (weightAt b j)))) (ofBits binary64 0)
 
--- nearest: the one energy; interpolated: the sum
-unfoldable pub combined : Bool → Weights → Weights → List ℕ → Float
-combined true a b es = nineTerms a b es
-combined false a b es = widened (getD es 0 0)
+-- f at each of the nine corners, in index order, by its weight and its energy: "A weight not above 0 drops its corner." The weight is bary_a[k / 3] * bary_b[k % 3]
+unfoldable pub overCorners : Weights → Weights → List ℕ → (Float → Float → Float → Float) → Float → Float
+unfolding weightAt
+overCorners a b es f =
+    forEach 9 (λ k x. let w = mul binary64 (weightAt a (k / 3)) (weightAt b (k % 3)) in cond (lt (ofBits binary64 0) w) (f w (widened (getD es k 0)) x) x)
+
+-- neither finite nor a NaN
+abbrev pub infinite : Float → Bool
+infinite u = not (finite u) && not (isNan u)
+
+-- `boltzmann_average`: u is the least energy, from infinity on by `min`; the sum is of w * E(-beta * (e - u)); the result is u - ln(sum) / beta
+unfoldable pub boltzmannAverage : Float → Weights → Weights → List ℕ → Float
+boltzmannAverage beta a b es =
+    let u = overCorners a b es (λ w e x. smaller x e) (inf false) in
+    let sum = overCorners a b es (λ w e x. add binary64 x (mul binary64 w (exponential (mul binary64 (neg beta) (sub binary64 e u))))) (ofBits binary64 0) in
+    cond (infinite u) (inf false)
+    (cond (le sum (ofBits binary64 0)) (inf false) (sub binary64 u (div binary64 (logarithm sum) beta)))
+
+-- nearest: the one energy; interpolated: the sum, or the weighted average
+unfoldable pub combined : Way → Bool → Weights → Weights → List ℕ → Float
+combined linear true a b es = nineTerms a b es
+combined (boltzmann beta) true a b es = boltzmannAverage beta a b es
+combined linear false a b es = widened (getD es 0 0)
+combined (boltzmann beta) false a b es = widened (getD es 0 0)

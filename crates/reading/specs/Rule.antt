@@ -10,7 +10,7 @@ use Rattle.grid.specs.declared.Grid.{Grid}
 use Rattle.rows.specs.Rows.{Row, scalar, repulsive, mesh}
 use Rattle.search.specs.Geometry.{unit}
 use Rattle.search.specs.Search.{nearestOf, locate}
-use Rattle.reading.specs.Resolve.{ReadingValues, readingValues, Query, Resolved, unresolved, beyond, slabAt, resolve, Picks, unpicked, picked, nearestPick, facePick, widened, combined}
+use Rattle.reading.specs.Resolve.{ReadingValues, readingValues, Query, Way, linear, wayValid, Resolved, unresolved, beyond, slabAt, resolve, Picks, unpicked, picked, nearestPick, facePick, widened, combined}
 use Rattle.reading.specs.declared.Reading.{Reading}
 use Rattle.reading.specs.declared.Reading.the-variants.{Energy, Refused}
 
@@ -24,21 +24,25 @@ search ms q v interpolate =
     (facePick n (locate m n g (unit (q .a))) (locate m n g (unit (q .b))))
     (nearestPick n (nearestOf m n g (unit (q .a))) (nearestOf m n g (unit (q .b))))
 
-abbrev pub rulePicks : Bool → List ℕ → Picks → Reading
-rulePicks interpolate es (unpicked n) = Refused n
-rulePicks interpolate es (picked ks a b) = Energy (combined interpolate a b (map (λ k. getD es k 0) ks))
+abbrev pub rulePicks : Way → Bool → List ℕ → Picks → Reading
+rulePicks way interpolate es (unpicked n) = Refused n
+rulePicks way interpolate es (picked ks a b) = Energy (combined way interpolate a b (map (λ k. getD es k 0) ks))
 
--- "Scalar as f64, Repulsive infinity, nearest or the nine-term sum"
-abbrev pub ruleRow : Mesh → Query → Row ℕ → Reading
-ruleRow ms q (scalar x) = Energy (widened x)
-ruleRow ms q repulsive = Energy (inf false)
-ruleRow ms q (mesh v b es) = rulePicks b es (search ms q v b)
+-- "Scalar as f64, Repulsive infinity, nearest or the nine-term sum", or the weighted average
+abbrev pub ruleRow : Mesh → Way → Query → Row ℕ → Reading
+ruleRow ms way q (scalar x) = Energy (widened x)
+ruleRow ms way q repulsive = Energy (inf false)
+ruleRow ms way q (mesh v b es) = rulePicks way b es (search ms q v b)
 
 -- "A distance below rmin or above rmax gives 0.0. For any other: bins as `resolve_slab_idx`, then the row"
-abbrev pub ruleSlab : List (Row ℕ) → Mesh → Query → Resolved → Reading
-ruleSlab rows ms q (unresolved n) = Refused n
-ruleSlab rows ms q beyond = Energy (ofBits binary64 0)
-ruleSlab rows ms q (slabAt s) = ruleRow ms q (getD rows s repulsive)
+abbrev pub ruleSlab : List (Row ℕ) → Mesh → Way → Query → Resolved → Reading
+ruleSlab rows ms way q (unresolved n) = Refused n
+ruleSlab rows ms way q beyond = Energy (ofBits binary64 0)
+ruleSlab rows ms way q (slabAt s) = ruleRow ms way q (getD rows s repulsive)
 
-unfoldable pub ruled : Grid → List (Row ℕ) → Mesh → Query → ReadingValues
-ruled g rows ms q = readingValues (ruleSlab rows ms q (resolve g q))
+unfoldable pub ruledBy : Grid → List (Row ℕ) → Mesh → Way → Query → ReadingValues
+ruledBy g rows ms way q = readingValues (ruleSlab rows ms way q (resolve (wayValid way) g q))
+
+-- document 01's reading rule
+abbrev pub ruled : Grid → List (Row ℕ) → Mesh → Query → ReadingValues
+ruled g rows ms q = ruledBy g rows ms linear q

@@ -6,9 +6,9 @@ ghost use lib.ListN.{drop};
 ghost use Rattle.mesh.specs.Levels.{vertexCount, gridSize, verticesBelow, cellOffsetsBelow};
 ghost use Rattle.search.specs.Geometry.{unit};
 ghost use Rattle.search.specs.Search.{nearestInCells, locateIn, verticesFrom, locatorOf};
-ghost use Rattle.reading.specs.Resolve.{nearestPick, facePick};
+ghost use Rattle.reading.specs.Resolve.{linear, nearestPick, facePick};
 ghost use Rattle.reading.specs.Reading.{readPicks, searchIn};
-ghost use Rattle.reading.specs.Internal.{toward, partFrom};
+ghost use Rattle.reading.specs.Internal.{wayOf, toward, partFrom};
 use crate::Reading;
 use crate::combine::interpolated;
 use crate::combine::nearest;
@@ -28,7 +28,7 @@ fn nearest_in(
     b: Vector3,
 ) -> Reading
     requires { ⌜ offset < 4294967296 ⌝ }
-    ensures { λ r. ⌜ r ≡ readPicks (now (file .entry)) t false offset (nearestPick (vertexCount level)
+    ensures { λ r. ⌜ r ≡ readPicks (now (file .entry)) t linear false offset (nearestPick (vertexCount level)
         (nearestInCells (now («cell_offsets» .entry)) (now («cell_vertices» .entry)) (now (vertices .entry)) (vertexCount level) (gridSize (vertexCount level)) (unit a))
         (nearestInCells (now («cell_offsets» .entry)) (now («cell_vertices» .entry)) (now (vertices .entry)) (vertexCount level) (gridSize (vertexCount level)) (unit b))) ⌝ }
 {
@@ -52,9 +52,10 @@ fn interpolated_in(
     vertices: &[f64],
     a: Vector3,
     b: Vector3,
+    beta: f64,
 ) -> Reading
     requires { ⌜ offset < 4294967296 ⌝ }
-    ensures { λ r. ⌜ r ≡ readPicks (now (file .entry)) t true offset (facePick (vertexCount level)
+    ensures { λ r. ⌜ r ≡ readPicks (now (file .entry)) t (wayOf beta) true offset (facePick (vertexCount level)
         (locateIn (locatorOf (now («cell_offsets» .entry)) (now («cell_vertices» .entry)) (now («face_offsets» .entry)) (now (faces .entry))) (now (vertices .entry)) (vertexCount level) (gridSize (vertexCount level)) (unit a))
         (locateIn (locatorOf (now («cell_offsets» .entry)) (now («cell_vertices» .entry)) (now («face_offsets» .entry)) (now (faces .entry))) (now (vertices .entry)) (vertexCount level) (gridSize (vertexCount level)) (unit b))) ⌝ }
 {
@@ -79,7 +80,7 @@ fn interpolated_in(
         vertices,
         q,
     );
-    interpolated(t, file, offset, n, x, y)
+    interpolated(t, file, offset, n, x, y, beta)
 }
 
 // Where a level's part of a list begins: at its end, where the list is shorter.
@@ -97,19 +98,20 @@ pub(crate) fn read_nearest(
     file: &[u8],
     offset: u64,
     level: u8,
+    cells: u64,
     cell_offsets: &[u32],
     cell_vertices: &[u16],
     vertices: &[f64],
     a: Vector3,
     b: Vector3,
 ) -> Reading
-    requires { ⌜ offset < 4294967296 ⌝ }
-    ensures { λ r. ⌜ r ≡ readPicks (now (file .entry)) t false offset (nearestPick (vertexCount level)
+    requires { ⌜ (offset < 4294967296) × (cells ≡ cellOffsetsBelow level) ⌝ }
+    ensures { λ r. ⌜ r ≡ readPicks (now (file .entry)) t linear false offset (nearestPick (vertexCount level)
         (nearestInCells (drop (cellOffsetsBelow level) (now («cell_offsets» .entry))) (drop (27 * verticesBelow level) (now («cell_vertices» .entry))) (verticesFrom level (now (vertices .entry))) (vertexCount level) (gridSize (vertexCount level)) (unit a))
         (nearestInCells (drop (cellOffsetsBelow level) (now («cell_offsets» .entry))) (drop (27 * verticesBelow level) (now («cell_vertices» .entry))) (verticesFrom level (now (vertices .entry))) (vertexCount level) (gridSize (vertexCount level)) (unit b))) ⌝ }
 {
     let below = mesh::vertices_below(level);
-    let i = part_from(cell_offsets.len(), mesh::cell_offsets_below(level));
+    let i = part_from(cell_offsets.len(), cells);
     let j = part_from(cell_vertices.len(), 27 * below);
     let k = part_from(vertices.len(), 3 * below);
     nearest_in(
@@ -130,6 +132,7 @@ pub(crate) fn read_interpolated(
     file: &[u8],
     offset: u64,
     level: u8,
+    cells: u64,
     cell_offsets: &[u32],
     cell_vertices: &[u16],
     face_offsets: &[u32],
@@ -137,13 +140,14 @@ pub(crate) fn read_interpolated(
     vertices: &[f64],
     a: Vector3,
     b: Vector3,
+    beta: f64,
 ) -> Reading
-    requires { ⌜ offset < 4294967296 ⌝ }
-    ensures { λ r. ⌜ r ≡ readPicks (now (file .entry)) t true offset
+    requires { ⌜ (offset < 4294967296) × (cells ≡ cellOffsetsBelow level) ⌝ }
+    ensures { λ r. ⌜ r ≡ readPicks (now (file .entry)) t (wayOf beta) true offset
         (searchIn (now (vertices .entry)) (locatorOf (now («cell_offsets» .entry)) (now («cell_vertices» .entry)) (now («face_offsets» .entry)) (now (faces .entry))) (toward a b) level true) ⌝ }
 {
     let below = mesh::vertices_below(level);
-    let i = part_from(cell_offsets.len(), mesh::cell_offsets_below(level));
+    let i = part_from(cell_offsets.len(), cells);
     let j = part_from(cell_vertices.len(), 27 * below);
     let k = part_from(face_offsets.len(), below + level as u64);
     let m = part_from(faces.len(), 45 * below);
@@ -160,5 +164,6 @@ pub(crate) fn read_interpolated(
         &vertices[v..],
         a,
         b,
+        beta,
     )
 }

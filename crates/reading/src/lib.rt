@@ -6,6 +6,7 @@ mod resolve;
 mod stages;
 
 pub use stages::lookup;
+pub use stages::lookup_boltzmann;
 
 // What a reading answers.
 pub enum Reading {

@@ -32,9 +32,9 @@ use Rattle.table.specs.Bytes.{bytesOf, numberOf, numberAt, packed, section, ite
 use Rattle.table.specs.File.{entryBytes, entryOf, entries, packedEnergies, fileOf}
 use Rattle.writer.specs.Write.{fileFrom, writeRefusal, writeOut}
 use Rattle.table.specs.Read.{layout, laidOut, gridOf, tableOf, gridValid, tableValid, scalarValid, entryValid, tiled, readRefusal, readOut}
-use Rattle.reading.specs.Resolve.{queryValid, outside, resolve, joint, nearestPick, facePick, nineTerms, combined}
-use Rattle.reading.specs.Reading.{rowInside, energyInside, entryAt, energyAt, searchIn, readEntry, readingOut}
-use Rattle.reading.specs.Rule.{search, ruled}
+use Rattle.reading.specs.Resolve.{wayValid, queryValid, outside, resolve, joint, nearestPick, facePick, nineTerms, combined}
+use Rattle.reading.specs.Reading.{rowInside, energyInside, entryAt, energyAt, searchIn, readEntry, readingBy}
+use Rattle.reading.specs.Rule.{search, ruledBy}
 use Rattle.ledger.specs.Ledger.{Call, called, run, opened, ledgerQuestion, setEntered, settleEntered, entered, ledger}
 use Rattle.ledger.specs.Promise.{History, ended, file, rows}
 use Rattle.test_marks.specs.Icospheres.{icosahedron, twoLevels}
@@ -101,7 +101,7 @@ unfolding bytesOf numberOf numberAt packed section items entryBytes entryOf entr
 tables x = x
 
 unfoldable readings : {A : Type 0} → A → A
-unfolding queryValid outside resolve joint nearestPick facePick nineTerms combined rowInside energyInside entryAt energyAt searchIn readEntry readingOut search ruled
+unfolding queryValid outside resolve joint nearestPick facePick nineTerms combined rowInside energyInside entryAt energyAt searchIn readEntry readingBy wayValid search ruledBy
 readings x = x
 
 unfoldable runs : {A : Type 0} → A → A

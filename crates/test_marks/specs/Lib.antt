@@ -6,3 +6,4 @@ pub mod Asked
 pub mod Settled
 pub mod Filed
 pub mod Searched
+pub mod Weighted

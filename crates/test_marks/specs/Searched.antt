@@ -14,8 +14,8 @@ use Rattle.locator.specs.Locator.{locatorOut}
 use Rattle.search.specs.declared.Vector3.{Vector3}
 use Rattle.grid.specs.Settings.{counted}
 use Rattle.table.specs.Read.{readOut}
-use Rattle.reading.specs.Resolve.{Query, ReadingValues}
-use Rattle.reading.specs.Reading.{readingOut}
+use Rattle.reading.specs.Resolve.{Query, boltzmann, ReadingValues}
+use Rattle.reading.specs.Reading.{readingBy, readingOut}
 use Rattle.reading.specs.Rule.{ruled}
 use Rattle.ledger.specs.Ledger.{set-call}
 use Rattle.ledger.specs.Promise.{History, file, rows}
@@ -165,6 +165,22 @@ by-the-rule = refl
 pub direction-first : computed (reading [] none (query 0x4014_0000_0000_0000 none-at-all down) .number) ≡ 18
 unfolding computed
 direction-first = refl
+
+-- 21 for a beta that is not above 0: after 18, and before the 0.0 of a distance outside
+abbrev weighted : List ℕ → Locator → ℕ → Query → ReadingValues
+weighted bytes l beta q = readingBy bytes (readOut bytes .table) (icosahedron .vertices) l (boltzmann (f64 beta)) q
+
+pub beta-second : computed (weighted [] none 0 (query 0x4014_0000_0000_0000 none-at-all down) .number) ≡ 18
+unfolding computed
+beta-second = refl
+
+pub beta-first : computed (weighted [] none 0 (query 0x4014_0000_0000_0000 ahead down) .number) ≡ 21
+unfolding computed
+beta-first = refl
+
+pub beta-held : computed (weighted [] none 1 (query 0x4014_0000_0000_0000 ahead down) .number) ≡ 0
+unfolding computed
+beta-held = refl
 
 pub outside : computed (reading nearestFile none (query 0x4014_0000_0000_0000 ahead down)) ≡ record { number = 0; energy = computed (f64 0) }
 unfolding computed

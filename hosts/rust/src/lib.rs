@@ -35,3 +35,20 @@ pub fn vertex_count(level: u64) -> Option<usize> {
     let n = sys::vertices(level);
     (n > 0).then_some(n as usize)
 }
+
+#[cfg(test)]
+mod tests {
+    use super::sys;
+
+    #[test]
+    fn numbers_have_the_headers_meaning() {
+        assert_eq!(sys::root(2.0).to_bits(), 0x3FF6A09E667F3BCD);
+        assert_eq!(sys::exp(0.0), 1.0);
+        assert_eq!(sys::ln(1.0).to_bits(), 0);
+        assert_eq!(sys::ln(5e-324).to_bits(), 0xC0874385446D71C3);
+        assert_eq!(sys::ln(-0.0), f64::NEG_INFINITY);
+        assert!(sys::ln(-1.0).is_nan());
+        assert_eq!(sys::mul_add(3.0, 4.0, -12.0), 0.0);
+        assert_eq!(sys::narrow(16777217.0), 16777216.0);
+    }
+}

@@ -56,6 +56,7 @@ refusals! {
     18 Query "r is a NaN, omega not finite, or the length of a direction not finite or 0",
     19 NotLent "a bin count is 0, a row's kind is unknown or its level not held, or a row, energy, cell or mesh entry that the reading touches is not inside what was lent, an end offset is below its start, or a vertex number not below n",
     20 EmptyCell "the cell that a direction falls into lists no vertex",
+    21 ReadingBeta "a reading's own beta is not finite and above 0",
 }
 
 /// What an accepted call gives, or why it was refused.

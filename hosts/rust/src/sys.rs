@@ -92,10 +92,15 @@ extern "C" {
         table: *const Table, file: *const u8, a: usize, vertices: *const f64, b: usize, cell_offsets: *const u32, c: usize, cell_vertices: *const u16, d: usize,
         face_offsets: *const u32, e: usize, faces: *const u16, f: usize, r: f64, omega: f64, ax: f64, ay: f64, az: f64, bx: f64, by: f64, bz: f64,
     ) -> Value;
+    fn icotable_boltzmann(
+        table: *const Table, file: *const u8, a: usize, vertices: *const f64, b: usize, cell_offsets: *const u32, c: usize, cell_vertices: *const u16, d: usize,
+        face_offsets: *const u32, e: usize, faces: *const u16, f: usize, r: f64, omega: f64, ax: f64, ay: f64, az: f64, bx: f64, by: f64, bz: f64, beta: f64,
+    ) -> Value;
     fn icotable_vertices(level: u64) -> u64;
     fn icotable_cells(level: u64) -> u64;
     fn icotable_root(x: f64) -> f64;
     fn icotable_exp(y: f64) -> f64;
+    fn icotable_ln(x: f64) -> f64;
     fn icotable_mul_add(a: f64, b: f64, c: f64) -> f64;
     fn icotable_narrow(x: f64) -> f32;
 }
@@ -230,6 +235,18 @@ pub fn reading(table: &Table, l: Lent, q: &Query) -> Value {
     }
 }
 
+#[rustfmt::skip]
+pub fn boltzmann(table: &Table, l: Lent, q: &Query, beta: f64) -> Value {
+    let (a, b) = (q.a, q.b);
+    unsafe {
+        icotable_boltzmann(
+            table, l.file.as_ptr(), l.file.len(), l.vertices.as_ptr(), l.vertices.len(), l.cell_offsets.as_ptr(), l.cell_offsets.len(),
+            l.cell_vertices.as_ptr(), l.cell_vertices.len(), l.face_offsets.as_ptr(), l.face_offsets.len(), l.faces.as_ptr(), l.faces.len(),
+            q.r, q.omega, a[0], a[1], a[2], b[0], b[1], b[2], beta,
+        )
+    }
+}
+
 pub fn vertices(level: u64) -> u64 {
     unsafe { icotable_vertices(level) }
 }
@@ -244,6 +261,10 @@ pub fn root(x: f64) -> f64 {
 
 pub fn exp(y: f64) -> f64 {
     unsafe { icotable_exp(y) }
+}
+
+pub fn ln(x: f64) -> f64 {
+    unsafe { icotable_ln(x) }
 }
 
 pub fn mul_add(a: f64, b: f64, c: f64) -> f64 {

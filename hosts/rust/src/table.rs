@@ -42,17 +42,28 @@ impl Table {
     /// The energy at a distance, a dihedral angle and two directions of any length: infinity inside a repulsive wall, 0 outside the table's
     /// distances.
     pub fn lookup(&self, r: f64, omega: f64, a: [f64; 3], b: [f64; 3]) -> Result<f64, Refusal> {
+        let value = sys::reading(&self.held, self.lent(), &sys::Query { r, omega, a, b });
+        answer(value.number, value.energy)
+    }
+
+    /// The same, weighted by temperature: where a row is interpolated, the nine energies are averaged by their weights and by
+    /// exp(-beta·energy). Rows of other kinds answer as in `lookup`. Beta is the reading's own, one over the unit of energies,
+    /// finite and above 0, or the reading is refused (`Refusal::ReadingBeta`), whatever the row and the distance are.
+    pub fn lookup_boltzmann(&self, r: f64, omega: f64, a: [f64; 3], b: [f64; 3], beta: f64) -> Result<f64, Refusal> {
+        let value = sys::boltzmann(&self.held, self.lent(), &sys::Query { r, omega, a, b }, beta);
+        answer(value.number, value.energy)
+    }
+
+    fn lent(&self) -> sys::Lent<'_> {
         let m = &self.mesh;
-        let lent = sys::Lent {
+        sys::Lent {
             file: &self.file,
             vertices: &m.vertices,
             cell_offsets: &m.cell_offsets,
             cell_vertices: &m.cell_vertices,
             face_offsets: &m.face_offsets,
             faces: &m.faces,
-        };
-        let value = sys::reading(&self.held, lent, &sys::Query { r, omega, a, b });
-        answer(value.number, value.energy)
+        }
     }
 
     /// The grid; rmax is the table's own, threshold and beta are 0.

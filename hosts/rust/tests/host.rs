@@ -37,7 +37,7 @@ fn refusals_are_the_headers() {
         assert_eq!(format!("{refusal:?}"), camel);
         found += 1;
     }
-    assert_eq!(found, 20);
+    assert_eq!(found, 21);
     assert_eq!(Refusal::ALL.len(), found);
 }
 
@@ -181,6 +181,33 @@ fn a_table_gives_its_energies_back() {
     }
     assert_eq!(t.lookup(2.5, 0.0, [1.0, 0.0, 0.0], [1.0, 0.0, 0.0]), Ok(0.0));
     assert_eq!(t.lookup(1.0, 0.0, [0.0; 3], [1.0, 0.0, 0.0]), Err(Refusal::Query));
+}
+
+#[test]
+fn a_reading_is_weighted_by_temperature() {
+    let mut b = builder(0);
+    let n = vertex_count(0).unwrap();
+    let energies: Vec<f64> = (0..n * n).map(|i| (100 * (i / n) + i % n) as f64).collect();
+    b.set(1, 0, &energies).unwrap();
+    let t = Table::read(b.write().unwrap(), b.mesh().clone()).unwrap();
+    for (i, &a) in b.directions().iter().enumerate() {
+        for (j, &c) in b.directions().iter().enumerate() {
+            let energy = t.lookup_boltzmann(1.0, 0.1, a, c, 0.001).unwrap();
+            assert!((energy - energies[i * n + j]).abs() < 1e-6, "{energy} at {i}, {j}");
+        }
+    }
+    // between vertices it is below the plain reading, and the more so the colder it is
+    let (x, y) = ([1.0, 2.0, 3.0], [-3.0, 1.0, 2.0]);
+    let plain = t.lookup(1.0, 0.0, x, y).unwrap();
+    let [warm, cold] = [0.01, 1.0].map(|beta| t.lookup_boltzmann(1.0, 0.0, x, y, beta).unwrap());
+    assert!(cold < warm && warm < plain, "{cold}, {warm}, {plain}");
+    assert_eq!(t.lookup_boltzmann(0.0, 3.0, x, y, 1.0), Ok(0.0)); // a Scalar row
+    assert_eq!(t.lookup_boltzmann(2.5, 0.0, x, y, 1.0), Ok(0.0)); // outside
+    for beta in [0.0, -1.0, f64::INFINITY, f64::NAN] {
+        assert_eq!(t.lookup_boltzmann(1.0, 0.0, x, y, beta), Err(Refusal::ReadingBeta));
+        assert_eq!(t.lookup_boltzmann(2.5, 0.0, x, y, beta), Err(Refusal::ReadingBeta));
+        assert_eq!(t.lookup_boltzmann(1.0, 0.0, x, [0.0; 3], beta), Err(Refusal::Query));
+    }
 }
 
 #[test]
