@@ -12,3 +12,5 @@ pub mod RootSteps
 pub mod Meaning
 pub mod NextToOne
 pub mod Plain
+pub mod Bound
+pub mod ByCase
