@@ -3,7 +3,7 @@ use mathlib.Core.Path.{_≡_, refl, sym, ap, _∙_, subst}
 use mathlib.Core.Logic.{_⊎_, inl, inr}
 use mathlib.Core.Bool.{Bool, true, false, cond}
 use Prim.Native.Nat.{ℕ, zero, suc, _+_, _-_, _*_, _/_, _%_, _^_, _≤_, _<_, min, compare}
-use native.Mathlib.Nat.{le-refl, add-le-add, le-trans, le-of-eq, le-of-lt, le-antisymm, lt-of-lt-of-le, lt-of-le-of-lt, eq-or-lt-of-le, add-assoc, add-zero, add-mul, mul-assoc, mul-comm, mul-right-comm, mul-left-comm, mul-pos, mul-lt-mul-of-pos-right, lt-of-mul-lt-mul-right, mul-le-mul-right, eq-of-mul-eq-mul-right, div-add-mod', min-eq-left, min-eq-right, mod-lt, zero-lt-suc}
+use native.Mathlib.Nat.{le-refl, add-le-add, le-trans, le-of-eq, le-of-lt, le-antisymm, lt-of-lt-of-le, lt-of-le-of-lt, eq-or-lt-of-le, add-assoc, add-zero, add-mul, mul-assoc, mul-comm, mul-right-comm, mul-left-comm, mul-pos, mul-lt-mul-of-pos-right, lt-of-mul-lt-mul-right, mul-le-mul-right, eq-of-mul-eq-mul-right, div-add-mod', min-eq-left, min-eq-right, min-le-right, mod-lt, zero-lt-suc}
 use native.Mathlib.Omega.{arith}
 use lib.Dec.{leb, ltb, eqb, lit<}
 use lib.Pow.{pow-pos}
@@ -33,7 +33,7 @@ case-is halfOdd a c h =
     rw (lt-leb (bound * c) a (h .0), le-ltb (rest a c * 2) (divisor a c) (le-of-eq (sym (h .1))), le-ltb (divisor a c) (rest a c * 2) (le-of-eq (h .1)), ne-eqb (whole a c % 2) 0 (λ e. omega (arith, h .2)))
 case-is aboveHalf a c h = rw (lt-leb (bound * c) a (h .0), le-ltb (rest a c * 2) (divisor a c) (le-of-lt (h .1)), lt-ltb (divisor a c) (rest a c * 2) (h .1))
 
-parity : (q : ℕ) → (q % 2 ≡ 0) ⊎ (q % 2 ≡ 1)
+pub parity : (q : ℕ) → (q % 2 ≡ 0) ⊎ (q % 2 ≡ 1)
 parity q = elim (le-or-lt (q % 2) 0) [ inl l ↦ inl (omega arith) | inr l ↦ inr (omega arith) ]
 
 one-holds : (a c : ℕ) → (k : Case) × In k a c
@@ -84,19 +84,23 @@ rest-same a b c d B D h =
 leb-ltb : (m n : ℕ) → leb m n ≡ cond (ltb n m) false true
 leb-ltb m n = elim (le-or-lt m n) [ inl l ↦ rw (le-leb m n l, le-ltb n m l) | inr l ↦ rw (lt-leb m n l, lt-ltb n m l) ]
 
+pub over-same : (a c b d : ℕ) → 0 < c → 0 < d → a * d ≡ b * c → leb (bound * c) a ≡ leb (bound * d) b
+over-same a c b d C D h =
+    leb-ltb (bound * c) a
+    ∙ ap (λ (t : Bool). cond t false true) (order-same a (bound * c) b (bound * d) (mul-pos (lit< tt) C) (mul-pos (lit< tt) D) (mul-left-comm a bound d ∙ ap (λ (x : ℕ). bound * x) h ∙ sym (mul-left-comm b bound c)) .0)
+    ∙ sym (leb-ltb (bound * d) b)
+
 case-same : (a c b d : ℕ) → 0 < c → 0 < d → a * d ≡ b * c → caseOf a c ≡ caseOf b d
 unfolding caseOf
 case-same a c b d C D h =
     let n : a * 2 ^ 149 * d ≡ b * 2 ^ 149 * c = mul-right-comm a (2 ^ 149) d ∙ ap (λ (x : ℕ). x * 2 ^ 149) h ∙ mul-right-comm b c (2 ^ 149) in
     let k : place a c ≡ place b d = ap (λ (z : ℕ). size z - 24) (div-same (a * 2 ^ 149) c (b * 2 ^ 149) d C D n) in
-    let over : leb (bound * c) a ≡ leb (bound * d) b =
-    leb-ltb (bound * c) a ∙ ap (λ (t : Bool). cond t false true) (order-same a (bound * c) b (bound * d) (mul-pos (lit< tt) C) (mul-pos (lit< tt) D) (mul-left-comm a bound d ∙ ap (λ (x : ℕ). bound * x) h ∙ sym (mul-left-comm b bound c)) .0) ∙ sym (leb-ltb (bound * d) b) in
     let u = c * 2 ^ place b d in
     let v = divisor b d in
     let U : 0 < u = mul-pos C (pow-pos (place b d)) in
     let W : 0 < v = mul-pos D (pow-pos (place b d)) in
     let m : a * 2 ^ 149 * v ≡ b * 2 ^ 149 * u = sym (mul-assoc (a * 2 ^ 149) d (2 ^ place b d)) ∙ ap (λ (x : ℕ). x * 2 ^ place b d) n ∙ mul-assoc (b * 2 ^ 149) c (2 ^ place b d) in
-    ap (λ (t : Bool). cond t overflow (byHalf (whole a c) (rest a c * 2) (divisor a c))) over
+    ap (λ (t : Bool). cond t overflow (byHalf (whole a c) (rest a c * 2) (divisor a c))) (over-same a c b d C D h)
     ∙ ap (λ (z : ℕ). cond (leb (bound * d) b) overflow (byHalf (a * 2 ^ 149 / (c * 2 ^ z)) (a * 2 ^ 149 % (c * 2 ^ z) * 2) (c * 2 ^ z))) k
     ∙ ap (λ (x : ℕ). cond (leb (bound * d) b) overflow (byHalf x (a * 2 ^ 149 % u * 2) u)) (div-same (a * 2 ^ 149) u (b * 2 ^ 149) v U W m)
     ∙ ap (λ (x : Case). cond (leb (bound * d) b) overflow x)
@@ -142,6 +146,9 @@ rounds-is aboveHalf a c C h =
 -- ---- (iii)
 stays-finite : (k : Case) (a c : ℕ) → 0 < c → In k a c → a < bound * c → act k (cutPattern a c) < infinite
 stays-finite k a c C h l = subst (λ (x : ℕ). x < infinite) (sym (min-eq-left (le-of-lt (under-bound a c C l))) ∙ rounds-is k a c C h) (under-bound a c C l)
+
+pub act-le : (a c : ℕ) → 0 < c → act (caseOf a c) (cutPattern a c) ≤ infinite
+act-le a c C = le-trans (le-of-eq (sym (rounds-is (caseOf a c) a c C (holds a c)))) (min-le-right (rounds a c) infinite)
 
 -- ---- the values of the two patterns
 cut-value : (a c : ℕ) → 0 < c → a < bound * c → HasValue (ofBits binary32 (cutPattern a c)) false (whole a c * 2 ^ place a c) (2 ^ 149)

@@ -14,3 +14,4 @@ pub mod NextToOne
 pub mod Plain
 pub mod Bound
 pub mod ByCase
+pub mod Halves

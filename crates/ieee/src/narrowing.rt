@@ -7,20 +7,21 @@ ghost use lib.ListN.{length, take};
 ghost use Rattle.lists.specs.Lists.{every, put};
 ghost use Rattle.ieee.specs.Narrow.{narrowed};
 ghost use Rattle.ieee.specs.Internal.{plain};
+use crate::cases::act_on;
+use crate::cases::decide;
 use crate::rounding::is_finite;
-use crate::rounding::pattern_of;
 use crate::rounding::signed32;
-use crate::rounding::unpack;
 
+// By its case: the sign, and the pattern that was cut, kept, raised by one or made an infinity's.
 pub fn narrow(x: f64) -> f32
     ensures { λ r. ⌜ r ≡ narrowed x ⌝ }
 {
     if is_finite(x) {
-        let p = unpack(x);
-        let neg = p.neg;
-        let sig = p.sig;
-        let exp = p.exp;
-        return signed32(neg, pattern_of(sig, exp + 3171, 24));
+        let d = decide(x);
+        let neg = d.neg;
+        let case = d.case;
+        let cut = d.cut;
+        return signed32(neg, act_on(case, cut));
     }
     if x != x {
         return 0.0 / 0.0;

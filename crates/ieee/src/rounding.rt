@@ -47,7 +47,7 @@ pub(crate) fn pattern_of(w: u64, e: u64, p: u64) -> u64
     pattern_top(w << z, false, e + 64 - z, p)
 }
 
-fn capped(m: u64, most: u64) -> u64
+pub(crate) fn capped(m: u64, most: u64) -> u64
     ensures { λ r. ⌜ r ≡ min m most ⌝ }
 {
     if m < most { m } else { most }

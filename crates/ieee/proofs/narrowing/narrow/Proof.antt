@@ -4,16 +4,20 @@ use lib.Dec.{T}
 use lib.Ieee.{ofBits, div}
 use lib.Ieee.Compare.{differs-from-itself}
 use Rattle.ieee.specs.Narrow.{narrowed}
-use Rattle.ieee.proofs.Fields.{no-nan-of-same, narrowed-nan, narrowed-pattern, narrow-infinite}
+use Rattle.ieee.proofs.Fields.{no-nan-of-same, narrowed-nan, narrow-infinite}
+use Rattle.ieee.proofs.Halves.{narrowed-by-case}
 use borrow.Author.Needs.{needs}
 use Rattle.ieee.proofs.narrowing.narrow.Statement.{statement}
 use Rattle.ieee.proofs.narrowing.narrow.Tie as tie
 
+act-on-requires : tie.Need-act-on-requires
+act-on-requires c κs = c .decide .ensures .small
+
 returns : tie.Need-returns
 returns c =
-    let p = c .before .before in
-    let u = p .unpack .result in
-    c .signed32 .ensures ∙ narrowed-pattern (p .before .before .before .args .x) (u .neg) (u .sig) (u .exp) (c .before .pattern-of .result) (p .unpack .ensures .value) (c .before .pattern-of .ensures)
+    let a = c .before in
+    let d = a .before in
+    c .signed32 .ensures ∙ narrowed-by-case (d .before .before .before .args .x) (d .decide .result .neg) (d .decide .result .case) (d .decide .result .cut) (a .act-on .result) (d .decide .ensures) (a .act-on .ensures)
 
 returns-2 : tie.Need-returns-2
 unfolding ofBits div
@@ -28,4 +32,4 @@ returns-3 c =
 pub narrow-spec : {M : Type 1} → statement M
 narrow-spec =
     tie.close
-    (tie.spec (λ c κs. search needs) (λ c κs. search needs) (λ c. search needs) (λ c κs. search needs) (λ c κs. search needs) returns returns-2 (λ c κs. search needs) returns-3)
+    (tie.spec (λ c κs. search needs) (λ c κs. search needs) act-on-requires (λ c κs. search needs) returns returns-2 (λ c κs. search needs) returns-3)
