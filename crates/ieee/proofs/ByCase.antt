@@ -2,24 +2,24 @@
 use mathlib.Core.Path.{_≡_, refl, sym, ap, _∙_, subst}
 use mathlib.Core.Logic.{_⊎_, inl, inr}
 use mathlib.Core.Bool.{Bool, true, false, cond}
-use Prim.Native.Nat.{ℕ, zero, suc, _+_, _-_, _*_, _/_, _%_, _^_, _≤_, _<_, min, compare}
-use native.Mathlib.Nat.{le-refl, add-le-add, le-trans, le-of-eq, le-of-lt, le-antisymm, lt-of-lt-of-le, lt-of-le-of-lt, eq-or-lt-of-le, add-assoc, add-zero, add-mul, mul-assoc, mul-comm, mul-right-comm, mul-left-comm, mul-pos, mul-lt-mul-of-pos-right, lt-of-mul-lt-mul-right, mul-le-mul-right, eq-of-mul-eq-mul-right, div-add-mod', min-eq-left, min-eq-right, min-le-right, mod-lt, zero-lt-suc}
+use Prim.Native.Nat.{ℕ, suc, _+_, _-_, _*_, _/_, _%_, _^_, _≤_, _<_, min, compare}
+use native.Mathlib.Nat.{le-refl, add-le-add, le-trans, le-of-eq, le-of-lt, lt-of-lt-of-le, lt-of-le-of-lt, eq-or-lt-of-le, add-assoc, add-mul, mul-assoc, mul-comm, mul-right-comm, mul-left-comm, mul-pos, mul-lt-mul-of-pos-right, lt-of-mul-lt-mul-right, eq-of-mul-eq-mul-right, div-add-mod', min-eq-left, min-eq-right, min-le-right}
 use native.Mathlib.Omega.{arith}
-use lib.Dec.{leb, ltb, eqb, lit<}
+use lib.Dec.{leb, ltb, lit<}
 use lib.Pow.{pow-pos}
 use lib.Ieee.{Float, nan, inf, fin, binary32, up, down, size, toBits, ofBits}
+use lib.Ieee.Bits.{ofBits-toBits}
 use lib.Ieee.Exact.{HasValue}
 use lib.Ieee.Fits.{down-pos}
 use lib.Ieee.Nearest.{div-same, nearest-ge}
 use borrow.Author.Tests.{lt-ltb, le-ltb, le-leb, lt-leb, eq-eqb, ne-eqb}
-use native.Mathlib.Numerals.{add-one}
 use Rattle.ieee.specs.Narrow.{narrowed}
 use Rattle.ieee.specs.Cases.{Case, overflow, belowHalf, halfEven, halfOdd, aboveHalf, In, bound, place, divisor, whole, rest, byHalf, caseOf, number, narrowCase, cutPattern, infinite, act}
-use Rattle.ieee.specs.Clause.{ByCase, Clause}
+use Rattle.ieee.specs.Clause.{Clause}
 use Rattle.ieee.specs.Internal.{pattern}
 use Rattle.ieee.proofs.Pack.{le-or-lt, whole-lt, whole-ge, pattern-value, round-pattern}
 use Rattle.ieee.proofs.Sticky.{closest-lt, closest-eq, closest-gt}
-use Rattle.ieee.proofs.Fields.{narrowed-value}
+use Rattle.ieee.proofs.Fields.{narrowed-value, narrowed-fits}
 use Rattle.ieee.proofs.Bound.{over-bound, under-bound}
 
 -- ---- (i) the case that holds is the one that is worked out, and one of them holds
@@ -174,13 +174,22 @@ raised-value k a c C h l e =
     next q = omega arith
 
 -- ---- the theorem
+every-bit : (x : Float) (s : Bool) (a c : ℕ) → 0 < c → HasValue x s a c → (k : Case) → In k a c → toBits binary32 (narrowed x) ≡ cond s (2 ^ 31) 0 + act k (cutPattern a c)
+every-bit x s a c C h k i = ap (toBits binary32) (narrowed-value x s a c C h) ∙ round-pattern binary32 s a c ∙ ap (λ (p : ℕ). cond s (2 ^ 31) 0 + p) (rounds-is k a c C i)
+
+an-infinity : (s : Bool) → ofBits binary32 (cond s (2 ^ 31) 0 + infinite) ≡ inf s
+unfolding ofBits
+an-infinity true = refl
+an-infinity false = refl
+
 pub by-case : Clause
 by-case x s a c C h = record {
   some = holds a c;
   only = λ k i. case-is k a c i;
   numbered = numbered x s a c C h;
-  bits = ap (toBits binary32) (narrowed-value x s a c C h) ∙ round-pattern binary32 s a c ∙ ap (λ (p : ℕ). cond s (2 ^ 31) 0 + p) (rounds-is (caseOf a c) a c C (holds a c));
+  bits = every-bit x s a c C h (caseOf a c) (holds a c);
   cut = cut-value a c C;
   raised = λ e. elim e [ inl i ↦ raised-value halfOdd a c C i (i .0) refl | inr i ↦ raised-value aboveHalf a c C i (i .0) refl ];
+  infinity = λ i. sym (ofBits-toBits binary32 (narrowed x) (narrowed-fits x)) ∙ ap (ofBits binary32) (every-bit x s a c C h overflow i) ∙ an-infinity s;
   finite = stays-finite (caseOf a c) a c C (holds a c);
 }
