@@ -84,11 +84,12 @@ rest-same a b c d B D h =
 leb-ltb : (m n : ℕ) → leb m n ≡ cond (ltb n m) false true
 leb-ltb m n = elim (le-or-lt m n) [ inl l ↦ rw (le-leb m n l, le-ltb n m l) | inr l ↦ rw (lt-leb m n l, lt-ltb n m l) ]
 
-pub over-same : (a c b d : ℕ) → 0 < c → 0 < d → a * d ≡ b * c → leb (bound * c) a ≡ leb (bound * d) b
-over-same a c b d C D h =
-    leb-ltb (bound * c) a
-    ∙ ap (λ (t : Bool). cond t false true) (order-same a (bound * c) b (bound * d) (mul-pos (lit< tt) C) (mul-pos (lit< tt) D) (mul-left-comm a bound d ∙ ap (λ (x : ℕ). bound * x) h ∙ sym (mul-left-comm b bound c)) .0)
-    ∙ sym (leb-ltb (bound * d) b)
+pub under-same : (a c b d : ℕ) → 0 < c → 0 < d → a * d ≡ b * c → ltb a (bound * c) ≡ ltb b (bound * d)
+under-same a c b d C D h =
+    order-same a (bound * c) b (bound * d) (mul-pos (lit< tt) C) (mul-pos (lit< tt) D) (mul-left-comm a bound d ∙ ap (λ (x : ℕ). bound * x) h ∙ sym (mul-left-comm b bound c)) .0
+
+over-same : (a c b d : ℕ) → 0 < c → 0 < d → a * d ≡ b * c → leb (bound * c) a ≡ leb (bound * d) b
+over-same a c b d C D h = leb-ltb (bound * c) a ∙ ap (λ (t : Bool). cond t false true) (under-same a c b d C D h) ∙ sym (leb-ltb (bound * d) b)
 
 case-same : (a c b d : ℕ) → 0 < c → 0 < d → a * d ≡ b * c → caseOf a c ≡ caseOf b d
 unfolding caseOf
@@ -177,7 +178,7 @@ raised-value k a c C h l e =
 every-bit : (x : Float) (s : Bool) (a c : ℕ) → 0 < c → HasValue x s a c → (k : Case) → In k a c → toBits binary32 (narrowed x) ≡ cond s (2 ^ 31) 0 + act k (cutPattern a c)
 every-bit x s a c C h k i = ap (toBits binary32) (narrowed-value x s a c C h) ∙ round-pattern binary32 s a c ∙ ap (λ (p : ℕ). cond s (2 ^ 31) 0 + p) (rounds-is k a c C i)
 
-an-infinity : (s : Bool) → ofBits binary32 (cond s (2 ^ 31) 0 + infinite) ≡ inf s
+pub an-infinity : (s : Bool) → ofBits binary32 (cond s (2 ^ 31) 0 + infinite) ≡ inf s
 unfolding ofBits
 an-infinity true = refl
 an-infinity false = refl

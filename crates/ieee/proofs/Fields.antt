@@ -1,6 +1,6 @@
 -- A float's bits as its parts, once for both formats, and `narrowed` at a value. Assumes nothing.
 use mathlib.Core.Path.{_≡_, refl, sym, ap, _∙_, subst}
-use Prim.Native.Nat.{ℕ, zero, suc, _+_, _-_, _*_, _/_, _%_, _^_, _<_, min}
+use Prim.Native.Nat.{ℕ, zero, suc, _+_, _-_, _*_, _/_, _%_, _^_, _<_}
 use native.Mathlib.Nat.{suc-ne-zero}
 use native.Mathlib.Omega.{arith}
 use mathlib.Core.Bool.{Bool, true, false, not, _&&_, Bool·beq, cond, true≢false, false≢true}
@@ -169,12 +169,3 @@ narrowed-value (fin t m e) s a c C h = ap (λ (b : Bool). round binary32 b (m * 
 pub narrowed-nan : narrowed nan ≡ nan
 unfolding narrowed
 narrowed-nan = refl
-
--- what is not finite and is no NaN narrows to an infinity of its sign
-pub narrow-infinite : (x : Float) → finite x ≡ false → T (not (isNan x))
-    → ofBits binary32 (cond (lt x (ofBits binary64 0)) (top binary32) 0 + min 0x7f80_0000 (ones binary32 * hid binary32)) ≡ narrowed x
-unfolding isNan ofBits narrowed lt
-narrow-infinite nan F N = absurd N
-narrow-infinite (inf true) F N = refl
-narrow-infinite (inf false) F N = refl
-narrow-infinite (fin s m e) F N = absurd (true≢false F)

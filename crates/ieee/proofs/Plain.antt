@@ -1,7 +1,7 @@
 -- A plain number narrowed by its bits: the lowest 29 digits are rounded off over whole numbers, and the pattern that is left is that of the narrowed number. Assumes nothing.
 use mathlib.Core.Path.{_≡_, refl, sym, ap, _∙_, subst}
 use mathlib.Core.Logic.{_⊎_, inl, inr}
-use mathlib.Core.Bool.{Bool, true, false, not, _&&_, _||_, cond, and-eq-true-iff, false≢true}
+use mathlib.Core.Bool.{Bool, true, false, not, _&&_, _||_, cond, and-eq-true-iff, true≢false, false≢true}
 use Prim.Native.Nat.{ℕ, zero, suc, _+_, _-_, _*_, _/_, _%_, _^_, _≤_, _<_, compare}
 use native.Mathlib.Nat.{mod-lt, suc-ne-zero, le-trans, le-of-eq, lt-of-lt-of-le, lt-of-le-of-lt, eq-or-lt-of-le, lt-irrefl, zero-mul, mul-one, one-mul, mul-assoc, mul-comm, mul-left-comm, mul-right-comm, mul-le-mul-right, mul-lt-mul-of-pos-right, lt-of-mul-lt-mul-right, le-of-mul-le-mul-right, eq-of-mul-eq-mul-right, le-add-right}
 use native.Mathlib.Omega.{arith}
@@ -14,7 +14,7 @@ use lib.Ieee.Exact.{HasValue, units-val}
 use lib.Ieee.Nearest.{closest, nearest-ge}
 use lib.Ieee.Order.{kept}
 use lib.Ieee.Scale.{finite}
-use borrow.Author.Tests.{ltb-true, leb-true, lt-ltb, le-ltb, le-leb, lt-leb, eqb-true, eq-eqb, ne-eqb}
+use borrow.Author.Tests.{ltb-true, le-ltb, eqb-true, ne-eqb}
 use Rattle.ieee.specs.Narrow.{narrowed}
 use Rattle.ieee.specs.Internal.{plain}
 use Rattle.ieee.proofs.Pack.{le-or-lt, pow-lt-back, value-bits, other-scale}
@@ -138,27 +138,12 @@ under-most (fin false m e) s a h p q = less-size (m * up e) (down e) a (2 ^ 127)
 under-most (fin true m e) s a h p q = less-size (m * up e) (down e) a (2 ^ 127) (2 ^ 1074) (down-pos e) (pow-pos 1074) (h .1) (ltb-true _ _ q)
 
 -- b is a at least, on one side of 0 or on the other
-pub side-is : (t : Bool) (a b : ℕ) → ((below false a t b || level false a t b) || (below t b true a || level t b true a)) ≡ leb a b
-side-is t a b = elim (le-or-lt a b) [ inr l ↦ no t l ∙ sym (lt-leb a b l) | inl l ↦ elim (eq-or-lt-of-le l) [ inl e ↦ at t e ∙ sym (le-leb a b l) | inr g ↦ past t g ∙ sym (le-leb a b l) ] ]
+on-a-side : (t : Bool) (a b : ℕ) → ((below false a t b || level false a t b) || (below t b true a || level t b true a)) ≡ true → a ≤ b
+on-a-side t a b h = elim (le-or-lt a b) [ inl l ↦ l | inr l ↦ absurd (true≢false (sym h ∙ no t l)) ]
   where
     no : (t : Bool) → b < a → ((below false a t b || level false a t b) || (below t b true a || level t b true a)) ≡ false
     no true l = rw (le-ltb a b (omega arith), ne-eqb a b (λ e. omega arith), ne-eqb b a (λ e. omega arith))
     no false l = rw (le-ltb a b (omega arith), ne-eqb a b (λ e. omega arith), ne-eqb b a (λ e. omega arith))
-
-    past : (t : Bool) → a < b → ((below false a t b || level false a t b) || (below t b true a || level t b true a)) ≡ true
-    past true l = rw (lt-ltb a b l, ne-eqb a b (λ e. omega arith))
-    past false l = rw (lt-ltb a b l)
-
-    at : (t : Bool) → a ≡ b → ((below false a t b || level false a t b) || (below t b true a || level t b true a)) ≡ true
-    at true e = rw (le-ltb a b (le-of-eq (sym e)), eq-eqb a b e, eq-eqb b a (sym e)) (either (eqb a 0))
-      where
-        either : (t : Bool) → (t || true) ≡ true
-        either true = refl
-        either false = refl
-    at false e = rw (le-ltb a b (le-of-eq (sym e)), eq-eqb a b e)
-
-on-a-side : (t : Bool) (a b : ℕ) → ((below false a t b || level false a t b) || (below t b true a || level t b true a)) ≡ true → a ≤ b
-on-a-side t a b h = leb-true a b (sym (side-is t a b) ∙ h)
 
 over-least : (x : Float) (s : Bool) (a : ℕ) → HasValue x s a (2 ^ 948 * 2 ^ 126) → (le (ofBits binary64 0x3810_0000_0000_0000) x || le x (neg (ofBits binary64 0x3810_0000_0000_0000))) ≡ true → 2 ^ 948 ≤ a
 unfolding le neg ofBits

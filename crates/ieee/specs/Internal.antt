@@ -26,12 +26,12 @@ pub record Unpacked (x : Float) (neg : Bool) (sig exp : ℕ) : Type 0 where
   pub scale : exp ≤ 2045
   pub zero : sig ≡ 0 → exp ≡ 0
 
--- ---- what `decide` says of a finite float
+-- ---- what `decide` says of a float that does not overflow
 
--- from 2 ^ 128 - 2 ^ 103 on
-unfoldable pub overflows : Float → Bool
-unfolding ofBits neg le
-overflows x = le (ofBits binary64 0x47EF_FFFF_F000_0000) x || le x (neg (ofBits binary64 0x47EF_FFFF_F000_0000))
+-- below 2 ^ 128 - 2 ^ 103, so that it is finite, and does not overflow
+unfoldable pub within : Float → Bool
+unfolding ofBits neg lt
+within x = lt x (ofBits binary64 0x47EF_FFFF_F000_0000) && lt (neg (ofBits binary64 0x47EF_FFFF_F000_0000)) x
 
 -- the cut pattern of a / c, and the number of its case where it does not overflow
 pub record CutOff (a c cut part : ℕ) : Type 0 where

@@ -9,14 +9,14 @@ ghost use Rattle.ieee.specs.Narrow.{narrowed};
 ghost use Rattle.ieee.specs.Internal.{plain};
 use crate::cases::act_on;
 use crate::cases::decide;
-use crate::rounding::is_finite;
+use crate::cases::is_within;
 use crate::rounding::signed32;
 
-// By its case: the sign, and the pattern that was cut, kept, raised by one or made an infinity's.
+// By its case: the sign, and the cut pattern as it is, raised by one, or an infinity's. An infinity is left as if it overflowed.
 pub fn narrow(x: f64) -> f32
     ensures { λ r. ⌜ r ≡ narrowed x ⌝ }
 {
-    if is_finite(x) {
+    if is_within(x) {
         let d = decide(x);
         let neg = d.neg;
         let case = d.case;
@@ -26,7 +26,7 @@ pub fn narrow(x: f64) -> f32
     if x != x {
         return 0.0 / 0.0;
     }
-    signed32(x < 0.0, 0x7f80_0000)
+    signed32(x < 0.0, act_on(1, 0))
 }
 
 // 0, or from 2^-126 up to 2^127.

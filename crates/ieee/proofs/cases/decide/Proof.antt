@@ -1,28 +1,19 @@
 -- `decide` meets its contract. Assumes nothing.
-use mathlib.Core.Path.{refl, sym, _∙_}
-use mathlib.Core.Bool.{true, false}
-use borrow.Author.Needs.{needs}
-use Rattle.ieee.proofs.Halves.{decided}
+use Rattle.ieee.proofs.Halves.{within-finite, decided}
 use Rattle.ieee.proofs.cases.decide.Statement.{statement}
 use Rattle.ieee.proofs.cases.decide.Tie as tie
 
+unpack-requires : tie.Need-unpack-requires
+unpack-requires c κs = within-finite (c .args .x) (c .pre)
+
 cut-off-requires : tie.Need-cut-off-requires
-cut-off-requires c κs = (c .unpack .ensures .digits, c .unpack .ensures .scale, c .unpack .ensures .zero)
+cut-off-requires c κs = let u = c .unpack .ensures in (u .digits, u .scale, u .zero)
 
 returns : tie.Need-returns
 returns c =
-    let o = c .before in
-    let k = o .before in
-    let u = k .before in
-    decided (u .before .args .x) (u .unpack .result .neg) (u .unpack .result .sig) (u .unpack .result .exp) (k .cut-off .result .pattern) (k .cut-off .result .part) 1 true (u .unpack .ensures) (k .cut-off .ensures) (sym (o .is-overflow .ensures) ∙ c .if1 .taken) refl
-
-returns-2 : tie.Need-returns-2
-returns-2 c =
-    let o = c .before in
-    let k = o .before in
-    let u = k .before in
-    decided (u .before .args .x) (u .unpack .result .neg) (u .unpack .result .sig) (u .unpack .result .exp) (k .cut-off .result .pattern) (k .cut-off .result .part) (k .cut-off .result .part) false (u .unpack .ensures) (k .cut-off .ensures) (sym (o .is-overflow .ensures) ∙ c .if1 .left) refl
+    let u = c .before in
+    let s = u .before in
+    decided (s .args .x) (u .unpack .result .neg) (u .unpack .result .sig) (u .unpack .result .exp) (c .cut-off .result .pattern) (c .cut-off .result .part) (u .unpack .ensures) (c .cut-off .ensures) (s .pre)
 
 pub decide-spec : {M : Type 1} → statement M
-decide-spec =
-    tie.close (tie.spec (λ c κs. search needs) cut-off-requires (λ c κs. search needs) returns returns-2)
+decide-spec = tie.close (tie.spec unpack-requires cut-off-requires returns)
