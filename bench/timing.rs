@@ -41,8 +41,8 @@ pub fn least(rounds: usize, parts: usize, sides: [&mut dyn FnMut(); 3]) -> [f64;
     let mut least = [i64::MAX; 3];
     for round in 0..rounds {
         for turn in 0..3 {
-            // forwards and backwards, so that no side always comes after the same one
-            let k = if round % 2 == 0 { turn } else { 2 - turn };
+            // each side comes after each of the others, and none after itself, whose lists would still be in the cache
+            let k = if round % 2 == 0 { turn } else { (3 - turn) % 3 };
             if k > 0 || landed() {
                 let start = clock();
                 sides[k]();

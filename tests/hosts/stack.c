@@ -95,7 +95,7 @@ static const operation operations[] = {
     {"write", nothing, write_table, 2},
     {"read", nothing, read_table, 2},
     {"locator", nothing, locator, 10},
-    {"reading, boltzmann", nothing, reading, 2},
+    {"reading, boltzmann", nothing, reading, 3},
     {"root, exp, ln, mul_add, narrow, narrow_case, vertices, cells", nothing, numbers, 2},
 };
 

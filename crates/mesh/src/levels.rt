@@ -64,7 +64,7 @@ fn cell_offsets_counted(level: u8) -> u64
     let mut sum: u64 = 0;
     let mut m: u8 = 0;
     while m < level {
-        let g = grid_size(m);
+        let g = grid_formula(vertex_count(m));
         sum += 6 * (g * g) + 1;
         m += 1;
     }

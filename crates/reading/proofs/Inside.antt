@@ -1,12 +1,12 @@
--- Which rows and energies are inside a file, and where a slab's row starts. Assumes nothing.
+-- Which rows and energies are inside a file, and what a reading answers by its stages. Assumes nothing.
 use mathlib.Core.Path.{_≡_, refl, sym, ap, _∙_}
 use mathlib.Core.Bool.{Bool, true, false, not, cond, _&&_, _||_, and-eq-true-iff}
 use mathlib.Core.List.{List}
 use mathlib.Core.Logic.{⊎-elim}
-use Prim.Native.Nat.{ℕ, suc, _+_, _-_, _*_, _/_, _≤_, _<_, min}
+use Prim.Native.Nat.{ℕ, _+_, _-_, _*_, _/_, _≤_, _<_, min}
 use native.Mathlib.Nat.{le-div-iff-mul-le, mul-le-mul}
 use native.Mathlib.Omega.{arith}
-use lib.ListN.{length}
+use lib.ListN.{length, take, drop, getD}
 use lib.Dec.{leb, ltb, eqb}
 use lib.Ieee.{Float, inf, binary32, ofBits}
 use borrow.Author.Tests.{lt-ltb, le-ltb, le-leb, lt-leb, leb-true, eqb-true, eqb-false, ne-eqb}
@@ -20,15 +20,16 @@ use Rattle.search.specs.Search.{Locator}
 use Rattle.search.specs.declared.Weights.{Weights}
 use Rattle.search.specs.declared.Nearest.{Nearest}
 use Rattle.search.specs.declared.Located.{Located}
-use Rattle.table.specs.File.{Entry}
+use Rattle.table.specs.Bytes.{numberAt}
+use Rattle.table.specs.File.{Entry, entryOf}
+use Rattle.table.proofs.Items.{entryAt as rowAt, entry-at}
+use Rattle.grid.specs.declared.Grid.{Grid}
 use Rattle.table.specs.declared.Table.{Table}
 use Rattle.reading.specs.Resolve.{readingValues, readingNumbered, Query, Way, wayValid, Resolved, unresolved, beyond, slabAt, queryValid, outside, resolve, Picks, unpicked, picked, joint, nearestPick, facePick, widened}
-use Rattle.reading.specs.Reading.{rowInside, energyInside, entryAt, readEntry, readSlab, readingBy, searchIn, readPicks}
-use Rattle.reading.specs.Internal.{itemsInside, slabOf, rowPlace, toward, readPlaced, readResolution}
+use Rattle.reading.specs.Reading.{rowInside, energyInside, energyAt, entryAt, readEntry, readSlab, readingBy, searchIn, readPicks}
+use Rattle.reading.specs.Internal.{itemsInside, slabOf, rowsTable, toward, readResolution}
 use Rattle.reading.specs.declared.Reading.{Reading}
 use Rattle.reading.specs.declared.Reading.the-variants.{Energy, Refused}
-use Rattle.reading.specs.declared.resolve.RowPlace.{RowPlace}
-use Rattle.reading.specs.declared.resolve.RowPlace.the-variants.{At, Outside, NoRow}
 
 -- ---- the items of a section
 
@@ -73,33 +74,10 @@ module _ (file : List ℕ) (t : Table) where
   unfolding rowInside
   places-below s held h = rw h (items-inside (t .«rows_start») 10 (t .rows) (length file) (omega arith) s)
 
-  pub row-at : (s r held : ℕ) → held ≡ itemsInside (t .«rows_start») 10 (t .rows) (length file) → r ≡ min s held → r < held
-      → At (t .«rows_start» + r * 10) ≡ rowPlace file t (slabAt s)
-  row-at s r held h e l = let z : r ≡ s = omega arith in rw (places-below s held h, lt-ltb s held (omega arith), z)
-
-  pub row-none : (s r held : ℕ) → held ≡ itemsInside (t .«rows_start») 10 (t .rows) (length file) → r ≡ min s held → held ≤ r
-      → NoRow 19 ≡ rowPlace file t (slabAt s)
-  row-none s r held h e l = rw (places-below s held h, le-ltb s held (omega arith))
-
   -- the bytes of a row that was placed
   pub row-fits : (r held : ℕ) → held ≡ itemsInside (t .«rows_start») 10 (t .rows) (length file) → r < held → t .«rows_start» + r * 10 + 10 ≤ length file
   unfolding rowInside
   row-fits r held h l = leb-true _ _ (and-eq-true-iff (ltb r (t .rows)) (leb (t .«rows_start» + r * 10 + 10) (length file)) .0 (places-below r held h ∙ lt-ltb r held l) .1)
-
-  place : RowPlace → ℕ
-  place (At a) = suc a
-  place Outside = 0
-  place (NoRow n) = 0
-
-  pub placed-fits : (x : Resolved) (at : ℕ) → rowPlace file t x ≡ At at → at + 10 ≤ length file
-  unfolding rowInside place
-  placed-fits (unresolved n) at e = absurd (let z : 0 ≡ suc at = ap place e in omega arith)
-  placed-fits beyond at e = absurd (let z : 0 ≡ suc at = ap place e in omega arith)
-  placed-fits (slabAt s) at e = by (rowInside file t s) (λ h. leb-true _ _ (and-eq-true-iff (ltb s (t .rows)) (leb (t .«rows_start» + s * 10 + 10) (length file)) .0 h .1)) e
-    where
-      by : (b : Bool) → (b ≡ true → t .«rows_start» + s * 10 + 10 ≤ length file) → cond b (At (t .«rows_start» + s * 10)) (NoRow 19) ≡ At at → at + 10 ≤ length file
-      by true h e = let z : suc (t .«rows_start» + s * 10) ≡ suc at = ap place e in omega (arith, h refl)
-      by false h e = absurd (let z : 0 ≡ suc at = ap place e in omega arith)
 
 -- a search that picks nothing says why, by a number that is not 0
 picksNumbered : Picks → Bool
@@ -120,15 +98,14 @@ unfolding facePick
 faces-numbered n a b = let r = joint (a .number) (b .number) in found-numbered (eqb r 0) r _ _ _ refl
 
 module _ (file : List ℕ) (t : Table) (vs : List Float) (l : Locator) (way : Way) (q : Query) where
-  placed-slab : (x : Resolved) → readSlab file t vs l way q x ≡ readPlaced file t vs l way q (rowPlace file t x)
-  unfolding entryAt
-  placed-slab (unresolved n) = refl
-  placed-slab beyond = refl
-  placed-slab (slabAt s) = by (rowInside file t s)
-    where
-      by : (b : Bool) → cond b (readEntry file t vs l way q (entryAt file t s)) (Refused 19) ≡ readPlaced file t vs l way q (cond b (At (t .«rows_start» + s * 10)) (NoRow 19))
-      by true = refl
-      by false = refl
+  -- the row of slab s, where r is s or the number of rows held
+  module _ (s r held : ℕ) (h : held ≡ itemsInside (t .«rows_start») 10 (t .rows) (length file)) (e : r ≡ min s held) where
+    pub row-none : held ≤ r → Refused 19 ≡ readSlab file t vs l way q (slabAt s)
+    row-none k = rw (places-below file t s held h, le-ltb s held (omega arith))
+
+    pub row-at : r < held → readEntry file t vs l way q (entryOf (take 10 (drop (t .«rows_start» + r * 10) file))) ≡ readSlab file t vs l way q (slabAt s)
+    unfolding entryAt
+    row-at k = let z : r ≡ s = omega arith in rw (places-below file t s held h, lt-ltb s held (omega arith), z)
 
   -- no refusal is numbered 0
   abbrev Numbered : Reading → Type 0
@@ -162,18 +139,35 @@ module _ (file : List ℕ) (t : Table) (vs : List Float) (l : Locator) (way : Wa
   unfolding resolve
   slab-numbered = resolved-numbered (queryValid q) (wayValid way) (outside (t .grid) (q .r)) (ltb 0 (t .grid .«n_r») && ltb 0 (t .grid .«n_omega»)) _
 
-  -- the answer by the row's place
-  pub reading-by : (p r : RowPlace) (z : Reading) → z ≡ readPlaced file t vs l way q r → p ≡ rowPlace file t (resolve (wayValid way) (t .grid) q) → p ≡ r
-      → Numbered z × readingValues z ≡ readingBy file t vs l way q
+  -- an answer of what is resolved
+  pub answered : (x : Resolved) (z : Reading) → x ≡ resolve (wayValid way) (t .grid) q → z ≡ readSlab file t vs l way q x → Numbered z × readingValues z ≡ readingBy file t vs l way q
   unfolding readingBy
-  reading-by p r z a e h =
-      let w : z ≡ readSlab file t vs l way q (resolve (wayValid way) (t .grid) q) = a ∙ ap (λ (z : RowPlace). readPlaced file t vs l way q z) (sym h ∙ e) ∙ sym (placed-slab (resolve (wayValid way) (t .grid) q)) in
+  answered x z e a =
+      let w : z ≡ readSlab file t vs l way q (resolve (wayValid way) (t .grid) q) = a ∙ ap (λ (x : Resolved). readSlab file t vs l way q x) e in
       (ap readingNumbered w ∙ slab-numbered, ap readingValues w)
 
-  -- a row's answer has no use for the distance and the angle
-  pub entry-toward : (e : Entry) → readEntry file t vs l way (toward (q .a) (q .b)) e ≡ readEntry file t vs l way q e
+  -- a Scalar row's short answer
+  pub scalar-entry : (e : Entry) → e .kind ≡ 0 → Energy (widened (e .scalar)) ≡ readEntry file t vs l way q e
+  unfolding readEntry
+  scalar-entry e h = rw h
+
+  -- picks, and so a row, ask a table for three numbers alone
+  picks-table : (i : Bool) (o : ℕ) (p : Picks) → readPicks file (rowsTable (t .levels) (t .«energies_start») (t .energies)) way i o p ≡ readPicks file t way i o p
+  unfolding energyInside energyAt
+  picks-table i o (unpicked n) = refl
+  picks-table i o (picked ks u v) = refl
+
+  entry-table : (e : Entry) → readEntry file (rowsTable (t .levels) (t .«energies_start») (t .energies)) vs l way (toward (q .a) (q .b)) e ≡ readEntry file t vs l way q e
   unfolding readEntry searchIn
-  entry-toward e = refl
+  entry-table e = rw (picks-table (eqb (e .kind) 3) (e .offset) (searchIn vs l q (e .level) (eqb (e .kind) 3)))
+
+  -- the answers of a row that is inside: a Scalar row's at once, and by the three numbers of the table and the two directions
+  module _ (s r held : ℕ) (h : held ≡ itemsInside (t .«rows_start») 10 (t .rows) (length file)) (e : r ≡ min s held) (k : r < held) where
+    pub scalar-row : getD file (t .«rows_start» + r * 10) 0 ≡ 0 → Energy (widened (numberAt 4 file (t .«rows_start» + r * 10 + 6))) ≡ readSlab file t vs l way q (slabAt s)
+    scalar-row z = scalar-entry (rowAt file (t .«rows_start» + r * 10)) z ∙ rw (← entry-at file (t .«rows_start» + r * 10)) (row-at s r held h e k)
+
+    pub entry-row : readEntry file (rowsTable (t .levels) (t .«energies_start») (t .energies)) vs l way (toward (q .a) (q .b)) (entryOf (take 10 (drop (t .«rows_start» + r * 10) file))) ≡ readSlab file t vs l way q (slabAt s)
+    entry-row = entry-table (entryOf (take 10 (drop (t .«rows_start» + r * 10) file))) ∙ row-at s r held h e k
 
   -- the answer by the row as the enum
   pub entry-by : (e : Entry) → readResolution file t vs l way q (e .kind) (e .offset) (resolutionOf (e .kind) (e .level) (e .scalar)) ≡ readEntry file t vs l way q e
@@ -210,43 +204,27 @@ bins-none a b h =
     rw (lt-ltb 0 a l, z))
     (le-or-lt a 0)
 
-module _ (file : List ℕ) (t : Table) (valid : Bool) (q : Query) where
-  pub refused-18 : queryValid q ≡ false → NoRow 18 ≡ rowPlace file t (resolve valid (t .grid) q)
+module _ (valid : Bool) (g : Grid) (q : Query) where
+  pub refused-18 : queryValid q ≡ false → unresolved 18 ≡ resolve valid g q
   unfolding resolve
   refused-18 h = rw h
 
-  pub refused-21 : queryValid q ≡ true → valid ≡ false → NoRow 21 ≡ rowPlace file t (resolve valid (t .grid) q)
+  pub refused-21 : queryValid q ≡ true → valid ≡ false → unresolved 21 ≡ resolve valid g q
   unfolding resolve
   refused-21 h k = rw (h, k)
 
   module _ (h : queryValid q ≡ true) (v : valid ≡ true) where
-    pub beyond-out : outside (t .grid) (q .r) ≡ true → Outside ≡ rowPlace file t (resolve valid (t .grid) q)
+    pub beyond-out : outside g (q .r) ≡ true → beyond ≡ resolve valid g q
     unfolding resolve
     beyond-out k = rw (h, v, k)
 
-    pub no-bins : outside (t .grid) (q .r) ≡ false → (eqb (t .grid .«n_r») 0 || eqb (t .grid .«n_omega») 0) ≡ true → NoRow 19 ≡ rowPlace file t (resolve valid (t .grid) q)
+    pub no-bins : outside g (q .r) ≡ false → (eqb (g .«n_r») 0 || eqb (g .«n_omega») 0) ≡ true → unresolved 19 ≡ resolve valid g q
     unfolding resolve
-    no-bins k e = rw (h, v, k, bins-none (t .grid .«n_r») (t .grid .«n_omega») e)
+    no-bins k e = rw (h, v, k, bins-none (g .«n_r») (g .«n_omega») e)
 
-    pub some-bins : outside (t .grid) (q .r) ≡ false → (eqb (t .grid .«n_r») 0 || eqb (t .grid .«n_omega») 0) ≡ false
-        → rowPlace file t (slabAt (slabOf (t .grid) (q .r) (q .omega))) ≡ rowPlace file t (resolve valid (t .grid) q)
+    pub some-bins : outside g (q .r) ≡ false → (eqb (g .«n_r») 0 || eqb (g .«n_omega») 0) ≡ false → slabAt (slabOf g (q .r) (q .omega)) ≡ resolve valid g q
     unfolding resolve
-    some-bins k e = let b = bins-some (t .grid .«n_r») (t .grid .«n_omega») e in rw (h, v, k, lt-ltb 0 (t .grid .«n_r») (b .0), lt-ltb 0 (t .grid .«n_omega») (b .1))
-
--- a row is placed only where 21 is answered yes
-pub placed-valid : (file : List ℕ) (t : Table) (valid : Bool) (q : Query) (at : ℕ) → rowPlace file t (resolve valid (t .grid) q) ≡ At at → valid ≡ true
-unfolding resolve
-placed-valid file t true q at e = refl
-placed-valid file t false q at e = by (queryValid q) e
-  where
-    tag : RowPlace → ℕ
-    tag (At a) = 1
-    tag Outside = 0
-    tag (NoRow n) = 0
-
-    by : (b : Bool) → rowPlace file t (cond b (unresolved 21) (unresolved 18)) ≡ At at → false ≡ true
-    by true e = absurd (let z : 0 ≡ 1 = ap tag e in omega arith)
-    by false e = absurd (let z : 0 ≡ 1 = ap tag e in omega arith)
+    some-bins k e = let b = bins-some (g .«n_r») (g .«n_omega») e in rw (h, v, k, lt-ltb 0 (g .«n_r») (b .0), lt-ltb 0 (g .«n_omega») (b .1))
 
 -- ---- the row as the enum
 

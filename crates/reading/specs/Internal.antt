@@ -3,7 +3,7 @@ use mathlib.Core.Path.{_≡_}
 use mathlib.Core.Bool.{Bool, false, cond, _&&_}
 use mathlib.Core.List.{List}
 use Prim.Native.Nat.{ℕ, _+_, _-_, _*_, _/_, _≤_, _<_, min}
-use lib.ListN.{length, take, drop}
+use lib.ListN.{length}
 use lib.Dec.{leb, ltb}
 use lib.Ieee.{Float, inf, binary64, ofBits, neg, add, sub, mul, div, lt, le}
 use Rattle.float.specs.Order.{smaller}
@@ -20,14 +20,11 @@ use Rattle.search.specs.declared.Weights.{Weights}
 use Rattle.search.specs.declared.Nearest.{Nearest}
 use Rattle.search.specs.declared.Located.{Located}
 use Rattle.table.specs.Bytes.{numberAt}
-use Rattle.table.specs.File.{entryOf}
 use Rattle.table.specs.declared.Table.{Table}
-use Rattle.reading.specs.Resolve.{Query, Way, linear, boltzmann, Resolved, unresolved, beyond, slabAt, widened, infinite}
-use Rattle.reading.specs.Reading.{rowInside, searchIn, readPicks, readEntry}
+use Rattle.reading.specs.Resolve.{Query, Way, linear, boltzmann, widened, infinite}
+use Rattle.reading.specs.Reading.{searchIn, readPicks}
 use Rattle.reading.specs.declared.Reading.{Reading}
 use Rattle.reading.specs.declared.Reading.the-variants.{Energy, Refused}
-use Rattle.reading.specs.declared.resolve.RowPlace.{RowPlace}
-use Rattle.reading.specs.declared.resolve.RowPlace.the-variants.{At, Outside, NoRow}
 
 -- how many of a section's items, w bytes each from byte start on, are below its count and inside a file of n bytes
 unfoldable pub itemsInside : ℕ → ℕ → ℕ → ℕ → ℕ
@@ -38,11 +35,21 @@ itemsInside start w count n = min count ((n - start) / w)
 abbrev pub slabOf : Grid → Float → Float → ℕ
 slabOf g r omega = distanceBin r (g .rmin) (g .dr) (g .«n_r») * g .«n_omega» + dihedralBin omega (g .«omega_step») (g .«n_omega»)
 
--- the byte at which the row of a slab starts, or why no row is read
-abbrev pub rowPlace : List ℕ → Table → Resolved → RowPlace
-rowPlace file t (unresolved n) = NoRow n
-rowPlace file t beyond = Outside
-rowPlace file t (slabAt s) = cond (rowInside file t s) (At (t .«rows_start» + s * 10)) (NoRow 19)
+-- a table of which a row's answer asks the levels and the place and number of the energies alone
+abbrev pub rowsTable : ℕ → ℕ → ℕ → Table
+rowsTable levels start count =
+    let z = ofBits binary64 0 in
+    record {
+      grid = record { rmin = z; rmax = z; dr = z; «omega_step» = z; threshold = z; beta = z; «n_r» = 0; «n_omega» = 0 };
+      levels = levels;
+      rows = 0;
+      energies = count;
+      «grid_start» = 0;
+      «bins_start» = 0;
+      «levels_start» = 0;
+      «rows_start» = 0;
+      «energies_start» = start;
+    }
 
 -- the way that a number stands for once 21 has been asked: a beta, or 0 for the plain sum
 abbrev pub wayOf : Float → Way
@@ -57,12 +64,6 @@ abbrev pub readResolution : List ℕ → Table → List Float → Locator → Wa
 readResolution file t vertices l way q kind o (Scalar x) = Energy x
 readResolution file t vertices l way q kind o Repulsive = Energy (inf false)
 readResolution file t vertices l way q kind o (Mesh v b) = cond (leb kind 3 && ltb v (t .levels)) (readPicks file t way b o (searchIn vertices l q v b)) (Refused 19)
-
--- the answer by the place of the row
-abbrev pub readPlaced : List ℕ → Table → List Float → Locator → Way → Query → RowPlace → Reading
-readPlaced file t vertices l way q (NoRow n) = Refused n
-readPlaced file t vertices l way q Outside = Energy (ofBits binary64 0)
-readPlaced file t vertices l way q (At at) = readEntry file t vertices l way q (entryOf (take 10 (drop at file)))
 
 -- where a level's part of a list of n entries begins: at the list's end, where the list is shorter
 unfoldable pub partFrom : ℕ → ℕ → ℕ

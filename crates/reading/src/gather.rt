@@ -98,19 +98,20 @@ pub(crate) fn read_nearest(
     file: &[u8],
     offset: u64,
     level: u8,
+    cells: u64,
     cell_offsets: &[u32],
     cell_vertices: &[u16],
     vertices: &[f64],
     a: Vector3,
     b: Vector3,
 ) -> Reading
-    requires { ⌜ offset < 4294967296 ⌝ }
+    requires { ⌜ (offset < 4294967296) × (cells ≡ cellOffsetsBelow level) ⌝ }
     ensures { λ r. ⌜ r ≡ readPicks (now (file .entry)) t linear false offset (nearestPick (vertexCount level)
         (nearestInCells (drop (cellOffsetsBelow level) (now («cell_offsets» .entry))) (drop (27 * verticesBelow level) (now («cell_vertices» .entry))) (verticesFrom level (now (vertices .entry))) (vertexCount level) (gridSize (vertexCount level)) (unit a))
         (nearestInCells (drop (cellOffsetsBelow level) (now («cell_offsets» .entry))) (drop (27 * verticesBelow level) (now («cell_vertices» .entry))) (verticesFrom level (now (vertices .entry))) (vertexCount level) (gridSize (vertexCount level)) (unit b))) ⌝ }
 {
     let below = mesh::vertices_below(level);
-    let i = part_from(cell_offsets.len(), mesh::cell_offsets_below(level));
+    let i = part_from(cell_offsets.len(), cells);
     let j = part_from(cell_vertices.len(), 27 * below);
     let k = part_from(vertices.len(), 3 * below);
     nearest_in(
@@ -131,6 +132,7 @@ pub(crate) fn read_interpolated(
     file: &[u8],
     offset: u64,
     level: u8,
+    cells: u64,
     cell_offsets: &[u32],
     cell_vertices: &[u16],
     face_offsets: &[u32],
@@ -140,12 +142,12 @@ pub(crate) fn read_interpolated(
     b: Vector3,
     beta: f64,
 ) -> Reading
-    requires { ⌜ offset < 4294967296 ⌝ }
+    requires { ⌜ (offset < 4294967296) × (cells ≡ cellOffsetsBelow level) ⌝ }
     ensures { λ r. ⌜ r ≡ readPicks (now (file .entry)) t (wayOf beta) true offset
         (searchIn (now (vertices .entry)) (locatorOf (now («cell_offsets» .entry)) (now («cell_vertices» .entry)) (now («face_offsets» .entry)) (now (faces .entry))) (toward a b) level true) ⌝ }
 {
     let below = mesh::vertices_below(level);
-    let i = part_from(cell_offsets.len(), mesh::cell_offsets_below(level));
+    let i = part_from(cell_offsets.len(), cells);
     let j = part_from(cell_vertices.len(), 27 * below);
     let k = part_from(face_offsets.len(), below + level as u64);
     let m = part_from(faces.len(), 45 * below);

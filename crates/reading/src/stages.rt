@@ -5,15 +5,18 @@ ghost use Prim.Native.Nat.{_+_, _≤_, _<_};
 ghost use lib.ListN.{length, take, drop};
 ghost use Rattle.search.specs.Search.{locatorOf};
 ghost use Rattle.table.specs.File.{entryOf};
-ghost use Rattle.reading.specs.Resolve.{Way, boltzmann, wayValid, readingValues, readingNumbered};
+ghost use Rattle.reading.specs.Resolve.{boltzmann, readingValues, readingNumbered};
 ghost use Rattle.reading.specs.Reading.{readEntry, readingBy, readingOut};
-ghost use Rattle.reading.specs.Internal.{wayOf, toward, readResolution};
+ghost use Rattle.reading.specs.Internal.{wayOf, toward, readResolution, rowsTable};
 use crate::Reading;
 use crate::gather::read_interpolated;
 use crate::gather::read_nearest;
+use crate::places::items_inside;
+use crate::places::slab_below;
 use crate::places::u32_inside;
-use crate::resolve::RowPlace;
-use crate::resolve::row_place;
+use crate::resolve::outside;
+use crate::resolve::query_valid;
+use grid::Grid;
 use rows::SlabResolution;
 use search::Vector3;
 use table::Table;
@@ -47,12 +50,15 @@ fn read_resolution(
             if (3 < kind) | (levels <= level as u64) {
                 return Reading::Refused(19);
             }
+            // asked for once, and by one caller alone: so it is compiled in place
+            let cells = mesh::cell_offsets_below(level);
             if interpolate {
                 return read_interpolated(
                     t,
                     file,
                     offset,
                     level,
+                    cells,
                     cell_offsets,
                     cell_vertices,
                     face_offsets,
@@ -68,6 +74,7 @@ fn read_resolution(
                 file,
                 offset,
                 level,
+                cells,
                 cell_offsets,
                 cell_vertices,
                 vertices,
@@ -78,31 +85,75 @@ fn read_resolution(
     }
 }
 
-// The answer of the row that starts at a byte.
+// A table of which a row's answer asks no more than these three numbers.
+fn rows_table(levels: u64, start: u64, count: u64) -> Table
+    ensures { λ r. ⌜ r ≡ rowsTable levels start count ⌝ }
+{
+    Table {
+        grid: Grid {
+            rmin: 0.0,
+            rmax: 0.0,
+            dr: 0.0,
+            omega_step: 0.0,
+            threshold: 0.0,
+            beta: 0.0,
+            n_r: 0,
+            n_omega: 0,
+        },
+        levels,
+        rows: 0,
+        energies: count,
+        grid_start: 0,
+        bins_start: 0,
+        levels_start: 0,
+        rows_start: 0,
+        energies_start: start,
+    }
+}
+
+// The answer of the row that starts at a byte. Both readings call it, so it is compiled apart: it is handed numbers, since
+// a struct would be copied.
 fn read_row(
-    t: Table,
+    levels: u64,
+    start: u64,
+    count: u64,
     file: &[u8],
     vertices: &[f64],
     cell_offsets: &[u32],
     cell_vertices: &[u16],
     face_offsets: &[u32],
     faces: &[u16],
-    a: Vector3,
-    b: Vector3,
+    ax: f64,
+    ay: f64,
+    az: f64,
+    bx: f64,
+    by: f64,
+    bz: f64,
     beta: f64,
     at: u64,
 ) -> Reading
     requires { ⌜ at + 10 ≤ length (now file) ⌝ }
-    ensures { λ r. ⌜ r ≡ readEntry (now (file .entry)) t (now (vertices .entry))
+    ensures { λ r. ⌜ r ≡ readEntry (now (file .entry)) (rowsTable levels start count) (now (vertices .entry))
         (locatorOf (now («cell_offsets» .entry)) (now («cell_vertices» .entry)) (now («face_offsets» .entry)) (now (faces .entry)))
-        (wayOf beta) (toward a b) (entryOf (take 10 (drop at (now (file .entry))))) ⌝ }
+        (wayOf beta) (toward (record { x = ax; y = ay; z = az }) (record { x = bx; y = by; z = bz })) (entryOf (take 10 (drop at (now (file .entry))))) ⌝ }
 {
+    let a = Vector3 {
+        x: ax,
+        y: ay,
+        z: az,
+    };
+    let b = Vector3 {
+        x: bx,
+        y: by,
+        z: bz,
+    };
     let i = at as usize;
     let kind = file[i];
     let level = file[i + 1];
     let offset = u32_inside(file, at + 2) as u64;
     let scalar = u32_inside(file, at + 6);
     let row = rows::resolution_of(kind, level, scalar);
+    let t = rows_table(levels, start, count);
     read_resolution(
         t,
         file,
@@ -120,63 +171,8 @@ fn read_row(
     )
 }
 
-// A reading by either way: beta is above 0 for a weighted one, and 0 for a plain one; 21 has been put to it, and its
-// answer is handed in.
-fn lookup_by(
-    t: Table,
-    file: &[u8],
-    vertices: &[f64],
-    cell_offsets: &[u32],
-    cell_vertices: &[u16],
-    face_offsets: &[u32],
-    faces: &[u16],
-    r: f64,
-    omega: f64,
-    ax: f64,
-    ay: f64,
-    az: f64,
-    bx: f64,
-    by: f64,
-    bz: f64,
-    valid: bool,
-    beta: f64,
-) -> Reading
-    ensures { λ z. ⌜ ((way : Way) → wayValid way ≡ valid → (valid ≡ true → wayOf beta ≡ way) → (readingNumbered z ≡ true) × readingValues z ≡ readingBy (now (file .entry)) t (now (vertices .entry))
-        (locatorOf (now («cell_offsets» .entry)) (now («cell_vertices» .entry)) (now («face_offsets» .entry)) (now (faces .entry)))
-        way (record { r = r; omega = omega; a = record { x = ax; y = ay; z = az }; b = record { x = bx; y = by; z = bz } })) ⌝ }
-{
-    let a = Vector3 {
-        x: ax,
-        y: ay,
-        z: az,
-    };
-    let b = Vector3 {
-        x: bx,
-        y: by,
-        z: bz,
-    };
-    match row_place(t, file, r, omega, a, b, valid) {
-        RowPlace::NoRow(n) => Reading::Refused(n),
-        RowPlace::Outside => Reading::Energy(0.0),
-        RowPlace::At(at) => {
-            read_row(
-                t,
-                file,
-                vertices,
-                cell_offsets,
-                cell_vertices,
-                face_offsets,
-                faces,
-                a,
-                b,
-                beta,
-                at,
-            )
-        }
-    }
-}
-
 // Reads a table's energy at a distance, a dihedral angle and two directions: over the file's bytes, read's answer, and the meshes and locators of all its levels one after another.
+// The short answers, a Scalar row's too, are given here, in the caller's own code.
 pub fn lookup(
     t: Table,
     file: &[u8],
@@ -194,24 +190,46 @@ pub fn lookup(
         (locatorOf (now («cell_offsets» .entry)) (now («cell_vertices» .entry)) (now («face_offsets» .entry)) (now (faces .entry)))
         (record { r = r; omega = omega; a = a; b = b }) ⌝ }
 {
-    lookup_by(
-        t,
+    let g = t.grid;
+    let start = t.rows_start;
+    if !query_valid(r, omega, a, b) {
+        return Reading::Refused(18);
+    }
+    if outside(t, r) {
+        return Reading::Energy(0.0);
+    }
+    if (g.n_r == 0) | (g.n_omega == 0) {
+        return Reading::Refused(19);
+    }
+    let ri = grid::distance_bin(r, g.rmin, g.dr, g.n_r);
+    let oi = grid::dihedral_bin(omega, g.omega_step, g.n_omega);
+    let held = items_inside(start, 10, t.rows, file.len() as u64);
+    let s = slab_below(ri, g.n_omega, oi, held);
+    if held <= s {
+        return Reading::Refused(19);
+    }
+    let at = start + s * 10;
+    if file[at as usize] == 0 {
+        return Reading::Energy(bits::widened(u32_inside(file, at + 6)));
+    }
+    read_row(
+        t.levels,
+        t.energies_start,
+        t.energies,
         file,
         vertices,
         cell_offsets,
         cell_vertices,
         face_offsets,
         faces,
-        r,
-        omega,
         a.x,
         a.y,
         a.z,
         b.x,
         b.y,
         b.z,
-        true,
         0.0,
+        at,
     )
 }
 
@@ -235,24 +253,48 @@ pub fn lookup_boltzmann(
         (locatorOf (now («cell_offsets» .entry)) (now («cell_vertices» .entry)) (now («face_offsets» .entry)) (now (faces .entry)))
         (boltzmann beta) (record { r = r; omega = omega; a = a; b = b }) ⌝ }
 {
-    let valid = ieee::is_finite(beta) & (0.0 < beta);
-    lookup_by(
-        t,
+    let g = t.grid;
+    let start = t.rows_start;
+    if !query_valid(r, omega, a, b) {
+        return Reading::Refused(18);
+    }
+    if !(ieee::is_finite(beta) & (0.0 < beta)) {
+        return Reading::Refused(21);
+    }
+    if outside(t, r) {
+        return Reading::Energy(0.0);
+    }
+    if (g.n_r == 0) | (g.n_omega == 0) {
+        return Reading::Refused(19);
+    }
+    let ri = grid::distance_bin(r, g.rmin, g.dr, g.n_r);
+    let oi = grid::dihedral_bin(omega, g.omega_step, g.n_omega);
+    let held = items_inside(start, 10, t.rows, file.len() as u64);
+    let s = slab_below(ri, g.n_omega, oi, held);
+    if held <= s {
+        return Reading::Refused(19);
+    }
+    let at = start + s * 10;
+    if file[at as usize] == 0 {
+        return Reading::Energy(bits::widened(u32_inside(file, at + 6)));
+    }
+    read_row(
+        t.levels,
+        t.energies_start,
+        t.energies,
         file,
         vertices,
         cell_offsets,
         cell_vertices,
         face_offsets,
         faces,
-        r,
-        omega,
         a.x,
         a.y,
         a.z,
         b.x,
         b.y,
         b.z,
-        valid,
         beta,
+        at,
     )
 }

@@ -208,7 +208,13 @@ fn nearest_in_cell(cell: &[u16], vertices: &[f64], n: usize, p: Vector3) -> Near
     let first = nearer(vertices, p, not_nearest(20), v);
     let distance = first.distance;
     if distance != distance {
-        return nearest_by_order(cell, vertices, n, p);
+        // of its own parts, and over a list of its own, so that the common way goes through no memory
+        let slow = nearest_by_order(cell, &vertices[0..], n, p);
+        return Nearest {
+            number: slow.number,
+            vertex: slow.vertex,
+            distance: slow.distance,
+        };
     }
     nearest_of(&cell[1..cell.len()], vertices, limit, p, first)
 }

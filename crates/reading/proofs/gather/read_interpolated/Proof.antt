@@ -12,22 +12,25 @@ use Rattle.reading.proofs.gather.read_interpolated.Statement.{statement
 use Rattle.reading.proofs.gather.read_interpolated.Tie as tie
 
 mul-part-from : tie.Need-mul-part-from
-mul-part-from c = let b = c .before .before in omega (arith, b .vertices-below .ensures, below-few (b .before .before .before .before .before .before .before .args .level) (omega arith))
+mul-part-from c = let b = c .before in omega (arith, b .vertices-below .ensures, below-few (b .before .before .before .before .before .before .before .args .level) (omega arith))
 
 add-part-from : tie.Need-add-part-from
-add-part-from c = let b = c .before .before .before in omega (arith, b .vertices-below .ensures, below-few (b .before .before .before .before .before .before .before .args .level) (omega arith))
+add-part-from c = let b = c .before .before in omega (arith, b .vertices-below .ensures, below-few (b .before .before .before .before .before .before .before .args .level) (omega arith))
 
 mul-part-from-2 : tie.Need-mul-part-from-2
-mul-part-from-2 c = let b = c .before .before .before .before in omega (arith, b .vertices-below .ensures, below-few (b .before .before .before .before .before .before .before .args .level) (omega arith))
+mul-part-from-2 c = let b = c .before .before .before in omega (arith, b .vertices-below .ensures, below-few (b .before .before .before .before .before .before .before .args .level) (omega arith))
 
 mul-part-from-3 : tie.Need-mul-part-from-3
-mul-part-from-3 c = let b = c .before .before .before .before .before in omega (arith, b .vertices-below .ensures, below-few (b .before .before .before .before .before .before .before .args .level) (omega arith))
+mul-part-from-3 c = let b = c .before .before .before .before in omega (arith, b .vertices-below .ensures, below-few (b .before .before .before .before .before .before .before .args .level) (omega arith))
+
+mul-interpolated-in-3 : tie.Need-mul-interpolated-in-3
+mul-interpolated-in-3 c = let k = c .before .before .before .before in omega (arith, k .part-from3 .ensures .1, k .before .before .before .before .before .before .before .before .before .before .good .1 .1 .1 .1 .1 .1 .1 .0)
 
 mul-interpolated-in-4 : tie.Need-mul-interpolated-in-4
-mul-interpolated-in-4 c = let m = c .before .before .before .before in omega (arith, m .part-from4 .ensures .1, m .before .before .before .before .before .before .before .before .before .before .before .before .good .1 .1 .1 .1 .1 .1 .1 .0)
+mul-interpolated-in-4 c = let m = c .before .before .before .before in omega (arith, m .part-from4 .ensures .1, m .before .before .before .before .before .before .before .before .before .before .before .good .1 .1 .1 .1 .1 .1 .1 .1 .0)
 
 mul-interpolated-in-5 : tie.Need-mul-interpolated-in-5
-mul-interpolated-in-5 c = let v = c .before .before .before .before in omega (arith, v .part-from5 .ensures .1, v .before .before .before .before .before .before .before .before .before .before .before .before .before .good .1 .1 .1 .1 .1 .1 .1 .1 .0)
+mul-interpolated-in-5 c = let v = c .before .before .before .before in omega (arith, v .part-from5 .ensures .1, v .before .before .before .before .before .before .before .before .before .before .before .before .good .1 .1 .1 .1 .1 .1 .1 .1 .1 .0)
 
 returns : tie.Need-returns
 unfolding verticesFrom locatorFrom searchIn
@@ -37,12 +40,12 @@ returns c =
     let k = m .before in
     let j = k .before in
     let i = j .before in
-    let o = i .before in
-    let b = o .before in
-    let a = b .before .before .before .before .before .before .before .args in
+    let b = i .before in
+    let s = b .before .before .before .before .before .before .before in
+    let a = s .args in
     rw (
       c .interpolated-in .ensures,
-      part (a .cell-offsets .now) (cellOffsetsBelow (a .level)) (i .part-from .result) (i .part-from .ensures .0 ∙ rw (o .cell-offsets-below .ensures)),
+      part (a .cell-offsets .now) (cellOffsetsBelow (a .level)) (i .part-from .result) (i .part-from .ensures .0 ∙ rw (s .pre .1)),
       part (a .cell-vertices .now) (27 * verticesBelow (a .level)) (j .part-from2 .result) (j .part-from2 .ensures .0 ∙ rw (b .vertices-below .ensures)),
       part (a .face-offsets .now) (verticesBelow (a .level) + a .level) (k .part-from3 .result) (k .part-from3 .ensures .0 ∙ rw (b .vertices-below .ensures)),
       part (a .faces .now) (45 * verticesBelow (a .level)) (m .part-from4 .result) (m .part-from4 .ensures .0 ∙ rw (b .vertices-below .ensures)),
@@ -52,4 +55,4 @@ returns c =
 pub read-interpolated-spec : {M : Type 1} → statement M
 read-interpolated-spec =
     tie.close
-    (tie.spec (λ c κs. search needs) (λ c κs. search needs) (λ c κs. search needs) mul-part-from (λ c κs. search needs) add-part-from (λ c κs. search needs) mul-part-from-2 (λ c κs. search needs) mul-part-from-3 (λ c κs. search needs) (λ c. search needs) (λ c. search needs) (λ c. search needs) (λ c. search needs) (λ c. search needs) (λ c. search needs) (λ c. search needs) (λ c. search needs) (λ c. search needs) (λ c. search needs) (λ c. search needs) (λ c. search needs) mul-interpolated-in-4 (λ c. search needs) (λ c. search needs) (λ c. search needs) mul-interpolated-in-5 (λ c. search needs) (λ c. search needs) (λ c. search needs) (λ c κs. search needs) returns)
+    (tie.spec (λ c κs. search needs) (λ c κs. search needs) mul-part-from (λ c κs. search needs) add-part-from (λ c κs. search needs) mul-part-from-2 (λ c κs. search needs) mul-part-from-3 (λ c κs. search needs) (λ c. search needs) (λ c. search needs) (λ c. search needs) (λ c. search needs) (λ c. search needs) (λ c. search needs) (λ c. search needs) (λ c. search needs) mul-interpolated-in-3 (λ c. search needs) (λ c. search needs) (λ c. search needs) mul-interpolated-in-4 (λ c. search needs) (λ c. search needs) (λ c. search needs) mul-interpolated-in-5 (λ c. search needs) (λ c. search needs) (λ c. search needs) (λ c κs. search needs) returns)

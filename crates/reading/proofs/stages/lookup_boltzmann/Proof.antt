@@ -1,26 +1,132 @@
 -- `lookup_boltzmann` meets its contract. Assumes nothing.
 use borrow.Author.Needs.{needs}
-use mathlib.Core.Path.{_≡_, sym, ap, _∙_}
-use mathlib.Core.Bool.{Bool, true, cond, _&&_, and-eq-true-iff}
+use mathlib.Core.Path.{_≡_, refl, sym, _∙_}
+use mathlib.Core.Bool.{true, false, _&&_, and-eq-true-iff}
+use Prim.Native.Nat.{_+_, _*_, _≤_, min}
+use native.Mathlib.Omega.{arith}
+use lib.ListN.{length}
 use lib.Ieee.{Float, binary64, ofBits, lt}
 use lib.Ieee.Scale.{finite}
+use borrow.Author.Tests.{not-true, not-false}
+use Rattle.lists.proofs.Counting.{yes, no}
 use Rattle.grid.specs.Settings.{above}
-use Rattle.reading.specs.Resolve.{boltzmann, wayValid}
-use Rattle.reading.specs.Internal.{wayOf}
+use Rattle.search.specs.Search.{Locator, locatorOf}
+use Rattle.reading.specs.Resolve.{Query, boltzmann, wayValid, Resolved, unresolved, beyond, slabAt, queryValid, outside, resolve}
+use Rattle.reading.specs.declared.Reading.the-variants.{Energy}
+use Rattle.reading.specs.Internal.{wayOf, slabOf}
+use Rattle.reading.proofs.Inside.{refused-18, refused-21, beyond-out, no-bins, some-bins, bins-some, row-none, row-fits, scalar-row, entry-row, answered}
 use Rattle.reading.proofs.stages.lookup_boltzmann.Statement.{statement}
 use Rattle.reading.proofs.stages.lookup_boltzmann.Tie as tie
 
+abbrev lists : tie.Start → Locator
+lists s = locatorOf (s .args .cell-offsets .now) (s .args .cell-vertices .now) (s .args .face-offsets .now) (s .args .faces .now)
+
+abbrev query : tie.Start → Query
+query s = record { r = s .args .r; omega = s .args .omega; a = s .args .a; b = s .args .b }
+
+asked : (c : tie.Else1) → queryValid (query (c .before .before .before .before .before .before .before .before .before)) ≡ true
+asked c = yes (c .before .query-valid .ensures) (c .if1 .left)
+
 -- a beta that is finite and above 0 stands for itself
-own-way : (beta : Float) → (finite beta && lt (ofBits binary64 0) beta) ≡ true → wayOf beta ≡ boltzmann beta
+own-way : (beta : Float) → wayValid (boltzmann beta) ≡ true → wayOf beta ≡ boltzmann beta
+unfolding wayValid above
 own-way beta h = rw (and-eq-true-iff (finite beta) (lt (ofBits binary64 0) beta) .0 h .1)
 
-returns : tie.Need-returns
+weighted : (c : tie.Else2) → wayValid (boltzmann (c .before .before .before .before .before .before .before .before .before .before .before .args .beta)) ≡ true
 unfolding wayValid above
+weighted c = rw (c .before .is-finite .ensures) at (not-false (c .before .is-finite .result && lt (ofBits binary64 0) (c .before .before .before .before .before .before .before .before .before .before .before .args .beta)) (c .if2 .left))
+
+inner : (c : tie.Else3) → (let s = c .before .before .before .before .before .before .before .before .before .before .before .before .before in outside (s .args .t .grid) (s .args .r) ≡ false)
+inner c = sym (c .before .outside .ensures) ∙ c .if3 .left
+
+-- the slab that is resolved
+resolved : (c : tie.Else4) → (let s = c .before .before .before .before .before .before .before .before .before .before .before .before .before .before .before .before in slabAt (slabOf (s .args .t .grid) (s .args .r) (s .args .omega)) ≡ resolve (wayValid (boltzmann (s .args .beta))) (s .args .t .grid) (query s))
+resolved c =
+    let i = c .before .before .before in
+    let s = i .before .before .before .before .before .before .before .before .before .before .before .before .before in
+    some-bins (wayValid (boltzmann (s .args .beta))) (s .args .t .grid) (query s) (asked (i .before .before .before .before)) (weighted (i .before .before)) (inner i) (c .if4 .left)
+
+-- its number, or the number of rows held
+slab : (c : tie.After-slab-below) → (let h = c .before in let s = h .before .before .before .before .before .before .before .before .before .before .before .before .before .before .before .before .before .before .before in c .slab-below .result ≡ min (slabOf (s .args .t .grid) (s .args .r) (s .args .omega)) (h .items-inside .result))
+slab c = c .slab-below .ensures ∙ rw (c .before .before .dihedral-bin .ensures, c .before .before .before .distance-bin .ensures)
+
+fits : (c : tie.Else5) → (let s = c .before .before .before .before .before .before .before .before .before .before .before .before .before .before .before .before .before .before .before .before .before in s .args .t .«rows_start» + c .before .slab-below .result * 10 + 10 ≤ length (s .args .file .now))
+fits c =
+    let h = c .before .before in
+    let s = h .before .before .before .before .before .before .before .before .before .before .before .before .before .before .before .before .before .before .before in
+    row-fits (s .args .file .now) (s .args .t) (c .before .slab-below .result) (h .items-inside .result) (h .items-inside .ensures) (omega (arith, c .if5 .left))
+
+returns : tie.Need-returns
 returns c =
-    let o = c .before .before .before .before .before .before .before .before in
-    let e = c .before .is-finite .ensures in
-    let beta = o .args .beta in
-    c .lookup-by .ensures (boltzmann beta) (rw e) (λ h. own-way beta (rw e at h))
+    let s = c .before .before .before .before .before .before .before .before .before in
+    answered (s .args .file .now) (s .args .t) (s .args .vertices .now) (lists s) (boltzmann (s .args .beta)) (query s) (unresolved 18) _ (refused-18 (wayValid (boltzmann (s .args .beta))) (s .args .t .grid) (query s) (no (c .before .query-valid .ensures) (c .if1 .taken))) refl
+
+returns-2 : tie.Need-returns-2
+unfolding wayValid above
+returns-2 c =
+    let s = c .before .before .before .before .before .before .before .before .before .before .before in
+    answered (s .args .file .now) (s .args .t) (s .args .vertices .now) (lists s) (boltzmann (s .args .beta)) (query s) (unresolved 21) _ (refused-21 (wayValid (boltzmann (s .args .beta))) (s .args .t .grid) (query s) (asked (c .before .before)) (rw (c .before .is-finite .ensures) at (not-true (c .before .is-finite .result && lt (ofBits binary64 0) (s .args .beta)) (c .if2 .taken)))) refl
+
+returns-3 : tie.Need-returns-3
+returns-3 c =
+    let s = c .before .before .before .before .before .before .before .before .before .before .before .before .before in
+    answered (s .args .file .now) (s .args .t) (s .args .vertices .now) (lists s) (boltzmann (s .args .beta)) (query s) beyond _ (beyond-out (wayValid (boltzmann (s .args .beta))) (s .args .t .grid) (query s) (asked (c .before .before .before .before)) (weighted (c .before .before)) (sym (c .before .outside .ensures) ∙ c .if3 .taken)) refl
+
+returns-4 : tie.Need-returns-4
+returns-4 c =
+    let i = c .before .before .before in
+    let s = i .before .before .before .before .before .before .before .before .before .before .before .before .before in
+    answered (s .args .file .now) (s .args .t) (s .args .vertices .now) (lists s) (boltzmann (s .args .beta)) (query s) (unresolved 19) _ (no-bins (wayValid (boltzmann (s .args .beta))) (s .args .t .grid) (query s) (asked (i .before .before .before .before)) (weighted (i .before .before)) (inner i) (c .if4 .taken)) refl
+
+slab-below-requires : tie.Need-slab-below-requires
+slab-below-requires c κs =
+    let e = c .before .before .before in
+    let g = e .before .before .before .before .before .before .before .before .before .before .before .before .before .before .before .before .args .t .grid in
+    bins-some (g .«n_r») (g .«n_omega») (e .if4 .left) .1
+
+returns-5 : tie.Need-returns-5
+returns-5 c =
+    let h = c .before .before in
+    let s = h .before .before .before .before .before .before .before .before .before .before .before .before .before .before .before .before .before .before .before in
+    answered (s .args .file .now) (s .args .t) (s .args .vertices .now) (lists s) (boltzmann (s .args .beta)) (query s) _ _ (resolved (h .before .before .before))
+    (row-none (s .args .file .now) (s .args .t) (s .args .vertices .now) (lists s) (boltzmann (s .args .beta)) (query s) (slabOf (s .args .t .grid) (s .args .r) (s .args .omega)) (c .before .slab-below .result) (h .items-inside .result) (h .items-inside .ensures) (slab (c .before)) (c .if5 .taken))
+
+mul-at : tie.Need-mul-at
+mul-at c = omega (arith, fits c, c .before .before .before .before .before .before .before .before .before .before .before .before .before .before .before .before .before .before .before .before .before .good .1 .0)
+
+add-at : tie.Need-add-at
+add-at c = omega (arith, fits c, c .before .before .before .before .before .before .before .before .before .before .before .before .before .before .before .before .before .before .before .before .before .good .1 .0)
+
+shared-slice-read-if6 : tie.Need-shared-slice-read-if6
+shared-slice-read-if6 c = omega (arith, fits (c .before))
+
+add-u32-inside : tie.Need-add-u32-inside
+add-u32-inside c = omega (arith, fits (c .before .before), c .before .before .before .before .before .before .before .before .before .before .before .before .before .before .before .before .before .before .before .before .before .before .before .good .1 .0)
+
+u32-inside-requires : tie.Need-u32-inside-requires
+u32-inside-requires c κs = omega (arith, fits (c .before .before))
+
+returns-6 : tie.Need-returns-6
+returns-6 c =
+    let e = c .before .before .before .before in
+    let h = e .before .before in
+    let s = h .before .before .before .before .before .before .before .before .before .before .before .before .before .before .before .before .before .before .before in
+    answered (s .args .file .now) (s .args .t) (s .args .vertices .now) (lists s) (boltzmann (s .args .beta)) (query s) (slabAt (slabOf (s .args .t .grid) (s .args .r) (s .args .omega))) (Energy (c .widened .result)) (resolved (h .before .before .before))
+    (rw (c .widened .ensures, c .before .u32-inside .ensures)
+    (scalar-row (s .args .file .now) (s .args .t) (s .args .vertices .now) (lists s) (boltzmann (s .args .beta)) (query s) (slabOf (s .args .t .grid) (s .args .r) (s .args .omega)) (e .before .slab-below .result) (h .items-inside .result) (h .items-inside .ensures) (slab (e .before)) (omega (arith, e .if5 .left)) (c .before .before .if6 .taken)))
+
+read-row-requires : tie.Need-read-row-requires
+read-row-requires c κs = fits (c .before .before)
+
+returns-7 : tie.Need-returns-7
+returns-7 c =
+    let e = c .before .before .before in
+    let h = e .before .before in
+    let s = h .before .before .before .before .before .before .before .before .before .before .before .before .before .before .before .before .before .before .before in
+    answered (s .args .file .now) (s .args .t) (s .args .vertices .now) (lists s) (boltzmann (s .args .beta)) (query s) _ _ (resolved (h .before .before .before))
+    ((rw (own-way (s .args .beta) (weighted (h .before .before .before .before .before .before .before .before))) at (c .read-row .ensures)) ∙ entry-row (s .args .file .now) (s .args .t) (s .args .vertices .now) (lists s) (boltzmann (s .args .beta)) (query s) (slabOf (s .args .t .grid) (s .args .r) (s .args .omega)) (e .before .slab-below .result) (h .items-inside .result) (h .items-inside .ensures) (slab (e .before)) (omega (arith, e .if5 .left)))
 
 pub lookup-boltzmann-spec : {M : Type 1} → statement M
-lookup-boltzmann-spec = tie.close (tie.spec (λ c κs. search needs) (λ c κs. search needs) returns)
+lookup-boltzmann-spec =
+    tie.close
+    (tie.spec (λ c κs. search needs) returns (λ c κs. search needs) returns-2 (λ c κs. search needs) returns-3 returns-4 (λ c κs. search needs) (λ c κs. search needs) (λ c κs. search needs) slab-below-requires returns-5 mul-at add-at shared-slice-read-if6 add-u32-inside u32-inside-requires (λ c κs. search needs) returns-6 read-row-requires returns-7)

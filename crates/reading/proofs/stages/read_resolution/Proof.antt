@@ -27,17 +27,17 @@ returns-3 : tie.Need-returns-3
 returns-3 c = let s = c .before .before .before .before .before .before .before .before .before .before in row-unknown (s .args .file .now) (s .args .t) (s .args .vertices .now) (lists s) (wayOf (s .args .beta)) (toward (s .args .a) (s .args .b)) (s .args .kind) (s .args .offset) (s .args .row) _ _ (c .before .before .row2 .given .1) (c .if1 .taken)
 
 returns-4 : tie.Need-returns-4
-returns-4 c = let s = c .before .before .before .before .before .before .before .before .before .before .before .before in c .read-interpolated .ensures ∙ row-mesh (s .args .file .now) (s .args .t) (s .args .vertices .now) (lists s) (wayOf (s .args .beta)) (toward (s .args .a) (s .args .b)) (s .args .kind) (s .args .offset) (s .args .row) _ _ true (c .before .before .before .before .row2 .given .1) (c .before .if2 .taken) (c .before .before .if1 .left)
+returns-4 c = let s = c .before .before .before .before .before .before .before .before .before .before .before .before .before in c .read-interpolated .ensures ∙ row-mesh (s .args .file .now) (s .args .t) (s .args .vertices .now) (lists s) (wayOf (s .args .beta)) (toward (s .args .a) (s .args .b)) (s .args .kind) (s .args .offset) (s .args .row) _ _ true (c .before .before .before .before .before .row2 .given .1) (c .before .if2 .taken) (c .before .before .before .if1 .left)
 
 returns-5 : tie.Need-returns-5
 returns-5 c =
-    let s = c .before .before .before .before .before .before .before .before .before .before .before .before in
+    let s = c .before .before .before .before .before .before .before .before .before .before .before .before .before in
     c .read-nearest .ensures
     ∙ ap (λ (k : Picks). readPicks (s .args .file .now) (s .args .t) linear false (s .args .offset) k) (nearest-search (s .args .vertices .now) (lists s) (s .args .a) (s .args .b) _)
-    ∙ nearest-way (s .args .file .now) (s .args .t) (wayOf (s .args .beta)) (s .args .offset) (searchIn (s .args .vertices .now) (lists s) (toward (s .args .a) (s .args .b)) (c .before .before .before .before .row2 .given .0 .0) false)
-    ∙ row-mesh (s .args .file .now) (s .args .t) (s .args .vertices .now) (lists s) (wayOf (s .args .beta)) (toward (s .args .a) (s .args .b)) (s .args .kind) (s .args .offset) (s .args .row) _ _ false (c .before .before .before .before .row2 .given .1) (c .before .if2 .left) (c .before .before .if1 .left)
+    ∙ nearest-way (s .args .file .now) (s .args .t) (wayOf (s .args .beta)) (s .args .offset) (searchIn (s .args .vertices .now) (lists s) (toward (s .args .a) (s .args .b)) (c .before .before .before .before .before .row2 .given .0 .0) false)
+    ∙ row-mesh (s .args .file .now) (s .args .t) (s .args .vertices .now) (lists s) (wayOf (s .args .beta)) (toward (s .args .a) (s .args .b)) (s .args .kind) (s .args .offset) (s .args .row) _ _ false (c .before .before .before .before .before .row2 .given .1) (c .before .if2 .left) (c .before .before .before .if1 .left)
 
 pub read-resolution-spec : {M : Type 1} → statement M
 read-resolution-spec =
     tie.close
-    (tie.spec (λ c. search needs) (λ c κs. search needs) returns (λ c. search needs) returns-2 (λ c. search needs) (λ c. search needs) returns-3 (λ c κs. search needs) returns-4 (λ c κs. search needs) returns-5)
+    (tie.spec (λ c. search needs) (λ c κs. search needs) returns (λ c. search needs) returns-2 (λ c. search needs) (λ c. search needs) returns-3 (λ c κs. search needs) (λ c κs. search needs) returns-4 (λ c κs. search needs) returns-5)

@@ -1,8 +1,9 @@
 -- `nearest_in_cell` meets its contract. Assumes nothing.
 use mathlib.Core.Path.{_≡_, sym, _∙_}
-use Prim.Native.Nat.{_<_}
+use Prim.Native.Nat.{_-_, _<_}
 use native.Mathlib.Omega.{arith}
 use lib.ListN.{length}
+use lib.Seq.{take-all}
 use borrow.Author.Needs.{needs}
 use Rattle.ieee.proofs.Fields.{no-nan-of-same}
 use Rattle.search.specs.Search.{notNearest, nearer}
@@ -47,6 +48,12 @@ nearest-of-requires c κs =
       rw (first-found n) (first-measured (a .vertices .now) (a .p) (notNearest 20) (w .wide16 .result) (rw (first-found n) at (no-nan-of-same (n .nearer .result .distance) (c .before .if3 .left)))),
     )
 
+-- the list as the slow way is handed it
+returns-3 : tie.Need-returns-3
+returns-3 c =
+    let a = c .before .before .before .before .before .before .before .before .before .before .before .before .args in
+    c .nearest-by-order .ensures ∙ rw (take-all (length (a .vertices .now) - 0) (a .vertices .now) (omega arith))
+
 returns-4 : tie.Need-returns-4
 returns-4 c =
     let n = c .before .before .before in
@@ -58,4 +65,4 @@ returns-4 c =
 pub nearest-in-cell-spec : {M : Type 1} → statement M
 nearest-in-cell-spec =
     tie.close
-    (tie.spec (λ c κs. tt) (λ c κs. tt) returns (λ c. search needs) (λ c κs. tt) (λ c κs. tt) returns-2 (λ c κs. tt) nearer-requires (λ c κs. tt) (λ c. search needs) (λ c. search needs) (λ c. search needs) (λ c. search needs) nearest-of-requires returns-4)
+    (tie.spec (λ c κs. tt) (λ c κs. tt) returns (λ c. search needs) (λ c κs. tt) (λ c κs. tt) returns-2 (λ c κs. tt) nearer-requires (λ c. search needs) (λ c. search needs) (λ c. search needs) (λ c κs. tt) returns-3 (λ c. search needs) (λ c. search needs) (λ c. search needs) nearest-of-requires returns-4)
