@@ -44,7 +44,7 @@
 /* The version, raised where a struct, a function or the table file changes (CHANGELOG.md). The pkg-config file and the
  * tool take it from here; a test compares it with hosts/rust. */
 #define ICOTABLE_VERSION_MAJOR 0
-#define ICOTABLE_VERSION_MINOR 7
+#define ICOTABLE_VERSION_MINOR 8
 #define ICOTABLE_VERSION_PATCH 0
 
 #define ICOTABLE_STRING_(x) #x
@@ -258,6 +258,12 @@ double icotable_exp(double y);
 double icotable_ln(double x);
 double icotable_mul_add(double a, double b, double c);
 float icotable_narrow(double x);
+
+/* The case of IEEE 754-2019, clause 4.3.1, that icotable_narrow is in, which alone says what becomes of the magnitude:
+ * 1 overflow, from 2^128 - 2^103 on: made infinite; 2 less than half of a last place discarded, or nothing: cut;
+ * 3 exactly half with an even last digit: cut; 4 exactly half with an odd one: raised by one last place; 5 more than
+ * half: raised. 0 for an infinity and for a NaN, which are in none. */
+uint64_t icotable_narrow_case(double x);
 
 #ifdef __cplusplus
 }

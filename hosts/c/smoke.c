@@ -308,6 +308,13 @@ static void sizes_and_numbers(void) {
     expect("fused (1 + 2^-30)(1 - 2^-30) - 1 is -2^-60", icotable_mul_add(1 + tiny, 1 - tiny, -1) == -tiny * tiny, 1);
     expect("16777217, narrowed", (uint64_t)icotable_narrow(16777217), 16777216);
     expect("16777219, narrowed", (uint64_t)icotable_narrow(16777219), 16777220);
+    expect("the case of 16777217: half even", icotable_narrow_case(16777217), 3);
+    expect("the case of 16777219: half odd", icotable_narrow_case(16777219), 4);
+    expect("the case of 0.1: above half", icotable_narrow_case(0.1), 5);
+    expect("the case of 1: below half", icotable_narrow_case(1), 2);
+    expect("the case of 1e39: overflow", icotable_narrow_case(1e39), 1);
+    expect("an infinity is in no case", icotable_narrow_case(INFINITY), 0);
+    expect("a NaN is in no case", icotable_narrow_case(NAN), 0);
 }
 
 int main(void) {

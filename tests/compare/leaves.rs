@@ -1,6 +1,6 @@
 // Compares each operation on numbers of the static library libfloat_c.a with the machine's or Rust's own, bit for bit (any NaN is equal to any other): leaves SEED short|long.
 // Edges first, then inputs at random; the long run has widen go through every f32. Max, min, the total order and the remainder are written out here as document 01 has them; E and
-// ln are the oracle's. Prints a line for each operation, and ends with status 1 where one of them differs.
+// ln are the oracle's. The cases of narrow are those of IEEE 754's clause 4.3.1, at every f32 in the long run. Prints a line for each operation, and ends with status 1 where one of them differs.
 mod arguments;
 #[allow(dead_code)]
 mod lines;
@@ -26,6 +26,7 @@ extern "C" {
     fn float_root(x: f64) -> f64;
     fn float_mul_add(a: f64, b: f64, c: f64) -> f64;
     fn float_narrow(x: f64) -> f32;
+    fn float_narrow_case(x: f64) -> u64;
     fn float_narrow_all(xs: *const f64, a: usize, out: *mut f32, b: usize);
     fn float_exp(y: f64) -> f64;
     fn float_ln(x: f64) -> f64;
@@ -94,6 +95,36 @@ fn rem_tau(x: f64) -> f64 {
         t + TAU
     } else {
         t
+    }
+}
+
+// ---- the cases of narrowing
+
+// The f32 above a finite one of no sign, as an f64; above the largest it is the place where the next one would be.
+fn above(low: f32) -> f64 {
+    if low == f32::MAX {
+        2f64.powi(128)
+    } else {
+        f32::from_bits(low.to_bits() + 1) as f64
+    }
+}
+
+// By the two f32 around the number: overflow first, then on which side of the middle it lies, and of which last bit the lower one is.
+fn narrow_case(x: f64) -> u64 {
+    let size = x.abs();
+    if !size.is_finite() {
+        return 0;
+    }
+    if size >= 2f64.powi(128) - 2f64.powi(103) {
+        return 1;
+    }
+    let near = size as f32;
+    let low = if near as f64 > size { f32::from_bits(near.to_bits() - 1) } else { near };
+    let middle = (low as f64 + above(low)) / 2.0;
+    match (size < middle, size > middle) {
+        (true, _) => 2,
+        (_, true) => 5,
+        _ => 3 + (low.to_bits() % 2) as u64,
     }
 }
 
@@ -191,6 +222,28 @@ fn narrow_all(count: u64, random: &mut Random) -> u64 {
     leaf.done()
 }
 
+// The middle between an f32 and the next, one place of f64 to each side, and the f32 itself, with either sign: the case, and that it alone gives
+// the machine's cast and narrow's answer.
+fn middles(count: u64, all: bool, random: &mut Random) -> u64 {
+    const FINITE: u64 = 0x7F80_0000;
+    let mut leaf = Leaf::new("narrow and its case around the middles");
+    for i in 0..if all { FINITE } else { count } {
+        let pattern = if all { i as u32 } else { (random.bits() % FINITE) as u32 };
+        let low = f32::from_bits(pattern);
+        let middle = (low as f64 + above(low)) / 2.0;
+        let [tie, more] = if low == f32::MAX { [1, 1] } else { [3 + (pattern % 2) as u64, 5] };
+        for (x, case) in [(low as f64, 2), (step(middle, -1), 2), (middle, tie), (step(middle, 1), more)] {
+            let made = [0, 0x7F80_0000, pattern, pattern, pattern + 1, pattern + 1][case as usize];
+            for (x, sign) in [(x, 0), (-x, 1 << 31)] {
+                let want = sign | made;
+                let other = (x as f32).to_bits() ^ want | unsafe { float_narrow(x) }.to_bits() ^ want;
+                leaf.judge([x.to_bits(), 0, 0], (other as u64) << 4 | unsafe { float_narrow_case(x) }, case);
+            }
+        }
+    }
+    leaf.done()
+}
+
 fn of_u64(count: u64, random: &mut Random) -> u64 {
     let mut leaf = Leaf::new("of_u64");
     for i in 0..count {
@@ -221,6 +274,8 @@ fn main() {
         wrong += unary("root", n, r, near_root, |x| bits(float_root(x)), |x| bits(x.sqrt()));
         wrong += fused(n, r);
         wrong += unary("narrow", n, r, narrow_tie, |x| single(float_narrow(x)), |x| single(x as f32));
+        wrong += unary("narrow's case", n, r, narrow_tie, |x| float_narrow_case(x), narrow_case);
+        wrong += middles(n / 8, all, r);
         wrong += narrow_all(n, r);
         wrong += widen(n, all, r);
         wrong += unary("floor", n, r, some, |x| bits(float_floor(x)), |x| bits(x.floor()));

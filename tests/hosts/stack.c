@@ -74,7 +74,7 @@ static void reading(void) {
 static void numbers(void) {
     for (int i = 0; i < 2000; i++) {
         double x = (double)(i - 500) * 1e-3, y = x * 1e-308;
-        sink = icotable_root(x) + icotable_exp(x) + icotable_ln(x) + icotable_ln(y) + icotable_mul_add(x, y, x) + icotable_mul_add(y, y, y) + (double)icotable_narrow(y);
+        sink = icotable_root(x) + icotable_exp(x) + icotable_ln(x) + icotable_ln(y) + icotable_mul_add(x, y, x) + icotable_mul_add(y, y, y) + (double)icotable_narrow(y) + (double)icotable_narrow_case(y);
     }
     sink = (double)(icotable_vertices(15) + icotable_cells(15));
 }
@@ -96,7 +96,7 @@ static const operation operations[] = {
     {"read", nothing, read_table, 2},
     {"locator", nothing, locator, 10},
     {"reading, boltzmann", nothing, reading, 3},
-    {"root, exp, ln, mul_add, narrow, vertices, cells", nothing, numbers, 2},
+    {"root, exp, ln, mul_add, narrow, narrow_case, vertices, cells", nothing, numbers, 2},
 };
 
 typedef struct run {

@@ -1,6 +1,7 @@
 """Answers in exact arithmetic, each rounded once by hand to the nearest value, a tie to the even one.
     exact.py exp          writes the vectors of exp
     exact.py ln           writes those of ln, by the steps of document 02's paper 1
+    exact.py narrow_case  writes those of narrow's case, by the two f32 around the number
     exact.py check FILE   works out root, mul_add, narrow, of_u64 and rem_tau of FILE's lines again, and names each line that differs"""
 import sys
 from fractions import Fraction
@@ -141,6 +142,30 @@ def ln(b):
     return rounded(step(e * value(LN2_HIGH)) + small)
 
 
+def value32(p):
+    """The number that the pattern of a non-negative f32 stands for; that of an infinity stands for the next number there would be."""
+    field, digits = p >> 23, p & (1 << 23) - 1
+    significand = digits if field == 0 else digits + (1 << 23)
+    return Fraction(significand) * Fraction(2) ** (max(field, 1) - 150)
+
+
+def narrow_case(b):
+    """The case of clause 4.3.1: 1 overflow, 2 below half, 3 half and even, 4 half and odd, 5 above half. The f32 below is found by halving."""
+    if is_nan(b) or is_infinite(b):
+        return 0
+    x = abs(value(b))
+    if x >= 2**128 - 2**103:
+        return 1
+    low, high = 0, 0x7F800000
+    while high - low > 1:
+        middle = (low + high) // 2
+        low, high = (middle, high) if value32(middle) <= x else (low, middle)
+    twice = 2 * x - value32(low) - value32(high)
+    if twice != 0:
+        return 2 if twice < 0 else 5
+    return 3 + low % 2
+
+
 class Random:
     """Marsaglia's xorshift of 64 bits."""
 
@@ -207,6 +232,25 @@ def ln_operands():
         yield TOP | random.bits()
 
 
+def narrow_case_operands():
+    """Numbers at, beside and half way between f32: the edges of each range and of the bound, every power of two, and random ones; f64 that are subnormal or far beyond."""
+    random = Random(0xD1B54A32D192ED03)
+    for b in (0, 1, (1 << 52) - 1, 1 << 52, INFINITE - 1, INFINITE, INFINITE + 1, NAN, TOP - 1):
+        yield b
+        yield b | TOP
+    lower = [0, 1, 2, 3, 4, 0x3FFFFF, 0x400000, 0x7FFFFD, 0x7FFFFE, 0x7FFFFF, 0x800000, 0x800001, 0x7F7FFFFC, 0x7F7FFFFD, 0x7F7FFFFE, 0x7F7FFFFF]
+    lower += [1 << j for j in range(23)] + [field << 23 for field in range(1, 255)] + [(field << 23) - 1 for field in range(1, 255)]
+    lower += [random.bits() % 0x800000 for turn in range(100)] + [random.bits() % 0x7F800000 for turn in range(200)]
+    for p in lower:
+        for x in (value32(p), (value32(p) + value32(p + 1)) / 2):
+            b = rounded(x) | random.bits() & TOP
+            yield b
+            if x != value32(p):
+                yield from (b - 1, b + 1)
+    for turn in range(400):
+        yield random.bits()
+
+
 def check(path):
     again = {"root": root, "mul_add": mul_add, "narrow": narrow, "rem_tau": rem_tau, "of_u64": lambda n: rounded(Fraction(n))}
     bad = 0
@@ -220,10 +264,10 @@ def check(path):
     return bad
 
 
-answers = {"exp": (exp, exp_operands), "ln": (ln, ln_operands)}
+answers = {"exp": (exp, exp_operands, 16), "ln": (ln, ln_operands, 16), "narrow_case": (narrow_case, narrow_case_operands, 1)}
 if sys.argv[1] in answers:
-    answer, operands = answers[sys.argv[1]]
+    answer, operands, width = answers[sys.argv[1]]
     for b in dict.fromkeys(operands()):
-        print("%s %016X %016X" % (sys.argv[1], b, answer(b)))
+        print("%s %016X %0*X" % (sys.argv[1], b, width, answer(b)))
 else:
     sys.exit(1 if check(sys.argv[2]) else 0)

@@ -3,6 +3,7 @@ ghost use mathlib.Core.Path.{_≡_};
 ghost use Rattle.ieee.specs.Root.{root};
 ghost use Rattle.ieee.specs.Fused.{fused};
 ghost use Rattle.ieee.specs.Narrow.{narrowed};
+ghost use Rattle.ieee.specs.Cases.{narrowCase};
 ghost use lib.IntN.{pos};
 ghost use lib.Ieee.{binary64, toUnsigned, toSigned, ofInt};
 ghost use lib.Ieee.Scale.{finite};
@@ -31,6 +32,13 @@ pub extern "C" fn float_narrow(x: f64) -> f32
     ensures { λ r. ⌜ r ≡ narrowed x ⌝ }
 {
     ieee::narrow(x)
+}
+
+#[no_mangle]
+pub extern "C" fn float_narrow_case(x: f64) -> u64
+    ensures { λ r. ⌜ r ≡ narrowCase x ⌝ }
+{
+    ieee::narrow_case(x)
 }
 
 #[no_mangle]

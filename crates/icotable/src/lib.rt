@@ -6,6 +6,7 @@ ghost use Rattle.builder.specs.BuilderLists.{listsOf};
 ghost use Rattle.ieee.specs.Root.{root};
 ghost use Rattle.ieee.specs.Fused.{fused};
 ghost use Rattle.ieee.specs.Narrow.{narrowed};
+ghost use Rattle.ieee.specs.Cases.{narrowCase};
 ghost use Rattle.float.specs.Exp.{exponential};
 ghost use Rattle.float.specs.Log.{logarithm};
 ghost use Rattle.builder.specs.Calls.{BuiltOut, SettleOut, builtValues, settledValues, noBuilder, freshOut, setOut, settleOut};
@@ -597,4 +598,11 @@ pub extern "C" fn icotable_narrow(x: f64) -> f32
     ensures { λ r. ⌜ r ≡ narrowed x ⌝ }
 {
     ieee::narrow(x)
+}
+
+#[no_mangle]
+pub extern "C" fn icotable_narrow_case(x: f64) -> u64
+    ensures { λ r. ⌜ r ≡ narrowCase x ⌝ }
+{
+    ieee::narrow_case(x)
 }

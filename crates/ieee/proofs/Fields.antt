@@ -1,11 +1,10 @@
 -- A float's bits as its parts, once for both formats, and `narrowed` at a value. Assumes nothing.
 use mathlib.Core.Path.{_≡_, refl, sym, ap, _∙_, subst}
-use Prim.Native.Nat.{ℕ, zero, suc, _+_, _-_, _*_, _/_, _%_, _^_, _<_, min}
-use native.Mathlib.Nat.{mul-assoc, mul-comm, suc-ne-zero}
+use Prim.Native.Nat.{ℕ, zero, suc, _+_, _-_, _*_, _/_, _%_, _^_, _<_}
+use native.Mathlib.Nat.{suc-ne-zero}
 use native.Mathlib.Omega.{arith}
 use mathlib.Core.Bool.{Bool, true, false, not, _&&_, Bool·beq, cond, true≢false, false≢true}
 use lib.Dec.{T, leb, ltb, eqb}
-use lib.Pow.{pow-add, pow-pos}
 use lib.Ieee.{Float, nan, inf, fin, Format, binary32, binary64, unlike, add, mul, prec, emax, low, up, down, odd, units, round, hid, ones, top, ofFields, ofBits, toBits, fits, isNan, nanBits, ne, lt}
 use lib.Ieee.Fits.{eq→eqb, down-pos, nan-fits, inf-fits, round-fits}
 use lib.Ieee.Bits.{ofBits-toBits, nanBits-is}
@@ -15,8 +14,6 @@ use lib.Ieee.Scale.{round-same, finite}
 use borrow.Author.Tests.{ne-eqb}
 use Rattle.lists.proofs.Counting.{chosen}
 use Rattle.ieee.specs.Narrow.{narrowed}
-use Rattle.ieee.specs.Internal.{pattern}
-use Rattle.ieee.proofs.Steps.{float-law}
 
 -- ---- the test for a NaN
 pub no-nan-of-same : (x : Float) → ne x x ≡ false → T (not (isNan x))
@@ -172,23 +169,3 @@ narrowed-value (fin t m e) s a c C h = ap (λ (b : Bool). round binary32 b (m * 
 pub narrowed-nan : narrowed nan ≡ nan
 unfolding narrowed
 narrowed-nan = refl
-
--- the narrowed value of m * 2 ^ e / 2 ^ 1074, by its pattern
-pub narrowed-pattern : (x : Float) (s : Bool) (m e b : ℕ) → HasValue x s (m * 2 ^ e) (2 ^ 1074) → b ≡ pattern 24 (m * 2 ^ (e + 3171)) (2 ^ 4096)
-    → ofBits binary32 (cond s (top binary32) 0 + min b (ones binary32 * hid binary32)) ≡ narrowed x
-narrowed-pattern x s m e b h q =
-    float-law binary32 s (m * 2 ^ (e + 3171)) 4096 b q
-    ∙ round-same binary32 s (m * 2 ^ (e + 3171)) (2 ^ 4245) (m * 2 ^ e) (2 ^ 1074) (pow-pos 4245) (pow-pos 1074) (rescaled m e 3171 1074)
-    ∙ sym (narrowed-value x s (m * 2 ^ e) (2 ^ 1074) (pow-pos 1074) h)
-  where
-    rescaled : (m e k l : ℕ) → m * 2 ^ (e + k) * 2 ^ l ≡ m * 2 ^ e * 2 ^ (l + k)
-    rescaled m e k l = simp (pow-add, mul-assoc, mul-comm)
-
--- what is not finite and is no NaN narrows to an infinity of its sign
-pub narrow-infinite : (x : Float) → finite x ≡ false → T (not (isNan x))
-    → ofBits binary32 (cond (lt x (ofBits binary64 0)) (top binary32) 0 + min 0x7f80_0000 (ones binary32 * hid binary32)) ≡ narrowed x
-unfolding isNan ofBits narrowed lt
-narrow-infinite nan F N = absurd N
-narrow-infinite (inf true) F N = refl
-narrow-infinite (inf false) F N = refl
-narrow-infinite (fin s m e) F N = absurd (true≢false F)

@@ -12,3 +12,6 @@ pub mod RootSteps
 pub mod Meaning
 pub mod NextToOne
 pub mod Plain
+pub mod Bound
+pub mod ByCase
+pub mod Halves

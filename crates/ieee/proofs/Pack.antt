@@ -3,7 +3,7 @@
 use mathlib.Core.Path.{_≡_, refl, sym, ap, _∙_, subst}
 use mathlib.Core.Logic.{_⊎_, inl, inr}
 use Prim.Native.Nat.{ℕ, suc, _+_, _-_, _*_, _/_, _%_, _^_, _≤_, _<_, compare, min}
-use native.Mathlib.Nat.{le-trans, le-of-eq, le-of-suc-le-suc, lt-of-lt-of-le, lt-of-le-of-lt, lt-of-not-le, not-le-of-lt, lt-irrefl, eq-zero-or-pos, eq-or-lt-of-le, add-assoc, add-mul, suc-mul, one-mul, mul-assoc, mul-comm, mul-right-comm, eq-of-mul-eq-mul-right, mul-le-mul-right, le-of-mul-le-mul-right, mul-div-cancel, pow-succ', div-div-eq-div-mul, le-div-iff-mul-le, min-eq-left, min-eq-right, le-add-right, add-le-add, le-refl}
+use native.Mathlib.Nat.{le-trans, le-of-eq, le-of-suc-le-suc, lt-of-lt-of-le, lt-of-le-of-lt, lt-of-not-le, not-le-of-lt, lt-irrefl, eq-zero-or-pos, eq-or-lt-of-le, add-assoc, add-mul, suc-mul, one-mul, mul-assoc, mul-comm, mul-right-comm, eq-of-mul-eq-mul-right, mul-le-mul-right, le-of-mul-le-mul-right, mul-div-cancel, pow-succ', div-div-eq-div-mul, le-div-iff-mul-le, min-eq-left, min-eq-right, le-add-right, add-le-add, le-refl, zero-add}
 use native.Mathlib.Omega.{arith}
 use mathlib.Core.Bool.{Bool, true, false, not, cond}
 use lib.Dec.{T, leb, ltb, leb→le, nleb→lt}
@@ -11,9 +11,9 @@ use lib.Pow.{pow-add, pow-pos, pow-mono, pow-lt, shl-lt, shl-shr}
 use lib.Arith.{le→nltb}
 use lib.Ieee.{Float, nan, inf, fin, Format, prec, emax, low, up, down, size, odd, units, round, hid, ones, top, toBits, ofBits, fits}
 use lib.Ieee.Digits.{size-lt, size-le, size-reaches}
-use lib.Ieee.Fits.{two, reach, two-le-pos, kept-lt, nearest-le, round-is, round-fits, down-pos}
+use lib.Ieee.Fits.{two, reach, two-le-pos, kept-lt, nearest-le, round-is, round-fits, down-pos, odd-fits}
 use lib.Ieee.Bits.{ofBits-toBits, cond-no}
-use lib.Ieee.Exact.{HasValue, units-val}
+use lib.Ieee.Exact.{HasValue, odd-sign, units-val}
 use lib.Ieee.Nearest.{nearest-ge}
 use lib.Ieee.Order.{drop, kept}
 use Rattle.ieee.specs.Internal.{pattern}
@@ -48,23 +48,27 @@ suc-pred p h = omega arith
 pub twice-hid : (p : ℕ) → 0 < p → 2 ^ p ≡ 2 * 2 ^ (p - 1)
 twice-hid p h = ap (λ (x : ℕ). 2 ^ x) (sym (suc-pred p h)) ∙ pow-succ' 2 (p - 1)
 
--- ---- what is kept, and what is dropped
+-- ---- what is kept, and what is dropped: the whole units before they are rounded, and after
+pub whole-lt : (p n den : ℕ) → n / (den * 2 ^ drop p n den) < 2 ^ p
+whole-lt p n den = subst (λ (x : ℕ). x < 2 ^ p) (div-div-eq-div-mul n den (2 ^ drop p n den)) (kept-lt p (n / den))
+
 pub kept-le : (p n den : ℕ) → kept p n den ≤ 2 ^ p
-kept-le p n den =
-    let k = drop p n den in
-    let u = den * 2 ^ k in
-    le-trans (nearest-le (n / u) (compare (n % u * 2) u)) (subst (λ (x : ℕ). x < 2 ^ p) (div-div-eq-div-mul n den (2 ^ k)) (kept-lt p (n / den)))
+kept-le p n den = let u = den * 2 ^ drop p n den in le-trans (nearest-le (n / u) (compare (n % u * 2) u)) (whole-lt p n den)
 
 pub all-in-use : (z p : ℕ) → 0 < p → 0 < z - p → p - 1 + (z - p) < z
 all-in-use z p P h = omega arith
 
-pub kept-ge : (p n den : ℕ) → 0 < p → 0 < drop p n den → 2 ^ (p - 1) ≤ kept p n den
-kept-ge p n den P K =
+-- where units are dropped, the number has all its digits
+pub units-ge : (p n den : ℕ) → 0 < p → 0 < drop p n den → 2 ^ (p - 1 + drop p n den) ≤ n / den
+units-ge p n den P K = size-reaches (n / den) (p - 1 + drop p n den) (all-in-use (size (n / den)) p P K)
+
+pub whole-ge : (p n den : ℕ) → 0 < p → 0 < drop p n den → 2 ^ (p - 1) ≤ n / (den * 2 ^ drop p n den)
+whole-ge p n den P K =
     let k = drop p n den in
-    let u = den * 2 ^ k in
-    let w = n / den in
-    let a : 2 ^ (p - 1) * 2 ^ k ≤ w = le-trans (le-of-eq (sym (pow-add 2 (p - 1) k))) (size-reaches w (p - 1 + k) (all-in-use (size w) p P K)) in
-    le-trans (subst (λ (x : ℕ). 2 ^ (p - 1) ≤ x) (div-div-eq-div-mul n den (2 ^ k)) (le-div-iff-mul-le (pow-pos k) .1 a)) (nearest-ge (n / u) (compare (n % u * 2) u))
+    subst (λ (x : ℕ). 2 ^ (p - 1) ≤ x) (div-div-eq-div-mul n den (2 ^ k)) (le-div-iff-mul-le (pow-pos k) .1 (le-trans (le-of-eq (sym (pow-add 2 (p - 1) k))) (units-ge p n den P K)))
+
+pub kept-ge : (p n den : ℕ) → 0 < p → 0 < drop p n den → 2 ^ (p - 1) ≤ kept p n den
+kept-ge p n den P K = let u = den * 2 ^ drop p n den in le-trans (whole-ge p n den P K) (nearest-ge (n / u) (compare (n % u * 2) u))
 
 -- ---- the fields of q * 2 ^ k units, for a q of p digits, or fewer where k is 0
 pub exactly : (z p k : ℕ) → z ≤ p + k → (k ≡ 0) ⊎ (p - 1 + k < z) → z - p ≡ k
@@ -207,3 +211,12 @@ pattern-round f s a c = ap (ofBits f) (sym (round-pattern f s a c)) ∙ ofBits-t
 -- the same at q * 2 ^ k units
 pub pattern-units : (f : Format) (s : Bool) (q k : ℕ) → q ≤ 2 ^ prec f → (0 < k → hid f ≤ q) → T (fits f (units f s q k)) → ofBits f (cond s (top f) 0 + min (k * hid f + q) (ones f * hid f)) ≡ units f s q k
 pattern-units f s q k h g v = ap (ofBits f) (sym (units-bits f s q k h g)) ∙ ofBits-toBits f (units f s q k) v
+
+-- a pattern below an infinity's has the value of its fields
+pub pattern-value : (f : Format) (q k : ℕ) → q ≤ 2 ^ prec f → (0 < k → hid f ≤ q) → k * hid f + q < ones f * hid f → HasValue (ofBits f (k * hid f + q)) false (q * 2 ^ k) (2 ^ low f)
+pattern-value f q k h g l =
+    let v = odd (suc (prec f)) false q k (low f) in
+    let w = odd-sign (suc (prec f)) false q k (low f) in
+    let under : q * 2 ^ k < 2 ^ (low f + suc (emax f)) = lt-of-not-le (λ (m : 2 ^ (low f + suc (emax f)) ≤ q * 2 ^ k). not-le-of-lt l (beyond (prec f) (emax f) q k (two f) (one-le (prec f) (emax f) (two f) (reach f)) h g m)) in
+    let held = odd-fits f (suc (prec f)) false q k (lt-of-le-of-lt h (pow-lt (le-refl (suc (prec f))))) h under in
+    subst (λ (x : Float). HasValue x false (q * 2 ^ k) (2 ^ low f)) (sym (ap (ofBits f) (sym (value-bits f v false q k w h g ∙ zero-add (k * hid f + q))) ∙ ofBits-toBits f v held)) w

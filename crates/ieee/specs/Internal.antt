@@ -7,6 +7,7 @@ use lib.Ieee.Exact.{HasValue}
 use mathlib.Core.Path.{_≡_}
 use mathlib.Core.Logic.{_⊎_}
 use lib.Dec.{eqb, ltb}
+use Rattle.ieee.specs.Cases.{whole, rest, divisor, byHalf, caseOf, number, cutPattern}
 use Rattle.ieee.specs.declared.fused.Sides.{Sides}
 
 -- ---- the bit pattern of a rounded fraction, without its sign, and before it is held to the pattern of an infinity
@@ -23,6 +24,30 @@ pub record Unpacked (x : Float) (neg : Bool) (sig exp : ℕ) : Type 0 where
   pub value : HasValue x neg (sig * 2 ^ exp) (2 ^ 1074)
   pub digits : sig < 2 ^ 53
   pub scale : exp ≤ 2045
+  pub zero : sig ≡ 0 → exp ≡ 0
+
+-- ---- what `decide` says of a float that does not overflow
+
+-- below 2 ^ 128 - 2 ^ 103, so that it is finite, and does not overflow
+unfoldable pub within : Float → Bool
+unfolding ofBits neg lt
+within x = lt x (ofBits binary64 0x47EF_FFFF_F000_0000) && lt (neg (ofBits binary64 0x47EF_FFFF_F000_0000)) x
+
+-- the cut pattern of a / c, and the number of its case where it does not overflow
+pub record CutOff (a c cut part : ℕ) : Type 0 where
+  pub pattern : cut ≡ cutPattern a c
+  pub numbered : part ≡ number (byHalf (whole a c) (rest a c * 2) (divisor a c))
+  pub small : cut < 2 ^ 40
+
+-- its sign, and the case and the cut pattern of its magnitude a / c
+pub record Decided (x : Float) (neg : Bool) (case cut : ℕ) : Type 0 where
+  pub a : ℕ
+  pub c : ℕ
+  pub some : 0 < c
+  pub value : HasValue x neg a c
+  pub numbered : case ≡ number (caseOf a c)
+  pub pattern : cut ≡ cutPattern a c
+  pub small : cut < 2 ^ 40
 
 -- ---- what is narrowed with no jump
 

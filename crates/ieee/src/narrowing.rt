@@ -7,25 +7,26 @@ ghost use lib.ListN.{length, take};
 ghost use Rattle.lists.specs.Lists.{every, put};
 ghost use Rattle.ieee.specs.Narrow.{narrowed};
 ghost use Rattle.ieee.specs.Internal.{plain};
-use crate::rounding::is_finite;
-use crate::rounding::pattern_of;
+use crate::cases::act_on;
+use crate::cases::decide;
+use crate::cases::is_within;
 use crate::rounding::signed32;
-use crate::rounding::unpack;
 
+// By its case: the sign, and the cut pattern as it is, raised by one, or an infinity's. An infinity is left as if it overflowed.
 pub fn narrow(x: f64) -> f32
     ensures { λ r. ⌜ r ≡ narrowed x ⌝ }
 {
-    if is_finite(x) {
-        let p = unpack(x);
-        let neg = p.neg;
-        let sig = p.sig;
-        let exp = p.exp;
-        return signed32(neg, pattern_of(sig, exp + 3171, 24));
+    if is_within(x) {
+        let d = decide(x);
+        let neg = d.neg;
+        let case = d.case;
+        let cut = d.cut;
+        return signed32(neg, act_on(case, cut));
     }
     if x != x {
         return 0.0 / 0.0;
     }
-    signed32(x < 0.0, 0x7f80_0000)
+    signed32(x < 0.0, act_on(1, 0))
 }
 
 // 0, or from 2^-126 up to 2^127.

@@ -47,17 +47,18 @@ pub(crate) fn pattern_of(w: u64, e: u64, p: u64) -> u64
     pattern_top(w << z, false, e + 64 - z, p)
 }
 
-fn capped(m: u64, most: u64) -> u64
+pub(crate) fn capped(m: u64, most: u64) -> u64
     ensures { λ r. ⌜ r ≡ min m most ⌝ }
 {
     if m < most { m } else { most }
 }
 
-// The float of a sign and a pattern, which is held to an infinity's.
+// The float of a sign and a pattern.
 pub(crate) fn signed32(neg: bool, m: u64) -> f32
-    ensures { λ r. ⌜ r ≡ ofBits binary32 (cond neg (top binary32) 0 + min m (ones binary32 * hid binary32)) ⌝ }
+    requires { ⌜ m ≤ ones binary32 * hid binary32 ⌝ }
+    ensures { λ r. ⌜ r ≡ ofBits binary32 (cond neg (top binary32) 0 + m) ⌝ }
 {
-    let b = capped(m, 0x7f80_0000) as u32;
+    let b = m as u32;
     if neg {
         f32::from_bits(0x8000_0000 + b)
     } else {
@@ -65,6 +66,7 @@ pub(crate) fn signed32(neg: bool, m: u64) -> f32
     }
 }
 
+// The same, with a pattern that is held to an infinity's.
 pub(crate) fn signed64(neg: bool, m: u64) -> f64
     ensures { λ r. ⌜ r ≡ ofBits binary64 (cond neg (top binary64) 0 + min m (ones binary64 * hid binary64)) ⌝ }
 {

@@ -41,7 +41,9 @@ pub const EXP_LIST: usize = 16;
 
 pub const LN: usize = 17;
 
-pub const COUNT: usize = 18;
+pub const NARROW_CASE: usize = 18;
+
+pub const COUNT: usize = 19;
 
 // The name, with blanks behind it.
 fn name(op: usize) -> [u8; 12] {
@@ -64,6 +66,7 @@ fn name(op: usize) -> [u8; 12] {
         EXP => *b"exp         ",
         EXP_LIST => *b"exp_list    ",
         LN => *b"ln          ",
+        NARROW_CASE => *b"narrow_case ",
         _ => *b"            ",
     }
 }
@@ -126,7 +129,7 @@ pub fn result_width(op: usize) -> usize
 {
     match op {
         NARROW => 8,
-        TOTAL_ORDER | IS_FINITE => 1,
+        TOTAL_ORDER | IS_FINITE | NARROW_CASE => 1,
         _ => 16,
     }
 }
@@ -182,6 +185,7 @@ pub fn run(op: usize, a: u64, b: u64, c: u64) -> u64 {
         EXP => bits::bits64(float::exp(x)),
         EXP_LIST => bits::bits64(exp_in_list(x)),
         LN => bits::bits64(float::ln(x)),
+        NARROW_CASE => ieee::narrow_case(x),
         _ => 0,
     }
 }
@@ -189,7 +193,7 @@ pub fn run(op: usize, a: u64, b: u64, c: u64) -> u64 {
 // The bits of an expected result: where it is a float every NaN counts as one.
 pub fn settled(op: usize, want: u64) -> u64 {
     match op {
-        TO_U64 | TO_I64 | TOTAL_ORDER | IS_FINITE => want,
+        TO_U64 | TO_I64 | TOTAL_ORDER | IS_FINITE | NARROW_CASE => want,
         NARROW => wide(bits::bits32(bits::float32(low(want)))),
         _ => bits::bits64(bits::float64(want)),
     }

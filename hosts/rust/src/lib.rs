@@ -50,5 +50,7 @@ mod tests {
         assert!(sys::ln(-1.0).is_nan());
         assert_eq!(sys::mul_add(3.0, 4.0, -12.0), 0.0);
         assert_eq!(sys::narrow(16777217.0), 16777216.0);
+        let cases = [f64::NAN, f64::INFINITY, -1e39, 1.0, 16777217.0, 16777219.0, 0.1].map(sys::narrow_case);
+        assert_eq!(cases, [0, 0, 1, 2, 3, 4, 5]);
     }
 }

@@ -103,6 +103,7 @@ extern "C" {
     fn icotable_ln(x: f64) -> f64;
     fn icotable_mul_add(a: f64, b: f64, c: f64) -> f64;
     fn icotable_narrow(x: f64) -> f32;
+    fn icotable_narrow_case(x: f64) -> u64;
 }
 
 // The lists that are lent to a builder.
@@ -273,4 +274,8 @@ pub fn mul_add(a: f64, b: f64, c: f64) -> f64 {
 
 pub fn narrow(x: f64) -> f32 {
     unsafe { icotable_narrow(x) }
+}
+
+pub fn narrow_case(x: f64) -> u64 {
+    unsafe { icotable_narrow_case(x) }
 }

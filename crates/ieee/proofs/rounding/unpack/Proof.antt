@@ -1,5 +1,5 @@
 -- `unpack` meets its contract. Assumes nothing.
-use mathlib.Core.Path.{_≡_, sym, ap, _∙_, subst}
+use mathlib.Core.Path.{_≡_, refl, sym, ap, _∙_, subst}
 use Prim.Native.Nat.{ℕ, _+_, _-_, _*_, _/_, _%_, _^_, _<_, _≤_}
 use native.Mathlib.Omega.{arith}
 use lib.Dec.{T, leb}
@@ -24,6 +24,9 @@ low-lt b = omega arith
 lead-lt : (b : ℕ) → 2 ^ 52 + b % 2 ^ 52 < 2 ^ 53
 lead-lt b = omega arith
 
+lead-ne : (t : ℕ) → 2 ^ 52 + t ≡ 0 → ⊥
+lead-ne t e = omega arith
+
 field-le : (b : ℕ) → (b / 2 ^ 52 % 2048 ≡ 2047 → ⊥) → b / 2 ^ 52 % 2048 - 1 ≤ 2045
 field-le b h = omega arith
 
@@ -40,6 +43,7 @@ returns c =
       value = subst (λ (y : Float). HasValue y s (t * 2 ^ 0) (2 ^ 1074)) (sym (as-fields binary64 x (held (c .before)))) (at-low binary64 s (b % 2 ^ 63 / 2 ^ 52) t (sym (field-is b) ∙ c .if1 .taken));
       digits = low-lt b;
       scale = omega arith;
+      zero = λ _. refl;
     }
 
 returns-2 : tie.Need-returns-2
@@ -54,6 +58,7 @@ returns-2 c =
       value = subst (λ (y : Float). HasValue y s ((2 ^ 52 + t) * 2 ^ (f - 1)) (2 ^ 1074)) (sym (as-fields binary64 x (held (c .before)) ∙ ap (λ (y : ℕ). ofFields binary64 s y t) (sym (field-is b)))) (at-mid binary64 s f t (c .if1 .left) last);
       digits = lead-lt b;
       scale = field-le b last;
+      zero = λ e. absurd (lead-ne t e);
     }
 
 pub unpack-spec : {M : Type 1} → statement M
