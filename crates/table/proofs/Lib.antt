@@ -4,6 +4,7 @@ pub mod Items
 pub mod Accepted
 pub mod Lengths
 pub mod Back
+pub mod Sections
 pub mod Parsed
 pub mod Sound
 pub mod Accepts

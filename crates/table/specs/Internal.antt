@@ -32,12 +32,12 @@ abbrev pub tableQuestion : List ℕ → Table → ℕ
 tableQuestion file t =
     ask (tableValid file t) 14
     (ask (every (entryValid (t .levels)) (rowItems file t)) 15
-    (ask (tiled 0 (t .energies) (rowItems file t)) 16
+    (ask (tiled per 0 (t .energies) (rowItems file t)) 16
     (ask (every (λ x. not (nanBits binary32 x)) (energyItems file t)) 17 0)))
 
 -- a row has no energies, or they start at place o; and where those of the next row start
 abbrev pub placedAt : ℕ → ℕ → ℕ → Bool
 placedAt kind offset o = leb kind 1 || eqb offset o
 
-abbrev pub nextPlace : ℕ → ℕ → ℕ → ℕ → ℕ
-nextPlace kind level offset o = cond (leb kind 1) o (offset + per level)
+abbrev pub nextPlace : (ℕ → ℕ) → ℕ → ℕ → ℕ → ℕ → ℕ
+nextPlace each kind level offset o = cond (leb kind 1) o (offset + each level)

@@ -128,10 +128,10 @@ entryValid n r =
 
 -- ---- 16, tiling
 
--- "Do offsets tile the energies in row order?": from place o on, ending at n (S5.16)
-unfoldable pub tiled : ℕ → ℕ → List Entry → Bool
-tiled o n [] = eqb o n
-tiled o n (r ∷ rs) = cond (leb (r .kind) 1) (tiled o n rs) (eqb (r .offset) o && tiled (o + per (r .level)) n rs)
+-- "Do offsets tile the energies in row order?": from place o on, ending at n, a Mesh row of level v having `each v` (S5.16)
+unfoldable pub tiled : (ℕ → ℕ) → ℕ → ℕ → List Entry → Bool
+tiled each o n [] = eqb o n
+tiled each o n (r ∷ rs) = cond (leb (r .kind) 1) (tiled each o n rs) (eqb (r .offset) o && tiled each (o + each (r .level)) n rs)
 
 -- ---- 17, energies, and the whole
 
@@ -141,7 +141,7 @@ readRefusal file p t =
     ask (laidOut file p) 13
     (ask (tableValid file t) 14
     (ask (every (entryValid (t .levels)) (rowItems file t)) 15
-    (ask (tiled 0 (t .energies) (rowItems file t)) 16
+    (ask (tiled per 0 (t .energies) (rowItems file t)) 16
     (ask (every (λ x. not (nanBits binary32 x)) (energyItems file t)) 17 0))))
 
 unfoldable pub readOut : List ℕ → ReadValues
