@@ -9,5 +9,6 @@ pub mod Parsed
 pub mod Sound
 pub mod Accepts
 pub mod OfRows
+pub mod OfSections
 pub mod OfFile
 pub mod Checked

@@ -1,12 +1,12 @@
 -- The file of a grid and rows: the reader accepts it, what stands where in it, and that it is one to one. Assumes nothing.
 use mathlib.Core.Path.{_≡_, refl, sym, ap, _∙_}
 use mathlib.Core.Bool.{true, and-eq-true-iff}
-use mathlib.Core.List.{List, map}
+use mathlib.Core.List.{List, [], _∷_, map}
 use Prim.Native.Nat.{ℕ, _+_, _*_, _-_, _^_, _≤_, _<_}
 use native.Mathlib.Nat.{mul-le-mul, zero-add}
 use native.Mathlib.Omega.{arith}
 use lib.ListN.{length, getD, take, drop}
-use lib.Dec.{T, leb, eqb}
+use lib.Dec.{T, leb, eqb, lit<}
 use lib.Ieee.{binary64, fits, toBits, ofBits}
 use lib.Ieee.Bits.{ofBits-toBits, toBits-lt}
 use borrow.Author.Tests.{leb-true, eqb-true}
@@ -26,6 +26,7 @@ use Rattle.table.specs.declared.ReadAnswer.the-variants.{Accepted as Rea
 use Rattle.table.proofs.Back.{All, Fitting, item-at}
 use Rattle.table.proofs.Parsed.{laid, laid-out, rows-back, energies-back}
 use Rattle.table.proofs.Sound.{Fine, entries-length, entries-held, entries-tiled, entries-fit, numbers, energies-valid}
+use Rattle.table.proofs.OfSections as OfSections
 use Rattle.table.proofs.Accepts.{written, tableFound, accepts}
 use Rattle.table.proofs.OfRows.{before, counts-many, counts-at, counts-fit, numbers-fit, energies-le, entry-is, energies-in, energy-is, same-rows}
 
@@ -117,11 +118,14 @@ module _ (g : Grid) (levels : ℕ) (rows : List (Row ℕ)) (ok : Filable g level
   hm : g .«n_omega» < 256 ^ 4
   hm = omega (arith, sizes .0 .dihedrals)
 
+  few-slabs : length rows < 256 ^ 4
+  few-slabs = omega (arith, ok .many, mul-le-mul (sizes .0 .distances) (sizes .0 .dihedrals))
+
   fit-rows : All Fitting rs
-  fit-rows = entries-fit per levels 0 rows (omega (arith, sizes .0 .few)) (ok .fine) (omega (arith, few-energies))
+  fit-rows = OfSections.fit-rows per (x ∷ y ∷ z ∷ []) (g .«n_r» ∷ g .«n_omega» ∷ []) levels rows (lit< tt) (lit< tt) (sizes .0 .few) few-slabs few-energies (ok .fine)
 
   fit-energies : All (λ k. k < 256 ^ 4) es
-  fit-energies = numbers-fit es (numbers per levels rows (ok .fine))
+  fit-energies = OfSections.fit-energies per (x ∷ y ∷ z ∷ []) (g .«n_r» ∷ g .«n_omega» ∷ []) levels rows (lit< tt) (lit< tt) (sizes .0 .few) few-slabs few-energies (ok .fine)
 
   abbrev file : List ℕ
   file = written x y z (g .«n_r») (g .«n_omega») ls rs es few-levels few-rows few-energies hx hy hz hn hm
@@ -162,43 +166,29 @@ module _ (g : Grid) (levels : ℕ) (rows : List (Row ℕ)) (ok : Filable g level
   -- ---- what stands in it
 
   pub file-length : length (fileOf g levels rows) ≡ 40 + 4 + levels * 4 + 4 + length rows * 10 + 4 + length es * 4
-  unfolding laidOut
-  file-length =
-      let h = laid-out x y z (g .«n_r») (g .«n_omega») ls rs es few-levels few-rows few-energies in
-      let a = and-eq-true-iff (eqb (countAt file 0) 3) _ .0 h .1 in
-      let b = and-eq-true-iff (eqb (countAt file (layout file .bins)) 2) (eqb (layout file .end) (length file)) .0 a .1 in
-      let e = eqb-true (layout file .end) (length file) b in
-      let w = rw (laid x y z (g .«n_r») (g .«n_omega») ls rs es few-levels few-rows few-energies) at e in
-      rw file-is (sym w ∙ rw (counts-many levels, entries-length per 0 rows))
+  unfolding fileOf
+  file-length = OfSections.sections-length per (x ∷ y ∷ z ∷ []) (g .«n_r» ∷ g .«n_omega» ∷ []) levels rows (lit< tt) (lit< tt) (sizes .0 .few) few-slabs few-energies (ok .fine)
 
   pub entries-are : items entryOf 10 (fileOf g levels rows) (tableIn g levels rows .«rows_start») (length rows) ≡ rs
-  entries-are =
-      rw file-is (rw (counts-many levels, entries-length per 0 rows) at (rows-back x y z (g .«n_r») (g .«n_omega») ls rs es few-levels few-rows few-energies fit-rows))
+  unfolding fileOf
+  entries-are = OfSections.entries-are per (x ∷ y ∷ z ∷ []) (g .«n_r» ∷ g .«n_omega» ∷ []) levels rows (lit< tt) (lit< tt) (sizes .0 .few) few-slabs few-energies (ok .fine)
 
   pub energies-are : items numberOf 4 (fileOf g levels rows) (tableIn g levels rows .«energies_start») (length es) ≡ es
-  energies-are =
-      rw file-is (rw (counts-many levels, entries-length per 0 rows) at (energies-back x y z (g .«n_r») (g .«n_omega») ls rs es few-levels few-rows few-energies fit-energies))
+  unfolding fileOf
+  energies-are = OfSections.energies-are per (x ∷ y ∷ z ∷ []) (g .«n_r» ∷ g .«n_omega» ∷ []) levels rows (lit< tt) (lit< tt) (sizes .0 .few) few-slabs few-energies (ok .fine)
 
   -- row s, its energies at the place where those of the rows before it end
   pub entry-of : (s : ℕ) → s < length rows
       → entryOf (take 10 (drop (tableIn g levels rows .«rows_start» + s * 10) (fileOf g levels rows))) ≡ entry (before per levels rows s) (getD rows s repulsive)
-  entry-of s h =
-      let d : Entry = entry 0 repulsive in
-      sym (item-at entryOf 10 (fileOf g levels rows) d (tableIn g levels rows .«rows_start») (length rows) s h) ∙ ap (λ (l : List Entry). getD l s d) entries-are
-      ∙ entry-is per levels 0 rows s d h ∙ rw zero-add
+  unfolding fileOf
+  entry-of = OfSections.entry-of per (x ∷ y ∷ z ∷ []) (g .«n_r» ∷ g .«n_omega» ∷ []) levels rows (lit< tt) (lit< tt) (sizes .0 .few) few-slabs few-energies (ok .fine)
 
   -- energy k of row s
   pub energy-of : (s k : ℕ) → s < length rows → k < length (energiesIn (getD rows s repulsive))
       → (before per levels rows s + k < length es)
       × (numberAt 4 (fileOf g levels rows) (tableIn g levels rows .«energies_start» + (before per levels rows s + k) * 4) ≡ getD (energiesIn (getD rows s repulsive)) k 0)
-  unfolding numberAt
-  energy-of s k h i =
-      let j = before per levels rows s + k in
-      let l : j < length es = omega (arith, energies-in per levels rows s (ok .fine) h) in (
-        l,
-        sym (item-at numberOf 4 (fileOf g levels rows) 0 (tableIn g levels rows .«energies_start») (length es) j l) ∙ ap (λ (q : List ℕ). getD q j 0) energies-are
-            ∙ energy-is per levels rows s k (ok .fine) h i,
-      )
+  unfolding fileOf
+  energy-of = OfSections.energy-of per (x ∷ y ∷ z ∷ []) (g .«n_r» ∷ g .«n_omega» ∷ []) levels rows (lit< tt) (lit< tt) (sizes .0 .few) few-slabs few-energies (ok .fine)
 
 -- ---- one to one
 

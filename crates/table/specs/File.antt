@@ -50,11 +50,16 @@ unfoldable pub packedEnergies : List (Row ℕ) → List ℕ
 packedEnergies [] = []
 packedEnergies (r ∷ rs) = energiesIn r ++ packedEnergies rs
 
--- "(1) count 3: rmin, dr, omega step, f64; (2) count 2: distance and dihedral bins, u32; (3) levels: each n, u32, from level 0; (4) rows ..; (5) energies, f32" (S8.1)
+-- the five sections: those of the numbers xs and ns, then "(3) levels: each n, u32, from level 0; (4) rows ..; (5) energies, f32"
+abbrev pub sectionsOf : (ℕ → ℕ) → List ℕ → List ℕ → ℕ → List (Row ℕ) → List ℕ
+sectionsOf each xs ns levels rows =
+    section (bytesOf 8) xs
+    ++ (section (bytesOf 4) ns
+    ++ (section (bytesOf 4) (map vertexCount (below levels))
+    ++ (section entryBytes (entries each 0 rows)
+    ++ section (bytesOf 4) (packedEnergies rows))))
+
+-- "(1) count 3: rmin, dr, omega step, f64; (2) count 2: distance and dihedral bins, u32" (S8.1)
 unfoldable pub fileOf : Grid → ℕ → List (Row ℕ) → List ℕ
 fileOf g levels rows =
-    section (bytesOf 8) (toBits binary64 (g .rmin) ∷ toBits binary64 (g .dr) ∷ toBits binary64 (g .«omega_step») ∷ [])
-    ++ (section (bytesOf 4) (g .«n_r» ∷ g .«n_omega» ∷ [])
-    ++ (section (bytesOf 4) (map vertexCount (below levels))
-    ++ (section entryBytes (entries per 0 rows)
-    ++ section (bytesOf 4) (packedEnergies rows))))
+    sectionsOf per (toBits binary64 (g .rmin) ∷ toBits binary64 (g .dr) ∷ toBits binary64 (g .«omega_step») ∷ []) (g .«n_r» ∷ g .«n_omega» ∷ []) levels rows
