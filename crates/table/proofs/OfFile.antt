@@ -6,10 +6,10 @@ use Prim.Native.Nat.{ℕ, _+_, _*_, _-_, _^_, _≤_, _<_}
 use native.Mathlib.Nat.{mul-le-mul, zero-add}
 use native.Mathlib.Omega.{arith}
 use lib.ListN.{length, getD, take, drop}
-use lib.Dec.{T, leb, eqb, lit<}
+use lib.Dec.{T, leb, lit<}
 use lib.Ieee.{binary64, fits, toBits, ofBits}
 use lib.Ieee.Bits.{ofBits-toBits, toBits-lt}
-use borrow.Author.Tests.{leb-true, eqb-true}
+use borrow.Author.Tests.{leb-true}
 use Rattle.lists.specs.Lists.{below}
 use Rattle.mesh.specs.Levels.{vertexCount, per}
 use Rattle.mesh.proofs.Sizes.{per-mono}
@@ -20,15 +20,14 @@ use Rattle.grid.proofs.Laws.{Ranged, ranged}
 use Rattle.rows.specs.Rows.{Row, repulsive}
 use Rattle.table.specs.Bytes.{numberOf, numberAt, items}
 use Rattle.table.specs.File.{Entry, entryOf, entry, entries, energiesIn, packedEnergies, fileOf}
-use Rattle.table.specs.Read.{layout, laidOut, countAt, ReadValues, readValues, readOut}
+use Rattle.table.specs.Read.{ReadValues, readValues, readOut}
 use Rattle.table.specs.declared.Table.{Table}
 use Rattle.table.specs.declared.ReadAnswer.the-variants.{Accepted as Reads}
-use Rattle.table.proofs.Back.{All, Fitting, item-at}
-use Rattle.table.proofs.Parsed.{laid, laid-out, rows-back, energies-back}
-use Rattle.table.proofs.Sound.{Fine, entries-length, entries-held, entries-tiled, entries-fit, numbers, energies-valid}
+use Rattle.table.proofs.Back.{All, Fitting}
+use Rattle.table.proofs.Sound.{Fine, entries-length, entries-held, entries-tiled, numbers, energies-valid}
 use Rattle.table.proofs.OfSections as OfSections
 use Rattle.table.proofs.Accepts.{written, tableFound, accepts}
-use Rattle.table.proofs.OfRows.{before, counts-many, counts-at, counts-fit, numbers-fit, energies-le, entry-is, energies-in, energy-is, same-rows}
+use Rattle.table.proofs.OfRows.{before, counts-many, counts-at, counts-fit, energies-le, same-rows}
 
 -- a grid, a level count and rows that a file can hold: settings that an f64 can have, 14 answered yes, a row for each slab, and each row one of a table
 pub record Filable (g : Grid) (levels : ℕ) (rows : List (Row ℕ)) : Type 0 where

@@ -12,7 +12,7 @@ use Rattle.table.specs.Bytes.{numberOf, numberAt, items}
 use Rattle.table.specs.File.{Entry, entryOf, entry, entries, energiesIn, packedEnergies, sectionsOf}
 use Rattle.table.proofs.Back.{All, Fitting, item-at}
 use Rattle.table.proofs.Sound.{Fine, entries-length, entries-fit, numbers}
-use Rattle.table.proofs.OfRows.{before, counts-many, counts-fit, numbers-fit, entry-is, energies-in, energy-is}
+use Rattle.table.proofs.OfRows.{before, counts-many, numbers-fit, entry-is, energies-in, energy-is}
 use Rattle.table.proofs.Sections as Sections
 
 module _ (each : ℕ → ℕ) (xs ns : List ℕ) (levels : ℕ) (rows : List (Row ℕ))

@@ -1,12 +1,12 @@
 -- The sections of a written file, as the reader walks them, whatever numbers its first two hold. Assumes nothing.
 use mathlib.Core.Path.{_≡_, refl, sym, ap, _∙_}
-use mathlib.Core.List.{List, [], _∷_, _++_, append-assoc, append-nil}
+use mathlib.Core.List.{List, [], _++_, append-assoc, append-nil}
 use Prim.Native.Nat.{ℕ, _+_, _*_, _^_, _<_}
 use native.Mathlib.Omega.{arith}
 use lib.ListN.{length, getD, length-append}
 use Rattle.table.specs.Bytes.{bytesOf, numberOf, numberAt, section, items}
 use Rattle.table.specs.File.{Entry, entryBytes, entryOf}
-use Rattle.table.specs.Read.{countAt, past, layout}
+use Rattle.table.specs.Read.{countAt, layout}
 use Rattle.table.specs.declared.Layout.{Layout}
 use Rattle.table.proofs.Lengths.{bytes-length, section-length, entry-length}
 use Rattle.table.proofs.Back.{All, Fitting, number-back, entry-back, count-is, items-are, item-at}

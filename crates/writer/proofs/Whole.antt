@@ -35,12 +35,12 @@ entry-is o (Scalar y) e = refl
 entry-is o (Mesh v b) e = refl
 entry-is o Repulsive e = refl
 
-count-is : (x : SlabResolution) (e : List Float) → energyCount (compared (rowWith x e)) ≡ heldBy x
+count-is : (x : SlabResolution) (e : List Float) → energyCount per (compared (rowWith x e)) ≡ heldBy x
 count-is (Scalar y) e = refl
 count-is (Mesh v b) e = refl
 count-is Repulsive e = refl
 
-pub entries-are : (top : ℕ) (l : BuilderLists) (o s n : ℕ) → entries o (map compared (rowsFrom top l s n)) ≡ entriesFor o (resolutions (l .rows) s n)
+pub entries-are : (top : ℕ) (l : BuilderLists) (o s n : ℕ) → entries per o (map compared (rowsFrom top l s n)) ≡ entriesFor o (resolutions (l .rows) s n)
 unfolding entries rowsFrom rowAt entriesFor resolutions
 entries-are top l o s zero = refl
 entries-are top l o s (suc n) =
