@@ -18,8 +18,9 @@ use Rattle.mesh.specs.Levels.{vertexCount, gridSize, cellCount, cellOffs
 use Rattle.lists.proofs.Counting.{all-at}
 use Rattle.lists.proofs.Sums.{sum-eq, sum-le, sum-more, sum-const}
 
-abbrev sizes : List ℕ
-sizes = 2 ∷ 4 ∷ 5 ∷ 7 ∷ 8 ∷ 10 ∷ 11 ∷ 13 ∷ 14 ∷ 16 ∷ 18 ∷ 19 ∷ 21 ∷ 22 ∷ 24 ∷ 25 ∷ []
+-- g over whole numbers
+abbrev pub gridBy : ℕ → ℕ
+gridBy m = (12691 * m + 20900) / 8192
 
 abbrev offsets : List ℕ
 offsets = 0 ∷ 25 ∷ 122 ∷ 273 ∷ 568 ∷ 953 ∷ 1554 ∷ 2281 ∷ 3296 ∷ 4473 ∷ 6010 ∷ 7955 ∷ 10122 ∷ 12769 ∷ 15674 ∷ 19131 ∷ []
@@ -94,19 +95,19 @@ grid-fast m e =
     let r : root (sixth m) ≡ rooted (scaled (sixth m)) (guess (scaled (sixth m))) = root-is (sixth m) (guess (scaled (sixth m))) (h .0) (isqrt-is (scaled (sixth m)) (guess (scaled (sixth m))) (h .1)) in
     ap gridOf r
 
--- ---- the tables
+-- ---- every level
 
-sizes-computed : allUpTo 16 (λ m. found m && eqb (fast m) (getD sizes m 0)) ≡ true
+grids-computed : allUpTo 256 (λ m. found m && eqb (fast m) (gridBy m)) ≡ true
 unfolding allUpTo found fast towards vertexCount ofBits ofInt mul div toUnsigned round integral
-sizes-computed = refl
+grids-computed = refl
 
-pub grid-is : (m : ℕ) → m < 16 → gridSize (vertexCount m) ≡ getD sizes m 0
+pub grid-is : (m : ℕ) → m < 256 → gridSize (vertexCount m) ≡ gridBy m
 grid-is m l =
-    let h = and-eq-true-iff (found m) (eqb (fast m) (getD sizes m 0)) .0 (all-at (λ m. found m && eqb (fast m) (getD sizes m 0)) m 16 l sizes-computed) in
-    grid-fast m (h .0) ∙ eqb-true (fast m) (getD sizes m 0) (h .1)
+    let h = and-eq-true-iff (found m) (eqb (fast m) (gridBy m)) .0 (all-at (λ m. found m && eqb (fast m) (gridBy m)) m 256 l grids-computed) in
+    grid-fast m (h .0) ∙ eqb-true (fast m) (gridBy m) (h .1)
 
 offsetsOf : ℕ → ℕ
-offsetsOf m = sum m (λ k. cellCount (getD sizes k 0) + 1)
+offsetsOf m = sum m (λ k. cellCount (gridBy k) + 1)
 
 offsets-computed : allUpTo 16 (λ m. eqb (offsetsOf m) (getD offsets m 0)) ≡ true
 unfolding allUpTo sum cellCount offsetsOf
@@ -115,18 +116,12 @@ offsets-computed = refl
 pub offsets-are : (m : ℕ) → m < 16 → cellOffsetsBelow m ≡ getD offsets m 0
 unfolding cellOffsetsBelow offsetsOf
 offsets-are m l =
-    sum-eq m (λ k. cellCount (gridSize (vertexCount k)) + 1) (λ k. cellCount (getD sizes k 0) + 1) (λ k h. rw (grid-is k (omega arith)))
+    sum-eq m (λ k. cellCount (gridSize (vertexCount k)) + 1) (λ k. cellCount (gridBy k) + 1) (λ k h. rw (grid-is k (omega arith)))
     ∙ eqb-true _ _ (all-at (λ m. eqb (offsetsOf m) (getD offsets m 0)) m 16 l offsets-computed)
 
 -- no level's g is above 400
-bounded : allUpTo 256 (λ m. found m && leb (fast m) 400) ≡ true
-unfolding allUpTo found fast towards vertexCount ofBits ofInt mul div toUnsigned round integral
-bounded = refl
-
 pub grid-le : (m : ℕ) → m < 256 → gridSize (vertexCount m) ≤ 400
-grid-le m l =
-    let h = and-eq-true-iff (found m) (leb (fast m) 400) .0 (all-at (λ m. found m && leb (fast m) 400) m 256 l bounded) in
-    rw (grid-fast m (h .0)) (leb-true (fast m) 400 (h .1))
+grid-le m l = omega (arith, grid-is m l)
 
 -- the offsets below a level, level by level
 pub offsets-more : (m : ℕ) → cellOffsetsBelow (m + 1) ≡ cellOffsetsBelow m + (cellCount (gridSize (vertexCount m)) + 1)

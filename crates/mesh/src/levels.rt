@@ -16,37 +16,12 @@ pub fn per_level(level: u8) -> u64
     n * n
 }
 
-// g of n vertices, by floats.
-fn grid_formula(n: u64) -> u64
-    ensures { λ r. ⌜ r ≡ gridSize n ⌝ }
-{
-    let g = float::to_u64(float::ceiling(ieee::root(float::of_u64(n) / 6.0) * 1.2));
-    if 2 <= g { g } else { 2 }
-}
-
-// g of a level. The levels that a builder holds are a table: a reading asks for them.
+// g of a level. Document 01 has it by floats; over whole numbers it is the same at each of the 256 levels, and small enough
+// to be compiled in place.
 pub fn grid_size(level: u8) -> u64
     ensures { λ r. ⌜ r ≡ gridSize (vertexCount level) ⌝ }
 {
-    match level {
-        0 => 2,
-        1 => 4,
-        2 => 5,
-        3 => 7,
-        4 => 8,
-        5 => 10,
-        6 => 11,
-        7 => 13,
-        8 => 14,
-        9 => 16,
-        10 => 18,
-        11 => 19,
-        12 => 21,
-        13 => 22,
-        14 => 24,
-        15 => 25,
-        _ => grid_formula(vertex_count(level)),
-    }
+    (12691 * level as u64 + 20900) / 8192
 }
 
 // A sum of squares.
@@ -64,7 +39,7 @@ fn cell_offsets_counted(level: u8) -> u64
     let mut sum: u64 = 0;
     let mut m: u8 = 0;
     while m < level {
-        let g = grid_formula(vertex_count(m));
+        let g = grid_size(m);
         sum += 6 * (g * g) + 1;
         m += 1;
     }
