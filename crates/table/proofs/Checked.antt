@@ -146,7 +146,7 @@ unfolding readRefusal tableValid checkSlabs gridValid slabsFit
 found-checked file p e =
     let t = tableOf file p in
     let n = t .grid .«n_r» * t .grid .«n_omega» in
-    let q14 = ask-yes {q = tableValid file t} (lit< tt) (ask-yes {q = laidOut file p} (lit< tt) e .1) in
+    let q14 = ask-yes {q = tableValid file t} (lit< tt) (ask-yes {q = laidOut 3 2 file p} (lit< tt) e .1) in
     let q15 = ask-yes {q = every (entryValid (t .levels)) (rowItems file t)} (lit< tt) (q14 .1) in
     let q16 = ask-yes {q = tiled per 0 (t .energies) (rowItems file t)} (lit< tt) (q15 .1) in
     let g = and-eq-true-iff (gridValid (t .grid) (t .levels)) _ .0 (q14 .0) in

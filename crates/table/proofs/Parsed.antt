@@ -32,7 +32,7 @@ module _ (x y z n m : ℕ) (ls : List ℕ) (rs : List Entry) (es : List ℕ)
   pub laid : layout sections ≡ Sections.found (x ∷ y ∷ z ∷ []) (n ∷ m ∷ []) ls rs es (lit< tt) (lit< tt) fewLevels fewRows fewEnergies
   laid = Sections.laid (x ∷ y ∷ z ∷ []) (n ∷ m ∷ []) ls rs es (lit< tt) (lit< tt) fewLevels fewRows fewEnergies
 
-  pub laid-out : laidOut sections (layout sections) ≡ true
+  pub laid-out : laidOut 3 2 sections (layout sections) ≡ true
   unfolding laidOut
   laid-out = rw (laid, Sections.floats-count (x ∷ y ∷ z ∷ []) (n ∷ m ∷ []) ls rs es (lit< tt) (lit< tt) fewLevels fewRows fewEnergies, Sections.bins-count (x ∷ y ∷ z ∷ []) (n ∷ m ∷ []) ls rs es (lit< tt) (lit< tt) fewLevels fewRows fewEnergies) (eq-eqb _ _ (sym (Sections.ends (x ∷ y ∷ z ∷ []) (n ∷ m ∷ []) ls rs es (lit< tt) (lit< tt) fewLevels fewRows fewEnergies)))
 

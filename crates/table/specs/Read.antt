@@ -57,9 +57,9 @@ layout file =
     let energies = past file rows 10 in
     record { bins = bins; levels = levels; rows = rows; energies = energies; end = past file energies 4 }
 
--- "do the sections follow their counts and end with the last byte? 13. The counts of sections 1 and 2 belong to 13."
-unfoldable pub laidOut : List ℕ → Layout → Bool
-laidOut file p = eqb (countAt file 0) 3 && (eqb (countAt file (p .bins)) 2 && eqb (p .end) (length file))
+-- "do the sections follow their counts and end with the last byte? 13. The counts of sections 1 and 2 belong to 13.": i numbers in section 1 and j in section 2
+unfoldable pub laidOut : ℕ → ℕ → List ℕ → Layout → Bool
+laidOut i j file p = eqb (countAt file 0) i && (eqb (countAt file (p .bins)) j && eqb (p .end) (length file))
 
 -- ---- what the sections hold
 
@@ -138,7 +138,7 @@ tiled each o n (r ∷ rs) = cond (leb (r .kind) 1) (tiled each o n rs) (eqb (r .
 -- "Read": 13 to 17, each put to the whole file before the next (S5.17)
 unfoldable pub readRefusal : List ℕ → Layout → Table → ℕ
 readRefusal file p t =
-    ask (laidOut file p) 13
+    ask (laidOut 3 2 file p) 13
     (ask (tableValid file t) 14
     (ask (every (entryValid (t .levels)) (rowItems file t)) 15
     (ask (tiled per 0 (t .energies) (rowItems file t)) 16
