@@ -27,11 +27,11 @@ replies-many m st (c ∷ cs) = ap suc (replies-many m (called m st c) cs)
 moved-many : {A : Type 0} {cs ds : List Call} (p : Reordered cs ds) (xs : List A) → length cs ≡ length xs → length ds ≡ length (moved p xs)
 unfolding moved
 moved-many nothing xs h = h
-moved-many (same c p) [] h = absurd (omega arith)
-moved-many (same c p) (x ∷ xs) h = ap suc (moved-many p xs (omega arith))
-moved-many (exchanged ri oi e rj oj f cs) [] h = absurd (omega arith)
-moved-many (exchanged ri oi e rj oj f cs) (x ∷ []) h = absurd (omega arith)
-moved-many (exchanged ri oi e rj oj f cs) (x ∷ y ∷ xs) h = h
+moved-many (same p) [] h = absurd (omega arith)
+moved-many (same p) (x ∷ xs) h = ap suc (moved-many p xs (omega arith))
+moved-many exchanged [] h = absurd (omega arith)
+moved-many exchanged (x ∷ []) h = absurd (omega arith)
+moved-many exchanged (x ∷ y ∷ xs) h = h
 moved-many (then p q) xs h = moved-many q (moved p xs) (moved-many p xs h)
 
 -- ---- what is accepted in a run does not depend on its order
@@ -51,13 +51,13 @@ or-exchanged false b c = refl
 accepted-moved : {cs ds : List Call} (p : Reordered cs ds) (ri oi : ℕ) (rs : List Reply) → length cs ≡ length rs → acceptedIn ri oi ds (moved p rs) ≡ acceptedIn ri oi cs rs
 unfolding moved acceptedIn
 accepted-moved nothing ri oi rs h = refl
-accepted-moved (same c p) ri oi [] h = absurd (omega arith)
-accepted-moved (same (set-call rj oj e) p) ri oi (r ∷ rs) h = rw (accepted-moved p ri oi rs (omega arith)) refl
-accepted-moved (same (settle-call rj) p) ri oi (r ∷ rs) h = refl
-accepted-moved (same (write-call out) p) ri oi (r ∷ rs) h = refl
-accepted-moved (exchanged rj oj e rk ok f cs) ri oi [] h = absurd (omega arith)
-accepted-moved (exchanged rj oj e rk ok f cs) ri oi (x ∷ []) h = absurd (omega arith)
-accepted-moved (exchanged rj oj e rk ok f cs) ri oi (x ∷ y ∷ rs) h =
+accepted-moved (same p) ri oi [] h = absurd (omega arith)
+accepted-moved (same {c = set-call rj oj e} p) ri oi (r ∷ rs) h = rw (accepted-moved p ri oi rs (omega arith)) refl
+accepted-moved (same {c = settle-call rj} p) ri oi (r ∷ rs) h = refl
+accepted-moved (same {c = write-call out} p) ri oi (r ∷ rs) h = refl
+accepted-moved exchanged ri oi [] h = absurd (omega arith)
+accepted-moved exchanged ri oi (x ∷ []) h = absurd (omega arith)
+accepted-moved (exchanged {ri = rj} {oi = oj} {rj = rk} {oj = ok} {cs = cs}) ri oi (x ∷ y ∷ rs) h =
     or-exchanged (eqb (number y) 0 && (eqb ri rk && eqb oi ok)) (eqb (number x) 0 && (eqb ri rj && eqb oi oj)) (acceptedIn ri oi cs rs)
 accepted-moved (then p q) ri oi rs h = accepted-moved q ri oi (moved p rs) (moved-many p rs h) ∙ accepted-moved p ri oi rs h
 
@@ -75,13 +75,13 @@ once-exchanged false false e c d o = refl
 once-moved : {cs ds : List Call} (p : Reordered cs ds) (rs : List Reply) → length cs ≡ length rs → once ds (moved p rs) ≡ once cs rs
 unfolding moved once acceptedIn
 once-moved nothing rs h = refl
-once-moved (same c p) [] h = absurd (omega arith)
-once-moved (same (set-call ri oi e) p) (r ∷ rs) h = rw (accepted-moved p ri oi rs (omega arith), once-moved p rs (omega arith)) refl
-once-moved (same (settle-call ri) p) (r ∷ rs) h = once-moved p rs (omega arith)
-once-moved (same (write-call out) p) (r ∷ rs) h = once-moved p rs (omega arith)
-once-moved (exchanged ri oi e rj oj f cs) [] h = absurd (omega arith)
-once-moved (exchanged ri oi e rj oj f cs) (x ∷ []) h = absurd (omega arith)
-once-moved (exchanged ri oi e rj oj f cs) (x ∷ y ∷ rs) h =
+once-moved (same p) [] h = absurd (omega arith)
+once-moved (same {c = set-call ri oi e} p) (r ∷ rs) h = rw (accepted-moved p ri oi rs (omega arith), once-moved p rs (omega arith)) refl
+once-moved (same {c = settle-call ri} p) (r ∷ rs) h = once-moved p rs (omega arith)
+once-moved (same {c = write-call out} p) (r ∷ rs) h = once-moved p rs (omega arith)
+once-moved exchanged [] h = absurd (omega arith)
+once-moved exchanged (x ∷ []) h = absurd (omega arith)
+once-moved (exchanged {ri = ri} {oi = oi} {rj = rj} {oj = oj} {cs = cs}) (x ∷ y ∷ rs) h =
     rw (eqb-comm rj ri, eqb-comm oj oi)
     (once-exchanged (eqb (number x) 0) (eqb (number y) 0) (eqb ri rj && eqb oi oj) (acceptedIn ri oi cs rs) (acceptedIn rj oj cs rs) (once cs rs))
 once-moved (then p q) rs h = once-moved q (moved p rs) (moved-many p rs h) ∙ once-moved p rs h
@@ -97,7 +97,7 @@ again true true c o h = absurd (true≢false (sym h))
 module _ (m : Mesh) where
   exchange : (st : State) (ri oi : ℕ) (e : List Float) (rj oj : ℕ) (f : List Float) (cs : List Call)
       → (let bs = set-call ri oi e ∷ set-call rj oj f ∷ cs in let ds = set-call rj oj f ∷ set-call ri oi e ∷ cs in
-      once bs (replies m st bs) ≡ true → (replies m st ds ≡ moved (exchanged ri oi e rj oj f cs) (replies m st bs)) × (run m st ds ≡ run m st bs))
+      once bs (replies m st bs) ≡ true → (replies m st ds ≡ moved {cs = bs} {ds = ds} exchanged (replies m st bs)) × (run m st ds ≡ run m st bs))
   unfolding moved once acceptedIn replies run
   exchange st ri oi e rj oj f cs h =
       let a = set-call ri oi e in
@@ -119,10 +119,10 @@ module _ (m : Mesh) where
   reorder : {cs ds : List Call} (p : Reordered cs ds) (st : State) → once cs (replies m st cs) ≡ true → (replies m st ds ≡ moved p (replies m st cs)) × (run m st ds ≡ run m st cs)
   unfolding moved once replies run
   reorder nothing st h = (refl, refl)
-  reorder (same c {cs = cs} p) st h =
+  reorder (same {c = c} {cs = cs} p) st h =
       let i = reorder p (called m st c) (once-rest c cs (replied m st c) (replies m (called m st c) cs) h) in
       (ap (λ (x : List Reply). replied m st c ∷ x) (i .0), i .1)
-  reorder (exchanged ri oi e rj oj f cs) st h = exchange st ri oi e rj oj f cs h
+  reorder (exchanged {ri = ri} {oi = oi} {rj = rj} {oj = oj} {e = e} {f = f} {cs = cs}) st h = exchange st ri oi e rj oj f cs h
   reorder (then {bs = bs} {cs = cs} {ds = ds} p q) st h =
       let i = reorder p st h in
       let k : once cs (replies m st cs) ≡ true = rw (i .0) (once-moved p (replies m st bs) (replies-many m st bs) ∙ h) in

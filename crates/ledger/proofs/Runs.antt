@@ -15,8 +15,8 @@ use Rattle.ledger.specs.Order.{Reordered, nothing, same, exchanged, then
 pub moved-calls : {cs ds : List Call} (p : Reordered cs ds) → moved p cs ≡ ds
 unfolding moved
 moved-calls nothing = refl
-moved-calls (same c p) = ap (λ (x : List Call). c ∷ x) (moved-calls p)
-moved-calls (exchanged ri oi e rj oj f cs) = refl
+moved-calls (same {c = c} p) = ap (λ (x : List Call). c ∷ x) (moved-calls p)
+moved-calls exchanged = refl
 moved-calls (then p q) = ap (moved q) (moved-calls p) ∙ moved-calls q
 
 -- ---- exchanges permute runs
@@ -42,21 +42,21 @@ onto-exchanged a b (r ∷ rs) = more (List·Permᴰ·swap refl refl) (permuted-r
 permuted-runs : {cs ds : List Call} → Reordered cs ds → Permuted (runs cs) (runs ds)
 unfolding runs
 permuted-runs nothing = permuted-refl ([] ∷ [])
-permuted-runs (same (set-call ri oi e) p) = onto-permuted (set-call ri oi e) (permuted-runs p)
-permuted-runs (same (settle-call ri) p) = more List·Permᴰ·nil (more (Permᴰ·refl (settle-call ri ∷ [])) (permuted-runs p))
-permuted-runs (same (write-call out) p) = more List·Permᴰ·nil (more (Permᴰ·refl (write-call out ∷ [])) (permuted-runs p))
-permuted-runs (exchanged ri oi e rj oj f cs) = onto-exchanged (set-call ri oi e) (set-call rj oj f) (runs cs)
+permuted-runs (same {c = set-call ri oi e} p) = onto-permuted (set-call ri oi e) (permuted-runs p)
+permuted-runs (same {c = settle-call ri} p) = more List·Permᴰ·nil (more (Permᴰ·refl (settle-call ri ∷ [])) (permuted-runs p))
+permuted-runs (same {c = write-call out} p) = more List·Permᴰ·nil (more (Permᴰ·refl (write-call out ∷ [])) (permuted-runs p))
+permuted-runs (exchanged {ri = ri} {oi = oi} {rj = rj} {oj = oj} {e = e} {f = f} {cs = cs}) = onto-exchanged (set-call ri oi e) (set-call rj oj f) (runs cs)
 permuted-runs (then p q) = permuted-trans (permuted-runs p) (permuted-runs q)
 
 -- ---- permuted runs are reached by exchanges
 
 reordered-refl : (cs : List Call) → Reordered cs cs
 reordered-refl [] = nothing
-reordered-refl (c ∷ cs) = same c (reordered-refl cs)
+reordered-refl (c ∷ cs) = same (reordered-refl cs)
 
 behind : (bs : List Call) {cs ds : List Call} → Reordered cs ds → Reordered (bs ++ cs) (bs ++ ds)
 behind [] p = p
-behind (b ∷ bs) p = same b (behind bs p)
+behind (b ∷ bs) p = same (behind bs p)
 
 isSet : Call → Bool
 isSet (set-call ri oi e) = true
@@ -68,7 +68,7 @@ Sets r = every isSet r ≡ true
 
 two-sets : (a b : Call) (cs : List Call) → isSet a ≡ true → isSet b ≡ true → Reordered (a ∷ b ∷ cs) (b ∷ a ∷ cs)
 unfolding isSet
-two-sets (set-call ri oi e) (set-call rj oj f) cs h k = exchanged ri oi e rj oj f cs
+two-sets (set-call ri oi e) (set-call rj oj f) cs h k = exchanged
 two-sets (set-call ri oi e) (settle-call rj) cs h k = absurd (true≢false (sym k))
 two-sets (set-call ri oi e) (write-call out) cs h k = absurd (true≢false (sym k))
 two-sets (settle-call ri) b cs h k = absurd (true≢false (sym h))
@@ -81,7 +81,7 @@ any-order-of-run List·Permᴰ·nil h = (refl, reordered-refl)
 any-order-of-run (List·Permᴰ·cons {a = a} {b = b} {l₁ = k} {l₂ = l} e p) h =
     let i = and-eq-true-iff (isSet a) (every isSet k) .0 h in
     let w = any-order-of-run p (i .1) in
-    (rw (← e, i .0) (w .0), λ cs. subst (λ (x : Call). Reordered (a ∷ k ++ cs) (x ∷ l ++ cs)) e (same a (w .1 cs)))
+    (rw (← e, i .0) (w .0), λ cs. subst (λ (x : Call). Reordered (a ∷ k ++ cs) (x ∷ l ++ cs)) e (same (w .1 cs)))
 any-order-of-run (List·Permᴰ·swap {a = a} {b = b} {a′ = a′} {b′ = b′} {l = l} e d) h =
     let i = and-eq-true-iff (isSet a) (isSet b && every isSet l) .0 h in
     let j = and-eq-true-iff (isSet b) (every isSet l) .0 (i .1) in

@@ -16,19 +16,19 @@ use Rattle.ledger.specs.Replies.{Reply, number, replies, begun}
 -- or a write, and every order of a run is reached (`Runs`, below, says both).
 pub data Reordered : List Call → List Call → Type 0 where
   nothing : Reordered [] []
-  same : (c : Call) {cs ds : List Call} → Reordered cs ds → Reordered (c ∷ cs) (c ∷ ds)
-  exchanged : (ri oi : ℕ) (e : List Float) (rj oj : ℕ) (f : List Float) (cs : List Call)
+  same : {c : Call} {cs ds : List Call} → Reordered cs ds → Reordered (c ∷ cs) (c ∷ ds)
+  exchanged : {ri oi rj oj : ℕ} {e f : List Float} {cs : List Call}
       → Reordered (set-call ri oi e ∷ set-call rj oj f ∷ cs) (set-call rj oj f ∷ set-call ri oi e ∷ cs)
   then : {bs cs ds : List Call} → Reordered bs cs → Reordered cs ds → Reordered bs ds
 
 -- what stands at each call of the first list, in the order of the second: a call's answer at its partner
 unfoldable pub moved : {A : Type 0} {cs ds : List Call} → Reordered cs ds → List A → List A
 moved nothing xs = xs
-moved (same c p) [] = []
-moved (same c p) (x ∷ xs) = x ∷ moved p xs
-moved (exchanged ri oi e rj oj f cs) [] = []
-moved (exchanged ri oi e rj oj f cs) (x ∷ []) = x ∷ []
-moved (exchanged ri oi e rj oj f cs) (x ∷ y ∷ xs) = y ∷ x ∷ xs
+moved (same p) [] = []
+moved (same p) (x ∷ xs) = x ∷ moved p xs
+moved exchanged [] = []
+moved exchanged (x ∷ []) = x ∷ []
+moved exchanged (x ∷ y ∷ xs) = y ∷ x ∷ xs
 moved (then p q) xs = moved q (moved p xs)
 
 -- the same with the runs written out: a list is cut into unbroken runs of set calls and, between two runs, the one call that is no set

@@ -7,3 +7,4 @@ pub mod Settled
 pub mod Filed
 pub mod Searched
 pub mod Weighted
+pub mod Ordered
