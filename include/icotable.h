@@ -44,8 +44,8 @@
 /* The version, raised where a struct, a function or the table file changes (CHANGELOG.md). The pkg-config file and the
  * tool take it from here; a test compares it with hosts/rust. */
 #define ICOTABLE_VERSION_MAJOR 0
-#define ICOTABLE_VERSION_MINOR 7
-#define ICOTABLE_VERSION_PATCH 0
+#define ICOTABLE_VERSION_MINOR 8
+#define ICOTABLE_VERSION_PATCH 1
 
 #define ICOTABLE_STRING_(x) #x
 #define ICOTABLE_DOTTED_(a, b, c) ICOTABLE_STRING_(a) "." ICOTABLE_STRING_(b) "." ICOTABLE_STRING_(c)

@@ -88,7 +88,7 @@ once-moved (then p q) rs h = once-moved q (moved p rs) (moved-many p rs h) ∙ o
 
 -- ---- the calls
 
--- a call is accepted again where its run has another of its slab
+-- what `once` says of a set and the one behind it: not both are accepted and of one slab
 again : (x w c o : Bool) → not (x && (w || c)) && o ≡ true → x && w ≡ false
 again false w c o h = refl
 again true false c o h = refl

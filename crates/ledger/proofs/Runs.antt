@@ -9,7 +9,7 @@ use lib.ListN.{length}
 use Rattle.lists.specs.Lists.{every}
 use Rattle.table.proofs.Back.{All}
 use Rattle.ledger.specs.Ledger.{Call, set-call, settle-call, write-call}
-use Rattle.ledger.specs.Order.{Reordered, nothing, same, exchanged, then, moved, ontoFirst, runs, Permuted, none, more, Runs}
+use Rattle.ledger.specs.Order.{Reordered, nothing, same, exchanged, then, moved, ontoFirst, runs, Permuted, none, more, WithinRuns}
 
 -- the calls themselves, moved, are the other list
 pub moved-calls : {cs ds : List Call} (p : Reordered cs ds) → moved p cs ≡ ds
@@ -162,6 +162,5 @@ reordered-runs cs ds p =
     subst (λ (x : List Call). Reordered x ds) (joined-runs cs)
     (subst (λ (x : List Call). Reordered (joined (runs cs)) x) (joined-runs ds) (parts-reordered p (cut-parts (runs cs) (cut-runs cs))))
 
--- the request's words and the exchanges say the same
-pub by-runs : Runs
-by-runs cs ds = (permuted-runs, reordered-runs cs ds)
+pub within-runs : WithinRuns
+within-runs cs ds = (permuted-runs, reordered-runs cs ds)

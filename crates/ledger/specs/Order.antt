@@ -1,4 +1,4 @@
--- Document 02's request 4, "Samples arriving out of order", as one type, and its last sentence as another. Definitions only.
+-- Document 02's paper 4, "Samples arriving out of order": set calls in any order within their run. Definitions only.
 use mathlib.Core.Path.{_≡_}
 use mathlib.Core.Bool.{Bool, true, false, not, _&&_, _||_}
 use mathlib.Core.List.{List, [], _∷_, _++_, List·Permᴰ}
@@ -13,7 +13,7 @@ use Rattle.ledger.specs.Replies.{Reply, number, replies, begun}
 -- ---- "differ only in the order of the set calls within unbroken runs of them"
 
 -- "Workers return slabs in any order.": one list becomes the other by exchanges of two set calls that stand next to each other. So no call crosses a settle
--- or a write, and every order of a run is reached (`Runs`, below, says both).
+-- or a write, and every order of a run is reached (`WithinRuns`, below, says both).
 pub data Reordered : List Call → List Call → Type 0 where
   nothing : Reordered [] []
   same : {c : Call} {cs ds : List Call} → Reordered cs ds → Reordered (c ∷ cs) (c ∷ ds)
@@ -21,7 +21,7 @@ pub data Reordered : List Call → List Call → Type 0 where
       → Reordered (set-call ri oi e ∷ set-call rj oj f ∷ cs) (set-call rj oj f ∷ set-call ri oi e ∷ cs)
   then : {bs cs ds : List Call} → Reordered bs cs → Reordered cs ds → Reordered bs ds
 
--- what stands at each call of the first list, in the order of the second: a call's answer at its partner
+-- a list with an entry for each call of the first, in the order of the second: each entry at its call's partner, as the calls themselves, moved, are the second
 unfoldable pub moved : {A : Type 0} {cs ds : List Call} → Reordered cs ds → List A → List A
 moved nothing xs = xs
 moved (same p) [] = []
@@ -31,12 +31,12 @@ moved exchanged (x ∷ []) = x ∷ []
 moved exchanged (x ∷ y ∷ xs) = y ∷ x ∷ xs
 moved (then p q) xs = moved q (moved p xs)
 
--- the same with the runs written out: a list is cut into unbroken runs of set calls and, between two runs, the one call that is no set
+-- the same with the runs written out: a list is cut into unbroken runs of set calls, refused ones included, and the call between two runs
 unfoldable pub ontoFirst : Call → List (List Call) → List (List Call)
 ontoFirst c [] = (c ∷ []) ∷ []
 ontoFirst c (r ∷ rs) = (c ∷ r) ∷ rs
 
--- every settle or write ends a run, a refused one too
+-- every settle or write ends a run, a refused one too (S14.8)
 unfoldable pub runs : List Call → List (List Call)
 runs [] = [] ∷ []
 runs (set-call ri oi e ∷ cs) = ontoFirst (set-call ri oi e) (runs cs)
@@ -48,12 +48,13 @@ pub data Permuted : List (List Call) → List (List Call) → Type 0 where
   none : Permuted [] []
   more : {r q : List Call} {rs qs : List (List Call)} → List·Permᴰ r q → Permuted rs qs → Permuted (r ∷ rs) (q ∷ qs)
 
-abbrev pub Runs : Type 0
-Runs = (cs ds : List Call) → Reordered cs ds ↔ Permuted (runs cs) (runs ds)
+-- permuted runs are the exchanges, and the other way round
+abbrev pub WithinRuns : Type 0
+WithinRuns = (cs ds : List Call) → Reordered cs ds ↔ Permuted (runs cs) (runs ds)
 
--- ---- "where no slab is accepted twice in one run": a host works this out from its calls and their answers
+-- ---- "where no slab is accepted twice in one run": worked out from the calls and their answers alone, so a host can
 
--- "A slab is one distance bin and one dihedral bin": it is accepted in the run that the list begins with
+-- slab (ri, oi) is accepted in the run that the list begins with; "A slab is one distance bin and one dihedral bin"
 unfoldable pub acceptedIn : ℕ → ℕ → List Call → List Reply → Bool
 acceptedIn ri oi [] rs = false
 acceptedIn ri oi (c ∷ cs) [] = false
@@ -61,6 +62,7 @@ acceptedIn ri oi (set-call rj oj e ∷ cs) (r ∷ rs) = (eqb (number r) 0 && (eq
 acceptedIn ri oi (settle-call rj ∷ cs) (r ∷ rs) = false
 acceptedIn ri oi (write-call out ∷ cs) (r ∷ rs) = false
 
+-- of no set that is accepted is the slab accepted again in its run
 unfoldable pub once : List Call → List Reply → Bool
 once [] rs = true
 once (c ∷ cs) [] = true
@@ -87,7 +89,7 @@ pub record Alike (h : History) (ds : List Call) (p : Reordered (h .calls) ds) : 
   pub bytes : file (withCalls h ds) ≡ file h
 
 -- "Two lists of calls after the same fresh that differ only in the order of the set calls within unbroken runs of them, where no slab is accepted twice in one
--- run, must give each call the same answer and write equal files." Fresh may be refused, too.
+-- run, must give each call the same answer and write equal files." Fresh may be refused, too. (S14.8)
 abbrev pub AnyOrder : Type 0
 AnyOrder = (h : History) (ds : List Call) (p : Reordered (h .calls) ds) → once (h .calls) (answersOf h) ≡ true → Alike h ds p
 
@@ -101,7 +103,7 @@ pub record Untraced (h : History) (bs : List Call) (ri oi : ℕ) (e : List Float
   pub last-write : lastWrite (withCalls h (bs ++ set-call ri oi e ∷ cs)) ≡ lastWrite (withCalls h (bs ++ cs))
   pub bytes : file (withCalls h (bs ++ set-call ri oi e ∷ cs)) ≡ file (withCalls h (bs ++ cs))
 
--- .. where its slab is accepted again in its run
+-- .. where its slab is accepted again in its run (S14.9)
 abbrev pub Later : Type 0
 Later = (h : History) (bs : List Call) (ri oi : ℕ) (e : List Float) (cs : List Call) →
     acceptedIn ri oi cs (replies (h .meshes) (ended (withCalls h (bs ++ set-call ri oi e ∷ []))) cs) ≡ true → Untraced h bs ri oi e cs
