@@ -5,3 +5,6 @@ pub mod Follows
 pub mod Readings
 pub mod Admitted
 pub mod Theorem
+pub mod Sets
+pub mod Runs
+pub mod Order
