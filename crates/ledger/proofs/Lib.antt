@@ -1,4 +1,4 @@
--- Laws of lists of calls, and the theorem.
+-- Laws of lists of calls, and the theorems: `promise` (Theorem), `any-order` and `later` (Order), `within-runs` (Runs).
 pub mod Store
 pub mod Invariant
 pub mod Follows

@@ -130,27 +130,28 @@ module _ (m : Mesh) where
       (j .0 ∙ ap (moved q) (i .0), j .1 ∙ i .1)
 
   -- from two states the same answers and the same end
-  abbrev As : List Call → State → State → Type 0
-  As cs s t = (replies m s cs ≡ replies m t cs) × (run m s cs ≡ run m t cs)
+  abbrev AsFrom : List Call → State → State → Type 0
+  AsFrom cs s t = (replies m s cs ≡ replies m t cs) × (run m s cs ≡ run m t cs)
 
-  as-equal : (cs : List Call) (s t : State) → s ≡ t → As cs s t
+  as-equal : (cs : List Call) (s t : State) → s ≡ t → AsFrom cs s t
   as-equal cs s t e = (ap (λ (x : State). replies m x cs) e, ap (λ (x : State). run m x cs) e)
 
+  -- the set behind it is the one of its slab, or it goes before it and the same is asked of the calls after it
   later-step : (ri oi : ℕ) (e : List Float) (rj oj : ℕ) (f : List Float) (cs : List Call) (st : State) (x : Bool)
       → eqb (number (replied m st (set-call rj oj f))) 0 && (eqb ri rj && eqb oi oj) ≡ x
       → (let a = set-call ri oi e in let b = set-call rj oj f in
-      (acceptedIn ri oi cs (replies m (called m (called m st b) a) cs) ≡ true → As cs (called m (called m st b) a) (called m st b))
-      → x || acceptedIn ri oi cs (replies m (called m (called m st a) b) cs) ≡ true → As cs (called m (called m st a) b) (called m st b))
+      (acceptedIn ri oi cs (replies m (called m (called m st b) a) cs) ≡ true → AsFrom cs (called m (called m st b) a) (called m st b))
+      → x || acceptedIn ri oi cs (replies m (called m (called m st a) b) cs) ≡ true → AsFrom cs (called m (called m st a) b) (called m st b))
   later-step ri oi e rj oj f cs st true d i h =
       let q = and-eq-true-iff (eqb (number (replied m st (set-call rj oj f))) 0) (eqb ri rj && eqb oi oj) .0 d in
       as-equal cs _ _ (called-again m st ri oi e rj oj f (sym (accepted-number m st rj oj f) ∙ q .0) (q .1))
   later-step ri oi e rj oj f cs st false d i h =
       let z = rw (accepted-number m st rj oj f) at d in
       let comm = called-comm m st ri oi e rj oj f (and-no (taken (st .builder) (st .lists) ri oi e) _ z) in
-      subst (λ (x : State). As cs x (called m st (set-call rj oj f))) (sym comm) (i (subst (λ (x : State). acceptedIn ri oi cs (replies m x cs) ≡ true) comm h))
+      subst (λ (x : State). AsFrom cs x (called m st (set-call rj oj f))) (sym comm) (i (subst (λ (x : State). acceptedIn ri oi cs (replies m x cs) ≡ true) comm h))
 
   -- a set before calls in whose run its slab is accepted
-  later-run : (ri oi : ℕ) (e : List Float) (cs : List Call) (st : State) → acceptedIn ri oi cs (replies m (called m st (set-call ri oi e)) cs) ≡ true → As cs (called m st (set-call ri oi e)) st
+  later-run : (ri oi : ℕ) (e : List Float) (cs : List Call) (st : State) → acceptedIn ri oi cs (replies m (called m st (set-call ri oi e)) cs) ≡ true → AsFrom cs (called m st (set-call ri oi e)) st
   unfolding acceptedIn replies run
   later-run ri oi e [] st h = absurd (true≢false (sym h))
   later-run ri oi e (settle-call rj ∷ cs) st h = absurd (true≢false (sym h))

@@ -131,50 +131,44 @@ module _ (b : Builder) (l : BuilderLists) (ri oi : ℕ) (e : List Float) (rj oj 
 -- ---- the calls
 
 module _ (m : Mesh) (st : State) (ri oi : ℕ) (e : List Float) where
-  abbrev b : Builder
-  b = st .builder
-
-  called-by : (t : Bool) → taken b (st .lists) ri oi e ≡ t → called m st (set-call ri oi e) ≡ record { builder = b; lists = entered-lists t b (st .lists) (slab (b .grid) ri oi) e }
+  called-by : (t : Bool) → taken (st .builder) (st .lists) ri oi e ≡ t → called m st (set-call ri oi e) ≡ record { builder = st .builder; lists = entered-lists t (st .builder) (st .lists) (slab (st .builder .grid) ri oi) e }
   unfolding called setOut
   called-by true d = rw d refl
   called-by false d = rw d refl
 
-  number-by : (t : Bool) → taken b (st .lists) ri oi e ≡ t → setOut b (st .lists) ri oi e .answer .number ≡ setRefusal b (st .lists) ri oi e
+  number-by : (t : Bool) → taken (st .builder) (st .lists) ri oi e ≡ t → setOut (st .builder) (st .lists) ri oi e .answer .number ≡ setRefusal (st .builder) (st .lists) ri oi e
   unfolding setOut
   number-by true d = rw d (sym (eqb-true _ 0 d))
   number-by false d = rw d refl
 
-  pub accepted-number : eqb (number (replied m st (set-call ri oi e))) 0 ≡ taken b (st .lists) ri oi e
+  pub accepted-number : eqb (number (replied m st (set-call ri oi e))) 0 ≡ taken (st .builder) (st .lists) ri oi e
   unfolding replied
   accepted-number = ap (λ (n : ℕ). eqb n 0) (number-by _ refl)
 
 module _ (m : Mesh) (st : State) (ri oi : ℕ) (e : List Float) (rj oj : ℕ) (f : List Float) where
-  abbrev b′ : Builder
-  b′ = st .builder
-
   abbrev after : State
-  after = record { builder = b′; lists = lists-after b′ (st .lists) ri oi e }
+  after = record { builder = st .builder; lists = lists-after (st .builder) (st .lists) ri oi e }
 
   -- a set answers as without the set before it
   pub replied-after : replied m (called m st (set-call ri oi e)) (set-call rj oj f) ≡ replied m st (set-call rj oj f)
   unfolding replied
   replied-after =
-      rw (called-by m st ri oi e _ refl) (ap set-reply (number-by m after rj oj f _ refl ∙ refusal-stays b′ (st .lists) ri oi e rj oj f ∙ sym (number-by m st rj oj f _ refl)))
+      rw (called-by m st ri oi e _ refl) (ap set-reply (number-by m after rj oj f _ refl ∙ refusal-stays (st .builder) (st .lists) ri oi e rj oj f ∙ sym (number-by m st rj oj f _ refl)))
 
   called-twice : called m (called m st (set-call ri oi e)) (set-call rj oj f)
-      ≡ record { builder = b′; lists = entered-lists (taken b′ (st .lists) rj oj f) b′ (lists-after b′ (st .lists) ri oi e) (slab (b′ .grid) rj oj) f }
+      ≡ record { builder = st .builder; lists = entered-lists (taken (st .builder) (st .lists) rj oj f) (st .builder) (lists-after (st .builder) (st .lists) ri oi e) (slab (st .builder .grid) rj oj) f }
   called-twice =
       ap (λ (x : State). called m x (set-call rj oj f)) (called-by m st ri oi e _ refl)
-      ∙ called-by m after rj oj f _ (ap (λ (n : ℕ). eqb n 0) (refusal-stays b′ (st .lists) ri oi e rj oj f))
+      ∙ called-by m after rj oj f _ (ap (λ (n : ℕ). eqb n 0) (refusal-stays (st .builder) (st .lists) ri oi e rj oj f))
 
   -- an accepted set of the same slab: as without the one before it
-  pub called-again : taken b′ (st .lists) rj oj f ≡ true → eqb ri rj && eqb oi oj ≡ true
+  pub called-again : taken (st .builder) (st .lists) rj oj f ≡ true → eqb ri rj && eqb oi oj ≡ true
       → called m (called m st (set-call ri oi e)) (set-call rj oj f) ≡ called m st (set-call rj oj f)
   called-again c h =
       let q = and-eq-true-iff (eqb ri rj) (eqb oi oj) .0 h in
-      let z : slab (b′ .grid) ri oi ≡ slab (b′ .grid) rj oj = rw (eqb-true ri rj (q .0), eqb-true oi oj (q .1)) refl in
+      let z : slab (st .builder .grid) ri oi ≡ slab (st .builder .grid) rj oj = rw (eqb-true ri rj (q .0), eqb-true oi oj (q .1)) refl in
       called-twice
-      ∙ rw c (ap (λ (x : BuilderLists). record { builder = b′; lists = x }) (lists-again b′ (st .lists) ri oi e rj oj f _ refl c z))
+      ∙ rw c (ap (λ (x : BuilderLists). record { builder = st .builder; lists = x }) (lists-again (st .builder) (st .lists) ri oi e rj oj f _ refl c z))
       ∙ sym (called-by m st rj oj f true c)
 
 -- two sets, not of the same slab where both are accepted
