@@ -223,7 +223,7 @@ starts g top l r =
           values-le = omega (arith, filled-wide (l .rows .values) n 0 (r .values-le), r .values-le);
         };
         many = length-replicate n (scalar nought);
-        good = all-replicate (Good top) n (scalar nought) tt;
+        good = all-replicate (Good per top) n (scalar nought) tt;
         each = λ s h.
             rw (getD-replicate {A = Row Float} n s (scalar nought) repulsive h)
             (filled-at (l .rows .kinds) n s h, filled-at (l .rows .levels) n s h, filled-at (l .rows .values) n s h, refl);

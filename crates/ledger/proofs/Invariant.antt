@@ -51,17 +51,17 @@ Holds top store l s r =
 pub record Fit (g : Grid) (top : ℕ) (store : List Float) (l : Rows) (rows : List (Row Float)) : Type 0 where
   pub room : Roomy g top (length store) (length (l .kinds)) (length (l .levels)) (length (l .values))
   pub many : length rows ≡ slabs g
-  pub good : All (Good top) rows
+  pub good : All (Good per top) rows
   pub each : (s : ℕ) → s < slabs g → Holds top store l s (getD rows s repulsive)
 
-short : (top : ℕ) (r : Row Float) → Good top r → length (rowEnergies r) ≤ per top
+short : (top : ℕ) (r : Row Float) → Good per top r → length (rowEnergies r) ≤ per top
 short top (scalar x) q = omega arith
 short top repulsive q = omega arith
 short top (mesh v b e) q = omega (arith, q .1, per-mono v top (q .0))
 
 -- ---- a row replaced, the store perhaps with it
 
-module _ (g : Grid) (top : ℕ) (store : List Float) (l : Rows) (rows : List (Row Float)) (a : Fit g top store l rows) (s : ℕ) (h : s < slabs g) (r : Row Float) (q : Good top r)
+module _ (g : Grid) (top : ℕ) (store : List Float) (l : Rows) (rows : List (Row Float)) (a : Fit g top store l rows) (s : ℕ) (h : s < slabs g) (r : Row Float) (q : Good per top r)
     (store′ : List Float) (wide : length store′ ≡ length store) (own : Stored top store′ s r)
     (others : (t k : ℕ) → (t ≡ s → ⊥) → k ≤ per top → take k (drop (t * per top) store′) ≡ take k (drop (t * per top) store)) where
   row-after : (t : ℕ) → t < slabs g → Dec (t ≡ s) → Holds top store′ (replaced l s (numbersOf r)) t (getD (set rows s r) t repulsive)
@@ -75,7 +75,7 @@ module _ (g : Grid) (top : ℕ) (store : List Float) (l : Rows) (rows : List (Ro
       )
   row-after t i (no e) =
       let o = a .each t i in
-      let z = all-at (Good top) rows t repulsive (omega (arith, a .many)) (a .good) in
+      let z = all-at (Good per top) rows t repulsive (omega (arith, a .many)) (a .good) in
       rw (getD-set-other rows s t r repulsive e) (
         getD-set-other (l .kinds) s t (kindOf (numbersOf r)) 0 e ∙ o .0,
         getD-set-other (l .levels) s t (levelOf (numbersOf r)) 0 e ∙ o .1,
@@ -94,24 +94,24 @@ module _ (g : Grid) (top : ℕ) (store : List Float) (l : Rows) (rows : List (Ro
           values-le = rw length-set (a .room .values-le);
         };
         many = length-set rows s r ∙ a .many;
-        good = all-set (Good top) rows s r q (a .good);
+        good = all-set (Good per top) rows s r q (a .good);
         each = λ t i. row-after t i (native.Mathlib.Decide.ℕ-discrete t s);
       }
 
 -- ---- the rows that the lists hold
 
-row-by : (top : ℕ) (store : List Float) (s : ℕ) (r : Row Float) → Good top r → Stored top store s r
+row-by : (top : ℕ) (store : List Float) (s : ℕ) (r : Row Float) → Good per top r → Stored top store s r
     → rowWith (numbersOf r) (take (per (levelOf (numbersOf r))) (drop (s * per top) store)) ≡ r
 row-by top store s (scalar x) q h = refl
 row-by top store s repulsive q h = refl
 row-by top store s (mesh v b e) q h = rw (← q .1, h)
 
-held-row : (top : ℕ) (r : Row Float) → Good top r → Held (numbersOf r)
+held-row : (top : ℕ) (r : Row Float) → Good per top r → Held (numbersOf r)
 held-row top (scalar x) q = q
 held-row top repulsive q = tt
 held-row top (mesh v b e) q = tt
 
-known-row : (top : ℕ) (r : Row Float) → Good top r → known top (kindOf (numbersOf r)) (levelOf (numbersOf r)) ≡ true
+known-row : (top : ℕ) (r : Row Float) → Good per top r → known top (kindOf (numbersOf r)) (levelOf (numbersOf r)) ≡ true
 unfolding known
 known-row top (scalar x) q = refl
 known-row top repulsive q = refl
@@ -119,8 +119,8 @@ known-row top (mesh v true e) q = le-leb v top (q .0)
 known-row top (mesh v false e) q = le-leb v top (q .0)
 
 module _ (g : Grid) (top : ℕ) (store : List Float) (l : Rows) (rows : List (Row Float)) (a : Fit g top store l rows) where
-  pub good-at : (s : ℕ) → s < slabs g → Good top (getD rows s repulsive)
-  good-at s h = all-at (Good top) rows s repulsive (omega (arith, a .many)) (a .good)
+  pub good-at : (s : ℕ) → s < slabs g → Good per top (getD rows s repulsive)
+  good-at s h = all-at (Good per top) rows s repulsive (omega (arith, a .many)) (a .good)
 
   row-is : (s : ℕ) → s < slabs g → rowAt top (record { store = store; rows = l }) s ≡ getD rows s repulsive
   unfolding rowAt resolutionAt
@@ -171,7 +171,7 @@ module _ (g : Grid) (top c : ℕ) (f : Row Float → Verdict) (plain : (x : Floa
     stays : (r : Row Float) → getD rows s repulsive ≡ r → Fit g top store l (set rows s r)
     stays r e = rw (← e, set-getD rows s repulsive) a
 
-    by-verdict : (v : ℕ) (b : Bool) (e : List Float) → getD rows s repulsive ≡ mesh v b e → Good top (mesh v b e) → Stored top store s (mesh v b e) → v ≡ c → (x : Verdict) → Fitting x
+    by-verdict : (v : ℕ) (b : Bool) (e : List Float) → getD rows s repulsive ≡ mesh v b e → Good per top (mesh v b e) → Stored top store s (mesh v b e) → v ≡ c → (x : Verdict) → Fitting x
         → Fit g top store (replacedBy l s (newRow c x)) (set rows s (inPlaceOf (mesh v b e) (newRow c x)))
     by-verdict v b e i q k z empty y = stays (mesh v b e) i
     by-verdict v b e i q k z blocked y = fit-set g top store l rows a s h repulsive tt store refl refl (λ t j n m. refl)
@@ -179,7 +179,7 @@ module _ (g : Grid) (top c : ℕ) (f : Row Float → Verdict) (plain : (x : Floa
     by-verdict v b e i q k z (smooth x) y = fit-set g top store l rows a s h (mesh c false e) (rw (← z) q) store refl k (λ t j n m. refl)
     by-verdict v b e i q k z (rough x) y = stays (mesh v b e) i
 
-    one-row : (r : Row Float) → getD rows s repulsive ≡ r → Good top r → Stored top store s r → fromLevel c r ≡ true
+    one-row : (r : Row Float) → getD rows s repulsive ≡ r → Good per top r → Stored top store s r → fromLevel c r ≡ true
         → Fit g top store (replacedBy l s (newRow c (f r))) (set rows s (inPlaceOf r (newRow c (f r))))
     one-row (scalar x) e q k z = rw (plain x) (stays (scalar x) e)
     one-row repulsive e q k z = rw bare (stays repulsive e)

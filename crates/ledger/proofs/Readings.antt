@@ -152,9 +152,9 @@ module _ (top : ℕ) (m : Mesh) (l : Locator) (low : top ≤ 15) (held : meshLon
     abbrev Found : ℕ → List ℕ → Type 0
     Found o e = (k : ℕ) → k < length e → (energyInside file t (o + k) ≡ true) × (energyAt file t (o + k) ≡ getD e k 0)
 
-    found : (s : ℕ) → s < length rows → Found (before (suc top) rows s) (energiesIn (getD rows s repulsive))
+    found : (s : ℕ) → s < length rows → Found (before per (suc top) rows s) (energiesIn (getD rows s repulsive))
     unfolding energyAt
-    found s h k i = let e = energy-of g (suc top) rows ok s k h i in (energy-in (before (suc top) rows s + k) (e .0), e .1)
+    found s h k i = let e = energy-of g (suc top) rows ok s k h i in (energy-in (before per (suc top) rows s + k) (e .0), e .1)
 
     picks-read : (o n : ℕ) (b : Bool) (e : List ℕ) → length e ≡ n → Found o e → (x : Picks) → PicksBelow n x → readPicks file t way b o x ≡ rulePicks way b e x
     picks-read o n b e c f (unpicked k) p = refl
@@ -171,7 +171,7 @@ module _ (top : ℕ) (m : Mesh) (l : Locator) (low : top ≤ 15) (held : meshLon
         → readPicks file t way b o (searchIn (m .vertices) ls q v b) ≡ rulePicks way b e (search m q v b)
     mesh-read o v b e h c f = rw (search-same v b (omega arith)) (picks-read o (per v) b e c f (search m q v b) (search-below v b (omega arith)))
 
-    row-read : (o : ℕ) (r : Row ℕ) → Fine (suc top) r → Found o (energiesIn r) → readEntry file t (m .vertices) ls way q (entry o r) ≡ ruleRow m way q r
+    row-read : (o : ℕ) (r : Row ℕ) → Fine per (suc top) r → Found o (energiesIn r) → readEntry file t (m .vertices) ls way q (entry o r) ≡ ruleRow m way q r
     unfolding readEntry
     row-read o (scalar x) z f = refl
     row-read o repulsive z f = refl
@@ -185,7 +185,7 @@ module _ (top : ℕ) (m : Mesh) (l : Locator) (low : top ≤ 15) (held : meshLon
     slab-read (slabAt s) h =
         let i : s < length rows = omega (arith, ok .many) in
         rw (row-in s i, entry-of g (suc top) rows ok s i)
-        (row-read (before (suc top) rows s) (getD rows s repulsive) (all-at (Fine (suc top)) rows s repulsive i (ok .fine)) (found s i))
+        (row-read (before per (suc top) rows s) (getD rows s repulsive) (all-at (Fine per (suc top)) rows s repulsive i (ok .fine)) (found s i))
 
     grid-same : (valid : Bool) → resolve valid (gridIn g (suc top) rows) q ≡ resolve valid g q
     unfolding resolve outside

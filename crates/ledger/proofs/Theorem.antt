@@ -29,6 +29,7 @@ use Rattle.locator.specs.Several.{Roomy}
 use Rattle.locator.proofs.Laid.{made-yes}
 use Rattle.reading.specs.Resolve.{Query, Way}
 use Rattle.reading.specs.Rule.{ruledBy}
+use Rattle.mesh.specs.Levels.{per}
 use Rattle.table.proofs.OfRows.{fine-rows}
 use Rattle.table.proofs.OfFile.{Filable, file-accepted, file-holds}
 use Rattle.ledger.specs.Ledger.{Ledger, opened, ledger}
@@ -110,7 +111,7 @@ module _ (h : History) (ok : Accepted h) where
         step = ok .step;
         held = table-valid g (h .top) (h .top) (basis .asked);
         many = many;
-        fine = fine-rows (h .top) (last .rows) (agree .fit .good);
+        fine = fine-rows per (h .top) (last .rows) (agree .fit .good);
       }
 
   reads-rows : (l : Locator) → Roomy (h .top) l → (way : Way) (q : Query) → readingOf h l way q ≡ ruledBy g (rows h) (h .meshes) way q

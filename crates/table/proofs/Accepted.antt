@@ -16,23 +16,23 @@ use Rattle.table.specs.Internal.{SectionsInside, Inside, tableQuestion}
 use Rattle.table.specs.declared.Layout.{Layout}
 use Rattle.table.specs.declared.ReadAnswer.the-variants.{Accepted as Reads, Refused as NotRead}
 
-by-layout : (file : List ℕ) → laidOut file (layout file) ≡ true → SectionsInside file (layout file)
+by-layout : (i j : ℕ) (file : List ℕ) → laidOut i j file (layout file) ≡ true → SectionsInside i j file (layout file)
 unfolding laidOut layout
-by-layout file h =
+by-layout i j file h =
     let p = layout file in
-    let a = and-eq-true-iff (eqb (countAt file 0) 3) _ .0 h in
-    let b = and-eq-true-iff (eqb (countAt file (p .bins)) 2) _ .0 (a .1) in
-    let three = eqb-true (countAt file 0) 3 (a .0) in
-    let two = eqb-true (countAt file (p .bins)) 2 (b .0) in
+    let a = and-eq-true-iff (eqb (countAt file 0) i) _ .0 h in
+    let b = and-eq-true-iff (eqb (countAt file (p .bins)) j) _ .0 (a .1) in
+    let first = eqb-true (countAt file 0) i (a .0) in
+    let second = eqb-true (countAt file (p .bins)) j (b .0) in
     let last = eqb-true (p .end) (length file) (b .1) in
-    record { bins = omega (arith, three); levels = omega (arith, three, two); rows = omega arith; energies = omega arith; end = sym last }
+    record { bins = omega (arith, first); levels = omega (arith, first, second); rows = omega arith; energies = omega arith; end = sym last }
 
-pub laid : (file : List ℕ) (p : Layout) → p ≡ layout file → laidOut file p ≡ true → SectionsInside file p
-laid file p e h = rw e (by-layout file (rw e at h))
+pub laid : (i j : ℕ) (file : List ℕ) (p : Layout) → p ≡ layout file → laidOut i j file p ≡ true → SectionsInside i j file p
+laid i j file p e h = rw e (by-layout i j file (rw e at h))
 
-pub inside : (file : List ℕ) (p : Layout) → SectionsInside file p → Inside file (tableOf file p)
+pub inside : (i j : ℕ) (file : List ℕ) (p : Layout) → SectionsInside i j file p → Inside file (tableOf file p)
 unfolding tableOf
-inside file p h = record {
+inside i j file p h = record {
   levels = omega (arith, h .rows, h .energies, h .end);
   rows = omega (arith, h .energies, h .end);
   energies = omega (arith, h .end);
@@ -45,11 +45,11 @@ held-ranged g levels h = ranged g levels (and-eq-true-iff (gridRange g levels) (
 -- ---- the outcome
 
 module _ (file : List ℕ) where
-  pub read-unlaid : laidOut file (layout file) ≡ false → readOut file ≡ readValues (NotRead 13)
+  pub read-unlaid : laidOut 3 2 file (layout file) ≡ false → readOut file ≡ readValues (NotRead 13)
   unfolding readOut readRefusal ask
   read-unlaid h = rw h
 
-  module _ (h : laidOut file (layout file) ≡ true) (n : ℕ) (e : n ≡ tableQuestion file (tableOf file (layout file))) where
+  module _ (h : laidOut 3 2 file (layout file) ≡ true) (n : ℕ) (e : n ≡ tableQuestion file (tableOf file (layout file))) where
     asked : readRefusal file (layout file) (tableOf file (layout file)) ≡ n
     unfolding readRefusal ask
     asked = rw h (sym e)

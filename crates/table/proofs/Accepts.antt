@@ -11,7 +11,7 @@ use lib.Ieee.{binary32, binary64, ofBits, nanBits}
 use borrow.Author.Tests.{eq-eqb}
 use Rattle.lists.specs.Questions.{ask}
 use Rattle.lists.specs.Lists.{allUpTo, every}
-use Rattle.mesh.specs.Levels.{vertexCount}
+use Rattle.mesh.specs.Levels.{vertexCount, per}
 use Rattle.grid.specs.Bins.{tableRmax}
 use Rattle.grid.specs.Settings.{gridValid}
 use Rattle.grid.specs.declared.Grid.{Grid}
@@ -75,7 +75,7 @@ module _ (x y z n m : ℕ) (ls : List ℕ) (rs : List Entry) (es : List ℕ)
 
   module _ (counts : (k : ℕ) → k < length ls → getD ls k 0 ≡ vertexCount k) (fitLevels : All (λ k. k < 256 ^ 4) ls) (fitRows : All Fitting rs) (fitEnergies : All (λ k. k < 256 ^ 4) es)
       (q14 : gridValid gridFound (length ls) ≡ true) (product : length rs ≡ n * m)
-      (q15 : every (entryValid (length ls)) rs ≡ true) (q16 : tiled 0 (length es) rs ≡ true) (q17 : every (λ k. not (nanBits binary32 k)) es ≡ true) where
+      (q15 : every (entryValid (length ls)) rs ≡ true) (q16 : tiled per 0 (length es) rs ≡ true) (q17 : every (λ k. not (nanBits binary32 k)) es ≡ true) where
     level : (k : ℕ) → k < length ls → eqb (numberAt 4 written (40 + 4 + 4 * k)) (vertexCount k) ≡ true
     unfolding numberAt
     level k l =

@@ -54,54 +54,54 @@ mesh-held levels r k e =
     let a = rw (ne-eqb (r .kind) 0 (λ z. omega (arith, z)), ne-eqb (r .kind) 1 (λ z. omega (arith, z))) at e in
     ltb-true (r .level) levels (and-eq-true-iff (ltb (r .level) levels) _ .0 (and-eq-true-iff (leb (r .kind) 3) _ .0 a .1) .0)
 
-module _ (levels n : ℕ) where
+module _ (each : ℕ → ℕ) (mono : (v w : ℕ) → v ≤ w → each v ≤ each w) (levels n : ℕ) where
   -- what 16 says of a row and of those after it
-  tiled-step : (o : ℕ) (r : Entry) (rs : List Entry) → leb (r .kind) 1 ≡ false → tiled o n (r ∷ rs) ≡ true → (r .offset ≡ o) × (tiled (o + per (r .level)) n rs ≡ true)
+  tiled-step : (o : ℕ) (r : Entry) (rs : List Entry) → leb (r .kind) 1 ≡ false → tiled each o n (r ∷ rs) ≡ true → (r .offset ≡ o) × (tiled each (o + each (r .level)) n rs ≡ true)
   unfolding tiled
   tiled-step o r rs k e =
-      let a = and-eq-true-iff (eqb (r .offset) o) (tiled (o + per (r .level)) n rs) .0 (rw k at e) in
+      let a = and-eq-true-iff (eqb (r .offset) o) (tiled each (o + each (r .level)) n rs) .0 (rw k at e) in
       (eqb-true (r .offset) o (a .0), a .1)
 
-  tiled-pass : (o : ℕ) (r : Entry) (rs : List Entry) → leb (r .kind) 1 ≡ true → tiled o n (r ∷ rs) ≡ true → tiled o n rs ≡ true
+  tiled-pass : (o : ℕ) (r : Entry) (rs : List Entry) → leb (r .kind) 1 ≡ true → tiled each o n (r ∷ rs) ≡ true → tiled each o n rs ≡ true
   unfolding tiled
   tiled-pass o r rs k e = rw k at e
 
-  tiled-le : (o : ℕ) (rs : List Entry) → tiled o n rs ≡ true → o ≤ n
+  tiled-le : (o : ℕ) (rs : List Entry) → tiled each o n rs ≡ true → o ≤ n
   unfolding tiled
   tiled-le o [] e = omega (arith, eqb-true o n e)
-  tiled-le o (r ∷ rs) e = by (leb (r .kind) 1) refl (tiled-le o rs) (tiled-le (o + per (r .level)) rs)
+  tiled-le o (r ∷ rs) e = by (leb (r .kind) 1) refl (tiled-le o rs) (tiled-le (o + each (r .level)) rs)
     where
-      by : (t : Bool) → leb (r .kind) 1 ≡ t → (tiled o n rs ≡ true → o ≤ n) → (tiled (o + per (r .level)) n rs ≡ true → o + per (r .level) ≤ n) → o ≤ n
+      by : (t : Bool) → leb (r .kind) 1 ≡ t → (tiled each o n rs ≡ true → o ≤ n) → (tiled each (o + each (r .level)) n rs ≡ true → o + each (r .level) ≤ n) → o ≤ n
       by true k p q = p (tiled-pass o r rs k e)
       by false k p q = omega (arith, q (tiled-step o r rs k e .1))
 
-  tiled-few : (o : ℕ) (rs : List Entry) → every (entryValid levels) rs ≡ true → tiled o n rs ≡ true → n ≤ o + length rs * per (levels - 1)
+  tiled-few : (o : ℕ) (rs : List Entry) → every (entryValid levels) rs ≡ true → tiled each o n rs ≡ true → n ≤ o + length rs * each (levels - 1)
   unfolding tiled every
   tiled-few o [] h e = omega (arith, eqb-true o n e)
-  tiled-few o (r ∷ rs) h e = rw suc-mul (by (leb (r .kind) 1) refl (tiled-few o rs (a .1)) (tiled-few (o + per (r .level)) rs (a .1)))
+  tiled-few o (r ∷ rs) h e = rw suc-mul (by (leb (r .kind) 1) refl (tiled-few o rs (a .1)) (tiled-few (o + each (r .level)) rs (a .1)))
     where
       a : (entryValid levels r ≡ true) × (every (entryValid levels) rs ≡ true)
       a = and-eq-true-iff (entryValid levels r) (every (entryValid levels) rs) .0 h
 
-      by : (t : Bool) → leb (r .kind) 1 ≡ t → (tiled o n rs ≡ true → n ≤ o + length rs * per (levels - 1))
-          → (tiled (o + per (r .level)) n rs ≡ true → n ≤ o + per (r .level) + length rs * per (levels - 1)) → n ≤ o + (length rs * per (levels - 1) + per (levels - 1))
+      by : (t : Bool) → leb (r .kind) 1 ≡ t → (tiled each o n rs ≡ true → n ≤ o + length rs * each (levels - 1))
+          → (tiled each (o + each (r .level)) n rs ≡ true → n ≤ o + each (r .level) + length rs * each (levels - 1)) → n ≤ o + (length rs * each (levels - 1) + each (levels - 1))
       by true k p q = omega (arith, p (tiled-pass o r rs k e))
       by false k p q =
           let l = mesh-held levels r k (a .0) in
-          omega (arith, q (tiled-step o r rs k e .1), per-mono (r .level) (levels - 1) (omega (arith, l)))
+          omega (arith, q (tiled-step o r rs k e .1), mono (r .level) (levels - 1) (omega (arith, l)))
 
 some-energies : (v : ℕ) → 0 < per v
 unfolding per vertexCount
 some-energies v = mul-pos (omega arith) (omega arith)
 
 module _ (file : List ℕ) (t : Table) (few : t .energies ≤ 4294967295) (counts : (k : ℕ) → k < t .levels → numberAt 4 file (t .«levels_start» + 4 * k) ≡ vertexCount k) where
-  row-checked : (o : ℕ) (r : Entry) (rs : List Entry) (x : Bool) → leb (r .kind) 1 ≡ x → entryValid (t .levels) r ≡ true → tiled o (t .energies) (r ∷ rs) ≡ true → slabChecked file t r ≡ true
+  row-checked : (o : ℕ) (r : Entry) (rs : List Entry) (x : Bool) → leb (r .kind) 1 ≡ x → entryValid (t .levels) r ≡ true → tiled per o (t .energies) (r ∷ rs) ≡ true → slabChecked file t r ≡ true
   unfolding slabChecked per
   row-checked o r rs true k h e = rw k
   row-checked o r rs false k h e =
       let l = mesh-held (t .levels) r k h in
-      let s = tiled-step (t .levels) (t .energies) o r rs k e in
-      let i : r .offset + per (r .level) ≤ t .energies = omega (arith, s .0, tiled-le (t .levels) (t .energies) (o + per (r .level)) rs (s .1)) in
+      let s = tiled-step per per-mono (t .levels) (t .energies) o r rs k e in
+      let i : r .offset + per (r .level) ≤ t .energies = omega (arith, s .0, tiled-le per per-mono (t .levels) (t .energies) (o + per (r .level)) rs (s .1)) in
       rw (
         k,
         lt-ltb (r .level) (t .levels) l,
@@ -110,7 +110,7 @@ module _ (file : List ℕ) (t : Table) (few : t .energies ≤ 4294967295) (count
         le-leb (per (r .level) + r .offset) (t .energies) (omega (arith, i)),
       )
 
-  rows-checked : (o : ℕ) (rs : List Entry) → every (entryValid (t .levels)) rs ≡ true → tiled o (t .energies) rs ≡ true → every (slabChecked file t) rs ≡ true
+  rows-checked : (o : ℕ) (rs : List Entry) → every (entryValid (t .levels)) rs ≡ true → tiled per o (t .energies) rs ≡ true → every (slabChecked file t) rs ≡ true
   unfolding every
   rows-checked o [] h e = refl
   rows-checked o (r ∷ rs) h e = rw (row-checked o r rs _ refl (a .0) e) (by (leb (r .kind) 1) refl (rows-checked o rs (a .1)) (rows-checked (o + per (r .level)) rs (a .1)))
@@ -118,10 +118,10 @@ module _ (file : List ℕ) (t : Table) (few : t .energies ≤ 4294967295) (count
       a : (entryValid (t .levels) r ≡ true) × (every (entryValid (t .levels)) rs ≡ true)
       a = and-eq-true-iff (entryValid (t .levels) r) (every (entryValid (t .levels)) rs) .0 h
 
-      by : (x : Bool) → leb (r .kind) 1 ≡ x → (tiled o (t .energies) rs ≡ true → every (slabChecked file t) rs ≡ true)
-          → (tiled (o + per (r .level)) (t .energies) rs ≡ true → every (slabChecked file t) rs ≡ true) → every (slabChecked file t) rs ≡ true
-      by true k p q = p (tiled-pass (t .levels) (t .energies) o r rs k e)
-      by false k p q = q (tiled-step (t .levels) (t .energies) o r rs k e .1)
+      by : (x : Bool) → leb (r .kind) 1 ≡ x → (tiled per o (t .energies) rs ≡ true → every (slabChecked file t) rs ≡ true)
+          → (tiled per (o + per (r .level)) (t .energies) rs ≡ true → every (slabChecked file t) rs ≡ true) → every (slabChecked file t) rs ≡ true
+      by true k p q = p (tiled-pass per per-mono (t .levels) (t .energies) o r rs k e)
+      by false k p q = q (tiled-step per per-mono (t .levels) (t .energies) o r rs k e .1)
 
 -- ---- the whole
 
@@ -146,15 +146,15 @@ unfolding readRefusal tableValid checkSlabs gridValid slabsFit
 found-checked file p e =
     let t = tableOf file p in
     let n = t .grid .«n_r» * t .grid .«n_omega» in
-    let q14 = ask-yes {q = tableValid file t} (lit< tt) (ask-yes {q = laidOut file p} (lit< tt) e .1) in
+    let q14 = ask-yes {q = tableValid file t} (lit< tt) (ask-yes {q = laidOut 3 2 file p} (lit< tt) e .1) in
     let q15 = ask-yes {q = every (entryValid (t .levels)) (rowItems file t)} (lit< tt) (q14 .1) in
-    let q16 = ask-yes {q = tiled 0 (t .energies) (rowItems file t)} (lit< tt) (q15 .1) in
+    let q16 = ask-yes {q = tiled per 0 (t .energies) (rowItems file t)} (lit< tt) (q15 .1) in
     let g = and-eq-true-iff (gridValid (t .grid) (t .levels)) _ .0 (q14 .0) in
     let c = and-eq-true-iff (eqb (t .rows) n) _ .0 (g .1) in
     let room = leb-true (n * per (t .levels - 1)) 4294967295 (and-eq-true-iff (gridRange (t .grid) (t .levels)) _ .0 (g .0) .1) in
     let sizes = held-ranged (t .grid) (t .levels) (g .0) in
     let many : length (rowItems file t) ≡ n = items-many entryOf 10 file (t .«rows_start») (t .rows) ∙ eqb-true (t .rows) n (c .0) in
-    let few : t .energies ≤ 4294967295 = omega (arith, room, rw many at (tiled-few (t .levels) (t .energies) 0 (rowItems file t) (q15 .0) (q16 .0))) in
+    let few : t .energies ≤ 4294967295 = omega (arith, room, rw many at (tiled-few per per-mono (t .levels) (t .energies) 0 (rowItems file t) (q15 .0) (q16 .0))) in
     let counts : (k : ℕ) → k < t .levels → numberAt 4 file (t .«levels_start» + 4 * k) ≡ vertexCount k =
     λ k l. eqb-true _ (vertexCount k) (all-at (λ m. eqb (numberAt 4 file (t .«levels_start» + 4 * m)) (vertexCount m)) k (t .levels) l (c .1)) in (
       grid-checked (t .grid) (t .levels) (g .0) (own-rmax file p),

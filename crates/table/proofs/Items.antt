@@ -10,7 +10,6 @@ use lib.Seq.{drop-drop}
 use lib.Dec.{leb, eqb}
 use borrow.Author.Tests.{eqb-true}
 use Rattle.lists.specs.Lists.{every}
-use Rattle.mesh.specs.Levels.{per}
 use Rattle.table.specs.Bytes.{numberOf, numberAt, items}
 use Rattle.table.specs.File.{Entry, entryOf}
 use Rattle.table.specs.Read.{tiled}
@@ -90,26 +89,26 @@ stops false false x y e = refl
 stops false true x y e = absurd (let z : _≡_ {A = ℕ} 1 0 = ap (λ (t : Bool). cond t 1 0) e in omega arith)
 stops true b x y e = absurd (let z : _≡_ {A = ℕ} 1 0 = ap (λ (t : Bool). cond t 1 0) e in omega arith)
 
-module _ (n : ℕ) (rs : List Entry) (f o : ℕ) (v : ℕ) where
-  goes : (a b : Bool) → (b ≡ true → f ≡ o) → a || b ≡ true → cond a (tiled o n rs) (b && tiled (o + per v) n rs) ≡ tiled (cond a o (f + per v)) n rs
+module _ (each : ℕ → ℕ) (n : ℕ) (rs : List Entry) (f o : ℕ) (v : ℕ) where
+  goes : (a b : Bool) → (b ≡ true → f ≡ o) → a || b ≡ true → cond a (tiled each o n rs) (b && tiled each (o + each v) n rs) ≡ tiled each (cond a o (f + each v)) n rs
   goes true b h e = refl
   goes false true h e = rw (h refl)
   goes false false h e = absurd (let z : _≡_ {A = ℕ} 0 1 = ap (λ (t : Bool). cond t 1 0) e in omega arith)
 
-module _ (file : List ℕ) (e o at n : ℕ) (l : 0 < n) where
-  pub tiled-stop : placedAt (getD file at 0) (numberAt 4 file (at + 2)) o ≡ false → tiled o e (items entryOf 10 file at n) ≡ false
+module _ (each : ℕ → ℕ) (file : List ℕ) (e o at n : ℕ) (l : 0 < n) where
+  pub tiled-stop : placedAt (getD file at 0) (numberAt 4 file (at + 2)) o ≡ false → tiled each o e (items entryOf 10 file at n) ≡ false
   unfolding tiled
   tiled-stop h = rw (items-cons entryOf 10 file at n l, entry-at file at) (stops (leb (getD file at 0) 1) (eqb (numberAt 4 file (at + 2)) o) _ _ h)
 
   pub tiled-next : placedAt (getD file at 0) (numberAt 4 file (at + 2)) o ≡ true
-      → tiled o e (items entryOf 10 file at n)
-      ≡ tiled (nextPlace (getD file at 0) (getD file (at + 1) 0) (numberAt 4 file (at + 2)) o) e (items entryOf 10 file (at + 10) (n - 1))
+      → tiled each o e (items entryOf 10 file at n)
+      ≡ tiled each (nextPlace each (getD file at 0) (getD file (at + 1) 0) (numberAt 4 file (at + 2)) o) e (items entryOf 10 file (at + 10) (n - 1))
   unfolding tiled
   tiled-next h =
       rw (items-cons entryOf 10 file at n l, entry-at file at)
-      (goes e (items entryOf 10 file (at + 10) (n - 1)) (numberAt 4 file (at + 2)) o (getD file (at + 1) 0)
+      (goes each e (items entryOf 10 file (at + 10) (n - 1)) (numberAt 4 file (at + 2)) o (getD file (at + 1) 0)
       (leb (getD file at 0) 1) (eqb (numberAt 4 file (at + 2)) o) (eqb-true (numberAt 4 file (at + 2)) o) h)
 
-pub tiled-end : (file : List ℕ) (e o at n : ℕ) → n ≤ 0 → tiled o e (items entryOf 10 file at n) ≡ eqb o e
+pub tiled-end : (each : ℕ → ℕ) (file : List ℕ) (e o at n : ℕ) → n ≤ 0 → tiled each o e (items entryOf 10 file at n) ≡ eqb o e
 unfolding tiled items
-tiled-end file e o at n h = let z : n ≡ 0 = omega arith in rw z
+tiled-end each file e o at n h = let z : n ≡ 0 = omega arith in rw z

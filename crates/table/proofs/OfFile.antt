@@ -1,17 +1,18 @@
 -- The file of a grid and rows: the reader accepts it, what stands where in it, and that it is one to one. Assumes nothing.
 use mathlib.Core.Path.{_≡_, refl, sym, ap, _∙_}
 use mathlib.Core.Bool.{true, and-eq-true-iff}
-use mathlib.Core.List.{List, map}
+use mathlib.Core.List.{List, [], _∷_, map}
 use Prim.Native.Nat.{ℕ, _+_, _*_, _-_, _^_, _≤_, _<_}
 use native.Mathlib.Nat.{mul-le-mul, zero-add}
 use native.Mathlib.Omega.{arith}
 use lib.ListN.{length, getD, take, drop}
-use lib.Dec.{T, leb, eqb}
+use lib.Dec.{T, leb, lit<}
 use lib.Ieee.{binary64, fits, toBits, ofBits}
 use lib.Ieee.Bits.{ofBits-toBits, toBits-lt}
-use borrow.Author.Tests.{leb-true, eqb-true}
+use borrow.Author.Tests.{leb-true}
 use Rattle.lists.specs.Lists.{below}
 use Rattle.mesh.specs.Levels.{vertexCount, per}
+use Rattle.mesh.proofs.Sizes.{per-mono}
 use Rattle.grid.specs.Bins.{tableRmax}
 use Rattle.grid.specs.Settings.{gridRange, slabsFit, gridValid}
 use Rattle.grid.specs.declared.Grid.{Grid}
@@ -19,14 +20,14 @@ use Rattle.grid.proofs.Laws.{Ranged, ranged}
 use Rattle.rows.specs.Rows.{Row, repulsive}
 use Rattle.table.specs.Bytes.{numberOf, numberAt, items}
 use Rattle.table.specs.File.{Entry, entryOf, entry, entries, energiesIn, packedEnergies, fileOf}
-use Rattle.table.specs.Read.{layout, laidOut, countAt, ReadValues, readValues, readOut}
+use Rattle.table.specs.Read.{ReadValues, readValues, readOut}
 use Rattle.table.specs.declared.Table.{Table}
 use Rattle.table.specs.declared.ReadAnswer.the-variants.{Accepted as Reads}
-use Rattle.table.proofs.Back.{All, Fitting, item-at}
-use Rattle.table.proofs.Parsed.{laid, laid-out, rows-back, energies-back}
-use Rattle.table.proofs.Sound.{Fine, entries-length, entries-held, entries-tiled, entries-fit, numbers, energies-valid}
+use Rattle.table.proofs.Back.{All, Fitting}
+use Rattle.table.proofs.Sound.{Fine, entries-length, entries-held, entries-tiled, numbers, energies-valid}
+use Rattle.table.proofs.OfSections as OfSections
 use Rattle.table.proofs.Accepts.{written, tableFound, accepts}
-use Rattle.table.proofs.OfRows.{before, counts-many, counts-at, counts-fit, numbers-fit, energies-le, entry-is, energies-in, energy-is, same-rows}
+use Rattle.table.proofs.OfRows.{before, counts-many, counts-at, counts-fit, energies-le, same-rows}
 
 -- a grid, a level count and rows that a file can hold: settings that an f64 can have, 14 answered yes, a row for each slab, and each row one of a table
 pub record Filable (g : Grid) (levels : ℕ) (rows : List (Row ℕ)) : Type 0 where
@@ -35,7 +36,7 @@ pub record Filable (g : Grid) (levels : ℕ) (rows : List (Row ℕ)) : Type 0 wh
   pub step : T (fits binary64 (g .«omega_step»))
   pub held : gridValid g levels ≡ true
   pub many : length rows ≡ g .«n_r» * g .«n_omega»
-  pub fine : All (Fine levels) rows
+  pub fine : All (Fine per levels) rows
 
 module _ (g : Grid) (levels : ℕ) (rows : List (Row ℕ)) where
   -- what read answers for the file
@@ -78,7 +79,7 @@ module _ (g : Grid) (levels : ℕ) (rows : List (Row ℕ)) (ok : Filable g level
   ls = map vertexCount (below levels)
 
   abbrev rs : List Entry
-  rs = entries 0 rows
+  rs = entries per 0 rows
 
   abbrev es : List ℕ
   es = packedEnergies rows
@@ -93,10 +94,10 @@ module _ (g : Grid) (levels : ℕ) (rows : List (Row ℕ)) (ok : Filable g level
   few-levels = omega (arith, counts-many levels, sizes .0 .few)
 
   few-rows : length rs < 256 ^ 4
-  few-rows = omega (arith, entries-length 0 rows, ok .many, mul-le-mul (sizes .0 .distances) (sizes .0 .dihedrals))
+  few-rows = omega (arith, entries-length per 0 rows, ok .many, mul-le-mul (sizes .0 .distances) (sizes .0 .dihedrals))
 
   few : length es ≤ 4294967295
-  few = omega (arith, rw (ok .many) at (energies-le levels rows (ok .fine)), sizes .1)
+  few = omega (arith, rw (ok .many) at (energies-le per levels per-mono rows (ok .fine)), sizes .1)
 
   few-energies : length es < 256 ^ 4
   few-energies = omega (arith, few)
@@ -116,11 +117,14 @@ module _ (g : Grid) (levels : ℕ) (rows : List (Row ℕ)) (ok : Filable g level
   hm : g .«n_omega» < 256 ^ 4
   hm = omega (arith, sizes .0 .dihedrals)
 
+  few-slabs : length rows < 256 ^ 4
+  few-slabs = omega (arith, ok .many, mul-le-mul (sizes .0 .distances) (sizes .0 .dihedrals))
+
   fit-rows : All Fitting rs
-  fit-rows = entries-fit levels 0 rows (omega (arith, sizes .0 .few)) (ok .fine) (omega (arith, few-energies))
+  fit-rows = OfSections.fit-rows per (x ∷ y ∷ z ∷ []) (g .«n_r» ∷ g .«n_omega» ∷ []) levels rows (lit< tt) (lit< tt) (sizes .0 .few) few-slabs few-energies (ok .fine)
 
   fit-energies : All (λ k. k < 256 ^ 4) es
-  fit-energies = numbers-fit es (numbers levels rows (ok .fine))
+  fit-energies = OfSections.fit-energies per (x ∷ y ∷ z ∷ []) (g .«n_r» ∷ g .«n_omega» ∷ []) levels rows (lit< tt) (lit< tt) (sizes .0 .few) few-slabs few-energies (ok .fine)
 
   abbrev file : List ℕ
   file = written x y z (g .«n_r») (g .«n_omega») ls rs es few-levels few-rows few-energies hx hy hz hn hm
@@ -136,7 +140,7 @@ module _ (g : Grid) (levels : ℕ) (rows : List (Row ℕ)) (ok : Filable g level
         ofBits-toBits binary64 (g .dr) (ok .dr),
         ofBits-toBits binary64 (g .«omega_step») (ok .step),
         counts-many levels,
-        entries-length 0 rows,
+        entries-length per 0 rows,
       )
 
   q14 : gridValid (tableFound x y z (g .«n_r») (g .«n_omega») ls rs es few-levels few-rows few-energies hx hy hz hn hm .grid) (length ls) ≡ true
@@ -154,50 +158,36 @@ module _ (g : Grid) (levels : ℕ) (rows : List (Row ℕ)) (ok : Filable g level
   file-accepted =
       rw file-is
       (accepts x y z (g .«n_r») (g .«n_omega») ls rs es few-levels few-rows few-energies hx hy hz hn hm
-      (λ k l. counts-at levels k (omega (arith, counts-many levels))) (counts-fit levels (sizes .0 .few)) fit-rows fit-energies q14 (entries-length 0 rows ∙ ok .many)
-      (rw (counts-many levels) (entries-held levels 0 rows (ok .fine))) (entries-tiled levels 0 (length es) rows (ok .fine) (zero-add (length es))) (energies-valid es (numbers levels rows (ok .fine))))
+      (λ k l. counts-at levels k (omega (arith, counts-many levels))) (counts-fit levels (sizes .0 .few)) fit-rows fit-energies q14 (entries-length per 0 rows ∙ ok .many)
+      (rw (counts-many levels) (entries-held per levels 0 rows (ok .fine))) (entries-tiled per levels 0 (length es) rows (ok .fine) (zero-add (length es))) (energies-valid es (numbers per levels rows (ok .fine))))
       ∙ ap (λ (t : Table). readValues (Reads t)) found-is
 
   -- ---- what stands in it
 
   pub file-length : length (fileOf g levels rows) ≡ 40 + 4 + levels * 4 + 4 + length rows * 10 + 4 + length es * 4
-  unfolding laidOut
-  file-length =
-      let h = laid-out x y z (g .«n_r») (g .«n_omega») ls rs es few-levels few-rows few-energies in
-      let a = and-eq-true-iff (eqb (countAt file 0) 3) _ .0 h .1 in
-      let b = and-eq-true-iff (eqb (countAt file (layout file .bins)) 2) (eqb (layout file .end) (length file)) .0 a .1 in
-      let e = eqb-true (layout file .end) (length file) b in
-      let w = rw (laid x y z (g .«n_r») (g .«n_omega») ls rs es few-levels few-rows few-energies) at e in
-      rw file-is (sym w ∙ rw (counts-many levels, entries-length 0 rows))
+  unfolding fileOf
+  file-length = OfSections.sections-length per (x ∷ y ∷ z ∷ []) (g .«n_r» ∷ g .«n_omega» ∷ []) levels rows (lit< tt) (lit< tt) (sizes .0 .few) few-slabs few-energies (ok .fine)
 
   pub entries-are : items entryOf 10 (fileOf g levels rows) (tableIn g levels rows .«rows_start») (length rows) ≡ rs
-  entries-are =
-      rw file-is (rw (counts-many levels, entries-length 0 rows) at (rows-back x y z (g .«n_r») (g .«n_omega») ls rs es few-levels few-rows few-energies fit-rows))
+  unfolding fileOf
+  entries-are = OfSections.entries-are per (x ∷ y ∷ z ∷ []) (g .«n_r» ∷ g .«n_omega» ∷ []) levels rows (lit< tt) (lit< tt) (sizes .0 .few) few-slabs few-energies (ok .fine)
 
   pub energies-are : items numberOf 4 (fileOf g levels rows) (tableIn g levels rows .«energies_start») (length es) ≡ es
-  energies-are =
-      rw file-is (rw (counts-many levels, entries-length 0 rows) at (energies-back x y z (g .«n_r») (g .«n_omega») ls rs es few-levels few-rows few-energies fit-energies))
+  unfolding fileOf
+  energies-are = OfSections.energies-are per (x ∷ y ∷ z ∷ []) (g .«n_r» ∷ g .«n_omega» ∷ []) levels rows (lit< tt) (lit< tt) (sizes .0 .few) few-slabs few-energies (ok .fine)
 
   -- row s, its energies at the place where those of the rows before it end
   pub entry-of : (s : ℕ) → s < length rows
-      → entryOf (take 10 (drop (tableIn g levels rows .«rows_start» + s * 10) (fileOf g levels rows))) ≡ entry (before levels rows s) (getD rows s repulsive)
-  entry-of s h =
-      let d : Entry = entry 0 repulsive in
-      sym (item-at entryOf 10 (fileOf g levels rows) d (tableIn g levels rows .«rows_start») (length rows) s h) ∙ ap (λ (l : List Entry). getD l s d) entries-are
-      ∙ entry-is levels 0 rows s d h ∙ rw zero-add
+      → entryOf (take 10 (drop (tableIn g levels rows .«rows_start» + s * 10) (fileOf g levels rows))) ≡ entry (before per levels rows s) (getD rows s repulsive)
+  unfolding fileOf
+  entry-of = OfSections.entry-of per (x ∷ y ∷ z ∷ []) (g .«n_r» ∷ g .«n_omega» ∷ []) levels rows (lit< tt) (lit< tt) (sizes .0 .few) few-slabs few-energies (ok .fine)
 
   -- energy k of row s
   pub energy-of : (s k : ℕ) → s < length rows → k < length (energiesIn (getD rows s repulsive))
-      → (before levels rows s + k < length es)
-      × (numberAt 4 (fileOf g levels rows) (tableIn g levels rows .«energies_start» + (before levels rows s + k) * 4) ≡ getD (energiesIn (getD rows s repulsive)) k 0)
-  unfolding numberAt
-  energy-of s k h i =
-      let j = before levels rows s + k in
-      let l : j < length es = omega (arith, energies-in levels rows s (ok .fine) h) in (
-        l,
-        sym (item-at numberOf 4 (fileOf g levels rows) 0 (tableIn g levels rows .«energies_start») (length es) j l) ∙ ap (λ (q : List ℕ). getD q j 0) energies-are
-            ∙ energy-is levels rows s k (ok .fine) h i,
-      )
+      → (before per levels rows s + k < length es)
+      × (numberAt 4 (fileOf g levels rows) (tableIn g levels rows .«energies_start» + (before per levels rows s + k) * 4) ≡ getD (energiesIn (getD rows s repulsive)) k 0)
+  unfolding fileOf
+  energy-of = OfSections.energy-of per (x ∷ y ∷ z ∷ []) (g .«n_r» ∷ g .«n_omega» ∷ []) levels rows (lit< tt) (lit< tt) (sizes .0 .few) few-slabs few-energies (ok .fine)
 
 -- ---- one to one
 
@@ -216,7 +206,7 @@ pub file-holds : (g h : Grid) (m n : ℕ) (a b : List (Row ℕ)) → Filable g m
 file-holds g h m n a b p q e =
     let t : tableIn g m a ≡ tableIn h n b =
     sym (ap (λ (v : ReadValues). v .table) (file-accepted g m a p)) ∙ ap (λ (f : List ℕ). readOut f .table) e ∙ ap (λ (v : ReadValues). v .table) (file-accepted h n b q) in
-    let rows : entries 0 a ≡ entries 0 b =
+    let rows : entries per 0 a ≡ entries per 0 b =
     sym (entries-are g m a p) ∙ ap (λ (f : List ℕ). items entryOf 10 f (tableIn g m a .«rows_start») (length a)) e
     ∙ ap (λ (k : Table). items entryOf 10 (fileOf h n b) (k .«rows_start») (k .rows)) t ∙ entries-are h n b q in
     let energies : packedEnergies a ≡ packedEnergies b =
@@ -229,5 +219,5 @@ file-holds g h m n a b p q e =
       «n_r» = ap (λ (k : Table). k .grid .«n_r») t;
       «n_omega» = ap (λ (k : Table). k .grid .«n_omega») t;
       levels = ap (λ (k : Table). k .levels) t;
-      rows = same-rows m n a b (p .fine) (q .fine) rows energies;
+      rows = same-rows per m n a b (p .fine) (q .fine) rows energies;
     }

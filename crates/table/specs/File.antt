@@ -30,16 +30,16 @@ entry o (scalar x) = record { kind = 0; level = 0; offset = 0xFFFF_FFFF; scalar 
 entry o repulsive = record { kind = 1; level = 0; offset = 0xFFFF_FFFF; scalar = 0 }
 entry o (mesh v b e) = record { kind = cond b 3 2; level = v; offset = o; scalar = 0 }
 
--- how many energies a row has in the file
-abbrev pub energyCount : Row ℕ → ℕ
-energyCount (scalar x) = 0
-energyCount repulsive = 0
-energyCount (mesh v b e) = per v
+-- how many energies a row has in the file, a Mesh row of level v having `each v`
+abbrev pub energyCount : (ℕ → ℕ) → Row ℕ → ℕ
+energyCount each (scalar x) = 0
+energyCount each repulsive = 0
+energyCount each (mesh v b e) = each v
 
 -- "Packing is that of `build`": the offset of a Mesh row is the number of energies of the rows before it
-unfoldable pub entries : ℕ → List (Row ℕ) → List Entry
-entries o [] = []
-entries o (r ∷ rs) = entry o r ∷ entries (o + energyCount r) rs
+unfoldable pub entries : (ℕ → ℕ) → ℕ → List (Row ℕ) → List Entry
+entries each o [] = []
+entries each o (r ∷ rs) = entry o r ∷ entries each (o + energyCount each r) rs
 
 abbrev pub energiesIn : Row ℕ → List ℕ
 energiesIn (scalar x) = []
@@ -50,11 +50,16 @@ unfoldable pub packedEnergies : List (Row ℕ) → List ℕ
 packedEnergies [] = []
 packedEnergies (r ∷ rs) = energiesIn r ++ packedEnergies rs
 
--- "(1) count 3: rmin, dr, omega step, f64; (2) count 2: distance and dihedral bins, u32; (3) levels: each n, u32, from level 0; (4) rows ..; (5) energies, f32" (S8.1)
+-- the five sections: those of the numbers xs and ns, then "(3) levels: each n, u32, from level 0; (4) rows ..; (5) energies, f32"
+abbrev pub sectionsOf : (ℕ → ℕ) → List ℕ → List ℕ → ℕ → List (Row ℕ) → List ℕ
+sectionsOf each xs ns levels rows =
+    section (bytesOf 8) xs
+    ++ (section (bytesOf 4) ns
+    ++ (section (bytesOf 4) (map vertexCount (below levels))
+    ++ (section entryBytes (entries each 0 rows)
+    ++ section (bytesOf 4) (packedEnergies rows))))
+
+-- "(1) count 3: rmin, dr, omega step, f64; (2) count 2: distance and dihedral bins, u32" (S8.1)
 unfoldable pub fileOf : Grid → ℕ → List (Row ℕ) → List ℕ
 fileOf g levels rows =
-    section (bytesOf 8) (toBits binary64 (g .rmin) ∷ toBits binary64 (g .dr) ∷ toBits binary64 (g .«omega_step») ∷ [])
-    ++ (section (bytesOf 4) (g .«n_r» ∷ g .«n_omega» ∷ [])
-    ++ (section (bytesOf 4) (map vertexCount (below levels))
-    ++ (section entryBytes (entries 0 rows)
-    ++ section (bytesOf 4) (packedEnergies rows))))
+    sectionsOf per (toBits binary64 (g .rmin) ∷ toBits binary64 (g .dr) ∷ toBits binary64 (g .«omega_step») ∷ []) (g .«n_r» ∷ g .«n_omega» ∷ []) levels rows

@@ -57,9 +57,9 @@ layout file =
     let energies = past file rows 10 in
     record { bins = bins; levels = levels; rows = rows; energies = energies; end = past file energies 4 }
 
--- "do the sections follow their counts and end with the last byte? 13. The counts of sections 1 and 2 belong to 13."
-unfoldable pub laidOut : List ℕ → Layout → Bool
-laidOut file p = eqb (countAt file 0) 3 && (eqb (countAt file (p .bins)) 2 && eqb (p .end) (length file))
+-- "do the sections follow their counts and end with the last byte? 13. The counts of sections 1 and 2 belong to 13.": i numbers in section 1 and j in section 2
+unfoldable pub laidOut : ℕ → ℕ → List ℕ → Layout → Bool
+laidOut i j file p = eqb (countAt file 0) i && (eqb (countAt file (p .bins)) j && eqb (p .end) (length file))
 
 -- ---- what the sections hold
 
@@ -128,20 +128,20 @@ entryValid n r =
 
 -- ---- 16, tiling
 
--- "Do offsets tile the energies in row order?": from place o on, ending at n (S5.16)
-unfoldable pub tiled : ℕ → ℕ → List Entry → Bool
-tiled o n [] = eqb o n
-tiled o n (r ∷ rs) = cond (leb (r .kind) 1) (tiled o n rs) (eqb (r .offset) o && tiled (o + per (r .level)) n rs)
+-- "Do offsets tile the energies in row order?": from place o on, ending at n, a Mesh row of level v having `each v` (S5.16)
+unfoldable pub tiled : (ℕ → ℕ) → ℕ → ℕ → List Entry → Bool
+tiled each o n [] = eqb o n
+tiled each o n (r ∷ rs) = cond (leb (r .kind) 1) (tiled each o n rs) (eqb (r .offset) o && tiled each (o + each (r .level)) n rs)
 
 -- ---- 17, energies, and the whole
 
 -- "Read": 13 to 17, each put to the whole file before the next (S5.17)
 unfoldable pub readRefusal : List ℕ → Layout → Table → ℕ
 readRefusal file p t =
-    ask (laidOut file p) 13
+    ask (laidOut 3 2 file p) 13
     (ask (tableValid file t) 14
     (ask (every (entryValid (t .levels)) (rowItems file t)) 15
-    (ask (tiled 0 (t .energies) (rowItems file t)) 16
+    (ask (tiled per 0 (t .energies) (rowItems file t)) 16
     (ask (every (λ x. not (nanBits binary32 x)) (energyItems file t)) 17 0))))
 
 unfoldable pub readOut : List ℕ → ReadValues

@@ -6,7 +6,7 @@ ghost use lib.ListN.{length, take, drop};
 ghost use lib.Dec.{eqb};
 ghost use lib.Ieee.{binary32, nanBits};
 ghost use Rattle.lists.specs.Lists.{allUpTo, every};
-ghost use Rattle.mesh.specs.Levels.{vertexCount};
+ghost use Rattle.mesh.specs.Levels.{vertexCount, per};
 ghost use Rattle.table.specs.Bytes.{numberOf, numberAt, items};
 ghost use Rattle.table.specs.File.{entryOf};
 ghost use Rattle.table.specs.Read.{tableValid, scalarValid, entryValid, tiled};
@@ -119,7 +119,7 @@ fn placed(kind: u8, offset: u32, o: u64) -> bool
 // Where the energies of the next row start. From the offset, which is the place, since an offset is known to be small.
 fn next_place(kind: u8, level: u8, offset: u32, o: u64) -> u64
     requires { ⌜ o ≤ 433794318339 ⌝ }
-    ensures { λ r. ⌜ (r ≡ nextPlace kind level offset o) × (r ≤ 433794318339) ⌝ }
+    ensures { λ r. ⌜ (r ≡ nextPlace per kind level offset o) × (r ≤ 433794318339) ⌝ }
 {
     if kind <= 1 {
         return o;
@@ -130,7 +130,7 @@ fn next_place(kind: u8, level: u8, offset: u32, o: u64) -> u64
 // Question 16.
 fn rows_tiled(file: &[u8], start: u64, rows: u64, energies: u64) -> bool
     requires { ⌜ start + rows * 10 ≤ length (now file) ⌝ }
-    ensures { λ r. ⌜ r ≡ tiled 0 energies (items entryOf 10 (now (file .entry)) start rows) ⌝ }
+    ensures { λ r. ⌜ r ≡ tiled per 0 energies (items entryOf 10 (now (file .entry)) start rows) ⌝ }
 {
     let mut at = start;
     let mut left = rows;

@@ -38,7 +38,7 @@ pub(crate) fn sections(file: &[u8]) -> Layout
 
 // Question 13.
 pub(crate) fn laid_out(file: &[u8], p: Layout) -> bool
-    ensures { λ r. ⌜ r ≡ laidOut (now (file .entry)) p ⌝ }
+    ensures { λ r. ⌜ r ≡ laidOut 3 2 (now (file .entry)) p ⌝ }
 {
     let bins = p.bins;
     let end = p.end;
@@ -54,7 +54,7 @@ fn f64_in(file: &[u8], at: u64) -> f64
 
 // The grid that a file holds. It has neither threshold nor beta.
 fn grid_of(file: &[u8], p: Layout) -> Grid
-    requires { ⌜ SectionsInside (now file) p ⌝ }
+    requires { ⌜ SectionsInside 3 2 (now file) p ⌝ }
     ensures { λ r. ⌜ r ≡ gridOf (now (file .entry)) p ⌝ }
 {
     let bins = p.bins;
@@ -74,7 +74,7 @@ fn grid_of(file: &[u8], p: Layout) -> Grid
 }
 
 pub(crate) fn table_of(file: &[u8], p: Layout) -> Table
-    requires { ⌜ SectionsInside (now file) p ⌝ }
+    requires { ⌜ SectionsInside 3 2 (now file) p ⌝ }
     ensures { λ r. ⌜ r ≡ tableOf (now (file .entry)) p ⌝ }
 {
     let bins = p.bins;

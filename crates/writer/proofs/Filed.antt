@@ -56,48 +56,49 @@ module _ (r : Rows) where
   res-length s zero = refl
   res-length s (suc n) = ap suc (res-length (suc s) n)
 
-  pub total-turn : (s n : ℕ) → 0 < n → total (resolutions r s n) ≡ heldBy (resolutionAt r s) + total (resolutions r (s + 1) (n - 1))
+module _ (each : ℕ → ℕ) (r : Rows) where
+  pub total-turn : (s n : ℕ) → 0 < n → total each (resolutions r s n) ≡ heldBy each (resolutionAt r s) + total each (resolutions r (s + 1) (n - 1))
   unfolding total
-  total-turn s n h = rw (res-cons s n h)
+  total-turn s n h = rw (res-cons r s n h)
 
-  pub total-end : (s n : ℕ) → n ≤ 0 → total (resolutions r s n) ≡ 0
+  pub total-end : (s n : ℕ) → n ≤ 0 → total each (resolutions r s n) ≡ 0
   unfolding total resolutions
   total-end s n h = let e : n ≡ 0 = omega arith in rw e
 
   pub entries-turn : (s n o : ℕ) → 0 < n
-      → packed entryBytes (entriesFor o (resolutions r s n))
-      ≡ entryBytes (entryFor o (resolutionAt r s)) ++ packed entryBytes (entriesFor (o + heldBy (resolutionAt r s)) (resolutions r (s + 1) (n - 1)))
+      → packed entryBytes (entriesFor each o (resolutions r s n))
+      ≡ entryBytes (entryFor o (resolutionAt r s)) ++ packed entryBytes (entriesFor each (o + heldBy each (resolutionAt r s)) (resolutions r (s + 1) (n - 1)))
   unfolding entriesFor packed
-  entries-turn s n o h = rw (res-cons s n h)
+  entries-turn s n o h = rw (res-cons r s n h)
 
-  pub entries-end : (s n o : ℕ) → n ≤ 0 → packed entryBytes (entriesFor o (resolutions r s n)) ≡ []
+  pub entries-end : (s n o : ℕ) → n ≤ 0 → packed entryBytes (entriesFor each o (resolutions r s n)) ≡ []
   unfolding entriesFor packed resolutions
   entries-end s n o h = let e : n ≡ 0 = omega arith in rw e
 
-  pub bounded-turn : (z s n : ℕ) → 0 < n → Bounded z (resolutions r s n) → (heldBy (resolutionAt r s) ≤ z) × Bounded z (resolutions r (s + 1) (n - 1))
+  pub bounded-turn : (z s n : ℕ) → 0 < n → Bounded each z (resolutions r s n) → (heldBy each (resolutionAt r s) ≤ z) × Bounded each z (resolutions r (s + 1) (n - 1))
   unfolding Bounded
-  bounded-turn z s n h b = rw (res-cons s n h) at b
+  bounded-turn z s n h b = rw (res-cons r s n h) at b
 
   pub energies-turn : (z : ℕ) (store : List Float) (p s n : ℕ) → 0 < n
-      → packed (bytesOf 4) (energiesFor z store p (resolutions r s n))
-      ≡ packed (bytesOf 4) (map narrowBits (take (heldBy (resolutionAt r s)) (drop p store))) ++ packed (bytesOf 4) (energiesFor z store (p + z) (resolutions r (s + 1) (n - 1)))
+      → packed (bytesOf 4) (energiesFor each z store p (resolutions r s n))
+      ≡ packed (bytesOf 4) (map narrowBits (take (heldBy each (resolutionAt r s)) (drop p store))) ++ packed (bytesOf 4) (energiesFor each z store (p + z) (resolutions r (s + 1) (n - 1)))
   unfolding energiesFor
   energies-turn z store p s n h =
-      rw (res-cons s n h) (packed-append (bytesOf 4) (map narrowBits (take (heldBy (resolutionAt r s)) (drop p store))) (energiesFor z store (p + z) (resolutions r (s + 1) (n - 1))))
+      rw (res-cons r s n h) (packed-append (bytesOf 4) (map narrowBits (take (heldBy each (resolutionAt r s)) (drop p store))) (energiesFor each z store (p + z) (resolutions r (s + 1) (n - 1))))
 
-  pub energies-end : (z : ℕ) (store : List Float) (p s n : ℕ) → n ≤ 0 → packed (bytesOf 4) (energiesFor z store p (resolutions r s n)) ≡ []
+  pub energies-end : (z : ℕ) (store : List Float) (p s n : ℕ) → n ≤ 0 → packed (bytesOf 4) (energiesFor each z store p (resolutions r s n)) ≡ []
   unfolding energiesFor packed resolutions
   energies-end z store p s n h = let e : n ≡ 0 = omega arith in rw e
 
-pub entriesFor-length : (o : ℕ) (xs : List SlabResolution) → length (entriesFor o xs) ≡ length xs
+pub entriesFor-length : (each : ℕ → ℕ) (o : ℕ) (xs : List SlabResolution) → length (entriesFor each o xs) ≡ length xs
 unfolding entriesFor
-entriesFor-length o [] = refl
-entriesFor-length o (x ∷ xs) = ap suc (entriesFor-length (o + heldBy x) xs)
+entriesFor-length each o [] = refl
+entriesFor-length each o (x ∷ xs) = ap suc (entriesFor-length each (o + heldBy each x) xs)
 
-pub entries-length : (r : Rows) (o s n : ℕ) → length (packed entryBytes (entriesFor o (resolutions r s n))) ≡ n * 10
-entries-length r o s n =
-    packed-length entryBytes 10 entry-length (entriesFor o (resolutions r s n))
-    ∙ ap (λ (k : ℕ). k * 10) (entriesFor-length o (resolutions r s n) ∙ res-length r s n)
+pub entries-length : (each : ℕ → ℕ) (r : Rows) (o s n : ℕ) → length (packed entryBytes (entriesFor each o (resolutions r s n))) ≡ n * 10
+entries-length each r o s n =
+    packed-length entryBytes 10 entry-length (entriesFor each o (resolutions r s n))
+    ∙ ap (λ (k : ℕ). k * 10) (entriesFor-length each o (resolutions r s n) ∙ res-length r s n)
 
 -- ---- energies
 
@@ -141,32 +142,32 @@ block-bits store block b p n h g e =
     ∙ rw a (ap (map (toBits binary32)) (take-at (map narrowed l) (drop (0 + length (map narrowed l)) block) n (length-map l narrowed ∙ s)) ∙ map-map (toBits binary32) narrowed l)
 
 -- as many energies as the rows hold, where they are inside the store
-pub energies-length : (z : ℕ) (store : List Float) (p : ℕ) (xs : List SlabResolution) → Bounded z xs → p + length xs * z ≤ length store → length (energiesFor z store p xs) ≡ total xs
+pub energies-length : (each : ℕ → ℕ) (z : ℕ) (store : List Float) (p : ℕ) (xs : List SlabResolution) → Bounded each z xs → p + length xs * z ≤ length store → length (energiesFor each z store p xs) ≡ total each xs
 unfolding energiesFor total Bounded
-energies-length z store p [] b h = refl
-energies-length z store p (x ∷ xs) b h =
+energies-length each z store p [] b h = refl
+energies-length each z store p (x ∷ xs) b h =
     let m : p + (length xs * z + z) ≤ length store = rw suc-mul at h in
-    length-append (map narrowBits (take (heldBy x) (drop p store))) (energiesFor z store (p + z) xs)
-    ∙ omega (arith, taken-length narrowBits store p (heldBy x) (omega (arith, m, b .0)), energies-length z store (p + z) xs (b .1) (omega (arith, m)))
+    length-append (map narrowBits (take (heldBy each x) (drop p store))) (energiesFor each z store (p + z) xs)
+    ∙ omega (arith, taken-length narrowBits store p (heldBy each x) (omega (arith, m, b .0)), energies-length each z store (p + z) xs (b .1) (omega (arith, m)))
 
-pub energies-bytes : (z : ℕ) (store : List Float) (p : ℕ) (xs : List SlabResolution) → Bounded z xs → p + length xs * z ≤ length store
-    → length (packed (bytesOf 4) (energiesFor z store p xs)) ≡ total xs * 4
-energies-bytes z store p xs b h = packed-length (bytesOf 4) 4 (bytes-length 4) (energiesFor z store p xs) ∙ ap (λ (n : ℕ). n * 4) (energies-length z store p xs b h)
+pub energies-bytes : (each : ℕ → ℕ) (z : ℕ) (store : List Float) (p : ℕ) (xs : List SlabResolution) → Bounded each z xs → p + length xs * z ≤ length store
+    → length (packed (bytesOf 4) (energiesFor each z store p xs)) ≡ total each xs * 4
+energies-bytes each z store p xs b h = packed-length (bytesOf 4) 4 (bytes-length 4) (energiesFor each z store p xs) ∙ ap (λ (n : ℕ). n * 4) (energies-length each z store p xs b h)
 
 -- a turn of the loop over slabs: the k energies of row s fit, and so do those of the rows behind it
-pub record Slab (r : Rows) (z s n to p k room held : ℕ) : Type 0 where
+pub record Slab (each : ℕ → ℕ) (r : Rows) (z s n to p k room held : ℕ) : Type 0 where
   pub fits : to + k * 4 ≤ room
   pub inside : p + k ≤ held
-  pub rest : to + 4 * k + total (resolutions r (s + 1) (n - 1)) * 4 ≤ room
+  pub rest : to + 4 * k + total each (resolutions r (s + 1) (n - 1)) * 4 ≤ room
   pub next : p + z + (n - 1) * z ≤ held
-  pub bounded : Bounded z (resolutions r (s + 1) (n - 1))
+  pub bounded : Bounded each z (resolutions r (s + 1) (n - 1))
 
-pub slab-turn : (r : Rows) (z s n to p k room held : ℕ) → 0 < n → k ≡ heldBy (resolutionAt r s) → to + total (resolutions r s n) * 4 ≤ room → p + n * z ≤ held
-    → Bounded z (resolutions r s n) → Slab r z s n to p k room held
-slab-turn r z s n to p k room held h e fits inside b =
-    let t = total-turn r s n h in
+pub slab-turn : (each : ℕ → ℕ) (r : Rows) (z s n to p k room held : ℕ) → 0 < n → k ≡ heldBy each (resolutionAt r s) → to + total each (resolutions r s n) * 4 ≤ room → p + n * z ≤ held
+    → Bounded each z (resolutions r s n) → Slab each r z s n to p k room held
+slab-turn each r z s n to p k room held h e fits inside b =
+    let t = total-turn each r s n h in
     let m = one-less n z h in
-    let d = bounded-turn r z s n h b in
+    let d = bounded-turn each r z s n h b in
     record {
       fits = omega (arith, t, e, fits);
       inside = omega (arith, e, d .0, m, inside);

@@ -49,8 +49,8 @@ pub record Sure (b : Builder) (l : BuilderLists) : Type 0 where
   pub rs : b .grid .«n_r» ≤ 65535
   pub omegas : b .grid .«n_omega» ≤ 65535
   pub store : slabs (b .grid) * per (b .top) ≤ length (l .store)
-  pub bounded : Bounded (per (b .top)) (resolutions (l .rows) 0 (slabs (b .grid)))
-  pub few : total (resolutions (l .rows) 0 (slabs (b .grid))) ≤ 4294967295
+  pub bounded : Bounded per (per (b .top)) (resolutions (l .rows) 0 (slabs (b .grid)))
+  pub few : total per (resolutions (l .rows) 0 (slabs (b .grid))) ≤ 4294967295
   pub slabs-few : slabs (b .grid) ≤ length (l .rows .kinds)
 
 pub sure : (b : Builder) (m : Mesh) (l : BuilderLists) → writeQuestion b m l ≡ 0 → Sure b l
@@ -62,7 +62,7 @@ sure b m l h =
     let n = slabs (b .grid) in
     let xs = resolutions (l .rows) 0 n in
     let held = bounded (b .top) (l .rows) n known in
-    let most : total xs ≤ n * per (b .top) = rw (res-length (l .rows) 0 n) at (total-le (per (b .top)) xs held) in
+    let most : total per xs ≤ n * per (b .top) = rw (res-length (l .rows) 0 n) at (total-le (per (b .top)) xs held) in
     record {
       top-le = q .asked .top-le;
       rs = q .asked .rs;
@@ -73,7 +73,7 @@ sure b m l h =
       slabs-few = q .room .kinds-le;
     }
 
-pub ready : (b : Builder) (l : BuilderLists) (e room : ℕ) → Sure b l → e ≡ total (resolutions (l .rows) 0 (slabs (b .grid)))
+pub ready : (b : Builder) (l : BuilderLists) (e room : ℕ) → Sure b l → e ≡ total per (resolutions (l .rows) 0 (slabs (b .grid)))
     → 56 + 4 * b .top + 10 * slabs (b .grid) + 4 * e ≤ room → WriteReady b l e room
 ready b l e room s same fits = record {
   top-le = s .top-le;

@@ -35,27 +35,27 @@ entry-is o (Scalar y) e = refl
 entry-is o (Mesh v b) e = refl
 entry-is o Repulsive e = refl
 
-count-is : (x : SlabResolution) (e : List Float) → energyCount (compared (rowWith x e)) ≡ heldBy x
+count-is : (x : SlabResolution) (e : List Float) → energyCount per (compared (rowWith x e)) ≡ heldBy per x
 count-is (Scalar y) e = refl
 count-is (Mesh v b) e = refl
 count-is Repulsive e = refl
 
-pub entries-are : (top : ℕ) (l : BuilderLists) (o s n : ℕ) → entries o (map compared (rowsFrom top l s n)) ≡ entriesFor o (resolutions (l .rows) s n)
+pub entries-are : (top : ℕ) (l : BuilderLists) (o s n : ℕ) → entries per o (map compared (rowsFrom top l s n)) ≡ entriesFor per o (resolutions (l .rows) s n)
 unfolding entries rowsFrom rowAt entriesFor resolutions
 entries-are top l o s zero = refl
 entries-are top l o s (suc n) =
     let x = resolutionAt (l .rows) s in
-    rw (entry-is o x _, count-is x _, entries-are top l (o + heldBy x) (suc s) n)
+    rw (entry-is o x _, count-is x _, entries-are top l (o + heldBy per x) (suc s) n)
 
 energies-by : (a b : Bool) (y : Float) (v : ℕ) (f : Bool) (d : List Float)
     → let x = cond a (Scalar y) (cond b Repulsive (Mesh v f)) in
-    energiesIn (compared (rowWith x (take (per v) d))) ≡ map narrowBits (take (heldBy x) d)
+    energiesIn (compared (rowWith x (take (per v) d))) ≡ map narrowBits (take (heldBy per x) d)
 energies-by true b y v f d = refl
 energies-by false true y v f d = refl
 energies-by false false y v f d = refl
 
 pub energies-are : (top : ℕ) (l : BuilderLists) (s n : ℕ)
-    → packedEnergies (map compared (rowsFrom top l s n)) ≡ energiesFor (per top) (l .store) (s * per top) (resolutions (l .rows) s n)
+    → packedEnergies (map compared (rowsFrom top l s n)) ≡ energiesFor per (per top) (l .store) (s * per top) (resolutions (l .rows) s n)
 unfolding packedEnergies rowsFrom rowAt energiesFor resolutions resolutionAt resolutionOf
 energies-are top l s zero = refl
 energies-are top l s (suc n) =
@@ -66,7 +66,7 @@ energies-are top l s (suc n) =
 
 -- ---- how many energies known rows hold
 
-held-by : (top k v : ℕ) (y : Float) (a b : Bool) → eqb k 0 ≡ a → eqb k 1 ≡ b → known top k v ≡ true → heldBy (cond a (Scalar y) (cond b Repulsive (Mesh v (eqb k 3)))) ≤ per top
+held-by : (top k v : ℕ) (y : Float) (a b : Bool) → eqb k 0 ≡ a → eqb k 1 ≡ b → known top k v ≡ true → heldBy per (cond a (Scalar y) (cond b Repulsive (Mesh v (eqb k 3)))) ≤ per top
 unfolding known
 held-by top k v y true b ea eb h = omega arith
 held-by top k v y false true ea eb h = omega arith
@@ -80,11 +80,11 @@ held-by top k v y false false ea eb h =
     more (suc zero) p q = absurd (q refl)
     more (suc (suc k)) p q = omega arith
 
-held-le : (top k v y : ℕ) → known top k v ≡ true → heldBy (resolutionOf k v y) ≤ per top
+held-le : (top k v y : ℕ) → known top k v ≡ true → heldBy per (resolutionOf k v y) ≤ per top
 unfolding resolutionOf
 held-le top k v y h = held-by top k v (ofBits binary32 y) (eqb k 0) (eqb k 1) refl refl h
 
-bounded-from : (top : ℕ) (r : Rows) (s n : ℕ) → ((i : ℕ) → i < n → known top (getD (r .kinds) (s + i) 0) (getD (r .levels) (s + i) 0) ≡ true) → Bounded (per top) (resolutions r s n)
+bounded-from : (top : ℕ) (r : Rows) (s n : ℕ) → ((i : ℕ) → i < n → known top (getD (r .kinds) (s + i) 0) (getD (r .levels) (s + i) 0) ≡ true) → Bounded per (per top) (resolutions r s n)
 unfolding resolutions Bounded resolutionAt
 bounded-from top r s zero h = tt
 bounded-from top r s (suc n) h =
@@ -93,11 +93,11 @@ bounded-from top r s (suc n) h =
       bounded-from top r (suc s) n (λ i l. let e : suc s + i ≡ s + suc i = omega arith in rw e (h (suc i) (omega arith))),
     )
 
-pub bounded : (top : ℕ) (r : Rows) (n : ℕ) → rowsKnown top r 0 n ≡ true → Bounded (per top) (resolutions r 0 n)
+pub bounded : (top : ℕ) (r : Rows) (n : ℕ) → rowsKnown top r 0 n ≡ true → Bounded per (per top) (resolutions r 0 n)
 unfolding rowsKnown
 bounded top r n h = bounded-from top r 0 n (λ i l. all-at (λ j. known top (getD (r .kinds) (0 + j) 0) (getD (r .levels) (0 + j) 0)) i n l h)
 
-pub total-le : (z : ℕ) (xs : List SlabResolution) → Bounded z xs → total xs ≤ length xs * z
+pub total-le : (z : ℕ) (xs : List SlabResolution) → Bounded per z xs → total per xs ≤ length xs * z
 unfolding total Bounded
 total-le z [] b = omega arith
 total-le z (x ∷ xs) b = rw suc-mul (omega (arith, b .0, total-le z xs (b .1)))
@@ -141,10 +141,10 @@ module _ (b : Builder) (l : BuilderLists) where
   rows = resolutions (l .rows) 0 (slabs (b .grid))
 
   rowBytes : List ℕ
-  rowBytes = section entryBytes (entriesFor 0 rows)
+  rowBytes = section entryBytes (entriesFor per 0 rows)
 
   energyBytes : List ℕ
-  energyBytes = section (bytesOf 4) (energiesFor (per (b .top)) (l .store) 0 rows)
+  energyBytes = section (bytesOf 4) (energiesFor per (per (b .top)) (l .store) 0 rows)
 
   file-is : fileFrom b l ≡ headBytes (b .grid) (suc (b .top)) ++ (rowBytes ++ energyBytes)
   unfolding fileFrom fileOf rowBytes energyBytes rows
@@ -155,19 +155,19 @@ module _ (b : Builder) (l : BuilderLists) where
   row-bytes : length rowBytes ≡ 4 + slabs (b .grid) * 10
   unfolding rowBytes rows
   row-bytes =
-      section-length entryBytes 10 entry-length (entriesFor 0 rows)
-      ∙ rw (entriesFor-length 0 rows, res-length (l .rows) 0 (slabs (b .grid)))
+      section-length entryBytes 10 entry-length (entriesFor per 0 rows)
+      ∙ rw (entriesFor-length per 0 rows, res-length (l .rows) 0 (slabs (b .grid)))
 
-  module _ (e : ℕ) (store-le : slabs (b .grid) * per (b .top) ≤ length (l .store)) (bound : Bounded (per (b .top)) (resolutions (l .rows) 0 (slabs (b .grid))))
-      (same : e ≡ total (resolutions (l .rows) 0 (slabs (b .grid)))) where
-    energy-count : length (energiesFor (per (b .top)) (l .store) 0 (resolutions (l .rows) 0 (slabs (b .grid)))) ≡ e
+  module _ (e : ℕ) (store-le : slabs (b .grid) * per (b .top) ≤ length (l .store)) (bound : Bounded per (per (b .top)) (resolutions (l .rows) 0 (slabs (b .grid))))
+      (same : e ≡ total per (resolutions (l .rows) 0 (slabs (b .grid)))) where
+    energy-count : length (energiesFor per (per (b .top)) (l .store) 0 (resolutions (l .rows) 0 (slabs (b .grid)))) ≡ e
     energy-count =
-        energies-length (per (b .top)) (l .store) 0 (resolutions (l .rows) 0 (slabs (b .grid))) bound (rw (res-length (l .rows) 0 (slabs (b .grid))) (omega (arith, store-le)))
+        energies-length per (per (b .top)) (l .store) 0 (resolutions (l .rows) 0 (slabs (b .grid))) bound (rw (res-length (l .rows) 0 (slabs (b .grid))) (omega (arith, store-le)))
         ∙ sym same
 
     energy-bytes : length energyBytes ≡ 4 + e * 4
     unfolding energyBytes rows
-    energy-bytes = section-length (bytesOf 4) 4 (bytes-length 4) (energiesFor (per (b .top)) (l .store) 0 rows) ∙ rw energy-count
+    energy-bytes = section-length (bytesOf 4) 4 (bytes-length 4) (energiesFor per (per (b .top)) (l .store) 0 rows) ∙ rw energy-count
 
     pub file-length : length (fileFrom b l) ≡ 56 + 4 * b .top + 10 * slabs (b .grid) + 4 * e
     file-length =
@@ -176,8 +176,8 @@ module _ (b : Builder) (l : BuilderLists) where
         ∙ omega (arith, head-bytes (b .grid) (suc (b .top)), length-append rowBytes energyBytes, row-bytes, energy-bytes)
 
   pub file-put : (d : List ℕ) (e : ℕ) → WriteReady b l e (length d)
-      → put (put (put d 0 (headBytes (b .grid) (b .top + 1))) (48 + 4 * b .top) (section entryBytes (entriesFor 0 (resolutions (l .rows) 0 (slabs (b .grid))))))
-      (52 + 4 * b .top + 10 * slabs (b .grid)) (section (bytesOf 4) (energiesFor (per (b .top)) (l .store) 0 (resolutions (l .rows) 0 (slabs (b .grid)))))
+      → put (put (put d 0 (headBytes (b .grid) (b .top + 1))) (48 + 4 * b .top) (section entryBytes (entriesFor per 0 (resolutions (l .rows) 0 (slabs (b .grid))))))
+      (52 + 4 * b .top + 10 * slabs (b .grid)) (section (bytesOf 4) (energiesFor per (per (b .top)) (l .store) 0 (resolutions (l .rows) 0 (slabs (b .grid)))))
       ≡ put d 0 (fileFrom b l)
   unfolding rowBytes energyBytes rows
   file-put d e h =

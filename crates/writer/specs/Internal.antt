@@ -20,11 +20,11 @@ use Rattle.table.specs.File.{Entry}
 
 -- ---- rows as the code reads them, without their energies
 
--- how many energies a row holds, and its row in the file, its energies being at place o
-abbrev pub heldBy : SlabResolution → ℕ
-heldBy (Scalar x) = 0
-heldBy (OnMesh v b) = per v
-heldBy Repulsive = 0
+-- how many energies a row holds, a Mesh row of level v having `each v`; and its row in the file, its energies being at place o
+abbrev pub heldBy : (ℕ → ℕ) → SlabResolution → ℕ
+heldBy each (Scalar x) = 0
+heldBy each (OnMesh v b) = each v
+heldBy each Repulsive = 0
 
 abbrev pub offsetOf : ℕ → SlabResolution → ℕ
 offsetOf o (Scalar x) = 0xFFFF_FFFF
@@ -39,23 +39,23 @@ unfoldable pub resolutions : Rows → ℕ → ℕ → List SlabResolution
 resolutions r s zero = []
 resolutions r s (suc n) = resolutionAt r s ∷ resolutions r (suc s) n
 
-unfoldable pub entriesFor : ℕ → List SlabResolution → List Entry
-entriesFor o [] = []
-entriesFor o (x ∷ xs) = entryFor o x ∷ entriesFor (o + heldBy x) xs
+unfoldable pub entriesFor : (ℕ → ℕ) → ℕ → List SlabResolution → List Entry
+entriesFor each o [] = []
+entriesFor each o (x ∷ xs) = entryFor o x ∷ entriesFor each (o + heldBy each x) xs
 
-unfoldable pub total : List SlabResolution → ℕ
-total [] = 0
-total (x ∷ xs) = heldBy x + total xs
+unfoldable pub total : (ℕ → ℕ) → List SlabResolution → ℕ
+total each [] = 0
+total each (x ∷ xs) = heldBy each x + total each xs
 
 -- the energies of rows whose slabs are z places apart in the store, from place p on
-unfoldable pub energiesFor : ℕ → List Float → ℕ → List SlabResolution → List ℕ
-energiesFor z store p [] = []
-energiesFor z store p (x ∷ xs) = map narrowBits (take (heldBy x) (drop p store)) ++ energiesFor z store (p + z) xs
+unfoldable pub energiesFor : (ℕ → ℕ) → ℕ → List Float → ℕ → List SlabResolution → List ℕ
+energiesFor each z store p [] = []
+energiesFor each z store p (x ∷ xs) = map narrowBits (take (heldBy each x) (drop p store)) ++ energiesFor each z store (p + z) xs
 
 -- no row holds more than z energies
-unfoldable pub Bounded : ℕ → List SlabResolution → Type 0
-Bounded z [] = Unit
-Bounded z (x ∷ xs) = (heldBy x ≤ z) × Bounded z xs
+unfoldable pub Bounded : (ℕ → ℕ) → ℕ → List SlabResolution → Type 0
+Bounded each z [] = Unit
+Bounded each z (x ∷ xs) = (heldBy each x ≤ z) × Bounded each z xs
 
 -- the sections before the rows
 abbrev pub headBytes : Grid → ℕ → List ℕ
@@ -69,8 +69,8 @@ pub record WriteReady (b : Builder) (l : BuilderLists) (e room : ℕ) : Type 0 w
   pub rs : b .grid .«n_r» ≤ 65535
   pub omegas : b .grid .«n_omega» ≤ 65535
   pub store : slabs (b .grid) * per (b .top) ≤ length (l .store)
-  pub bounded : Bounded (per (b .top)) (resolutions (l .rows) 0 (slabs (b .grid)))
-  pub energies : e ≡ total (resolutions (l .rows) 0 (slabs (b .grid)))
+  pub bounded : Bounded per (per (b .top)) (resolutions (l .rows) 0 (slabs (b .grid)))
+  pub energies : e ≡ total per (resolutions (l .rows) 0 (slabs (b .grid)))
   pub few : e ≤ 4294967295
   pub fits : 56 + 4 * b .top + 10 * slabs (b .grid) + 4 * e ≤ room
 

@@ -5,7 +5,7 @@ ghost use Prim.Native.Nat.{_+_, _*_, _≤_, min};
 ghost use lib.ListN.{length, take, drop};
 ghost use lib.Ieee.{binary32, binary64, toBits};
 ghost use Rattle.lists.specs.Lists.{put, below};
-ghost use Rattle.mesh.specs.Levels.{vertexCount};
+ghost use Rattle.mesh.specs.Levels.{vertexCount, per};
 ghost use Rattle.rows.specs.Rows.{narrowBits, rowsOf};
 ghost use Rattle.table.specs.Bytes.{bytesOf, packed, section};
 ghost use Rattle.table.specs.File.{entryBytes};
@@ -54,7 +54,7 @@ pub(crate) fn put_levels(out: &mut [u8], levels: u64)
 
 // How many energies a row holds.
 pub(crate) fn energy_count(x: SlabResolution) -> u64
-    ensures { λ r. ⌜ r ≡ heldBy x ⌝ }
+    ensures { λ r. ⌜ r ≡ heldBy per x ⌝ }
 {
     match x {
         SlabResolution::Scalar(_) => 0,
@@ -95,8 +95,8 @@ fn put_row(out: &mut [u8], at: u64, kind: u8, level: u8, offset: u32, value: u32
 // The rows, one after another; their energies are packed in row order.
 fn put_entries(out: &mut [u8], at: u64, kinds: &[u8], levels: &[u8], values: &[u32], n: u64)
     requires { ⌜ (at + n * 10 ≤ length (now out))
-        × (total (resolutions (rowsOf (now kinds) (now levels) (now values)) 0 n) ≤ 4294967295) ⌝ }
-    ensures { λ _. ⌜ now (out .exit) ≡ put (now (out .entry)) at (packed entryBytes (entriesFor 0 (resolutions (rowsOf (now (kinds .entry)) (now (levels .entry)) (now (values .entry))) 0 n))) ⌝ }
+        × (total per (resolutions (rowsOf (now kinds) (now levels) (now values)) 0 n) ≤ 4294967295) ⌝ }
+    ensures { λ _. ⌜ now (out .exit) ≡ put (now (out .entry)) at (packed entryBytes (entriesFor per 0 (resolutions (rowsOf (now (kinds .entry)) (now (levels .entry)) (now (values .entry))) 0 n))) ⌝ }
 {
     let mut s: u64 = 0;
     let mut left = n;
@@ -122,8 +122,8 @@ fn put_entries(out: &mut [u8], at: u64, kinds: &[u8], levels: &[u8], values: &[u
 
 // The energies of all rows together.
 pub(crate) fn energy_total(kinds: &[u8], levels: &[u8], values: &[u32], n: u64) -> u64
-    requires { ⌜ total (resolutions (rowsOf (now kinds) (now levels) (now values)) 0 n) ≤ 4294967295 ⌝ }
-    ensures { λ r. ⌜ r ≡ total (resolutions (rowsOf (now (kinds .entry)) (now (levels .entry)) (now (values .entry))) 0 n) ⌝ }
+    requires { ⌜ total per (resolutions (rowsOf (now kinds) (now levels) (now values)) 0 n) ≤ 4294967295 ⌝ }
+    ensures { λ r. ⌜ r ≡ total per (resolutions (rowsOf (now (kinds .entry)) (now (levels .entry)) (now (values .entry))) 0 n) ⌝ }
 {
     let mut s: u64 = 0;
     let mut left = n;
@@ -207,9 +207,9 @@ fn put_slabs(
     values: &[u32],
     n: u64,
 )
-    requires { ⌜ (at + total (resolutions (rowsOf (now kinds) (now levels) (now values)) 0 n) * 4 ≤ length (now out))
-        × (n * z ≤ length (now store)) × (Bounded z (resolutions (rowsOf (now kinds) (now levels) (now values)) 0 n)) ⌝ }
-    ensures { λ _. ⌜ now (out .exit) ≡ put (now (out .entry)) at (packed (bytesOf 4) (energiesFor z (now (store .entry)) 0 (resolutions (rowsOf (now (kinds .entry)) (now (levels .entry)) (now (values .entry))) 0 n))) ⌝ }
+    requires { ⌜ (at + total per (resolutions (rowsOf (now kinds) (now levels) (now values)) 0 n) * 4 ≤ length (now out))
+        × (n * z ≤ length (now store)) × (Bounded per z (resolutions (rowsOf (now kinds) (now levels) (now values)) 0 n)) ⌝ }
+    ensures { λ _. ⌜ now (out .exit) ≡ put (now (out .entry)) at (packed (bytesOf 4) (energiesFor per z (now (store .entry)) 0 (resolutions (rowsOf (now (kinds .entry)) (now (levels .entry)) (now (values .entry))) 0 n))) ⌝ }
 {
     let mut s: u64 = 0;
     let mut left = n;
@@ -228,8 +228,8 @@ fn put_slabs(
 // The section of rows.
 pub(crate) fn put_rows(out: &mut [u8], at: u64, kinds: &[u8], levels: &[u8], values: &[u32], n: u64)
     requires { ⌜ (at + 4 + n * 10 ≤ length (now out)) × (n ≤ 4294967295)
-        × (total (resolutions (rowsOf (now kinds) (now levels) (now values)) 0 n) ≤ 4294967295) ⌝ }
-    ensures { λ _. ⌜ now (out .exit) ≡ put (now (out .entry)) at (section entryBytes (entriesFor 0 (resolutions (rowsOf (now (kinds .entry)) (now (levels .entry)) (now (values .entry))) 0 n))) ⌝ }
+        × (total per (resolutions (rowsOf (now kinds) (now levels) (now values)) 0 n) ≤ 4294967295) ⌝ }
+    ensures { λ _. ⌜ now (out .exit) ≡ put (now (out .entry)) at (section entryBytes (entriesFor per 0 (resolutions (rowsOf (now (kinds .entry)) (now (levels .entry)) (now (values .entry))) 0 n))) ⌝ }
 {
     put_u32(out, at, n as u32);
     put_entries(out, at + 4, kinds, levels, values, n);
@@ -248,9 +248,9 @@ pub(crate) fn put_tail(
     n: u64,
 )
     requires { ⌜ (at + 4 + e * 4 ≤ length (now out)) × (e ≤ 4294967295)
-        × (e ≡ total (resolutions (rowsOf (now kinds) (now levels) (now values)) 0 n))
-        × (n * z ≤ length (now store)) × (Bounded z (resolutions (rowsOf (now kinds) (now levels) (now values)) 0 n)) ⌝ }
-    ensures { λ _. ⌜ now (out .exit) ≡ put (now (out .entry)) at (section (bytesOf 4) (energiesFor z (now (store .entry)) 0 (resolutions (rowsOf (now (kinds .entry)) (now (levels .entry)) (now (values .entry))) 0 n))) ⌝ }
+        × (e ≡ total per (resolutions (rowsOf (now kinds) (now levels) (now values)) 0 n))
+        × (n * z ≤ length (now store)) × (Bounded per z (resolutions (rowsOf (now kinds) (now levels) (now values)) 0 n)) ⌝ }
+    ensures { λ _. ⌜ now (out .exit) ≡ put (now (out .entry)) at (section (bytesOf 4) (energiesFor per z (now (store .entry)) 0 (resolutions (rowsOf (now (kinds .entry)) (now (levels .entry)) (now (values .entry))) 0 n))) ⌝ }
 {
     put_u32(out, at, e as u32);
     put_slabs(out, at + 4, z, store, kinds, levels, values, n);

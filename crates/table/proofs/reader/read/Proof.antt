@@ -10,11 +10,11 @@ use Rattle.table.proofs.Accepted.{laid, inside, read-unlaid, read-refus
 use Rattle.table.proofs.reader.read.Statement.{statement}
 use Rattle.table.proofs.reader.read.Tie as tie
 
-answered : (c : tie.Else1) → laidOut (c .before .before .before .before .args .file .now) (layout (c .before .before .before .before .args .file .now)) ≡ true
+answered : (c : tie.Else1) → laidOut 3 2 (c .before .before .before .before .args .file .now) (layout (c .before .before .before .before .args .file .now)) ≡ true
 answered c = rw (← c .before .before .sections .ensures) (yes (c .before .laid-out .ensures) (c .if1 .left))
 
-placed : (c : tie.Else1) → SectionsInside (c .before .before .before .before .args .file .now) (c .before .before .sections .result)
-placed c = laid _ _ (c .before .before .sections .ensures) (yes (c .before .laid-out .ensures) (c .if1 .left))
+placed : (c : tie.Else1) → SectionsInside 3 2 (c .before .before .before .before .args .file .now) (c .before .before .sections .result)
+placed c = laid 3 2 _ _ (c .before .before .sections .ensures) (yes (c .before .laid-out .ensures) (c .if1 .left))
 
 asked : (c : tie.After-table-question) → c .table-question .result ≡ tableQuestion (c .before .before .before .before .before .before .args .file .now) (tableOf (c .before .before .before .before .before .before .args .file .now) (layout (c .before .before .before .before .before .before .args .file .now)))
 asked c = rw (← c .before .before .before .before .sections .ensures, ← c .before .table-of .ensures) (c .table-question .ensures)
@@ -28,7 +28,7 @@ table-of-requires : tie.Need-table-of-requires
 table-of-requires c κs = placed c
 
 table-question-requires : tie.Need-table-question-requires
-table-question-requires c κs = rw (c .table-of .ensures) (inside _ _ (placed (c .before)))
+table-question-requires c κs = rw (c .table-of .ensures) (inside 3 2 _ _ (placed (c .before)))
 
 returns-2 : tie.Need-returns-2
 returns-2 c =

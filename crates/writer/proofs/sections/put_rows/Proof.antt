@@ -4,6 +4,7 @@ use Prim.Native.Nat.{_+_}
 use native.Mathlib.Omega.{arith}
 use lib.ListN.{length}
 use borrow.Author.Needs.{needs}
+use Rattle.mesh.specs.Levels.{per}
 use Rattle.rows.specs.Rows.{Rows, rowsOf}
 use Rattle.table.specs.Bytes.{bytesOf, packed, section}
 use Rattle.table.specs.File.{entryBytes}
@@ -21,9 +22,9 @@ returns c =
     let a = s .args in
     let r : Rows = rowsOf (a .kinds .now) (a .levels .now) (a .values .now) in
     let xs = resolutions r 0 (a .n) in
-    let len : length (entriesFor 0 xs) ≡ a .n = entriesFor-length 0 xs ∙ res-length r 0 (a .n) in
+    let len : length (entriesFor per 0 xs) ≡ a .n = entriesFor-length per 0 xs ∙ res-length r 0 (a .n) in
     rw (c .before .before .put-entries .ensures, c .before .before .before .before .before .before .put-u32 .ensures, len)
-    (puts (a .out .now) (a .at) (bytesOf 4 (a .n)) (packed entryBytes (entriesFor 0 xs)) (a .at + 4) (omega (arith, bytes-length 4 (a .n))) (omega (arith, s .pre .0)))
+    (puts (a .out .now) (a .at) (bytesOf 4 (a .n)) (packed entryBytes (entriesFor per 0 xs)) (a .at + 4) (omega (arith, bytes-length 4 (a .n))) (omega (arith, s .pre .0)))
 
 pub put-rows-spec : {M : Type 1} → statement M
 put-rows-spec =

@@ -5,6 +5,7 @@ use Prim.Native.Nat.{_+_, _*_, _≤_}
 use native.Mathlib.Omega.{arith}
 use lib.ListN.{length, take, drop}
 use borrow.Author.Needs.{needs}
+use Rattle.mesh.specs.Levels.{per}
 use Rattle.rows.specs.Rows.{Rows, resolutionAt, narrowBits, rowsOf}
 use Rattle.table.specs.Bytes.{bytesOf, packed}
 use Rattle.writer.specs.Internal.{heldBy, resolutions, total, energiesFor, Bounded}
@@ -14,7 +15,7 @@ use Rattle.writer.proofs.sections.put_slabs.Statement.{statement}
 use Rattle.writer.proofs.sections.put_slabs.Tie as tie
 
 abbrev Inv-loop : tie.InvT-loop
-Inv-loop out₀ at z store kinds levels values n s₀ left₀ to₀ p₀ out s left to p = (s + left ≡ n) × (to + total (resolutions (rowsOf kinds levels values) s left) * 4 ≤ length out₀) × (p + left * z ≤ length store) × Bounded z (resolutions (rowsOf kinds levels values) s left) × Left out₀ at (packed (bytesOf 4) (energiesFor z store 0 (resolutions (rowsOf kinds levels values) 0 n))) out to (packed (bytesOf 4) (energiesFor z store p (resolutions (rowsOf kinds levels values) s left)))
+Inv-loop out₀ at z store kinds levels values n s₀ left₀ to₀ p₀ out s left to p = (s + left ≡ n) × (to + total per (resolutions (rowsOf kinds levels values) s left) * 4 ≤ length out₀) × (p + left * z ≤ length store) × Bounded per z (resolutions (rowsOf kinds levels values) s left) × Left out₀ at (packed (bytesOf 4) (energiesFor per z store 0 (resolutions (rowsOf kinds levels values) 0 n))) out to (packed (bytesOf 4) (energiesFor per z store p (resolutions (rowsOf kinds levels values) s left)))
 
 abbrev μ-loop : tie.MeasureT-loop
 μ-loop out₀ at z store kinds levels values n s₀ left₀ to₀ p₀ out s left to p = left
@@ -23,14 +24,14 @@ abbrev μ-loop : tie.MeasureT-loop
 abbrev rows : tie.At-loop Inv-loop μ-loop → Rows
 rows l = let a = l .before .before .before .before .before .before .args in rowsOf (a .kinds .now) (a .levels .now) (a .values .now)
 
-taken : (c : tie.After-energy-count Inv-loop μ-loop) → let l = c .before .before .before in c .energy-count .result ≡ heldBy (resolutionAt (rows l) (l .loop .s))
-taken c = c .energy-count .ensures ∙ ap heldBy (c .before .resolution-at .ensures)
+taken : (c : tie.After-energy-count Inv-loop μ-loop) → let l = c .before .before .before in c .energy-count .result ≡ heldBy per (resolutionAt (rows l) (l .loop .s))
+taken c = c .energy-count .ensures ∙ ap (heldBy per) (c .before .resolution-at .ensures)
 
 turn : (c : tie.After-energy-count Inv-loop μ-loop) → let l = c .before .before .before in let a = l .before .before .before .before .before .before .args in
-    Slab (rows l) (a .z) (l .loop .s) (l .loop .left) (l .loop .to) (l .loop .p) (c .energy-count .result) (length (a .out .now)) (length (a .store .now))
+    Slab per (rows l) (a .z) (l .loop .s) (l .loop .left) (l .loop .to) (l .loop .p) (c .energy-count .result) (length (a .out .now)) (length (a .store .now))
 turn c =
     let l = c .before .before .before in
-    slab-turn (rows l) _ _ _ _ _ _ _ _ (omega arith) (taken c) (l .loop .inv .1) (l .loop .inv .2) (l .loop .inv .3)
+    slab-turn per (rows l) _ _ _ _ _ _ _ _ (omega arith) (taken c) (l .loop .inv .1) (l .loop .inv .2) (l .loop .inv .3)
 
 loop-holds : tie.Need-loop-holds Inv-loop μ-loop
 loop-holds c =
@@ -41,7 +42,7 @@ loop-holds c =
       s .pre .0,
       omega (arith, s .pre .1),
       s .pre .2,
-      begun (a .out .now) (a .at) _ (omega (arith, s .pre .0, energies-bytes (a .z) (a .store .now) 0 (resolutions r 0 (a .n)) (s .pre .2) (rw (res-length r 0 (a .n)) (omega (arith, s .pre .1))))),
+      begun (a .out .now) (a .at) _ (omega (arith, s .pre .0, energies-bytes per (a .z) (a .store .now) 0 (resolutions r 0 (a .n)) (s .pre .2) (rw (res-length r 0 (a .n)) (omega (arith, s .pre .1))))),
     )
 
 put-energies-requires : tie.Need-put-energies-requires Inv-loop μ-loop
@@ -77,7 +78,7 @@ loop-again c =
       t .next,
       t .bounded,
       step (l .loop .inv .4) (packed (bytesOf 4) (map narrowBits (take k (drop (l .loop .p) (a .store .now))))) _ _ _
-          (energies-turn (rows l) (a .z) (a .store .now) (l .loop .p) (l .loop .s) (l .loop .left) (omega arith) ∙ rw (← e))
+          (energies-turn per (rows l) (a .z) (a .store .now) (l .loop .p) (l .loop .s) (l .loop .left) (omega arith) ∙ rw (← e))
           (c .before .before .put-energies .ensures)
           (omega (arith, taken-bytes narrowBits (a .store .now) (l .loop .p) k (t .inside))),
     )
@@ -89,7 +90,7 @@ returns : tie.Need-returns Inv-loop μ-loop
 returns c =
     let l = c .before in
     let a = l .before .before .before .before .before .before .args in
-    ended (l .loop .inv .4) (energies-end (rowsOf (a .kinds .now) (a .levels .now) (a .values .now)) (a .z) (a .store .now) (l .loop .p) (l .loop .s) (l .loop .left) (omega arith))
+    ended (l .loop .inv .4) (energies-end per (rowsOf (a .kinds .now) (a .levels .now) (a .values .now)) (a .z) (a .store .now) (l .loop .p) (l .loop .s) (l .loop .left) (omega arith))
 
 pub put-slabs-spec : {M : Type 1} → statement M
 put-slabs-spec =
