@@ -45,7 +45,7 @@
  * tool take it from here; a test compares it with hosts/rust. */
 #define ICOTABLE_VERSION_MAJOR 0
 #define ICOTABLE_VERSION_MINOR 8
-#define ICOTABLE_VERSION_PATCH 0
+#define ICOTABLE_VERSION_PATCH 1
 
 #define ICOTABLE_STRING_(x) #x
 #define ICOTABLE_DOTTED_(a, b, c) ICOTABLE_STRING_(a) "." ICOTABLE_STRING_(b) "." ICOTABLE_STRING_(c)

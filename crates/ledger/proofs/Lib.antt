@@ -1,7 +1,10 @@
--- Laws of lists of calls, and the theorem.
+-- Laws of lists of calls, and the theorems: `promise` (Theorem), `any-order` and `later` (Order), `within-runs` (Runs).
 pub mod Store
 pub mod Invariant
 pub mod Follows
 pub mod Readings
 pub mod Admitted
 pub mod Theorem
+pub mod Sets
+pub mod Runs
+pub mod Order

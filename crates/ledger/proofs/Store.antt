@@ -1,11 +1,11 @@
 -- A list with others written into it: what stands where. Assumes nothing.
 use mathlib.Core.Path.{_≡_, refl, sym, ap, _∙_}
 use mathlib.Core.List.{List, [], _∷_, _++_, append-assoc}
-use mathlib.Core.Logic.{_⊎_, inl, inr}
+use mathlib.Core.Logic.{_⊎_, inl, inr, ⊎-elim}
 use Prim.Native.Nat.{ℕ, zero, suc, _+_, _*_, _-_, _≤_, _<_}
 use native.Mathlib.Omega.{arith}
 use lib.ListN.{length, getD, set, take, drop, replicate, length-append, length-drop, take-append-drop}
-use lib.Seq.{length-take-le, take-at, drop-at, take-append-le, drop-append-le, drop-append-add, drop-drop, sets, sets-eq}
+use lib.Seq.{length-take-le, take-at, drop-at, take-append-le, drop-append-le, drop-append-add, drop-drop, set-set, set-comm, sets, sets-eq, length-sets}
 use Rattle.lists.specs.Lists.{put}
 use Rattle.lists.proofs.Places.{place}
 use Rattle.table.proofs.Back.{All}
@@ -49,6 +49,37 @@ module _ {A : Type 0} where
   pub put-sets : (d : List A) (at : ℕ) (l : List A) → at + length l ≤ length d → put d at l ≡ sets d at l
   unfolding put
   put-sets d at l h = sym (sets-eq l d at h)
+
+  -- entries set at different places, in either order
+  set-sets : (d : List A) (i : ℕ) (x : A) (at : ℕ) (l : List A) → ((k : ℕ) → k < length l → i ≡ at + k → ⊥) → sets (set d i x) at l ≡ set (sets d at l) i x
+  set-sets d i x at [] h = refl
+  set-sets d i x at (y ∷ l) h =
+      rw (set-comm d i at x y (λ e. h 0 (omega arith) (omega arith))) (set-sets (set d at y) i x (suc at) l (λ k n e. h (suc k) (omega arith) (omega arith)))
+
+  sets-comm : (d : List A) (at : ℕ) (l : List A) (to : ℕ) (m : List A) → ((j k : ℕ) → j < length l → k < length m → at + j ≡ to + k → ⊥)
+      → sets (sets d at l) to m ≡ sets (sets d to m) at l
+  sets-comm d at [] to m h = refl
+  sets-comm d at (x ∷ l) to m h =
+      sets-comm (set d at x) (suc at) l to m (λ j k i n e. h (suc j) k (omega arith) n (omega arith))
+      ∙ ap (λ (r : List A). sets r (suc at) l) (set-sets d at x to m (λ k n e. h 0 k (omega arith) n (omega arith)))
+
+  -- set again at the same places
+  sets-again : (d : List A) (at : ℕ) (l m : List A) → length l ≡ length m → sets (sets d at l) at m ≡ sets d at m
+  sets-again d at [] m e = refl
+  sets-again d at (x ∷ l) [] e = absurd (omega arith)
+  sets-again d at (x ∷ l) (y ∷ m) e =
+      ap (λ (r : List A). sets r (suc at) m) (sym (set-sets (set d at x) at y (suc at) l (λ k n q. omega arith)) ∙ ap (λ (r : List A). sets r (suc at) l) (set-set d at x y))
+      ∙ sets-again (set d at y) (suc at) l m (omega arith)
+
+  pub put-comm : (d : List A) (at : ℕ) (l : List A) (to : ℕ) (m : List A) → at + length l ≤ length d → to + length m ≤ length d → (at + length l ≤ to) ⊎ (to + length m ≤ at)
+      → put (put d at l) to m ≡ put (put d to m) at l
+  put-comm d at l to m h k o =
+      rw (put-sets d at l h, put-sets d to m k, put-sets (sets d at l) to m (omega (arith, length-sets d at l)), put-sets (sets d to m) at l (omega (arith, length-sets d to m)))
+      (sets-comm d at l to m (λ j k i n e. ⊎-elim (λ b. omega arith) (λ b. omega arith) o))
+
+  pub put-again : (d : List A) (at : ℕ) (l m : List A) → at + length l ≤ length d → length l ≡ length m → put (put d at l) at m ≡ put d at m
+  put-again d at l m h e =
+      rw (put-sets d at l h, put-sets d at m (omega arith), put-sets (sets d at l) at m (omega (arith, length-sets d at l))) (sets-again d at l m e)
 
   -- ---- what holds of every entry
 

@@ -1,3 +1,5 @@
--- A reader has to believe `Ledger` and `Promise`.
+-- A reader has to believe `Ledger`, `Promise`, `Replies` and `Order`.
 pub mod Ledger
 pub mod Promise
+pub mod Replies
+pub mod Order

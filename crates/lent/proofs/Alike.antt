@@ -27,10 +27,11 @@ use Rattle.table.specs.Read.{readOut}
 use Rattle.reading.specs.Reading.{readingBy}
 use Rattle.ledger.specs.Ledger.{Call, set-call, settle-call, write-call, State, called, run}
 use Rattle.ledger.specs.Promise.{ended, lastWrite, file}
+use Rattle.ledger.specs.Replies.{Reply, writeReply, replied, replies, begun}
 use Rattle.lent.specs.declared.RowRecord.{RowRecord}
 use Rattle.lent.specs.Calls.{setLent, settleLent}
 use Rattle.lent.specs.Records.{columns, gathered, SpreadOut}
-use Rattle.lent.specs.Forms.{Reply, writeReply, replied, replies, begun, LentState, asState, spreadLists, leftIn, calledOver, repliedOver, calledLent, runLent, repliesLent, LentHistory, byValue, begunLent, endedLent, lastWriteLent, fileLent, Long, CallsAlike, EitherForm}
+use Rattle.lent.specs.Forms.{LentState, asState, spreadLists, leftIn, calledOver, repliedOver, calledLent, runLent, repliesLent, LentHistory, byValue, begunLent, endedLent, lastWriteLent, fileLent, Long, CallsAlike, EitherForm}
 use Rattle.lent.proofs.Columns.{spread-columns, gather-columns, long-gathered, rows-alike}
 
 -- ---- every call leaves lists of the length that they had

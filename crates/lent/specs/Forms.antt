@@ -11,40 +11,17 @@ use Rattle.rows.specs.Rows.{Rows, resolutionOf, resolutionAt, replaced}
 use Rattle.search.specs.Search.{Locator}
 use Rattle.builder.specs.BuilderLists.{BuilderLists}
 use Rattle.builder.specs.declared.Builder.{Builder}
-use Rattle.builder.specs.Calls.{BuiltOut, freshOut, setOut, settleOut}
+use Rattle.builder.specs.Calls.{BuiltOut, freshOut}
 use Rattle.writer.specs.Write.{WriteOut, writeOut}
 use Rattle.table.specs.Read.{readOut}
 use Rattle.reading.specs.Resolve.{Query, Way}
 use Rattle.reading.specs.Reading.{readingBy}
-use Rattle.ledger.specs.Ledger.{Call, set-call, settle-call, write-call, State, called}
+use Rattle.ledger.specs.Ledger.{Call, set-call, settle-call, write-call, State}
 use Rattle.ledger.specs.Promise.{History, fresh, ended, lastWrite, file}
+use Rattle.ledger.specs.Replies.{Reply, set-reply, settle-reply, writeReply, replies, begun}
 use Rattle.lent.specs.declared.RowRecord.{RowRecord}
 use Rattle.lent.specs.Calls.{setLent, settleLent}
 use Rattle.lent.specs.Records.{columns, recordAt, recordOf, gathered, spreadOut}
-
--- ---- by value
-
--- 01's number and values of a call's answer; and what a write leaves in its output
-pub data Reply : Type 0 where
-  set-reply : ℕ → Reply
-  settle-reply : ℕ → Float → Reply
-  write-reply : ℕ → ℕ → List ℕ → Reply
-
-abbrev pub writeReply : WriteOut → Reply
-writeReply o = write-reply (o .answer .number) (o .answer .length) (o .output)
-
-unfoldable pub replied : Mesh → State → Call → Reply
-replied m st (set-call ri oi e) = set-reply (setOut (st .builder) (st .lists) ri oi e .answer .number)
-replied m st (settle-call ri) = let a = settleOut (st .builder) m (st .lists) ri .answer in settle-reply (a .number) (a .gradient)
-replied m st (write-call out) = writeReply (writeOut (st .builder) m (st .lists) out)
-
-unfoldable pub replies : Mesh → State → List Call → List Reply
-replies m st [] = []
-replies m st (c ∷ cs) = replied m st c ∷ replies m (called m st c) cs
-
--- what fresh leaves
-abbrev pub begun : History → State
-begun h = record { builder = fresh h .answer .builder; lists = fresh h .lists }
 
 -- ---- with the builder lent, over records
 

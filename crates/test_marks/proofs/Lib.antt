@@ -1,2 +1,3 @@
--- The theorem of demand 3, met by lists of calls.
+-- The theorems of demand 3 and of request 4, met by lists of calls.
 pub mod Witness
+pub mod Reorders

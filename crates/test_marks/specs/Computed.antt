@@ -37,6 +37,8 @@ use Rattle.reading.specs.Reading.{rowInside, energyInside, entryAt, energyAt, s
 use Rattle.reading.specs.Rule.{search, ruledBy}
 use Rattle.ledger.specs.Ledger.{Call, called, run, opened, ledgerQuestion, setEntered, settleEntered, entered, ledger}
 use Rattle.ledger.specs.Promise.{History, ended, file, rows}
+use Rattle.ledger.specs.Replies.{replied, replies}
+use Rattle.ledger.specs.Order.{moved, acceptedIn, once}
 use Rattle.test_marks.specs.Icospheres.{icosahedron, twoLevels}
 
 abbrev pub f64 : ℕ → Float
@@ -105,7 +107,7 @@ unfolding queryValid outside resolve joint nearestPick facePick nineTerms combin
 readings x = x
 
 unfoldable runs : {A : Type 0} → A → A
-unfolding called run opened ledgerQuestion setEntered settleEntered entered ledger ended file rows locatorPart locators
+unfolding called run opened ledgerQuestion setEntered settleEntered entered ledger ended file rows replied replies moved acceptedIn once locatorPart locators
 runs x = x
 
 unfoldable pub computed : {A : Type 0} → A → A

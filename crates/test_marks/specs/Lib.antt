@@ -8,3 +8,4 @@ pub mod Filed
 pub mod Searched
 pub mod Weighted
 pub mod Cased
+pub mod Ordered
