@@ -18,7 +18,7 @@ use Rattle.reading.specs.Reading.{searchIn}
 use Rattle.reading.specs.Internal.{toward, partFrom}
 
 module _ {A : Type 0} where
-  whole : (l : List A) (i : ℕ) → take (length l - i) (drop i l) ≡ drop i l
+  pub whole : (l : List A) (i : ℕ) → take (length l - i) (drop i l) ≡ drop i l
   whole l i = take-all (length l - i) (drop i l) (omega (arith, length-drop i l))
 
   -- the code's part, which begins no later than at the end

@@ -172,7 +172,8 @@ fn read_row(
 }
 
 // Reads a table's energy at a distance, a dihedral angle and two directions: over the file's bytes, read's answer, and the meshes and locators of all its levels one after another.
-// The short answers, a Scalar row's too, are given here, in the caller's own code.
+// The short answers, a Scalar row's too, are given here, in the caller's own code. The lists are handed on as parts, each
+// from its first entry on: lent as they are they would be stored before a short answer.
 pub fn lookup(
     t: Table,
     file: &[u8],
@@ -216,12 +217,12 @@ pub fn lookup(
         t.levels,
         t.energies_start,
         t.energies,
-        file,
-        vertices,
-        cell_offsets,
-        cell_vertices,
-        face_offsets,
-        faces,
+        &file[0..],
+        &vertices[0..],
+        &cell_offsets[0..],
+        &cell_vertices[0..],
+        &face_offsets[0..],
+        &faces[0..],
         a.x,
         a.y,
         a.z,
@@ -282,12 +283,12 @@ pub fn lookup_boltzmann(
         t.levels,
         t.energies_start,
         t.energies,
-        file,
-        vertices,
-        cell_offsets,
-        cell_vertices,
-        face_offsets,
-        faces,
+        &file[0..],
+        &vertices[0..],
+        &cell_offsets[0..],
+        &cell_vertices[0..],
+        &face_offsets[0..],
+        &faces[0..],
         a.x,
         a.y,
         a.z,

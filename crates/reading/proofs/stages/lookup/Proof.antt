@@ -12,6 +12,7 @@ use Rattle.reading.specs.Resolve.{Query, linear, wayValid, Resolved, unr
 use Rattle.reading.specs.declared.Reading.the-variants.{Energy}
 use Rattle.reading.specs.Internal.{slabOf}
 use Rattle.reading.proofs.Inside.{refused-18, beyond-out, no-bins, some-bins, bins-some, row-none, row-fits, scalar-row, entry-row, answered}
+use Rattle.reading.proofs.Parts.{whole}
 use Rattle.reading.proofs.stages.lookup.Statement.{statement}
 use Rattle.reading.proofs.stages.lookup.Tie as tie
 
@@ -103,18 +104,20 @@ returns-5 c =
     (scalar-row (s .args .file .now) (s .args .t) (s .args .vertices .now) (lists s) linear (query s) (slabOf (s .args .t .grid) (s .args .r) (s .args .omega)) (e .before .slab-below .result) (h .items-inside .result) (h .items-inside .ensures) (slab (e .before)) (omega (arith, e .if4 .left)) (c .before .before .if5 .taken)))
 
 read-row-requires : tie.Need-read-row-requires
-read-row-requires c κs = fits (c .before .before)
+read-row-requires c κs =
+    let d = c .before .before .before .before .before .before .before .before in
+    rw (whole (d .before .before .before .before .before .before .before .before .before .before .before .before .before .before .before .before .before .before .before .args .file .now) 0) (fits d)
 
 returns-6 : tie.Need-returns-6
 unfolding wayValid ofBits lt
 returns-6 c =
-    let e = c .before .before .before in
+    let e = c .before .before .before .before .before .before .before .before .before in
     let h = e .before .before in
     let s = h .before .before .before .before .before .before .before .before .before .before .before .before .before .before .before .before .before in
     answered (s .args .file .now) (s .args .t) (s .args .vertices .now) (lists s) linear (query s) _ _ (resolved (h .before .before .before))
-    (c .read-row .ensures ∙ entry-row (s .args .file .now) (s .args .t) (s .args .vertices .now) (lists s) linear (query s) (slabOf (s .args .t .grid) (s .args .r) (s .args .omega)) (e .before .slab-below .result) (h .items-inside .result) (h .items-inside .ensures) (slab (e .before)) (omega (arith, e .if4 .left)))
+    ((rw (whole (s .args .file .now) 0, whole (s .args .vertices .now) 0, whole (s .args .cell-offsets .now) 0, whole (s .args .cell-vertices .now) 0, whole (s .args .face-offsets .now) 0, whole (s .args .faces .now) 0) at (c .read-row .ensures)) ∙ entry-row (s .args .file .now) (s .args .t) (s .args .vertices .now) (lists s) linear (query s) (slabOf (s .args .t .grid) (s .args .r) (s .args .omega)) (e .before .slab-below .result) (h .items-inside .result) (h .items-inside .ensures) (slab (e .before)) (omega (arith, e .if4 .left)))
 
 pub lookup-spec : {M : Type 1} → statement M
 lookup-spec =
     tie.close
-    (tie.spec (λ c κs. search needs) returns (λ c κs. search needs) returns-2 returns-3 (λ c κs. search needs) (λ c κs. search needs) (λ c κs. search needs) slab-below-requires returns-4 mul-at add-at shared-slice-read-if5 add-u32-inside u32-inside-requires (λ c κs. search needs) returns-5 read-row-requires returns-6)
+    (tie.spec (λ c κs. search needs) returns (λ c κs. search needs) returns-2 returns-3 (λ c κs. search needs) (λ c κs. search needs) (λ c κs. search needs) slab-below-requires returns-4 mul-at add-at shared-slice-read-if5 add-u32-inside u32-inside-requires (λ c κs. search needs) returns-5 (λ c. search needs) (λ c. search needs) (λ c. search needs) (λ c. search needs) (λ c. search needs) (λ c. search needs) (λ c. search needs) (λ c. search needs) (λ c. search needs) (λ c. search needs) (λ c. search needs) (λ c. search needs) (λ c. search needs) (λ c. search needs) (λ c. search needs) (λ c. search needs) (λ c. search needs) (λ c. search needs) read-row-requires returns-6)

@@ -15,6 +15,7 @@ use Rattle.reading.specs.Resolve.{Query, boltzmann, wayValid, Resolved, 
 use Rattle.reading.specs.declared.Reading.the-variants.{Energy}
 use Rattle.reading.specs.Internal.{wayOf, slabOf}
 use Rattle.reading.proofs.Inside.{refused-18, refused-21, beyond-out, no-bins, some-bins, bins-some, row-none, row-fits, scalar-row, entry-row, answered}
+use Rattle.reading.proofs.Parts.{whole}
 use Rattle.reading.proofs.stages.lookup_boltzmann.Statement.{statement}
 use Rattle.reading.proofs.stages.lookup_boltzmann.Tie as tie
 
@@ -116,17 +117,19 @@ returns-6 c =
     (scalar-row (s .args .file .now) (s .args .t) (s .args .vertices .now) (lists s) (boltzmann (s .args .beta)) (query s) (slabOf (s .args .t .grid) (s .args .r) (s .args .omega)) (e .before .slab-below .result) (h .items-inside .result) (h .items-inside .ensures) (slab (e .before)) (omega (arith, e .if5 .left)) (c .before .before .if6 .taken)))
 
 read-row-requires : tie.Need-read-row-requires
-read-row-requires c κs = fits (c .before .before)
+read-row-requires c κs =
+    let d = c .before .before .before .before .before .before .before .before in
+    rw (whole (d .before .before .before .before .before .before .before .before .before .before .before .before .before .before .before .before .before .before .before .before .before .args .file .now) 0) (fits d)
 
 returns-7 : tie.Need-returns-7
 returns-7 c =
-    let e = c .before .before .before in
+    let e = c .before .before .before .before .before .before .before .before .before in
     let h = e .before .before in
     let s = h .before .before .before .before .before .before .before .before .before .before .before .before .before .before .before .before .before .before .before in
     answered (s .args .file .now) (s .args .t) (s .args .vertices .now) (lists s) (boltzmann (s .args .beta)) (query s) _ _ (resolved (h .before .before .before))
-    ((rw (own-way (s .args .beta) (weighted (h .before .before .before .before .before .before .before .before))) at (c .read-row .ensures)) ∙ entry-row (s .args .file .now) (s .args .t) (s .args .vertices .now) (lists s) (boltzmann (s .args .beta)) (query s) (slabOf (s .args .t .grid) (s .args .r) (s .args .omega)) (e .before .slab-below .result) (h .items-inside .result) (h .items-inside .ensures) (slab (e .before)) (omega (arith, e .if5 .left)))
+    ((rw (own-way (s .args .beta) (weighted (h .before .before .before .before .before .before .before .before)), whole (s .args .file .now) 0, whole (s .args .vertices .now) 0, whole (s .args .cell-offsets .now) 0, whole (s .args .cell-vertices .now) 0, whole (s .args .face-offsets .now) 0, whole (s .args .faces .now) 0) at (c .read-row .ensures)) ∙ entry-row (s .args .file .now) (s .args .t) (s .args .vertices .now) (lists s) (boltzmann (s .args .beta)) (query s) (slabOf (s .args .t .grid) (s .args .r) (s .args .omega)) (e .before .slab-below .result) (h .items-inside .result) (h .items-inside .ensures) (slab (e .before)) (omega (arith, e .if5 .left)))
 
 pub lookup-boltzmann-spec : {M : Type 1} → statement M
 lookup-boltzmann-spec =
     tie.close
-    (tie.spec (λ c κs. search needs) returns (λ c κs. search needs) returns-2 (λ c κs. search needs) returns-3 returns-4 (λ c κs. search needs) (λ c κs. search needs) (λ c κs. search needs) slab-below-requires returns-5 mul-at add-at shared-slice-read-if6 add-u32-inside u32-inside-requires (λ c κs. search needs) returns-6 read-row-requires returns-7)
+    (tie.spec (λ c κs. search needs) returns (λ c κs. search needs) returns-2 (λ c κs. search needs) returns-3 returns-4 (λ c κs. search needs) (λ c κs. search needs) (λ c κs. search needs) slab-below-requires returns-5 mul-at add-at shared-slice-read-if6 add-u32-inside u32-inside-requires (λ c κs. search needs) returns-6 (λ c. search needs) (λ c. search needs) (λ c. search needs) (λ c. search needs) (λ c. search needs) (λ c. search needs) (λ c. search needs) (λ c. search needs) (λ c. search needs) (λ c. search needs) (λ c. search needs) (λ c. search needs) (λ c. search needs) (λ c. search needs) (λ c. search needs) (λ c. search needs) (λ c. search needs) (λ c. search needs) read-row-requires returns-7)
