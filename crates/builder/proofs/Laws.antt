@@ -19,7 +19,7 @@ use Rattle.grid.specs.Settings.{question, levelsValid, slabsFit}
 use Rattle.grid.specs.declared.Grid.{Grid}
 use Rattle.grid.proofs.Laws.{counts-le}
 use Rattle.rows.specs.Rows.{rowRoom}
-use Rattle.builder.specs.BuilderLists.{slabs, slab, storePlace, listRoom}
+use Rattle.builder.specs.BuilderLists.{slabs, slab, storePlace, slabRoom, listRoom}
 use Rattle.builder.specs.Refusals.{builderQuestion, setQuestion}
 use Rattle.builder.specs.declared.Builder.{Builder}
 
@@ -54,30 +54,29 @@ asked g top level e =
       few = leb-true (slabs g * per top) 4294967295 (q5 .0);
     }
 
--- 6, of store and rows, answered yes
-pub record Roomy (g : Grid) (top store kinds levels values : ℕ) : Type 0 where
-  pub store-le : slabs g * per top ≤ store
-  pub kinds-le : slabs g ≤ kinds
-  pub levels-le : slabs g ≤ levels
-  pub values-le : slabs g ≤ values
+-- 6, of store and rows, answered yes: n slabs of z energies each
+pub record Roomy (n z store kinds levels values : ℕ) : Type 0 where
+  pub store-le : n * z ≤ store
+  pub kinds-le : n ≤ kinds
+  pub levels-le : n ≤ levels
+  pub values-le : n ≤ values
 
-pub roomy : (g : Grid) (top store kinds levels values : ℕ) → listRoom g top store kinds levels values ≡ true → Roomy g top store kinds levels values
-unfolding listRoom rowRoom
-roomy g top store kinds levels values e =
-    let a = and-eq-true-iff (leb (slabs g * per top) store) (leb (slabs g) kinds && (leb (slabs g) levels && leb (slabs g) values)) .0 e in
-    let b = and-eq-true-iff (leb (slabs g) kinds) (leb (slabs g) levels && leb (slabs g) values) .0 (a .1) in
-    let d = and-eq-true-iff (leb (slabs g) levels) (leb (slabs g) values) .0 (b .1) in
-    record {
-      store-le = leb-true (slabs g * per top) store (a .0);
-      kinds-le = leb-true (slabs g) kinds (b .0);
-      levels-le = leb-true (slabs g) levels (d .0);
-      values-le = leb-true (slabs g) values (d .1);
-    }
+pub slab-roomy : (n z store kinds levels values : ℕ) → slabRoom n z store kinds levels values ≡ true → Roomy n z store kinds levels values
+unfolding rowRoom
+slab-roomy n z store kinds levels values e =
+    let a = and-eq-true-iff (leb (n * z) store) (leb n kinds && (leb n levels && leb n values)) .0 e in
+    let b = and-eq-true-iff (leb n kinds) (leb n levels && leb n values) .0 (a .1) in
+    let d = and-eq-true-iff (leb n levels) (leb n values) .0 (b .1) in
+    record { store-le = leb-true (n * z) store (a .0); kinds-le = leb-true n kinds (b .0); levels-le = leb-true n levels (d .0); values-le = leb-true n values (d .1) }
+
+pub roomy : (g : Grid) (top store kinds levels values : ℕ) → listRoom g top store kinds levels values ≡ true → Roomy (slabs g) (per top) store kinds levels values
+unfolding listRoom
+roomy g top store kinds levels values e = slab-roomy (slabs g) (per top) store kinds levels values e
 
 -- what an accepted set may count on: its row is inside the rows, and its energies inside the store
 pub record Set (b : Builder) (ri oi : ℕ) (e : List Float) (store kinds levels values : ℕ) : Type 0 where
   pub asked : Asked (b .grid) (b .top) (b .level)
-  pub room : Roomy (b .grid) (b .top) store kinds levels values
+  pub room : Roomy (slabs (b .grid)) (per (b .top)) store kinds levels values
   pub row : slab (b .grid) ri oi < slabs (b .grid)
   pub energies : storePlace (b .top) (slab (b .grid) ri oi) + length e ≤ store
 
@@ -108,7 +107,7 @@ accepted b ri oi e store kinds levels values p =
 -- what an accepted call may count on that the meshes are lent to
 pub record Meshed (b : Builder) (m : Mesh) (store kinds levels values : ℕ) : Type 0 where
   pub asked : Asked (b .grid) (b .top) (b .level)
-  pub room : Roomy (b .grid) (b .top) store kinds levels values
+  pub room : Roomy (slabs (b .grid)) (per (b .top)) store kinds levels values
   pub held : meshLong (verticesBelow (suc (b .top))) m ≡ true
   pub kept : meshesKeep (b .top) m ≡ true
 

@@ -14,7 +14,7 @@ use Rattle.rows.specs.declared.SlabResolution.{SlabResolution}
 use Rattle.rows.specs.declared.SlabResolution.the-variants.{Scalar, Mesh as MeshRow, Repulsive}
 use Rattle.rows.specs.Rows.{resolutionAt, rowWith}
 use Rattle.settling.specs.Settling.{fromLevel}
-use Rattle.builder.specs.BuilderLists.{BuilderLists, slab, storePlace, rowAt, rowsFrom}
+use Rattle.builder.specs.BuilderLists.{BuilderLists, slab, storePlace, rowIn, rowAt, rowsIn, rowsFrom}
 use Rattle.builder.specs.Refusals.{meshedRefusal, settleRefusal}
 use Rattle.builder.specs.Internal.{rowsFromLevel, settleQuestion}
 use Rattle.builder.specs.declared.Builder.{Builder}
@@ -43,7 +43,7 @@ any-energies c (MeshRow v b) e = refl
 any-energies c Repulsive e = refl
 
 by-lists : (c top : ℕ) (l : BuilderLists) (s n : ℕ) → every (fromLevel c) (rowsFrom top l s n) ≡ rowsFromLevel c (l .rows) s n
-unfolding every rowsFrom rowAt rowsFromLevel allUpTo
+unfolding every rowsIn rowIn rowsFromLevel allUpTo
 by-lists c top l s zero = refl
 by-lists c top l s (suc n) =
     let q : ℕ → Bool = λ i. fromLevel c (rowWith (resolutionAt (l .rows) (s + i)) []) in

@@ -4,6 +4,7 @@ ghost use mathlib.Core.Bool.{true};
 ghost use Rattle.mesh.specs.Mesh.{meshOf};
 ghost use Rattle.builder.specs.BuilderLists.{listsOf};
 ghost use Rattle.builder.specs.Calls.{BuiltOut, SettleOut, builtValues, builtNumbered, settledValues, settledNumbered, noBuilder, freshBuilder, freshOut, setOut, settleOut};
+use grid::AtomGrid;
 use grid::Grid;
 use rows::SlabResolution;
 
@@ -21,6 +22,14 @@ pub struct Builder {
     pub level: u64,
 }
 
+// The same of a table against an atom.
+#[repr(C)]
+pub struct AtomBuilder {
+    pub grid: AtomGrid,
+    pub top: u64,
+    pub level: u64,
+}
+
 // What fresh and set answer.
 pub enum Built {
     Accepted(Builder),
@@ -30,6 +39,17 @@ pub enum Built {
 // What settle answers: the builder, and the largest gradient.
 pub enum Settled {
     Accepted(Builder, f64),
+    Refused(u64),
+}
+
+// The same of a table against an atom; settle's gradient is its slab's.
+pub enum AtomBuilt {
+    Accepted(AtomBuilder),
+    Refused(u64),
+}
+
+pub enum AtomSettled {
+    Accepted(AtomBuilder, f64),
     Refused(u64),
 }
 

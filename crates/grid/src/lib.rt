@@ -18,6 +18,17 @@ pub struct Grid {
     pub n_omega: u64,
 }
 
+// The settings of a table against an atom: it has no dihedral angle.
+#[repr(C)]
+pub struct AtomGrid {
+    pub rmin: f64,
+    pub rmax: f64,
+    pub dr: f64,
+    pub threshold: f64,
+    pub beta: f64,
+    pub n_r: u64,
+}
+
 // x / step, to the nearest whole number, in floats.
 fn nearest_bin(x: f64, step: f64) -> u64
     ensures { λ r. ⌜ r ≡ nearestBin x step ⌝ }

@@ -28,7 +28,7 @@ use Rattle.locator.proofs.Entries.{getD-put}
 use Rattle.settling.specs.Gradient.{zero as nought}
 use Rattle.settling.specs.Settling.{verdictOf, verdicts, settledRows, settledSlice, drops}
 use Rattle.builder.specs.BuilderLists.{BuilderLists, slabs, slab, sliceAt, listRoom, listsLong}
-use Rattle.builder.specs.Calls.{settledLists, filled, setLists, setOut, settleAccepted, settleOut}
+use Rattle.builder.specs.Calls.{settledLists, filledSlabs, filled, slabSet, setOut, settleAccepted, settleOut}
 use Rattle.builder.specs.Refusals.{meshedRefusal, setQuestion, setRefusal, settleRefusal}
 use Rattle.builder.specs.declared.Builder.{Builder}
 use Rattle.settling.specs.declared.Verdict.{Verdict}
@@ -136,7 +136,7 @@ module _ (g : Grid) (top : ℕ) (m : Mesh) (base : Basis g top m) (v : ℕ) (low
       (λ t k ne i. other-slab store w s t k e fits few i (apart t s ne (le-or-lt s t)))
 
   set-step : (ri oi : ℕ) (e : List Float) (x : Bool) → eqb (setQuestion g v ri oi e) 0 ≡ x → Agree g top (called m st (set-call ri oi e)) (entered g m bk (set-call ri oi e))
-  unfolding called entered setOut setLists setEntered
+  unfolding called entered setOut slabSet setEntered
   set-step ri oi e true d = rw (set-number ri oi e, d) (record { same = refl; low = low; fit = set-fit ri oi e (eqb-true _ _ d) })
   set-step ri oi e false d = rw (set-number ri oi e, d) unchanged
 
@@ -209,7 +209,7 @@ filled-wide d n x h = length-put d 0 (replicate n x) (omega (arith, length-repli
 
 pub starts : (g : Grid) (top : ℕ) (l : BuilderLists) → Roomy g top (length (l .store)) (length (l .rows .kinds)) (length (l .rows .levels)) (length (l .rows .values))
     → Agree g top (record { builder = builderAt g top top; lists = filled (builderAt g top top) l }) (opened g top)
-unfolding filled opened fits ofBits toBits
+unfolding filledSlabs opened fits ofBits toBits
 starts g top l r =
     let n = slabs g in
     record {

@@ -22,7 +22,7 @@ use Rattle.rows.proofs.Replaced.{Held, numbers-back}
 use Rattle.ieee.proofs.Fields.{narrowed-fits}
 use Rattle.settling.specs.Gradient.{allRepulsive, gradient, meanNarrowed}
 use Rattle.settling.specs.Settling.{byGradient, verdict, verdictOf, newRow, inPlaceOf, settledRows, fromLevel, rowEnergies, replacedBy}
-use Rattle.builder.specs.BuilderLists.{slabs, rowAt, rowsFrom, rowsKnown}
+use Rattle.builder.specs.BuilderLists.{slabs, rowIn, rowAt, rowsIn, rowsFrom, rowsKnown}
 use Rattle.builder.specs.Calls.{settledLists}
 use Rattle.settling.specs.declared.Verdict.{Verdict}
 use Rattle.settling.specs.declared.Verdict.the-variants.{Empty as empty, Blocked as blocked, Isotropic as isotropic, Smooth as smooth, Rough as rough}
@@ -123,14 +123,14 @@ module _ (g : Grid) (top : ℕ) (store : List Float) (l : Rows) (rows : List (Ro
   good-at s h = all-at (Good per top) rows s repulsive (omega (arith, a .many)) (a .good)
 
   row-is : (s : ℕ) → s < slabs g → rowAt top (record { store = store; rows = l }) s ≡ getD rows s repulsive
-  unfolding rowAt resolutionAt
+  unfolding rowIn resolutionAt
   row-is s h =
       let o = a .each s h in
       let r = getD rows s repulsive in
       rw (o .0, o .1, o .2, numbers-back (numbersOf r) (held-row top r (good-at s h))) (row-by top store s r (good-at s h) (o .3))
 
   pub rows-are : (n s : ℕ) → s + n ≤ slabs g → rowsFrom top (record { store = store; rows = l }) s n ≡ take n (drop s rows)
-  unfolding rowsFrom
+  unfolding rowsIn
   rows-are zero s h = refl
   rows-are (suc n) s h = rw (drop-cons rows s repulsive (omega (arith, a .many)), row-is s (omega arith), rows-are n (suc s) (omega arith))
 

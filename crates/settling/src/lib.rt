@@ -15,6 +15,12 @@ pub enum Verdict {
     Rough(f64),
 }
 
+// What settling finds of a slab against an atom, with the slab's gradient; 0 beside a slab that holds no energies or is repulsive.
+pub struct AtomVerdict {
+    pub verdict: Verdict,
+    pub gradient: f64,
+}
+
 // What a slice adds up to: the largest gradient of slabs left as Mesh, whether some slab was settled, and whether no row is Repulsive.
 pub struct Tally {
     pub gradient: f64,

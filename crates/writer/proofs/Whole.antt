@@ -18,7 +18,7 @@ use Rattle.grid.specs.declared.Grid.{Grid}
 use Rattle.rows.specs.declared.SlabResolution.{SlabResolution}
 use Rattle.rows.specs.declared.SlabResolution.the-variants.{Scalar, Mesh, Repulsive}
 use Rattle.rows.specs.Rows.{Rows, resolutionOf, resolutionAt, known, rowWith, compared, narrowBits}
-use Rattle.builder.specs.BuilderLists.{BuilderLists, slabs, rowAt, rowsFrom, rowsKnown}
+use Rattle.builder.specs.BuilderLists.{BuilderLists, slabs, rowIn, rowsIn, rowsFrom, rowsKnown}
 use Rattle.builder.specs.declared.Builder.{Builder}
 use Rattle.table.specs.Bytes.{bytesOf, section}
 use Rattle.table.specs.File.{entryBytes, entry, energyCount, energiesIn, entries, packedEnergies, fileOf}
@@ -41,7 +41,7 @@ count-is (Mesh v b) e = refl
 count-is Repulsive e = refl
 
 pub entries-are : (top : ℕ) (l : BuilderLists) (o s n : ℕ) → entries per o (map compared (rowsFrom top l s n)) ≡ entriesFor per o (resolutions (l .rows) s n)
-unfolding entries rowsFrom rowAt entriesFor resolutions
+unfolding entries rowsIn rowIn entriesFor resolutions
 entries-are top l o s zero = refl
 entries-are top l o s (suc n) =
     let x = resolutionAt (l .rows) s in
@@ -56,7 +56,7 @@ energies-by false false y v f d = refl
 
 pub energies-are : (top : ℕ) (l : BuilderLists) (s n : ℕ)
     → packedEnergies (map compared (rowsFrom top l s n)) ≡ energiesFor per (per top) (l .store) (s * per top) (resolutions (l .rows) s n)
-unfolding packedEnergies rowsFrom rowAt energiesFor resolutions resolutionAt resolutionOf
+unfolding packedEnergies rowsIn rowIn energiesFor resolutions resolutionAt resolutionOf
 energies-are top l s zero = refl
 energies-are top l s (suc n) =
     let r = l .rows in

@@ -5,7 +5,7 @@ use lib.ListN.{length}
 use borrow.Author.Needs.{needs}
 use borrow.Author.Tests.{eq-eqb, ne-eqb}
 use Rattle.mesh.specs.Mesh.{meshOf}
-use Rattle.builder.specs.Calls.{freshOut, filled}
+use Rattle.builder.specs.Calls.{freshOut, filledSlabs}
 use Rattle.builder.specs.Refusals.{meshedRefusal}
 use Rattle.builder.proofs.Laws.{Meshed, meshed}
 use Rattle.builder.proofs.fresh.Statement.{statement}
@@ -37,7 +37,7 @@ clear-rows-requires : tie.Need-clear-rows-requires
 clear-rows-requires c κs = let f = facts (c .before .before .before .before .before .before .before .before) in (f .room .kinds-le, f .room .levels-le, f .room .values-le)
 
 returns-2 : tie.Need-returns-2
-unfolding freshOut meshedRefusal filled
+unfolding freshOut meshedRefusal filledSlabs
 returns-2 c =
     let d = c .before .before .before .before .before .before .before .before .before .before .before .before .before .before .before in
     let w = c .before .before .before .before .before .before .clear-rows .ensures in

@@ -3,7 +3,7 @@ use mathlib.Core.Path.{refl, sym, _∙_}
 use native.Mathlib.Omega.{arith}
 use lib.ListN.{length}
 use borrow.Author.Tests.{eq-eqb, ne-eqb}
-use Rattle.builder.specs.Calls.{setOut, setLists}
+use Rattle.builder.specs.Calls.{setOut, slabSet}
 use Rattle.builder.specs.Refusals.{setRefusal}
 use Rattle.builder.proofs.Laws.{Set, accepted}
 use borrow.Author.Needs.{needs}
@@ -38,7 +38,7 @@ cast-t26 : tie.Need-cast-t26
 cast-t26 c = let f = facts (c .before .before .before .before .before .before .before .before) in omega (arith, f .asked .top-le, f .asked .level-le)
 
 returns-2 : tie.Need-returns-2
-unfolding setOut setRefusal setLists
+unfolding setOut setRefusal slabSet
 returns-2 c =
     let e = c .before .before .before .before .before .before .before .before .before .before .before .before .before .before .before in
     (refl, rw (← e .before .set-refusal .ensures, eq-eqb _ _ (e .if1 .left), c .before .before .before .before .before .before .before .before .before .before .before .before .copy-at .ensures, c .before .before .before .before .before .before .before .before .before .before .before .before .before .per-level .ensures, ← c .before .before .before .before .before .before .replace .ensures))
