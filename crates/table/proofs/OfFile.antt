@@ -84,7 +84,7 @@ module _ (g : Grid) (levels : ℕ) (rows : List (Row ℕ)) (ok : Filable g level
   abbrev es : List ℕ
   es = packedEnergies rows
 
-  sizes : Ranged g levels × (g .«n_r» * g .«n_omega» * per (levels - 1) ≤ 4294967295)
+  pub sizes : Ranged g levels × (g .«n_r» * g .«n_omega» * per (levels - 1) ≤ 4294967295)
   unfolding gridValid slabsFit
   sizes =
       let a = and-eq-true-iff (gridRange g levels) (leb (g .«n_r» * g .«n_omega» * per (levels - 1)) 4294967295) .0 (ok .held) in
@@ -99,7 +99,7 @@ module _ (g : Grid) (levels : ℕ) (rows : List (Row ℕ)) (ok : Filable g level
   few : length es ≤ 4294967295
   few = omega (arith, rw (ok .many) at (energies-le per levels per-mono rows (ok .fine)), sizes .1)
 
-  few-energies : length es < 256 ^ 4
+  pub few-energies : length es < 256 ^ 4
   few-energies = omega (arith, few)
 
   hx : x < 256 ^ 8
@@ -117,7 +117,7 @@ module _ (g : Grid) (levels : ℕ) (rows : List (Row ℕ)) (ok : Filable g level
   hm : g .«n_omega» < 256 ^ 4
   hm = omega (arith, sizes .0 .dihedrals)
 
-  few-slabs : length rows < 256 ^ 4
+  pub few-slabs : length rows < 256 ^ 4
   few-slabs = omega (arith, ok .many, mul-le-mul (sizes .0 .distances) (sizes .0 .dihedrals))
 
   fit-rows : All Fitting rs
