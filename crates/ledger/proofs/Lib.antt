@@ -5,6 +5,7 @@ pub mod Follows
 pub mod Readings
 pub mod Admitted
 pub mod Theorem
+pub mod AtomFollows
 pub mod Sets
 pub mod Runs
 pub mod Order
