@@ -12,6 +12,8 @@ use Rattle.float.specs.Order.{angle}
 use Rattle.lists.proofs.Asking.{ask-yes}
 use Rattle.grid.specs.Bins.{nearestBin, distanceCount, dihedralCount, distanceBin, dihedralBin}
 use Rattle.grid.specs.Settings.{above, inRange, levelsValid, binsInRange, countsValid, ownCount, slabsFit, question, gridValid}
+use Rattle.grid.specs.Atom.{atomInRange, binCount, atomCountValid, atomSlabsFit, atomQuestion, atomGridValid}
+use Rattle.grid.specs.declared.AtomGrid.{AtomGrid}
 use Rattle.grid.specs.declared.Grid.{Grid}
 use Rattle.grid.proofs.Laws.{top-le}
 
@@ -32,6 +34,21 @@ table-valid g top level e =
     let t = top-le top level (q2 .0) in
     let z : suc top - 1 ≡ top = omega arith in
     rw (a .0, d .0, s .0, le-leb 1 (suc top) (omega arith), le-leb (suc top) 16 (omega arith), b .0, m .1, q4 .0, z, q5 .0)
+
+pub atom-table-valid : (g : AtomGrid) (top level : ℕ) → atomQuestion g top level ≡ 0 → atomGridValid g (suc top) ≡ true
+unfolding atomQuestion atomInRange atomCountValid atomGridValid
+atom-table-valid g top level e =
+    let q1 = ask-yes (lit< tt) e in
+    let q2 = ask-yes {q = levelsValid top level} (lit< tt) (q1 .1) in
+    let q3 = ask-yes (lit< tt) (q2 .1) in
+    let q4 = ask-yes {q = ownCount (g .«n_r») (g .dr) (g .rmin)} (lit< tt) (q3 .1) in
+    let q5 = ask-yes {q = atomSlabsFit (g .«n_r») top} (lit< tt) (q4 .1) in
+    let a = and-eq-true-iff (finite (g .rmin)) _ .0 (q1 .0) in
+    let d = and-eq-true-iff (above (g .dr)) _ .0 (and-eq-true-iff (lt (g .rmin) (g .rmax)) _ .0 (a .1) .1) in
+    let b = and-eq-true-iff (binCount (g .«n_r»)) _ .0 (q3 .0) in
+    let t = top-le top level (q2 .0) in
+    let z : suc top - 1 ≡ top = omega arith in
+    rw (a .0, d .0, le-leb 1 (suc top) (omega arith), le-leb (suc top) 16 (omega arith), b .0, q4 .0, z, q5 .0)
 
 -- both bin counts are above 0
 pub some-bins : (g : Grid) (levels : ℕ) → gridValid g levels ≡ true → (0 < g .«n_r») × (0 < g .«n_omega»)
