@@ -22,7 +22,7 @@ use Rattle.builder.specs.declared.AtomBuilt.the-variants.{Accepted as Bu
 use Rattle.builder.specs.declared.AtomSettled.{AtomSettled}
 use Rattle.builder.specs.declared.AtomSettled.the-variants.{Accepted as Settles, Refused as NotSettled}
 
--- "A slab holds n energies and a slice is one slab." (S15.1)
+-- "A slab holds n energies and a slice is one slab." (S18.1)
 abbrev pub atomRow : ℕ → BuilderLists → ℕ → Row Float
 atomRow top l s = rowIn vertexCount top l s
 
@@ -43,7 +43,7 @@ unfoldable pub atomMeshedRefusal : AtomBuilder → Mesh → BuilderLists → ℕ
 atomMeshedRefusal b m l =
     first (atomBuilderQuestion b) (ask (atomListsLong b l && meshLong (verticesBelow (suc (b .top))) m) 6 (ask (meshesKeep (b .top) m) 7 0))
 
--- 8 of the distance bin; "Questions 5 and 9 count n here"; 10 (S15.3)
+-- 8 of the distance bin; "Questions 5 and 9 count n here"; 10 (S18.2)
 unfoldable pub atomSetQuestion : AtomGrid → ℕ → ℕ → List Float → ℕ
 atomSetQuestion g level ri e =
     ask (ltb ri (g .«n_r»)) 8
@@ -128,7 +128,7 @@ atomSetOut b l ri e =
 
 -- ---- settle
 
--- "settle leaves the store" (S15.5)
+-- "settle leaves the store" (S18.4)
 unfoldable pub atomSettleAccepted : AtomBuilder → Mesh → BuilderLists → ℕ → AtomSettleOut
 atomSettleAccepted b m l ri =
     let g = b .grid in

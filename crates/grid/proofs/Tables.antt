@@ -63,6 +63,15 @@ some-bins g levels h =
     let o = and-eq-true-iff (leb 1 (g .«n_omega»)) (leb (g .«n_omega») 65535) .0 (and-eq-true-iff (leb (g .«n_r») 65535) _ .0 (m .1) .1) in
     (leb-true 1 (g .«n_r») (m .0), leb-true 1 (g .«n_omega») (o .0))
 
+pub atom-some-bins : (g : AtomGrid) (levels : ℕ) → atomGridValid g levels ≡ true → 0 < g .«n_r»
+unfolding atomGridValid
+atom-some-bins g levels h =
+    let a = and-eq-true-iff (finite (g .rmin)) _ .0 (and-eq-true-iff _ (atomSlabsFit (g .«n_r») (levels - 1)) .0 h .0) .1 in
+    let b = and-eq-true-iff (above (g .dr)) _ .0 a .1 in
+    let e = and-eq-true-iff (leb levels 16) _ .0 (and-eq-true-iff (leb 1 levels) _ .0 b .1) .1 in
+    let n = and-eq-true-iff (binCount (g .«n_r»)) _ .0 e .0 in
+    leb-true 1 (g .«n_r») (and-eq-true-iff (leb 1 (g .«n_r»)) (leb (g .«n_r») 65535) .0 n .0)
+
 -- a bin is below its count
 pub distance-below : (r rmin dr : Float) (n : ℕ) → 0 < n → distanceBin r rmin dr n < n
 unfolding distanceBin

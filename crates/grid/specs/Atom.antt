@@ -22,7 +22,7 @@ binCount n = leb 1 n && leb n 65535
 unfoldable pub atomCountValid : AtomGrid → Bool
 atomCountValid g = binCount (g .«n_r») && eqb (g .«n_r») (distanceCount (g .rmin) (g .rmax) (g .dr))
 
--- 5: "Questions 5 and 9 count n here" (S15.3)
+-- 5: "Questions 5 and 9 count n here" (S18.2)
 unfoldable pub atomSlabsFit : ℕ → ℕ → Bool
 atomSlabsFit n top = leb (n * vertexCount top) 4294967295
 

@@ -3,10 +3,10 @@ use mathlib.Core.Path.{_≡_, refl, ap}
 use Rattle.lists.proofs.Counting.{chosen}
 use mathlib.Core.Bool.{Bool, true, false, cond, _&&_}
 use mathlib.Core.List.{List, [], _∷_, map}
-use Prim.Native.Nat.{ℕ, suc, _+_, _*_, _^_, _≤_, _<_}
+use Prim.Native.Nat.{ℕ, suc, _+_, _*_, _≤_, _<_}
 use native.Mathlib.Omega.{arith}
 use lib.ListN.{length, getD}
-use lib.Dec.{ltb, eqb, lit<}
+use lib.Dec.{ltb, eqb}
 use borrow.Author.Tests.{eqb-true, lt-ltb, le-leb}
 use Rattle.lists.specs.Lists.{every}
 use Rattle.mesh.specs.Levels.{vertexCount, per, verticesBelow}
@@ -30,7 +30,8 @@ use Rattle.table.proofs.Back.{All}
 use Rattle.table.proofs.Sound.{Fine}
 use Rattle.table.proofs.OfRows.{before}
 use Rattle.table.proofs.OfSections as OfSections
-use Rattle.table.proofs.OfFile.{Filable, gridIn, tableIn, sizes, few-slabs, few-energies}
+use Rattle.table.proofs.OfSections.{Sized}
+use Rattle.table.proofs.OfFile.{Filable, gridIn, tableIn, sized}
 use Rattle.reading.specs.Resolve.{readingValues, Query, Way, wayValid, queryValid, outside, Resolved, unresolved, beyond, slabAt, resolve, Picks, unpicked, picked, Combination, combined, joint, pairPlace, nearestPick, facePick}
 use Rattle.reading.specs.Reading.{rowInside, energyInside, entryAt, energyAt, searchIn, picksBy, entryBy, slabBy, readEntry, readingBy}
 use Rattle.reading.proofs.Picked.{both-found}
@@ -121,8 +122,7 @@ pub record Laid (each : ℕ → ℕ) (levels : ℕ) (rows : List (Row ℕ)) (fil
   pub found : (s k : ℕ) → s < length rows → k < length (energiesIn (getD rows s repulsive))
       → (energyInside file t (before each levels rows s + k) ≡ true) × (energyAt file t (before each levels rows s + k) ≡ getD (energiesIn (getD rows s repulsive)) k 0)
 
-module _ (each : ℕ → ℕ) (xs ns : List ℕ) (levels : ℕ) (rows : List (Row ℕ)) (fewFloats : length xs < 256 ^ 4) (fewBins : length ns < 256 ^ 4) (fewLevels : levels ≤ 16)
-    (fewRows : length rows < 256 ^ 4) (few : length (packedEnergies rows) < 256 ^ 4) (fine : All (Fine each levels) rows) (g : Grid) where
+module _ {each : ℕ → ℕ} {xs ns : List ℕ} {levels : ℕ} {rows : List (Row ℕ)} (sized : Sized each xs ns levels rows) (g : Grid) where
   abbrev tableAt : Table
   tableAt =
       record {
@@ -132,26 +132,24 @@ module _ (each : ℕ → ℕ) (xs ns : List ℕ) (levels : ℕ) (rows : List (Ro
         energies = length (packedEnergies rows);
         «grid_start» = 4;
         «bins_start» = 4 + length xs * 8 + 4;
-        «levels_start» = OfSections.levelsAt each xs ns levels rows fewFloats fewBins fewLevels fewRows few fine + 4;
-        «rows_start» = OfSections.rowsAt each xs ns levels rows fewFloats fewBins fewLevels fewRows few fine;
-        «energies_start» = OfSections.energiesAt each xs ns levels rows fewFloats fewBins fewLevels fewRows few fine;
+        «levels_start» = OfSections.levelsAt sized + 4;
+        «rows_start» = OfSections.rowsAt sized;
+        «energies_start» = OfSections.energiesAt sized;
       }
 
   abbrev sections : List ℕ
   sections = sectionsOf each xs ns levels rows
 
-  long : length sections ≡ tableAt .«energies_start» + length (packedEnergies rows) * 4
-  long = OfSections.sections-length each xs ns levels rows fewFloats fewBins fewLevels fewRows few fine
-
   pub laid : Laid each levels rows sections tableAt
   unfolding rowInside energyInside entryAt energyAt
   laid =
+      let long = OfSections.sections-length sized in
       record {
         held = λ v h. lt-ltb v levels h;
         row-in = λ s h. rw (lt-ltb s (length rows) h, le-leb (tableAt .«rows_start» + s * 10 + 10) (length sections) (omega (arith, long)));
-        entry-is = OfSections.entry-of each xs ns levels rows fewFloats fewBins fewLevels fewRows few fine;
+        entry-is = OfSections.entry-of sized;
         found = λ s k h i.
-            let e = OfSections.energy-of each xs ns levels rows fewFloats fewBins fewLevels fewRows few fine s k h i in
+            let e = OfSections.energy-of sized s k h i in
             let j = before each levels rows s + k in (
               rw (lt-ltb j (length (packedEnergies rows)) (e .0), le-leb (tableAt .«energies_start» + j * 4 + 4) (length sections) (omega (arith, long, e .0))),
               e .1,
@@ -216,7 +214,7 @@ module _ (top : ℕ) (m : Mesh) (l : Locator) (low : top ≤ 15) (held : meshLon
 
     table-laid : Laid per (suc top) rows (fileOf g (suc top) rows) t
     unfolding fileOf
-    table-laid = laid per _ _ (suc top) rows (lit< tt) (lit< tt) (sizes g (suc top) rows ok .0 .few) (few-slabs g (suc top) rows ok) (few-energies g (suc top) rows ok) (ok .fine) (gridIn g (suc top) rows)
+    table-laid = laid (sized g (suc top) rows ok) (gridIn g (suc top) rows)
 
     grid-same : (valid : Bool) → resolve valid (gridIn g (suc top) rows) q ≡ resolve valid g q
     unfolding resolve outside

@@ -55,7 +55,7 @@ atomOpened g top = record { level = top; rows = replicate (g .«n_r») (scalar z
 unfoldable pub atomLedgerQuestion : AtomGrid → Ledger → ℕ → ℕ
 atomLedgerQuestion g b ri = ask (ltb ri (g .«n_r»)) 8 (ask (fromLevel (b .level) (getD (b .rows) ri repulsive)) 11 0)
 
--- "Settle accepted": "any other settling .. drops a level above 0 where that gradient is below the threshold" (S15.5)
+-- "Settle accepted": "any other settling .. drops a level above 0 where that gradient is below the threshold" (S18.4)
 unfoldable pub atomSettleEntered : AtomGrid → Mesh → Ledger → ℕ → Ledger
 atomSettleEntered g m b ri =
     let c = b .level in

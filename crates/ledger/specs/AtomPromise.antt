@@ -57,7 +57,7 @@ pub record AtomAccepted (h : AtomHistory) : Type 0 where
 unfoldable pub atomRows : AtomHistory → List (Row ℕ)
 atomRows h = map compared (atomLedger (atomCounted (h .grid)) (h .meshes) (atomOpened (atomCounted (h .grid)) (h .top)) (h .calls) .rows)
 
--- grids (rmin, dr and the count) and level counts are equal, "and 01's ledger, run over each list alone, ends with the same row at every slab" (S15.9)
+-- grids (rmin, dr and the count) and level counts are equal, "and 01's ledger, run over each list alone, ends with the same row at every slab" (S18.9)
 pub record AtomSame (a b : AtomHistory) : Type 0 where
   pub rmin : toBits binary64 (a .grid .rmin) ≡ toBits binary64 (b .grid .rmin)
   pub dr : toBits binary64 (a .grid .dr) ≡ toBits binary64 (b .grid .dr)
@@ -80,6 +80,6 @@ pub record AtomKept (h : AtomHistory) : Type 0 where
   -- 18, 20 and, for a beta that is not finite and above 0, 21 are the only numbers that refuse it: never 19
   pub answers : (l : Locator) → Roomy (h .top) l → (way : Way) (q : AtomQuery) → Answered way (atomReadingOf h l way q .number)
 
--- demand 3, of tables against an atom (S15.9)
+-- demand 3, of tables against an atom (S18.9)
 abbrev pub AtomPromise : Type 0
 AtomPromise = (a b : AtomHistory) → AtomAccepted a → AtomAccepted b → ((atomFile a ≡ atomFile b) ↔ AtomSame a b) × (AtomKept a × AtomKept b)

@@ -32,7 +32,7 @@ pub record AtomQuery : Type 0 where
   pub r : Float
   pub d : Vector3
 
--- 18: "the .. omega and second direction drop out" (S15.6)
+-- 18: "the .. omega and second direction drop out" (S18.2)
 unfoldable pub atomQueryValid : AtomQuery → Bool
 atomQueryValid q = not (isNan (q .r)) && above (norm (q .d))
 
@@ -87,11 +87,11 @@ atomFacePick x =
 
 -- ---- the energies, by their bits
 
--- `lookup`: bary[0] * vals[0] + bary[1] * vals[1] + bary[2] * vals[2], with no start (S15.7)
+-- `lookup`: bary[0] * vals[0] + bary[1] * vals[1] + bary[2] * vals[2], with no start (S18.7)
 unfoldable pub threeTerms : Weights → Float → Float → Float → Float
 threeTerms w x y z = add binary64 (add binary64 (mul binary64 (w .a) x) (mul binary64 (w .b) y)) (mul binary64 (w .c) z)
 
--- `lookup_boltzmann`: "the 3D function's own sum, whose zero weights stay in" (S15.8)
+-- `lookup_boltzmann`: "the 3D function's own sum, whose zero weights stay in" (S18.8)
 unfoldable pub atomAverage : Float → Weights → Float → Float → Float → Float
 atomAverage beta w x y z =
     let u = smaller (smaller x y) z in

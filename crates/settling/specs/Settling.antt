@@ -117,7 +117,7 @@ fromLevel c (mesh v b e) = eqb v c
 
 -- ---- against an atom (`Adaptive3DBuilder::finish_r_slice`), where a slice is one slab
 
--- of n energies: "any other settling returns its slab's gradient, also where the slab becomes Scalar" (S15.5)
+-- of n energies: "any other settling returns its slab's gradient, also where the slab becomes Scalar" (S18.4)
 unfoldable pub atomVerdict : Float → Float → Mesh → ℕ → List Float → AtomVerdict
 atomVerdict threshold beta m n e =
     let x = atomGradient m n beta e in
@@ -129,6 +129,6 @@ atomVerdictOf threshold beta m n (scalar x) = record { verdict = empty; gradient
 atomVerdictOf threshold beta m n repulsive = record { verdict = empty; gradient = zero }
 atomVerdictOf threshold beta m n (mesh v b e) = atomVerdict threshold beta m n e
 
--- ".. leaves the level"; any other "drops a level above 0 where that gradient is below the threshold" (S15.5)
+-- ".. leaves the level"; any other "drops a level above 0 where that gradient is below the threshold" (S18.4)
 unfoldable pub atomLevel : Float → ℕ → AtomVerdict → ℕ
 atomLevel threshold c v = cond (settles (v .verdict) && (lt (v .gradient) threshold && ltb 0 c)) (c - 1) c

@@ -19,7 +19,7 @@ use Rattle.table.specs.declared.AtomTable.{AtomTable}
 use Rattle.table.specs.declared.AtomReadAnswer.{AtomReadAnswer}
 use Rattle.table.specs.declared.AtomReadAnswer.the-variants.{Accepted as Reads, Refused as NotRead}
 
--- "In the file, section 1 has count 2 (rmin, dr) and section 2 count 1." A Mesh row has n energies. (S15.2)
+-- "In the file, section 1 has count 2 (rmin, dr) and section 2 count 1." A Mesh row has n energies. (S18.6)
 unfoldable pub atomFileOf : AtomGrid → ℕ → List (Row ℕ) → List ℕ
 atomFileOf g levels rows = sectionsOf vertexCount (toBits binary64 (g .rmin) ∷ toBits binary64 (g .dr) ∷ []) (g .«n_r» ∷ []) levels rows
 
@@ -92,7 +92,7 @@ atomTableValid file t =
     && (eqb (t .rows) (t .grid .«n_r»)
     && allUpTo (t .levels) (λ m. eqb (numberAt 4 file (t .«levels_start» + 4 * m)) (vertexCount m)))
 
--- 13 to 17, each put to the whole file before the next (S15.4)
+-- 13 to 17, each put to the whole file before the next (S18.6)
 unfoldable pub atomReadRefusal : List ℕ → Layout → AtomTable → ℕ
 atomReadRefusal file p t =
     ask (laidOut 2 1 file p) 13
