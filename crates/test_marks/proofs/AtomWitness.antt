@@ -1,16 +1,20 @@
 -- Demand 3 for tables against an atom on real lists of calls: its hypotheses are met, and files are equal or differ as the ledgers say.
-use mathlib.Core.Path.{_≡_, refl, ap}
+use mathlib.Core.Path.{_≡_, refl, ap, _∙_}
+use mathlib.Core.Bool.{false}
 use mathlib.Core.List.{List, [], _∷_, _++_}
 use Prim.Native.Nat.{ℕ}
-use native.Mathlib.Omega.{arith}
-use lib.ListN.{length, replicate, getD}
+use lib.ListN.{replicate, getD}
 use lib.Dec.{T}
 use lib.Ieee.{binary64, fits}
 use lib.Ieee.Bits.{ofBits-fits}
-use Rattle.rows.specs.Rows.{Row, repulsive}
-use Rattle.ledger.specs.AtomLedger.{AtomCall, set-call, settle-call, write-call}
+use Rattle.grid.specs.Atom.{atomCounted}
+use Rattle.grid.specs.declared.AtomGrid.{AtomGrid}
+use Rattle.rows.specs.Rows.{Row, scalar, repulsive, mesh}
+use Rattle.ledger.specs.Ledger.{Ledger}
+use Rattle.ledger.specs.AtomLedger.{AtomCall, set-call, settle-call, write-call, atomOpened, atomLedger}
 use Rattle.ledger.specs.AtomPromise.{AtomHistory, atomFile, AtomAccepted, atomRows, AtomSame}
 use Rattle.ledger.proofs.AtomTheorem.{atom-promise}
+use Rattle.test_marks.specs.Icospheres.{twoLevels}
 use Rattle.test_marks.specs.Computed.{f64}
 use Rattle.test_marks.specs.Atom.{atomComputed, atomHistory, atomHistory₂, atomTens, smooth, lowering}
 
@@ -67,8 +71,11 @@ files-equal = atom-promise alone longer accepted-alone accepted-longer .0 .1 (sa
 abbrev short : AtomHistory
 short = atomHistory₂ lowering
 
+abbrev later : List AtomCall
+later = settle-call 0 ∷ write-call (replicate 300 0) ∷ []
+
 abbrev refused : AtomHistory
-refused = atomHistory₂ (lowering ++ settle-call 0 ∷ write-call (replicate 300 0) ∷ [])
+refused = atomHistory₂ (lowering ++ later)
 
 pub accepted-lowered : AtomAccepted short
 unfolding atomComputed
@@ -78,9 +85,28 @@ pub accepted-refused : AtomAccepted refused
 unfolding atomComputed
 accepted-refused = record { rmin = zero-fits; dr = one-fits; fresh = refl; write = refl }
 
-ledgers-equal-too : atomRows short ≡ atomRows refused
+-- the ledger is computed alone
+abbrev g : AtomGrid
+g = atomCounted (short .grid)
+
+abbrev book : Ledger
+book = record { level = 0; rows = mesh 1 false smooth ∷ scalar (f64 0) ∷ repulsive ∷ [] }
+
+ledger-lowered : atomLedger g twoLevels (atomOpened g 1) lowering ≡ book
 unfolding atomComputed
-ledgers-equal-too = refl
+ledger-lowered = refl
+
+ledger-later : atomLedger g twoLevels book later ≡ book
+unfolding atomComputed
+ledger-later = refl
+
+ledger-refused : atomLedger g twoLevels (atomOpened g 1) (lowering ++ later) ≡ book
+unfolding atomLedger
+ledger-refused = ap (λ (b : Ledger). atomLedger g twoLevels b later) ledger-lowered ∙ ledger-later
+
+ledgers-equal-too : atomRows short ≡ atomRows refused
+unfolding atomRows
+ledgers-equal-too = rw (ledger-lowered, ledger-refused)
 
 pub files-equal-too : atomFile short ≡ atomFile refused
 files-equal-too = atom-promise short refused accepted-lowered accepted-refused .0 .1 (same-rows short refused refl refl ledgers-equal-too)
