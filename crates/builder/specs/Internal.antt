@@ -14,13 +14,13 @@ use Rattle.settling.specs.Settling.{verdictOf, newRow, fromLevel, replacedBy, a
 use Rattle.builder.specs.BuilderLists.{BuilderLists, slab, slabs, sliceAt}
 use Rattle.builder.specs.Calls.{settledLists}
 use Rattle.builder.specs.declared.Builder.{Builder}
+use Rattle.builder.specs.declared.AtomBuilder.{AtomBuilder}
 use Rattle.settling.specs.Internal.{tallied}
 use Rattle.settling.specs.declared.Tally.{Tally}
 use Rattle.settling.specs.declared.Verdict.{Verdict}
 use Rattle.settling.specs.declared.AtomVerdict.{AtomVerdict}
 use Rattle.lists.specs.Questions.{ask}
 use Rattle.builder.specs.BuilderLists.{slab, rowsKnown}
-use Rattle.builder.specs.declared.Builder.{Builder}
 
 -- ---- the questions
 
@@ -98,7 +98,16 @@ dropsBy t threshold level = t .settled && (t .clear && (lt (t .gradient) thresho
 unfoldable pub droppedBy : Builder → Tally → Builder
 droppedBy b t = record { grid = b .grid; top = b .top; level = cond (dropsBy t (b .grid .threshold) (b .level)) (b .level - 1) (b .level) }
 
--- what settling a slab against an atom gives and leaves
+-- ---- against an atom
+
+-- what an accepted settle may count on
+pub record AtomSettleReady (b : AtomBuilder) (ms : Mesh) (store : List Float) (ri : ℕ) : Type 0 where
+  pub top-le : b .top ≤ 15
+  pub level-le : b .level ≤ b .top
+  pub store-le : ri * vertexCount (b .top) + vertexCount (b .level) ≤ length store
+  pub linked : MeshesLinked (b .level) ms
+
+-- what settling a slab gives and leaves
 abbrev pub atomSettledSlab : Float → Float → Mesh → ℕ → Row Float → ℕ → Rows → AtomVerdict → Rows → Type 0
 atomSettledSlab threshold beta m c r s rows v rows′ =
     (v ≡ atomVerdictOf threshold beta m (vertexCount c) r) × (rows′ ≡ replacedBy rows s (newRow c (v .verdict)))
