@@ -214,6 +214,7 @@ static const struct {
     {"calls", calls, replay_calls},
     {"readings", readings, replay_readings},
     {"damaged", damaged, replay_damaged},
+    {"damaged_atom", damaged, replay_damaged_atom},
 };
 
 static char *letters_of(const char *name, size_t *count) {
@@ -248,6 +249,6 @@ int main(int count, char **words) {
         free(r.letters);
         return report(&r);
     }
-    fputs("usage: replay searches|calls|readings|damaged FILE\n", stderr);
+    fputs("usage: replay searches|calls|readings|damaged|damaged_atom FILE\n", stderr);
     return 2;
 }
