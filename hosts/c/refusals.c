@@ -390,7 +390,7 @@ static const example atom_examples[] = {
     {atom_bin_beyond, "settle of distance bin 2, where there are two: 0 and 1", 0},
     {atom_pairs, "set of 1764 energies, as two molecules have them, where the current level has 42 vertices", 0},
     {atom_nan_energy, "set with a NaN among the energies", 0},
-    {atom_settled_twice, "a distance is set at level 1 and settled, so that the level drops to 0; then it is settled again, where the Rust stops", 0},
+    {atom_settled_twice, "a distance is set at level 1 and settled, so that the level drops to 0; then it is settled again, where the Rust panics", 0},
     {atom_short_output, "write to 235 bytes, where the file has 236", 0},
     {atom_other_kind, "read of a file of two molecules by the atom's reader", 0},
     {atom_file_grid, "read of a file that says 3 distance bins, where it has 2 rows", 0},
