@@ -257,8 +257,8 @@ static void build_ion(ion_work *w) {
     }
 }
 
-/* Readings of the file, plain and weighted, beside the energy worked out directly. A weighted one is not above the plain
- * one but for rounding, or it is infinite, where the least energy has weight 0 and the others have none beside it. */
+/* Readings of the file, plain and weighted, beside the energy worked out directly. No weighted one is above the plain one
+ * but for rounding: none here is the infinite one that docs/GUIDE.md speaks of. */
 static int look_up_ion(const ion_work *w, const char *name, size_t length) {
     uint8_t *file = load(name, length);
     icotable_atom_table t = icotable_atom_read(file, length);
@@ -266,7 +266,7 @@ static int look_up_ion(const ion_work *w, const char *name, size_t length) {
         stop("read", t.number);
     puts("\n distance    direct energy     from the table           weighted  (kJ/mol)");
     uint64_t state = 2;
-    int near = 0, refused = 0, above = 0, infinite = 0;
+    int near = 0, refused = 0, above = 0;
     for (int i = 0; i < LOOKUPS; i++) {
         double a[3], r = ion_settings.rmin + (double)(uint64_t)((drawn(&state) + 1) * 0.5 * ION_SLABS) * ion_settings.dr;
         direction(&state, a);
@@ -275,14 +275,13 @@ static int look_up_ion(const ion_work *w, const char *name, size_t length) {
         pose turned = first_pose(a);
         double direct = ion_energy(&turned, r);
         refused += v.number != 0 || x.number != 0;
-        infinite += isinf(x.energy) && !isinf(v.energy);
-        above += !isinf(x.energy) && x.energy - v.energy > 1e-9 * fabs(v.energy);
+        above += x.energy > v.energy && x.energy - v.energy > 1e-9 * fabs(v.energy);
         near += fabs(exp(-BETA * v.energy) - exp(-BETA * direct)) < 0.25;
         if (i % (LOOKUPS / 10) == 0)
             printf("%9.3g  %15.5g  %17.5g  %17.5g\n", r, direct, v.energy, x.energy);
     }
-    printf("%d readings, %d refused; the Boltzmann weight is within 0.25 of the direct one in %.1f %%\n", LOOKUPS, refused, 100.0 * near / LOOKUPS);
-    printf("Weighted ones that are infinite where the plain one is not: %d; others above the plain one: %d\n", infinite, above);
+    printf("%d readings, %d refused, %d weighted ones above the plain one; the Boltzmann weight is within 0.25 of the direct one in %.1f %%\n", LOOKUPS,
+           refused, above, 100.0 * near / LOOKUPS);
     free(file);
     return refused == 0 && above == 0 && near > LOOKUPS * 9 / 10;
 }

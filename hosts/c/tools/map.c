@@ -8,7 +8,7 @@
 #include <stdlib.h>
 #include <string.h>
 
-enum { WIDE = 560, HIGH = 260, STRIP = 40, LEFT = 64, TOP = 60, CURVE = 90, GAP = 46, PANEL = LEFT + WIDE + 24, COLUMNS = 240, LINES = 120 };
+enum { WIDE = 560, HIGH = 260, STRIP = 40, LEFT = 64, TOP = 60, CURVE = 90, GAP = 46, PANEL = LEFT + WIDE + 24, COLUMNS = 240, LINES = 120, SECOND = 20 };
 
 /* One table's part of the picture. A cell stands for one slab, or in a large table for a block of them. */
 typedef struct panel {
@@ -121,19 +121,23 @@ static void numbered(FILE *out, double x, double y, const char *anchor, double n
     label(out, x, y, anchor, "", words);
 }
 
-static void distance_axis(FILE *out, const panel *p) {
+static void dihedral_numbers(FILE *out, const panel *p) {
+    double step = p->file->table.grid.omega_step;
+    uint64_t every = p->n_omega <= 6 ? 1 : (p->n_omega + 5) / 6;
+    for (uint64_t oi = 0; oi < p->n_omega; oi += every)
+        numbered(out, p->x - 8, TOP + p->height * (1 - ((double)oi + 0.5) / (double)p->n_omega) + 4, "end", (double)oi * step * 57.29577951308232);
+}
+
+static void axes(FILE *out, const panel *p) {
     const icotable_grid *g = &p->file->table.grid;
     uint64_t every = p->n_r <= 8 ? 1 : (p->n_r + 7) / 8;
     for (uint64_t ri = 0; ri < p->n_r; ri += every)
         numbered(out, p->x + p->width * ((double)ri + 0.5) / (double)p->n_r, TOP + p->height + 16, "middle", g->rmin + (double)ri * g->dr);
+    if (!p->file->atom)
+        dihedral_numbers(out, p);
     label(out, p->x + p->width / 2, TOP + p->height + 33, "middle", "", "distance");
-}
-
-static void dihedral_axis(FILE *out, const panel *p) {
-    double step = p->file->table.grid.omega_step * 57.29577951308232;
-    uint64_t every = p->n_omega <= 6 ? 1 : (p->n_omega + 5) / 6;
-    for (uint64_t oi = 0; oi < p->n_omega; oi += every)
-        numbered(out, p->x - 8, TOP + p->height * (1 - ((double)oi + 0.5) / (double)p->n_omega) + 4, "end", (double)oi * step);
+    if (p->file->atom)
+        return;
     char turned[80];
     snprintf(turned, sizeof turned, " transform=\"rotate(-90 %.1f %.1f)\"", p->x - 46, TOP + p->height / 2);
     label(out, p->x - 46, TOP + p->height / 2, "middle", turned, "dihedral, degrees");
@@ -159,6 +163,7 @@ static void curve(FILE *out, const panel *p) {
     label(out, p->x + p->width / 2, top + CURVE + 16, "middle", "", "lowest energy of each distance (cut off above)");
 }
 
+/* In two lines where there are more levels than one has room for, which are six. */
 static void legend(FILE *out, const panel *p, double y) {
     const uint64_t levels = p->file->table.levels;
     double x = p->x;
@@ -168,6 +173,10 @@ static void legend(FILE *out, const panel *p, double y) {
         row mesh = {k == levels + 1 ? NEAREST : INTERPOLATED, k == 0 || k > levels ? 0 : k - 1, 0, 0};
         snprintf(words, sizeof words, "%u", mesh.level);
         const char *named = k == 0 ? "wall" : k == levels + 1 ? "nearest" : k == levels + 2 ? "one number" : words;
+        if (x + 7.0 * (double)strlen(named) > p->x + p->width) {
+            x = p->x;
+            y += SECOND;
+        }
         rectangle(out, x, y, 14, 14);
         fputs(" stroke=\"#999\" fill=\"", out);
         colour(out, k == 0 ? &wall : k == levels + 2 ? &scalar : &mesh, levels);
@@ -203,9 +212,7 @@ static void draw(FILE *out, const panel *p, uint64_t differing) {
     if (p->columns < p->n_r || p->lines < p->n_omega)
         snprintf(words + strlen(words), sizeof words - strlen(words), "; a cell shows the first of several slabs");
     label(out, p->x, 46, "start", "", words);
-    distance_axis(out, p);
-    if (!p->file->atom)
-        dihedral_axis(out, p);
+    axes(out, p);
     curve(out, p);
     legend(out, p, TOP + p->height + GAP + CURVE + 30);
 }
@@ -234,8 +241,11 @@ static void picture(FILE *out, const panel *panels, int count) {
     uint64_t differing = 0;
     for (uint64_t s = 0; panels[0].other != NULL && s < panels[0].file->table.rows; s++)
         differing += !same_row(panels[0].file, panels[0].other, s);
-    double height = fmax(panels[0].height, panels[count - 1].height);
-    int wide = PANEL * count, high = TOP + (int)height + GAP + CURVE + 60;
+    int wide = PANEL * count, high = 0;
+    for (int i = 0; i < count; i++) {
+        int own = TOP + (int)panels[i].height + GAP + CURVE + 60 + (panels[i].file->table.levels > 6 ? SECOND : 0);
+        high = own > high ? own : high;
+    }
     fprintf(out, "<svg xmlns=\"http://www.w3.org/2000/svg\" viewBox=\"0 0 %d %d\" width=\"%d\" height=\"%d\" font-family=\"sans-serif\" font-size=\"12\">\n", wide, high, wide, high);
     fputs("<defs><pattern id=\"nearest\" width=\"6\" height=\"6\" patternUnits=\"userSpaceOnUse\" patternTransform=\"rotate(45)\">"
           "<rect width=\"2\" height=\"6\" fill=\"#fff\" fill-opacity=\"0.65\"/></pattern></defs>\n<rect width=\"100%\" height=\"100%\" fill=\"#fff\"/>\n",
