@@ -13,7 +13,6 @@ enum { ROOM = 2048, FIELD = 10, NO_PLACE = 0xFFFF };
 
 /* The undamaged file, and where its sections' counts begin and the last one ends. */
 typedef struct whole_file {
-    bool atom;
     size_t count, section[6];
     uint8_t bytes[ROOM];
 } whole_file;
@@ -67,8 +66,8 @@ static void replay_copy(replay *r, const whole_file *f) {
     uint8_t copy[ROOM];
     size_t length = read_copy(r, f, copy);
     int kind = kind_of(r);
-    uint64_t ours = f->atom ? icotable_atom_read(copy, length).number : icotable_read(copy, length).number;
-    place p = find_place(copy, length, f->atom);
+    uint64_t ours = read_table(copy, length, r->atom).number;
+    place p = find_place(copy, length, r->atom);
     bool agrees = holds(r, kind, p.number == ours, "the tools' walk comes to another number than the library");
     agrees &= holds(r, kind, ours == 0 || can_be(f, &p, first_change(f, copy, length), length),
         "the tools' walk names a byte that cannot be");
@@ -77,10 +76,10 @@ static void replay_copy(replay *r, const whole_file *f) {
 }
 
 /* Each section goes by the one before it. */
-static void replay_copies(replay *r, bool atom, size_t count) {
+void replay_damaged(replay *r) {
     static const size_t width[5] = {8, 4, 4, 10, 4};
-    whole_file f = {.atom = atom, .count = count};
-    for (size_t i = 0; i < count; i++)
+    whole_file f = {.count = r->atom ? 502 : 1272};
+    for (size_t i = 0; i < f.count; i++)
         f.bytes[i] = (uint8_t)digits(r, 2);
     end_line(r);
     for (int k = 0; k < 5; k++)
@@ -89,12 +88,4 @@ static void replay_copies(replay *r, bool atom, size_t count) {
         replay_copy(r, &f);
         end_line(r);
     }
-}
-
-void replay_damaged(replay *r) {
-    replay_copies(r, false, 1272);
-}
-
-void replay_damaged_atom(replay *r) {
-    replay_copies(r, true, 502);
 }

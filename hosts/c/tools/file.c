@@ -26,7 +26,9 @@ static int read_whole(table_file *f, FILE *in) {
     }
 }
 
-static icotable_table read_atom(const uint8_t *bytes, size_t count) {
+icotable_table read_table(const uint8_t *bytes, size_t count, bool atom) {
+    if (!atom)
+        return icotable_read(bytes, count);
     icotable_atom_table t = icotable_atom_read(bytes, count);
     const icotable_atom_grid *g = &t.grid;
     icotable_table held = {
@@ -40,7 +42,7 @@ static icotable_table read_atom(const uint8_t *bytes, size_t count) {
 /* A grid of two numbers has no step. */
 static void look_over(table_file *f) {
     f->atom = f->count >= 4 && u32_of(f->bytes) == 2;
-    f->table = f->atom ? read_atom(f->bytes, f->count) : icotable_read(f->bytes, f->count);
+    f->table = read_table(f->bytes, f->count, f->atom);
 }
 
 int open_table(table_file *f, const char *name) {

@@ -39,6 +39,8 @@ typedef struct place {
  * of one. TROUBLE, with a line to standard error, where it cannot be read; GOOD otherwise, whatever the verdict. */
 int open_table(table_file *f, const char *name);
 void close_table(table_file *f);
+/* What the reader of its kind answers; a table against an atom with one dihedral bin. */
+icotable_table read_table(const uint8_t *bytes, size_t count, bool atom);
 const char *table_words(bool atom);
 uint32_t u32_of(const uint8_t *bytes);
 double f64_of(const uint8_t *bytes);
