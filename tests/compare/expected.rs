@@ -45,6 +45,9 @@ mod refusals;
 mod report;
 #[allow(dead_code)]
 mod search;
+#[allow(dead_code, unused_imports)]
+#[path = "pair.rs"]
+mod shape;
 #[allow(dead_code)]
 mod worlds;
 
