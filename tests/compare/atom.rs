@@ -3,16 +3,17 @@
 use crate::average::{exponential, logarithm};
 use crate::builder::{self, SlabResolution};
 pub use crate::builder::Adaptive3DBuilder as RustBuilder;
-use crate::icotable::{self, Lent, Lists, Query};
-pub use crate::icotable::{
-    atom_fresh as fresh, atom_read as read, atom_settle as settle, atom_write as write, read as other_read, AtomBuilder as Builder, AtomGrid as Grid, AtomTable as Table, Energy as Value,
-    Table as OtherTable,
-};
+use crate::icotable::{self, Lent, Query};
+pub use crate::icotable::{read as other_read, Table as OtherTable};
 use crate::lines::bits;
 use crate::oracle::Vector3;
 use crate::report::differ;
 use crate::rust;
 use std::panic::{catch_unwind, set_hook, take_hook, AssertUnwindSafe};
+
+#[path = "atom_calls.rs"]
+mod calls;
+pub use calls::*;
 
 pub type RustTable = rust::Table3DAdaptive<f32>;
 
@@ -55,10 +56,6 @@ pub fn rmax_of([rmin, _, dr]: [f64; 3], rows: usize) -> f64 {
     rmin + dr * rows as f64
 }
 
-pub fn grid([rmin, rmax, dr, _, threshold, beta]: [f64; 6], [n_r, _]: [u64; 2]) -> Grid {
-    Grid { rmin, rmax, dr, threshold, beta, n_r }
-}
-
 pub fn grid_words(g: &Grid) -> Vec<u64> {
     let floats = [g.rmin, g.rmax, g.dr, g.threshold, g.beta].map(bits);
     floats.into_iter().chain([g.n_r]).collect()
@@ -72,18 +69,13 @@ pub fn put_omega_step(_: &mut Grid, _: f64) {}
 
 pub fn put_n_omega(_: &mut Grid, _: u64) {}
 
+// The bins of a builder of so many slabs, each of which is a slice.
+pub fn slice_bins(slabs: usize) -> [usize; 2] {
+    [slabs, 1]
+}
+
 pub fn directions(q: &Query) -> Vec<[f64; 3]> {
     vec![q.a]
-}
-
-// ---- the library
-
-pub fn set(b: Builder, l: &mut Lists, ri: u64, _: u64, energies: &[f64]) -> icotable::AtomBuilt {
-    icotable::atom_set(b, l, ri, energies)
-}
-
-pub fn reading(table: &Table, l: Lent, q: &Query) -> Value {
-    icotable::atom_reading(table, l, q.r, q.a)
 }
 
 pub fn boltzmann(table: &Table, l: Lent, q: &Query, beta: f64) -> Value {

@@ -3,11 +3,15 @@
 use crate::average::{exponential, logarithm};
 use crate::builder;
 pub use crate::builder::AdaptiveBuilder as RustBuilder;
-use crate::icotable::Query;
-pub use crate::icotable::{atom_read as other_read, boltzmann, fresh, read, reading, set, settle, write, AtomTable as OtherTable, Builder, Grid, Table, Value};
+use crate::icotable::{self, Query};
+pub use crate::icotable::{atom_read as other_read, boltzmann, AtomTable as OtherTable};
 use crate::lines::bits;
 use crate::oracle::Vector3;
 use crate::rust;
+
+#[path = "pair_calls.rs"]
+mod calls;
+pub use calls::*;
 
 pub type RustTable = rust::Table6DAdaptive<f32>;
 
@@ -49,10 +53,6 @@ pub fn rmax_of([_, rmax, _]: [f64; 3], _: usize) -> f64 {
     rmax
 }
 
-pub fn grid([rmin, rmax, dr, omega_step, threshold, beta]: [f64; 6], [n_r, n_omega]: [u64; 2]) -> Grid {
-    Grid { rmin, rmax, dr, omega_step, threshold, beta, n_r, n_omega }
-}
-
 pub fn grid_words(g: &Grid) -> Vec<u64> {
     let floats = [g.rmin, g.rmax, g.dr, g.omega_step, g.threshold, g.beta].map(bits);
     floats.into_iter().chain([g.n_r, g.n_omega]).collect()
@@ -68,6 +68,11 @@ pub fn put_omega_step(g: &mut Grid, step: f64) {
 
 pub fn put_n_omega(g: &mut Grid, n: u64) {
     g.n_omega = n;
+}
+
+// The bins of a builder of so many slabs in one slice.
+pub fn slice_bins(slabs: usize) -> [usize; 2] {
+    [1, slabs]
 }
 
 pub fn directions(q: &Query) -> Vec<[f64; 3]> {
