@@ -157,7 +157,7 @@ fn reading_rows(random: &mut Random) {
     }
 }
 
-// One molecule against an atom. No bar is set for it but what landed before: a set or a settle of n energies has the questions put to all meshes, which the Rust has not.
+// One molecule against an atom. Its bar is the landed library's time: before n energies are settled or written all meshes are asked about, which neither the Rust nor a plain writer does.
 fn atom_rows(random: &mut Random) {
     for (level, slabs, rounds) in [(0, 400, 101), (3, 100, 101), (5, 100, 41), (9, 40, 41), (15, 20, 21)] {
         let [set, settle] = builds::slice(level, slabs, rounds, random);
