@@ -9,6 +9,10 @@ mod average {
     include!(concat!(env!("COMPARE"), "/average.rs"));
 }
 #[allow(dead_code, clippy::all)]
+mod builder {
+    include!(concat!(env!("COMPARE"), "/builder.rs"));
+}
+#[allow(dead_code, clippy::all)]
 mod oracle {
     include!(concat!(env!("COMPARE"), "/oracle.rs"));
 }
@@ -28,12 +32,15 @@ mod reading;
 #[allow(dead_code)]
 mod report;
 mod search;
+#[allow(dead_code, unused_imports)]
+#[path = "pair.rs"]
+mod shape;
 
 use icotable::{Query, Table};
 use lines::{bits, Fixed};
 use meshes::{Mesh, Random};
 use queries::asked;
-use reader::{Lists, Reader, Sink, COUNTED};
+use reader::{Lists, Reader, Sink, COUNTED, DAMAGED};
 use reading::Answer;
 
 const HEAD: &[&str] = &[
@@ -165,26 +172,6 @@ const NEEDED: &[&str] = &[
     " 0 weighted, a weight of 0, with a beta",
     " 0 weighted, the least infinite, with a beta",
 ];
-const NEEDED_DAMAGED: &[&str] = &[
-    "19 no bins",
-    "19 a row beyond the count",
-    "19 a row beyond the file",
-    "19 an unknown kind",
-    "19 a level that is not held",
-    "19 a cell offset beyond what was lent",
-    "19 a cell's end below its start",
-    "19 a cell entry beyond what was lent",
-    "19 a cell's vertex number beyond n",
-    "19 a vertex beyond what was lent",
-    "19 a face offset beyond what was lent",
-    "19 a face's end below its start",
-    "19 a face entry beyond what was lent",
-    "19 a face's vertex number beyond n",
-    "19 an energy beyond the count",
-    "19 an energy beyond the file",
-    "20 an empty cell",
-];
-
 fn main() {
     let paths: Vec<String> = std::env::args().skip(1).collect();
     let seed: u64 = paths.get(2).map_or(0, |n| n.parse().unwrap());
@@ -201,7 +188,7 @@ fn main() {
     for words in ANSWERED.iter().chain(NEEDED) {
         assert!(seed != 0 || reader.cases.contains_key(*words), "no reading has this case: {words}");
     }
-    for words in ANSWERED.iter().chain(NEEDED_DAMAGED) {
+    for words in ANSWERED.iter().chain(DAMAGED) {
         let words = format!("{words}, damaged or by a host");
         assert!(seed != 0 || reader.cases.contains_key(&words), "no reading has this case: {words}");
     }
