@@ -9,9 +9,27 @@ mod caller;
 mod lists;
 mod refusals;
 #[allow(dead_code, clippy::all)]
+mod average {
+    include!(concat!(env!("COMPARE"), "/average.rs"));
+}
+#[allow(dead_code, clippy::all)]
 mod builder {
     include!(concat!(env!("COMPARE"), "/builder.rs"));
 }
+#[allow(dead_code, clippy::all)]
+mod oracle {
+    include!(concat!(env!("COMPARE"), "/oracle.rs"));
+}
+#[allow(dead_code, clippy::all)]
+mod rust {
+    include!(concat!(env!("COMPARE"), "/lookup.rs"));
+}
+#[allow(dead_code)]
+#[path = "../../hosts/rust/src/sys.rs"]
+mod icotable;
+#[allow(dead_code, unused_imports)]
+#[path = "pair.rs"]
+mod shape;
 
 use caller::{Answer, Call, Caller, Rule, Sink, What, PRIME};
 use lines::{bits, Fixed};

@@ -9,6 +9,10 @@ mod average {
     include!(concat!(env!("COMPARE"), "/average.rs"));
 }
 #[allow(dead_code, clippy::all)]
+mod builder {
+    include!(concat!(env!("COMPARE"), "/builder.rs"));
+}
+#[allow(dead_code, clippy::all)]
 mod oracle {
     include!(concat!(env!("COMPARE"), "/oracle.rs"));
 }
@@ -28,6 +32,9 @@ mod reading;
 #[allow(dead_code)]
 mod report;
 mod search;
+#[allow(dead_code, unused_imports)]
+#[path = "pair.rs"]
+mod shape;
 
 use icotable::{Query, Table};
 use lines::{bits, Fixed};
