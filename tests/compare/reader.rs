@@ -145,6 +145,27 @@ pub const COUNTED: [&str; 13] = [
     "weighted, refused",
 ];
 
+// Cases that damage, or a host, is to lead to.
+pub const DAMAGED: &[&str] = &[
+    "19 no bins",
+    "19 a row beyond the count",
+    "19 a row beyond the file",
+    "19 an unknown kind",
+    "19 a level that is not held",
+    "19 a cell offset beyond what was lent",
+    "19 a cell's end below its start",
+    "19 a cell entry beyond what was lent",
+    "19 a cell's vertex number beyond n",
+    "19 a vertex beyond what was lent",
+    "19 a face offset beyond what was lent",
+    "19 a face's end below its start",
+    "19 a face entry beyond what was lent",
+    "19 a face's vertex number beyond n",
+    "19 an energy beyond the count",
+    "19 an energy beyond the file",
+    "20 an empty cell",
+];
+
 impl<'a> Reader<'a> {
     pub fn new(sink: &'a mut dyn Sink) -> Self {
         let n = vertices_below(2) as usize;

@@ -47,7 +47,7 @@ use icotable::Query;
 use lines::{bits, Fixed};
 use meshes::{Mesh, Random};
 use queries::asked;
-use reader::{Lists, Reader, Sink, COUNTED};
+use reader::{Lists, Reader, Sink, COUNTED, DAMAGED};
 use reading::Answer;
 use shape::{dihedral, Table, LENGTHS, PAIR};
 
@@ -184,25 +184,6 @@ const NEEDED_OF_ITS_KIND: [&str; 2] = if PAIR {
 } else {
     [" 0 weighted, three corners, with a beta", " 0 weighted, no sum, with a beta"]
 };
-const NEEDED_DAMAGED: &[&str] = &[
-    "19 no bins",
-    "19 a row beyond the count",
-    "19 a row beyond the file",
-    "19 an unknown kind",
-    "19 a level that is not held",
-    "19 a cell offset beyond what was lent",
-    "19 a cell's end below its start",
-    "19 a cell entry beyond what was lent",
-    "19 a cell's vertex number beyond n",
-    "19 a vertex beyond what was lent",
-    "19 a face offset beyond what was lent",
-    "19 a face's end below its start",
-    "19 a face entry beyond what was lent",
-    "19 a face's vertex number beyond n",
-    "19 an energy beyond the count",
-    "19 an energy beyond the file",
-    "20 an empty cell",
-];
 
 fn main() {
     let paths: Vec<String> = std::env::args().skip(1).collect();
@@ -224,7 +205,7 @@ fn main() {
     for words in LENGTHS {
         assert!(seed != 0 || reader.cases.contains_key(&format!("18 {words}")), "no reading is refused for {words}");
     }
-    for words in ANSWERED.iter().chain(NEEDED_DAMAGED) {
+    for words in ANSWERED.iter().chain(DAMAGED) {
         let words = format!("{words}, damaged or by a host");
         assert!(seed != 0 || reader.cases.contains_key(&words), "no reading has this case: {words}");
     }

@@ -390,6 +390,7 @@ fn needed() -> Vec<String> {
     words.extend([1, 2, 3, 4, 6, 7, 12, 15].map(|n| format!("write, refused with {n}")));
     words.extend([0, 13, 14, 15, 16, 17].map(|n| format!("read, damaged copies answered {n}")));
     words.extend([0, 18, 20].map(|n| format!("reading, as written, answered {n}")));
+    words.extend(reader::DAMAGED.iter().map(|case| format!("by hand: {case}, damaged or by a host")));
     words.extend(WEIGHTED.map(|case| format!("weighted reading, answered {case}")));
     words.extend(CASES.iter().chain(shape::NEEDED).map(|&case| case.to_string()));
     words
@@ -418,7 +419,9 @@ fn main() {
     let random_beta = Random::of(random.bits());
     let mut sink = Readings { answered: 0, refused: 0, files: 0, random: random_beta, weighted: 0 };
     for _ in 0..rounds {
-        asked(&mut Reader::new(&mut sink), &mut random, 20, usize::MAX);
+        let mut reader = Reader::new(&mut sink);
+        asked(&mut reader, &mut random, 20, usize::MAX);
+        reader.cases.iter().for_each(|(words, &n)| tally.add(&format!("by hand: {words}"), n as u64));
     }
     tally.add("reading, of tables made by hand, damaged or by a host, answered 0", sink.answered);
     tally.add("reading, of tables made by hand, damaged or by a host, refused", sink.refused);
