@@ -25,11 +25,11 @@ pub record SectionsInside (i j : ℕ) (file : List ℕ) (p : Layout) : Type 0 wh
   pub energies : p .energies ≡ p .rows + 4 + countAt file (p .rows) * 10
   pub end : length file ≡ p .energies + 4 + countAt file (p .energies) * 4
 
--- the sections that the later questions walk are inside the file: those at the bytes x, y and z, of so many levels, rows and energies
-pub record Inside (file : List ℕ) (x levels y rows z energies : ℕ) : Type 0 where
-  pub levels : x + levels * 4 ≤ length file
-  pub rows : y + rows * 10 ≤ length file
-  pub energies : z + energies * 4 ≤ length file
+-- the sections that the later questions walk are inside the file: i levels at byte x, j rows at y and k energies at z
+pub record Inside (file : List ℕ) (x i y j z k : ℕ) : Type 0 where
+  pub levels : x + i * 4 ≤ length file
+  pub rows : y + j * 10 ≤ length file
+  pub energies : z + k * 4 ≤ length file
 
 abbrev pub TableInside : List ℕ → Table → Type 0
 TableInside file t = Inside file (t .«levels_start») (t .levels) (t .«rows_start») (t .rows) (t .«energies_start») (t .energies)

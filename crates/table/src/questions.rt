@@ -223,8 +223,8 @@ fn rows_question(
     energies_start: u64,
     energies: u64,
 ) -> u64
-    requires { ⌜ (rows_start + rows * 10 ≤ length (now file)) × (energies_start + energies * 4 ≤ length (now file)) ⌝ }
-    ensures { λ r. ⌜ r ≡ rowsQuestion (eachOf pairs) (now (file .entry)) levels rows_start rows energies_start energies ⌝ }
+    requires { ⌜ («rows_start» + rows * 10 ≤ length (now file)) × («energies_start» + energies * 4 ≤ length (now file)) ⌝ }
+    ensures { λ r. ⌜ r ≡ rowsQuestion (eachOf pairs) (now (file .entry)) levels «rows_start» rows «energies_start» energies ⌝ }
 {
     if !rows_valid(file, rows_start, rows, levels) {
         return 15;
