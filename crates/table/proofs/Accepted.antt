@@ -9,8 +9,10 @@ use lib.Dec.{eqb}
 use borrow.Author.Tests.{eqb-true, eq-eqb, ne-eqb}
 use Rattle.lists.specs.Questions.{ask}
 use Rattle.grid.specs.Settings.{gridRange, gridValid, slabsFit}
+use Rattle.grid.specs.Atom.{atomGridRange, atomSlabsFit, atomGridValid}
 use Rattle.grid.specs.declared.Grid.{Grid}
-use Rattle.grid.proofs.Laws.{Ranged, ranged}
+use Rattle.grid.specs.declared.AtomGrid.{AtomGrid}
+use Rattle.grid.proofs.Laws.{Ranged, ranged, AtomRanged, atom-ranged}
 use Rattle.table.specs.Read.{countAt, layout, laidOut, tableOf, readValues, readRefusal, readOut}
 use Rattle.table.specs.Atom.{atomTableOf, atomReadValues, atomReadRefusal, atomReadOut}
 use Rattle.table.specs.Internal.{SectionsInside, Inside, tableQuestion, atomTableQuestion}
@@ -43,6 +45,10 @@ inside i j file p h = record {
 pub held-ranged : (g : Grid) (levels : ℕ) → gridValid g levels ≡ true → Ranged g levels
 unfolding gridValid
 held-ranged g levels h = ranged g levels (and-eq-true-iff (gridRange g levels) (slabsFit (g .«n_r») (g .«n_omega») (levels - 1)) .0 h .0)
+
+pub atom-held-ranged : (g : AtomGrid) (levels : ℕ) → atomGridValid g levels ≡ true → AtomRanged g levels
+unfolding atomGridValid
+atom-held-ranged g levels h = atom-ranged g levels (and-eq-true-iff (atomGridRange g levels) (atomSlabsFit (g .«n_r») (levels - 1)) .0 h .0)
 
 -- ---- the outcome
 
