@@ -1,9 +1,9 @@
 -- What an accepted settle may count on, and what it gives. Assumes nothing.
 use mathlib.Core.Path.{_≡_, refl, ap}
 use Rattle.lists.proofs.Asking.{ask-yes, first-yes}
-use mathlib.Core.Bool.{cond}
+use mathlib.Core.Bool.{true, cond}
 use mathlib.Core.List.{List, [], _∷_, map}
-use Prim.Native.Nat.{ℕ, suc}
+use Prim.Native.Nat.{ℕ, suc, _≤_}
 use native.Mathlib.Nat.{mul-le-mul}
 use native.Mathlib.Omega.{arith}
 use lib.Dec.{lit<}
@@ -11,7 +11,7 @@ use lib.ListN.{length}
 use lib.Ieee.{Float}
 use borrow.Author.Tests.{ltb-true}
 use Rattle.mesh.specs.Levels.{vertexCount, verticesBelow}
-use Rattle.mesh.specs.Mesh.{Mesh, levelPart, meshOf}
+use Rattle.mesh.specs.Mesh.{Mesh, levelPart, meshLong, meshOf}
 use Rattle.mesh.proofs.Laws.{below-le}
 use Rattle.mesh.proofs.Kept.{held}
 use Rattle.rows.specs.Rows.{Rows, Row, scalar, repulsive, mesh}
@@ -19,7 +19,7 @@ use Rattle.settling.specs.Gradient.{allRepulsive, gradient}
 use Rattle.settling.specs.Settling.{byGradient, verdict, verdictOf, verdicts, drops, settledSlice}
 use Rattle.builder.specs.BuilderLists.{BuilderLists, slab, sliceAt}
 use Rattle.builder.specs.Calls.{settledValues, settledLists, SettleOut, settleAccepted}
-use Rattle.builder.specs.Internal.{SettleReadyIn, partLinks, tallyFrom, start, dropsBy, droppedBy}
+use Rattle.builder.specs.Internal.{SettleReadyIn, MeshesLinked, partLinks, tallyFrom, start, dropsBy, droppedBy}
 use Rattle.builder.specs.declared.Builder.{Builder}
 use Rattle.builder.specs.declared.Settled.the-variants.{Accepted as Settles}
 use Rattle.settling.specs.declared.Tally.{Tally}
@@ -35,6 +35,13 @@ use Rattle.builder.proofs.Changes.{tally-gradient, tally-settled, tally
 abbrev linksOf : Mesh → Mesh
 linksOf ms = meshOf [] (ms .counts) (ms .neighbours) (ms .angles)
 
+-- meshes as long as those up to the top hold the links of a level below
+pub linked : (c top : ℕ) (ms : Mesh) → c ≤ top → meshLong (verticesBelow (suc top)) ms ≡ true → MeshesLinked c (linksOf ms)
+linked c top ms l e =
+    let h = held (verticesBelow (suc top)) ms e in
+    let up = below-le (suc c) (suc top) (omega (arith, l)) in
+    record { counts-le = omega (arith, h .counts, up); neighbours-le = omega (arith, h .neighbours, up); angles-le = omega (arith, h .angles, up) }
+
 pub ready : (b : Builder) (ms : Mesh) (l : BuilderLists) (ri : ℕ) → settleRefusal b ms l ri ≡ 0 → SettleReadyIn b (linksOf ms) l ri
 unfolding settleRefusal meshedRefusal
 ready b ms l ri e =
@@ -46,8 +53,6 @@ ready b ms l ri e =
     let q11 = ask-yes (lit< tt) (q15 .1) in
     let in-bins = ltb-true ri (g .«n_r») (q8 .0) in
     let a = f .asked in
-    let h = held (verticesBelow (suc (b .top))) ms (f .held) in
-    let up = below-le (suc (b .level)) (suc (b .top)) (omega (arith, a .level-le)) in
     record {
       ready = record {
         top-le = a .top-le;
@@ -57,9 +62,7 @@ ready b ms l ri e =
         store-le = f .room .store-le;
         same-level = q11 .0;
       };
-      counts-le = omega (arith, h .counts, up);
-      neighbours-le = omega (arith, h .neighbours, up);
-      angles-le = omega (arith, h .angles, up);
+      linked = linked (b .level) (b .top) ms (a .level-le) (f .held);
     }
 
 -- ---- what it gives

@@ -60,6 +60,6 @@ by-lists c top l s (suc n) =
     moved i = let e : suc s + i ≡ s + suc i = omega arith in rw e refl
 
 -- the questions in the order of the code
-pub asked-as : (b : Builder) (m : Mesh) (l : BuilderLists) (ri : ℕ) → first (meshedRefusal b m l) (settleQuestion b (l .rows) ri) ≡ settleRefusal b m l ri
+pub asked-as : (b : Builder) (m : Mesh) (l : BuilderLists) (ri : ℕ) → first (meshedRefusal b m l) (settleQuestion (b .grid .«n_r») (b .grid .«n_omega») (b .top) (b .level) (l .rows) ri) ≡ settleRefusal b m l ri
 unfolding settleRefusal settleQuestion
 asked-as b m l ri = rw (by-lists (b .level) (b .top) l (slab (b .grid) ri 0) (b .grid .«n_omega»)) refl

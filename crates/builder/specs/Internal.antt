@@ -30,8 +30,8 @@ rowsFromLevel c r s n = allUpTo n (λ i. fromLevel c (rowWith (resolutionAt r (s
 
 -- 8, 15 and 11 of settle, with n rows a slice
 unfoldable pub settleQuestion : ℕ → ℕ → ℕ → ℕ → Rows → ℕ → ℕ
-settleQuestion «n_r» n top level r ri =
-    ask (ltb ri «n_r») 8
+settleQuestion bins n top level r ri =
+    ask (ltb ri bins) 8
     (ask (rowsKnown top r (ri * n + 0) n) 15
     (ask (rowsFromLevel level r (ri * n + 0) n) 11 0))
 

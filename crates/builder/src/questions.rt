@@ -213,7 +213,7 @@ fn rows_from_level(level: u64, kinds: &[u8], levels: &[u8], values: &[u32], s: u
 
 // Questions 8, 15 and 11 of settle, with n rows a slice.
 pub(crate) fn settle_question(
-    n_r: u64,
+    bins: u64,
     n: u64,
     top: u64,
     level: u64,
@@ -222,10 +222,10 @@ pub(crate) fn settle_question(
     values: &[u32],
     ri: u64,
 ) -> u64
-    requires { ⌜ (n_r ≤ 65535) × (n ≤ 65535) ⌝ }
-    ensures { λ r. ⌜ r ≡ settleQuestion n_r n top level (rowsOf (now (kinds .entry)) (now (levels .entry)) (now (values .entry))) ri ⌝ }
+    requires { ⌜ (bins ≤ 65535) × (n ≤ 65535) ⌝ }
+    ensures { λ r. ⌜ r ≡ settleQuestion bins n top level (rowsOf (now (kinds .entry)) (now (levels .entry)) (now (values .entry))) ri ⌝ }
 {
-    if n_r <= ri {
+    if bins <= ri {
         return 8;
     }
     let s = ri * n;
