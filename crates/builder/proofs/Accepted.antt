@@ -3,11 +3,11 @@ use mathlib.Core.Path.{_≡_, refl, ap, _∙_}
 use Rattle.lists.proofs.Asking.{ask-yes, first-yes}
 use mathlib.Core.Bool.{true, cond}
 use mathlib.Core.List.{List, [], _∷_, map}
-use Prim.Native.Nat.{ℕ, suc, _*_, _≤_}
+use Prim.Native.Nat.{ℕ, suc, _≤_}
 use native.Mathlib.Nat.{mul-le-mul}
 use native.Mathlib.Omega.{arith}
 use lib.Dec.{lit<}
-use lib.ListN.{length, take, drop}
+use lib.ListN.{length}
 use lib.Ieee.{Float}
 use borrow.Author.Tests.{ltb-true}
 use Rattle.mesh.specs.Levels.{vertexCount, verticesBelow}
@@ -15,7 +15,7 @@ use Rattle.mesh.specs.Mesh.{Mesh, levelPart, meshLong, meshOf}
 use Rattle.mesh.proofs.Laws.{below-le}
 use Rattle.mesh.proofs.Sizes.{count-mono}
 use Rattle.mesh.proofs.Kept.{held}
-use Rattle.rows.specs.Rows.{Rows, Row, scalar, repulsive, mesh, resolutionAt, rowWith}
+use Rattle.rows.specs.Rows.{Rows, Row, scalar, repulsive, mesh}
 use Rattle.settling.specs.Gradient.{allRepulsive, gradient}
 use Rattle.settling.specs.Settling.{byGradient, verdict, verdictOf, verdicts, drops, settledSlice, fromLevel, atomVerdict, atomVerdictOf, atomLevel}
 use Rattle.builder.specs.BuilderLists.{BuilderLists, slab, sliceAt}
@@ -122,8 +122,7 @@ atom-verdict-links threshold beta c ms repulsive = refl
 atom-verdict-links threshold beta c ms (mesh v b e) = rw (atom-links (levelPart c ms) (vertexCount c) beta e)
 
 pub atom-settle-is : (b : AtomBuilder) (ms : Mesh) (l : BuilderLists) (ri : ℕ) (v : AtomVerdict) (rows : Rows) → fromLevel (b .level) (atomRow (b .top) l ri) ≡ true
-    → atomSettledSlab (b .grid .threshold) (b .grid .beta) (partLinks (b .level) (linksOf ms)) (b .level)
-    (rowWith (resolutionAt (l .rows) ri) (take (vertexCount (b .level)) (drop (ri * vertexCount (b .top)) (l .store)))) ri (l .rows) v rows
+    → atomSettledSlab b (partLinks (b .level) (linksOf ms)) (l .store) ri (l .rows) v rows
     → _≡_ {A = AtomSettleOut}
     (record { answer = atomSettledValues b (AtomSettles (record { grid = b .grid; top = b .top; level = atomLevel (b .grid .threshold) (b .level) v }) (v .gradient)); lists = record { store = l .store; rows = rows } })
     (atomSettleAccepted b ms l ri)

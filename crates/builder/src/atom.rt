@@ -2,17 +2,14 @@
 ghost use mathlib.Core.Path.{_≡_};
 ghost use mathlib.Core.Bool.{true, _&&_};
 ghost use mathlib.Core.List.{[]};
-ghost use Prim.Native.Nat.{suc, _+_, _*_, _≤_};
-ghost use lib.ListN.{length, take, drop};
+ghost use Prim.Native.Nat.{suc};
 ghost use Rattle.lists.specs.Questions.{ask, first};
-ghost use Rattle.mesh.specs.Levels.{vertexCount, verticesBelow};
+ghost use Rattle.mesh.specs.Levels.{verticesBelow};
 ghost use Rattle.mesh.specs.Mesh.{meshLong, meshesKeep, meshOf};
-ghost use Rattle.rows.specs.Rows.{resolutionAt, rowWith, rowsOf};
-ghost use Rattle.settling.specs.Settling.{atomLevel};
+ghost use Rattle.rows.specs.Rows.{rowsOf};
 ghost use Rattle.builder.specs.BuilderLists.{listsOf};
 ghost use Rattle.builder.specs.Atom.{AtomBuiltOut, AtomSettleOut, atomBuiltValues, atomBuiltNumbered, atomSettledValues, atomSettledNumbered, noAtomBuilder, atomBuilderQuestion, atomRoom, atomFreshBuilder, atomFreshOut, atomSetQuestion, atomSetOut, atomSettleRefusal, atomSettleOut};
 ghost use Rattle.builder.specs.Internal.{AtomSettleReady, partLinks, atomSettledSlab};
-ghost use Rattle.builder.specs.declared.AtomBuilder.{AtomBuilder};
 use crate::AtomBuilder;
 use crate::AtomBuilt;
 use crate::AtomSettled;
@@ -20,22 +17,6 @@ use crate::copies;
 use crate::questions;
 use grid::AtomGrid;
 use settling::AtomVerdict;
-
-// Question 6 of store and rows, once 1 to 5 are answered yes.
-fn atom_room(g: AtomGrid, top: u64, store: u64, kinds: u64, levels: u64, values: u64) -> bool
-    requires { ⌜ (g .«n_r» ≤ 65535) × (top ≤ 15) ⌝ }
-    ensures { λ r. ⌜ r ≡ atomRoom g top store kinds levels values ⌝ }
-{
-    let n_r = g.n_r;
-    questions::slab_room(
-        n_r,
-        mesh::vertex_count(top as u8),
-        store,
-        kinds,
-        levels,
-        values,
-    )
-}
 
 // Questions 1 to 7 of a call that the meshes are lent to.
 pub fn atom_meshed_refusal(
@@ -60,10 +41,20 @@ pub fn atom_meshed_refusal(
     if no != 0 {
         return no;
     }
-    if !atom_room(g, top, store, kinds, levels, values) {
-        return 6;
-    }
-    questions::mesh_question(top, vertices, counts, neighbours, angles)
+    let n_r = g.n_r;
+    questions::mesh_question(
+        n_r,
+        mesh::vertex_count(top as u8),
+        top,
+        store,
+        kinds,
+        levels,
+        values,
+        vertices,
+        counts,
+        neighbours,
+        angles,
+    )
 }
 
 fn atom_fresh_builder(g: AtomGrid, top: u64) -> AtomBuilder
@@ -122,18 +113,6 @@ pub fn atom_fresh(
     AtomBuilt::Accepted(made)
 }
 
-// Questions 8 to 10 of set.
-fn atom_set_question(g: AtomGrid, level: u64, ri: u64, energies: &[f64]) -> u64
-    requires { ⌜ level ≤ 15 ⌝ }
-    ensures { λ r. ⌜ r ≡ atomSetQuestion g level ri (now (energies .entry)) ⌝ }
-{
-    let n_r = g.n_r;
-    if n_r <= ri {
-        return 8;
-    }
-    questions::energies_question(mesh::vertex_count(level as u8), energies)
-}
-
 // Questions 1 to 6 and 8 to 10, of set.
 fn atom_set_refusal(
     b: AtomBuilder,
@@ -153,10 +132,18 @@ fn atom_set_refusal(
     if no != 0 {
         return no;
     }
-    if !atom_room(g, top, store, kinds, levels, values) {
-        return 6;
-    }
-    atom_set_question(g, level, ri, energies)
+    let n_r = g.n_r;
+    questions::set_question(
+        n_r,
+        mesh::vertex_count(top as u8),
+        store,
+        kinds,
+        levels,
+        values,
+        ri < n_r,
+        mesh::vertex_count(level as u8),
+        energies,
+    )
 }
 
 // Gives a slab its energies, which are those of the current level.
@@ -236,46 +223,8 @@ fn atom_settle_refusal(
     questions::settle_question(n_r, 1, top, level, kinds, levels, values, ri)
 }
 
-// Settles slab s, whose energies are at place `at` of the store, over the mesh of the current level.
+// Settles slab ri over the meshes of all levels, of which the current level's part is cut out.
 fn atom_settle_slab(
-    threshold: f64,
-    beta: f64,
-    store: &[f64],
-    at: usize,
-    counts: &[u8],
-    neighbours: &[u16],
-    angles: &[f64],
-    level: u8,
-    kinds: &mut [u8],
-    levels: &mut [u8],
-    values: &mut [u32],
-    s: u64,
-) -> AtomVerdict
-    requires { ⌜ (level ≤ 15) × (at + vertexCount level ≤ length (now store)) ⌝ }
-    ensures { λ r. ⌜ atomSettledSlab threshold beta (meshOf [] (now (counts .entry)) (now (neighbours .entry)) (now (angles .entry))) level
-        (rowWith (resolutionAt (rowsOf (now (kinds .entry)) (now (levels .entry)) (now (values .entry))) s) (take (vertexCount level) (drop at (now (store .entry))))) s
-        (rowsOf (now (kinds .entry)) (now (levels .entry)) (now (values .entry)))
-        r (rowsOf (now (kinds .exit)) (now (levels .exit)) (now (values .exit))) ⌝ }
-{
-    let row = rows::resolution_at(kinds, levels, values, s);
-    let end = at + mesh::vertex_count(level) as usize;
-    let v = settling::atom_verdict_of(
-        threshold,
-        beta,
-        counts,
-        neighbours,
-        angles,
-        &store[at..end],
-        level,
-        row,
-    );
-    let found = v.verdict;
-    settling::replace_by(kinds, levels, values, s, level, found);
-    v
-}
-
-// The same over the meshes of all levels, of which the current level's part is cut out.
-fn atom_settle_slice(
     b: AtomBuilder,
     ri: u64,
     store: &[f64],
@@ -287,48 +236,34 @@ fn atom_settle_slice(
     values: &mut [u32],
 ) -> AtomVerdict
     requires { ⌜ AtomSettleReady b (meshOf [] (now counts) (now neighbours) (now angles)) (now store) ri ⌝ }
-    ensures { λ r. ⌜ atomSettledSlab (b .grid .threshold) (b .grid .beta) (partLinks (b .level) (meshOf [] (now (counts .entry)) (now (neighbours .entry)) (now (angles .entry)))) (b .level)
-        (rowWith (resolutionAt (rowsOf (now (kinds .entry)) (now (levels .entry)) (now (values .entry))) ri) (take (vertexCount (b .level)) (drop (ri * vertexCount (b .top)) (now (store .entry))))) ri
-        (rowsOf (now (kinds .entry)) (now (levels .entry)) (now (values .entry)))
-        r (rowsOf (now (kinds .exit)) (now (levels .exit)) (now (values .exit))) ⌝ }
+    ensures { λ r. ⌜ atomSettledSlab b (partLinks (b .level) (meshOf [] (now (counts .entry)) (now (neighbours .entry)) (now (angles .entry)))) (now (store .entry))
+        ri (rowsOf (now (kinds .entry)) (now (levels .entry)) (now (values .entry))) r (rowsOf (now (kinds .exit)) (now (levels .exit)) (now (values .exit))) ⌝ }
 {
     let threshold = b.grid.threshold;
     let beta = b.grid.beta;
     let top = b.top as u8;
     let level = b.level as u8;
+    let n = mesh::vertex_count(level) as usize;
     let a = mesh::vertices_below(level) as usize;
-    let e = a + mesh::vertex_count(level) as usize;
+    let e = a + n;
     let a6 = 6 * a;
     let e6 = 6 * e;
-    atom_settle_slab(
+    let at = (ri * mesh::vertex_count(top)) as usize;
+    let end = at + n;
+    let row = rows::resolution_at(kinds, levels, values, ri);
+    let v = settling::atom_verdict_of(
         threshold,
         beta,
-        store,
-        (ri * mesh::vertex_count(top)) as usize,
         &counts[a..e],
         &neighbours[a6..e6],
         &angles[a6..e6],
+        &store[at..end],
         level,
-        kinds,
-        levels,
-        values,
-        ri,
-    )
-}
-
-// The builder after a slab.
-fn atom_dropped(b: AtomBuilder, v: AtomVerdict) -> AtomBuilder
-    ensures { λ r. ⌜ _≡_ {A = AtomBuilder} r (record { grid = b .grid; top = b .top; level = atomLevel (b .grid .threshold) (b .level) v }) ⌝ }
-{
-    let grid = b.grid;
-    let threshold = grid.threshold;
-    let top = b.top;
-    let level = b.level;
-    AtomBuilder {
-        grid,
-        top,
-        level: settling::atom_level(threshold, level, v),
-    }
+        row,
+    );
+    let found = v.verdict;
+    settling::replace_by(kinds, levels, values, ri, level, found);
+    v
 }
 
 // Settles a slab, if it holds energies, and then the level.
@@ -364,7 +299,7 @@ pub fn atom_settle(
     if no != 0 {
         return AtomSettled::Refused(no);
     }
-    let v = atom_settle_slice(
+    let v = atom_settle_slab(
         b,
         ri,
         store,
@@ -375,5 +310,9 @@ pub fn atom_settle(
         levels,
         values,
     );
-    AtomSettled::Accepted(atom_dropped(b, v), v.gradient)
+    let grid = b.grid;
+    let threshold = grid.threshold;
+    let top = b.top;
+    let level = settling::atom_level(threshold, b.level, v);
+    AtomSettled::Accepted(AtomBuilder { grid, top, level }, v.gradient)
 }
