@@ -117,8 +117,6 @@ fn read_atom_row(
         cells,
         cell_offsets,
         cell_vertices,
-        face_offsets,
-        faces,
         vertices,
         d,
     )

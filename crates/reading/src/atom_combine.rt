@@ -3,8 +3,9 @@ ghost use mathlib.Core.Path.{_≡_};
 ghost use mathlib.Core.Bool.{true, false};
 ghost use Prim.Native.Nat.{_*_, _<_};
 ghost use lib.ListN.{drop};
-ghost use Rattle.mesh.specs.Levels.{cellOffsetsBelow};
-ghost use Rattle.search.specs.Search.{locatorOf};
+ghost use Rattle.mesh.specs.Levels.{vertexCount, gridSize, verticesBelow, cellOffsetsBelow};
+ghost use Rattle.search.specs.Geometry.{unit};
+ghost use Rattle.search.specs.Search.{nearestInCells, verticesFrom, locatorOf};
 ghost use Rattle.reading.specs.Resolve.{linear};
 ghost use Rattle.reading.specs.Reading.{picksBy};
 ghost use Rattle.reading.specs.Atom.{threeTerms, atomAverage, atomCombined, atomNearestPick, atomFacePick, atomSearchIn};
@@ -98,14 +99,12 @@ pub(crate) fn read_atom_nearest(
     cells: u64,
     cell_offsets: &[u32],
     cell_vertices: &[u16],
-    face_offsets: &[u32],
-    faces: &[u16],
     vertices: &[f64],
     d: Vector3,
 ) -> Reading
     requires { ⌜ (offset < 4294967296) × (cells ≡ cellOffsetsBelow level) ⌝ }
-    ensures { λ r. ⌜ r ≡ picksBy (now (file .entry)) t (atomCombined linear false) offset
-        (atomSearchIn (now (vertices .entry)) (locatorOf (now («cell_offsets» .entry)) (now («cell_vertices» .entry)) (now («face_offsets» .entry)) (now (faces .entry))) d level false) ⌝ }
+    ensures { λ r. ⌜ r ≡ picksBy (now (file .entry)) t (atomCombined linear false) offset (atomNearestPick
+        (nearestInCells (drop (cellOffsetsBelow level) (now («cell_offsets» .entry))) (drop (27 * verticesBelow level) (now («cell_vertices» .entry))) (verticesFrom level (now (vertices .entry))) (vertexCount level) (gridSize (vertexCount level)) (unit d))) ⌝ }
 {
     let below = mesh::vertices_below(level);
     let i = part_from(cell_offsets.len(), cells);
