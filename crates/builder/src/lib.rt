@@ -6,12 +6,16 @@ ghost use Rattle.builder.specs.BuilderLists.{listsOf};
 ghost use Rattle.builder.specs.Calls.{BuiltOut, SettleOut, builtValues, builtNumbered, settledValues, settledNumbered, noBuilder, freshBuilder, freshOut, setOut, settleOut};
 use grid::AtomGrid;
 use grid::Grid;
-use rows::SlabResolution;
 
+mod atom;
 mod copies;
 mod questions;
 mod slices;
 
+pub use atom::atom_fresh;
+pub use atom::atom_meshed_refusal;
+pub use atom::atom_set;
+pub use atom::atom_settle;
 pub use questions::meshed_refusal;
 
 // The settings, the top level and the current one.
@@ -99,9 +103,14 @@ pub fn fresh(
     let n_r = made.grid.n_r;
     let n_omega = made.grid.n_omega;
     let most = made.top;
-    let n = n_r * n_omega;
-    copies::clear_store(store, (n * mesh::per_level(most as u8)) as usize);
-    copies::clear_rows(kinds, levels, values, n as usize);
+    copies::clear_slabs(
+        n_r * n_omega,
+        mesh::per_level(most as u8),
+        store,
+        kinds,
+        levels,
+        values,
+    );
     Built::Accepted(made)
 }
 
@@ -136,14 +145,15 @@ pub fn set(
     let n_omega = b.grid.n_omega;
     let top = b.top;
     let level = b.level;
-    let s = ri * n_omega + oi;
-    copies::copy_at(store, (s * mesh::per_level(top as u8)) as usize, energies);
-    rows::replace(
+    copies::set_slab(
+        mesh::per_level(top as u8),
+        level as u8,
+        store,
         kinds,
         levels,
         values,
-        s,
-        SlabResolution::Mesh(level as u8, true),
+        ri * n_omega + oi,
+        energies,
     );
     Built::Accepted(b)
 }

@@ -5,6 +5,12 @@ ghost use lib.Ieee.{lt};
 ghost use Rattle.grid.specs.Bins.{nearestBin, distanceCount, dihedralCount, tableRmax, distanceBin, dihedralBin};
 ghost use Rattle.grid.specs.Settings.{above, inRange, levelsValid, binsInRange, countsValid, ownCount, slabsFit, question, counted, freshQuestion, gridRange, gridValid};
 
+mod atom;
+
+pub use atom::atom_counted;
+pub use atom::atom_grid_valid;
+pub use atom::atom_question;
+
 // The settings beside the bin counts that they give. In a table that was read, rmax is the table's own.
 #[repr(C)]
 pub struct Grid {

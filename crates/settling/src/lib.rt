@@ -1,7 +1,10 @@
 // The settling of one slab: its gradient, what settling finds of it, and the row that it leaves.
+mod atom;
 mod gradient;
 mod verdicts;
 
+pub use atom::atom_level;
+pub use atom::atom_verdict_of;
 pub use verdicts::replace_by;
 pub use verdicts::tallied;
 pub use verdicts::verdict_of;

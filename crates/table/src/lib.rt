@@ -8,6 +8,8 @@ mod reader;
 mod walk;
 
 pub use bytes::u32_from_le_bytes;
+pub use questions::energies_of;
+pub use reader::atom_read;
 pub use reader::read;
 
 // Where each section after the first begins, with its count, and where the last one ends.

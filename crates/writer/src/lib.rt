@@ -3,6 +3,7 @@ mod bytes;
 mod files;
 mod sections;
 
+pub use files::atom_write;
 pub use files::write;
 
 // What write answers: the length of the file.

@@ -15,10 +15,10 @@ use Rattle.writer.proofs.sections.put_vertex_counts.Statement.{statemen
 use Rattle.writer.proofs.sections.put_vertex_counts.Tie as tie
 
 abbrev Inv-loop : tie.InvT-loop
-Inv-loop out₀ levels m₀ out m = (m ≤ levels) × Written out₀ 44 (packed (bytesOf 4) (map vertexCount (below m))) out (44 + 4 * m)
+Inv-loop out₀ at levels m₀ out m = (m ≤ levels) × Written out₀ at (packed (bytesOf 4) (map vertexCount (below m))) out (at + 4 * m)
 
 abbrev μ-loop : tie.MeasureT-loop
-μ-loop out₀ levels m₀ out m = levels - m
+μ-loop out₀ at levels m₀ out m = levels - m
 
 loop-holds : tie.Need-loop-holds Inv-loop μ-loop
 unfolding below packed
