@@ -313,16 +313,20 @@ fn atom_reading_of(
     face_offsets: &[u32],
     faces: &[u16],
     r: f64,
-    x: f64,
-    y: f64,
-    z: f64,
+    dx: f64,
+    dy: f64,
+    dz: f64,
 ) -> EnergyAnswer
     ensures { λ e. ⌜ energyIn e ≡ atomReadingBy (now (file .entry)) (atomTableFrom table) (now (vertices .entry))
         (locatorOf (now («cell_offsets» .entry)) (now («cell_vertices» .entry)) (now («face_offsets» .entry)) (now (faces .entry)))
-        linear (record { r = r; d = record { x = x; y = y; z = z } }) ⌝ }
+        linear (record { r = r; d = record { x = dx; y = dy; z = dz } }) ⌝ }
 {
     let t = atom_table_from(table);
-    let d = Vector3 { x, y, z };
+    let d = Vector3 {
+        x: dx,
+        y: dy,
+        z: dz,
+    };
     let answer = reading::atom_lookup(
         t,
         file,
@@ -348,13 +352,13 @@ pub extern "C" fn icotable_atom_reading(
     face_offsets: &[u32],
     faces: &[u16],
     r: f64,
-    x: f64,
-    y: f64,
-    z: f64,
+    dx: f64,
+    dy: f64,
+    dz: f64,
 ) -> EnergyAnswer
     ensures { λ e. ⌜ energyIn e ≡ atomReadingBy (now (file .entry)) (atomTableFrom (now (table .entry))) (now (vertices .entry))
         (locatorOf (now («cell_offsets» .entry)) (now («cell_vertices» .entry)) (now («face_offsets» .entry)) (now (faces .entry)))
-        linear (record { r = r; d = record { x = x; y = y; z = z } }) ⌝ }
+        linear (record { r = r; d = record { x = dx; y = dy; z = dz } }) ⌝ }
 {
     atom_reading_of(
         *table,
@@ -365,9 +369,9 @@ pub extern "C" fn icotable_atom_reading(
         face_offsets,
         faces,
         r,
-        x,
-        y,
-        z,
+        dx,
+        dy,
+        dz,
     )
 }
 
@@ -380,17 +384,21 @@ fn atom_boltzmann_of(
     face_offsets: &[u32],
     faces: &[u16],
     r: f64,
-    x: f64,
-    y: f64,
-    z: f64,
+    dx: f64,
+    dy: f64,
+    dz: f64,
     beta: f64,
 ) -> EnergyAnswer
     ensures { λ e. ⌜ energyIn e ≡ atomReadingBy (now (file .entry)) (atomTableFrom table) (now (vertices .entry))
         (locatorOf (now («cell_offsets» .entry)) (now («cell_vertices» .entry)) (now («face_offsets» .entry)) (now (faces .entry)))
-        (boltzmann beta) (record { r = r; d = record { x = x; y = y; z = z } }) ⌝ }
+        (boltzmann beta) (record { r = r; d = record { x = dx; y = dy; z = dz } }) ⌝ }
 {
     let t = atom_table_from(table);
-    let d = Vector3 { x, y, z };
+    let d = Vector3 {
+        x: dx,
+        y: dy,
+        z: dz,
+    };
     let answer = reading::atom_lookup_boltzmann(
         t,
         file,
@@ -417,14 +425,14 @@ pub extern "C" fn icotable_atom_boltzmann(
     face_offsets: &[u32],
     faces: &[u16],
     r: f64,
-    x: f64,
-    y: f64,
-    z: f64,
+    dx: f64,
+    dy: f64,
+    dz: f64,
     beta: f64,
 ) -> EnergyAnswer
     ensures { λ e. ⌜ energyIn e ≡ atomReadingBy (now (file .entry)) (atomTableFrom (now (table .entry))) (now (vertices .entry))
         (locatorOf (now («cell_offsets» .entry)) (now («cell_vertices» .entry)) (now («face_offsets» .entry)) (now (faces .entry)))
-        (boltzmann beta) (record { r = r; d = record { x = x; y = y; z = z } }) ⌝ }
+        (boltzmann beta) (record { r = r; d = record { x = dx; y = dy; z = dz } }) ⌝ }
 {
     atom_boltzmann_of(
         *table,
@@ -435,9 +443,9 @@ pub extern "C" fn icotable_atom_boltzmann(
         face_offsets,
         faces,
         r,
-        x,
-        y,
-        z,
+        dx,
+        dy,
+        dz,
         beta,
     )
 }
