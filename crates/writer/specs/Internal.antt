@@ -3,13 +3,11 @@ use mathlib.Core.Path.{_≡_}
 use mathlib.Core.List.{List, [], _∷_, _++_, map}
 use Prim.Native.Nat.{ℕ, zero, suc, _+_, _*_, _≤_}
 use lib.ListN.{length, take, drop}
-use lib.Ieee.{Float, binary64, toBits}
+use lib.Ieee.{Float}
 use Rattle.lists.specs.Questions.{ask, first}
 use Rattle.lists.specs.Lists.{below}
 use Rattle.mesh.specs.Levels.{vertexCount}
 use Rattle.mesh.specs.Mesh.{Mesh}
-use Rattle.grid.specs.declared.Grid.{Grid}
-use Rattle.grid.specs.declared.AtomGrid.{AtomGrid}
 use Rattle.rows.specs.declared.SlabResolution.{SlabResolution}
 use Rattle.rows.specs.declared.SlabResolution.the-variants.{Scalar, Mesh as OnMesh, Repulsive}
 use Rattle.rows.specs.Rows.{Rows, kindOf, levelOf, valueOf, resolutionAt, narrowBits}
@@ -60,14 +58,9 @@ unfoldable pub Bounded : (ℕ → ℕ) → ℕ → List SlabResolution → Type 
 Bounded each z [] = Unit
 Bounded each z (x ∷ xs) = (heldBy each x ≤ z) × Bounded each z xs
 
--- the two head sections, of a grid's settings and its bin counts
-abbrev pub headBytes : Grid → List ℕ
-headBytes g =
-    section (bytesOf 8) (toBits binary64 (g .rmin) ∷ toBits binary64 (g .dr) ∷ toBits binary64 (g .«omega_step») ∷ [])
-    ++ section (bytesOf 4) (g .«n_r» ∷ g .«n_omega» ∷ [])
-
-abbrev pub atomHeadBytes : AtomGrid → List ℕ
-atomHeadBytes g = section (bytesOf 8) (toBits binary64 (g .rmin) ∷ toBits binary64 (g .dr) ∷ []) ++ section (bytesOf 4) (g .«n_r» ∷ [])
+-- the two head sections, of the bits of a grid's settings and of its bin counts
+abbrev pub headBytes : List ℕ → List ℕ → List ℕ
+headBytes xs ns = section (bytesOf 8) xs ++ section (bytesOf 4) ns
 
 -- the other three, of n slabs
 abbrev pub restBytes : (ℕ → ℕ) → ℕ → ℕ → BuilderLists → List ℕ

@@ -11,7 +11,7 @@ ghost use Rattle.builder.specs.BuilderLists.{listsOf};
 ghost use Rattle.table.specs.Bytes.{bytesOf, packed, section};
 ghost use Rattle.table.specs.File.{entryBytes};
 ghost use Rattle.table.specs.Internal.{eachOf};
-ghost use Rattle.writer.specs.Internal.{heldBy, offsetOf, resolutions, entriesFor, total, energiesFor, Bounded, headBytes, atomHeadBytes, restBytes, WriteReady};
+ghost use Rattle.writer.specs.Internal.{heldBy, offsetOf, resolutions, entriesFor, total, energiesFor, Bounded, headBytes, restBytes, WriteReady};
 use crate::bytes::put_f64;
 use crate::bytes::put_u32;
 use grid::AtomGrid;
@@ -40,7 +40,7 @@ fn put_bins(out: &mut [u8], n: u32, m: u32)
 // The two head sections of a grid.
 pub(crate) fn put_head(out: &mut [u8], g: Grid)
     requires { ⌜ (40 ≤ length (now out)) × (g .«n_r» ≤ 65535) × (g .«n_omega» ≤ 65535) ⌝ }
-    ensures { λ _. ⌜ now (out .exit) ≡ put (now (out .entry)) 0 (headBytes g) ⌝ }
+    ensures { λ _. ⌜ now (out .exit) ≡ put (now (out .entry)) 0 (headBytes (toBits binary64 (g .rmin) ∷ toBits binary64 (g .dr) ∷ toBits binary64 (g .«omega_step») ∷ []) (g .«n_r» ∷ g .«n_omega» ∷ [])) ⌝ }
 {
     let rmin = g.rmin;
     let dr = g.dr;
@@ -53,7 +53,7 @@ pub(crate) fn put_head(out: &mut [u8], g: Grid)
 
 pub(crate) fn put_atom_head(out: &mut [u8], g: AtomGrid)
     requires { ⌜ (28 ≤ length (now out)) × (g .«n_r» ≤ 65535) ⌝ }
-    ensures { λ _. ⌜ now (out .exit) ≡ put (now (out .entry)) 0 (atomHeadBytes g) ⌝ }
+    ensures { λ _. ⌜ now (out .exit) ≡ put (now (out .entry)) 0 (headBytes (toBits binary64 (g .rmin) ∷ toBits binary64 (g .dr) ∷ []) (g .«n_r» ∷ [])) ⌝ }
 {
     let rmin = g.rmin;
     let dr = g.dr;

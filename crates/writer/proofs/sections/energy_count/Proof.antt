@@ -7,7 +7,7 @@ use Rattle.writer.proofs.sections.energy_count.Statement.{statement}
 use Rattle.writer.proofs.sections.energy_count.Tie as tie
 
 returns-2 : tie.Need-returns-2
-returns-2 c = c .energies-of .ensures ∙ sym (ap (heldBy (eachOf (c .before .before .args .pairs))) (c .before .before .x .given .1))
+returns-2 c = c .energies-of .ensures ∙ sym (ap (heldBy (eachOf (c .before .before .before .before .args .pairs))) (c .before .before .x .given .1))
 
 pub energy-count-spec : {M : Type 1} → statement M
 energy-count-spec =

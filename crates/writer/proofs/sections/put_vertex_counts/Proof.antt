@@ -2,6 +2,7 @@
 use mathlib.Core.Path.{_≡_, _∙_}
 use mathlib.Core.List.{map}
 use Prim.Native.Nat.{_+_, _-_, _*_, _≤_}
+use native.Mathlib.Nat.{add-zero}
 use native.Mathlib.Omega.{arith}
 use borrow.Author.Needs.{needs}
 use Rattle.mesh.specs.Levels.{vertexCount}
@@ -22,7 +23,7 @@ abbrev μ-loop : tie.MeasureT-loop
 
 loop-holds : tie.Need-loop-holds Inv-loop μ-loop
 unfolding below packed
-loop-holds c = (omega arith, nothing (omega arith))
+loop-holds c = (omega arith, rw add-zero (nothing (omega arith)))
 
 mul-put-u32 : tie.Need-mul-put-u32 Inv-loop μ-loop
 mul-put-u32 c = omega arith
