@@ -16,7 +16,7 @@ use Rattle.rows.specs.declared.SlabResolution.{SlabResolution}
 use Rattle.rows.specs.declared.SlabResolution.the-variants.{Scalar, Mesh, Repulsive}
 use Rattle.rows.specs.Rows.{Rows, kindOf, levelOf, valueOf, resolutionOf, resolutionAt, replaced, Row, rowWith}
 use Rattle.settling.specs.Settling.{newRow, fromLevel, replacedBy}
-use Rattle.builder.specs.BuilderLists.{BuilderLists, storePlace, rowIn, rowAt, rowsIn, rowsFrom}
+use Rattle.builder.specs.BuilderLists.{BuilderLists, rowIn, rowAt, rowsIn, rowsFrom}
 use Rattle.builder.specs.Calls.{settledLists}
 use Rattle.settling.specs.Internal.{tallied}
 use Rattle.builder.specs.Internal.{tallyFrom}
@@ -33,12 +33,12 @@ level-by false true x v c b e h = refl
 level-by false false x v c b e h = let same : v ≡ c = eqb-true v c h in rw same
 
 -- energies that a row holds are those of the current level
-pub row-energies : (top : ℕ) (l : BuilderLists) (s c : ℕ) → fromLevel c (rowAt top l s) ≡ true
-    → rowAt top l s ≡ rowWith (resolutionAt (l .rows) s) (take (per c) (drop (storePlace top s) (l .store)))
+pub row-energies : (each : ℕ → ℕ) (top : ℕ) (l : BuilderLists) (s c : ℕ) → fromLevel c (rowIn each top l s) ≡ true
+    → rowIn each top l s ≡ rowWith (resolutionAt (l .rows) s) (take (each c) (drop (s * each top) (l .store)))
 unfolding rowIn resolutionAt resolutionOf
-row-energies top l s c h =
+row-energies each top l s c h =
     level-by (eqb (getD (l .rows .kinds) s 0) 0) (eqb (getD (l .rows .kinds) s 0) 1) (ofBits binary32 (getD (l .rows .values) s 0)) (getD (l .rows .levels) s 0) c
-    (eqb (getD (l .rows .kinds) s 0) 3) (λ v. take (per v) (drop (storePlace top s) (l .store))) h
+    (eqb (getD (l .rows .kinds) s 0) 3) (λ v. take (each v) (drop (s * each top) (l .store))) h
 
 -- ---- rows that stay
 
@@ -55,7 +55,7 @@ same-row a b s h = rw (h .kinds, h .levels, h .values)
 pub read-row : (top c s apart : ℕ) (l : BuilderLists) (now : Rows) → apart ≡ per top → Same now (l .rows) s → fromLevel c (rowAt top l s) ≡ true
     → rowWith (resolutionAt now s) (take (vertexCount c * vertexCount c) (drop (s * apart) (l .store))) ≡ rowAt top l s
 unfolding per
-read-row top c s apart l now e h g = rw (e, same-row now (l .rows) s h) (sym (row-energies top l s c g))
+read-row top c s apart l now e h g = rw (e, same-row now (l .rows) s h) (sym (row-energies per top l s c g))
 
 past : (r : Rows) (at s : ℕ) (x : Option SlabResolution) → at < s → Same (replacedBy r at x) r s
 unfolding replaced

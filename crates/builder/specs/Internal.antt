@@ -1,26 +1,26 @@
 -- What only the code and the proofs need; a reader need not believe it. Definitions only.
-use mathlib.Core.Bool.{Bool, true, false, not, cond, _&&_}
+use mathlib.Core.Bool.{Bool, true, false, cond, _&&_}
 use mathlib.Core.List.{List, [], _∷_, map}
 use Prim.Native.Nat.{ℕ, suc, _+_, _*_, _-_, _≤_}
 use mathlib.Core.Path.{_≡_}
-use lib.ListN.{length}
-use lib.Dec.{ltb, eqb}
-use lib.Ieee.{Float, binary64, ofBits, lt, isNan}
+use lib.ListN.{length, take, drop}
+use lib.Dec.{ltb}
+use lib.Ieee.{Float, binary64, ofBits, lt}
 use Rattle.lists.specs.Lists.{every, allUpTo}
 use Rattle.mesh.specs.Levels.{vertexCount, per, verticesBelow}
-use Rattle.mesh.specs.Mesh.{Mesh, levelPart, meshOf, meshLong, meshesKeep}
+use Rattle.mesh.specs.Mesh.{Mesh, levelPart, meshOf}
 use Rattle.rows.specs.Rows.{Rows, Row, resolutionAt, rowWith}
 use Rattle.settling.specs.Settling.{verdictOf, newRow, fromLevel, replacedBy, atomVerdictOf}
 use Rattle.builder.specs.BuilderLists.{BuilderLists, slab, slabs, sliceAt}
 use Rattle.builder.specs.Calls.{settledLists}
 use Rattle.builder.specs.declared.Builder.{Builder}
+use Rattle.builder.specs.declared.AtomBuilder.{AtomBuilder}
 use Rattle.settling.specs.Internal.{tallied}
 use Rattle.settling.specs.declared.Tally.{Tally}
 use Rattle.settling.specs.declared.Verdict.{Verdict}
 use Rattle.settling.specs.declared.AtomVerdict.{AtomVerdict}
 use Rattle.lists.specs.Questions.{ask}
 use Rattle.builder.specs.BuilderLists.{slab, rowsKnown}
-use Rattle.builder.specs.declared.Builder.{Builder}
 
 -- ---- the questions
 
@@ -34,14 +34,6 @@ settleQuestion bins n top level r ri =
     ask (ltb ri bins) 8
     (ask (rowsKnown top r (ri * n + 0) n) 15
     (ask (rowsFromLevel level r (ri * n + 0) n) 11 0))
-
--- 6 and 7 of the meshes
-unfoldable pub meshQuestion : ℕ → Mesh → ℕ
-meshQuestion top m = ask (meshLong (verticesBelow (suc top)) m) 6 (ask (meshesKeep top m) 7 0)
-
--- 9 and 10, of a slab of z energies
-unfoldable pub energiesQuestion : ℕ → List Float → ℕ
-energiesQuestion z e = ask (eqb (length e) z) 9 (ask (every (λ x. not (isNan x)) e) 10 0)
 
 -- ---- settling a slice
 
@@ -98,7 +90,18 @@ dropsBy t threshold level = t .settled && (t .clear && (lt (t .gradient) thresho
 unfoldable pub droppedBy : Builder → Tally → Builder
 droppedBy b t = record { grid = b .grid; top = b .top; level = cond (dropsBy t (b .grid .threshold) (b .level)) (b .level - 1) (b .level) }
 
--- what settling a slab against an atom gives and leaves
-abbrev pub atomSettledSlab : Float → Float → Mesh → ℕ → Row Float → ℕ → Rows → AtomVerdict → Rows → Type 0
-atomSettledSlab threshold beta m c r s rows v rows′ =
-    (v ≡ atomVerdictOf threshold beta m (vertexCount c) r) × (rows′ ≡ replacedBy rows s (newRow c (v .verdict)))
+-- ---- against an atom
+
+-- what an accepted settle may count on
+pub record AtomSettleReady (b : AtomBuilder) (ms : Mesh) (store : List Float) (ri : ℕ) : Type 0 where
+  pub top-le : b .top ≤ 15
+  pub level-le : b .level ≤ b .top
+  pub store-le : ri * vertexCount (b .top) + vertexCount (b .level) ≤ length store
+  pub linked : MeshesLinked (b .level) ms
+
+-- what settling slab ri gives and leaves, over the mesh of the current level
+abbrev pub atomSettledSlab : AtomBuilder → Mesh → List Float → ℕ → Rows → AtomVerdict → Rows → Type 0
+atomSettledSlab b m store ri rows v rows′ =
+    let c = b .level in
+    let e = take (vertexCount c) (drop (ri * vertexCount (b .top)) store) in
+    (v ≡ atomVerdictOf (b .grid .threshold) (b .grid .beta) m (vertexCount c) (rowWith (resolutionAt rows ri) e)) × (rows′ ≡ replacedBy rows ri (newRow c (v .verdict)))

@@ -12,7 +12,10 @@ mod copies;
 mod questions;
 mod slices;
 
+pub use atom::atom_fresh;
 pub use atom::atom_meshed_refusal;
+pub use atom::atom_set;
+pub use atom::atom_settle;
 pub use questions::meshed_refusal;
 
 // The settings, the top level and the current one.

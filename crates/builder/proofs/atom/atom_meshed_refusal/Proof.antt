@@ -1,9 +1,10 @@
 -- `atom_meshed_refusal` meets its contract. Assumes nothing.
 use mathlib.Core.Path.{sym, _∙_}
-use Rattle.lists.proofs.Counting.{yes, no}
+use native.Mathlib.Omega.{arith}
 use borrow.Author.Tests.{eq-eqb, ne-eqb}
 use Rattle.lists.specs.Questions.{ask, first}
-use Rattle.builder.specs.Internal.{meshQuestion}
+use Rattle.grid.proofs.Laws.{slab-energies-le}
+use Rattle.builder.specs.Atom.{atomRoom}
 use Rattle.builder.proofs.Laws.{AtomAsked, atom-asked}
 use borrow.Author.Needs.{needs}
 use Rattle.builder.proofs.atom.atom_meshed_refusal.Statement.{statement}
@@ -17,26 +18,19 @@ returns : tie.Need-returns
 unfolding ask first
 returns c = rw (← c .before .atom-question .ensures, ne-eqb _ _ (c .if1 .taken))
 
-atom-room-requires : tie.Need-atom-room-requires
-atom-room-requires c κs = let a = held c in (a .rs, a .top-le)
-
-returns-2 : tie.Need-returns-2
-unfolding ask first
-returns-2 c =
-    let d = c .before .before in
-    rw (← d .before .atom-question .ensures, eq-eqb _ _ (d .if1 .left), no (c .before .atom-room .ensures) (c .if2 .taken))
+cast-vertex-count : tie.Need-cast-vertex-count
+cast-vertex-count c = let a = held c in omega (arith, a .top-le)
 
 mesh-question-requires : tie.Need-mesh-question-requires
-mesh-question-requires c κs = let a = held (c .before .before) in a .top-le
+mesh-question-requires c κs = let a = held (c .before) in (rw (c .vertex-count .ensures) (omega (arith, slab-energies-le _ _ (a .rs) (a .top-le))), a .top-le)
 
-returns-3 : tie.Need-returns-3
-unfolding ask first meshQuestion
-returns-3 c =
-    let e = c .before in
-    let d = e .before .before in
-    rw (← d .before .atom-question .ensures, eq-eqb _ _ (d .if1 .left), yes (e .before .atom-room .ensures) (e .if2 .left), c .mesh-question .ensures)
+returns-2 : tie.Need-returns-2
+unfolding ask first atomRoom
+returns-2 c =
+    let d = c .before .before in
+    rw (← d .before .atom-question .ensures, eq-eqb _ _ (d .if1 .left), c .mesh-question .ensures, c .before .vertex-count .ensures)
 
 pub atom-meshed-refusal-spec : {M : Type 1} → statement M
 atom-meshed-refusal-spec =
     tie.close
-    (tie.spec (λ c κs. search needs) returns atom-room-requires returns-2 mesh-question-requires returns-3)
+    (tie.spec (λ c κs. search needs) returns cast-vertex-count (λ c κs. search needs) mesh-question-requires returns-2)

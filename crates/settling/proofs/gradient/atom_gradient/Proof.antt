@@ -11,7 +11,7 @@ line-requires c κs = (search needs, search needs, search needs, zero-number, se
 
 returns : tie.Need-returns
 unfolding atomGradient
-returns c = rw (c .before .line .ensures, by-line)
+returns c = rw (c .before .line .ensures) (by-line _ _ _ _)
 
 pub atom-gradient-spec : {M : Type 1} → statement M
 atom-gradient-spec = tie.close (tie.spec (λ c. search needs) line-requires returns)
