@@ -6,10 +6,10 @@ use Rattle.builder.specs.Atom.{AtomBuiltValues, AtomSettledValues}
 use Rattle.table.specs.declared.AtomTable.{AtomTable}
 use Rattle.table.specs.Atom.{AtomReadValues}
 use Rattle.reading.specs.Resolve.{ReadingValues}
-use Rattle.icotable.specs.declared.AtomBuildAnswer.{AtomBuildAnswer}
-use Rattle.icotable.specs.declared.AtomSettleAnswer.{AtomSettleAnswer}
-use Rattle.icotable.specs.declared.AtomTableAnswer.{AtomTableAnswer}
-use Rattle.icotable.specs.declared.EnergyAnswer.{EnergyAnswer}
+use Rattle.icotable.specs.declared.atom.AtomBuildAnswer.{AtomBuildAnswer}
+use Rattle.icotable.specs.declared.atom.AtomSettleAnswer.{AtomSettleAnswer}
+use Rattle.icotable.specs.declared.atom.AtomTableAnswer.{AtomTableAnswer}
+use Rattle.icotable.specs.declared.atom.EnergyAnswer.{EnergyAnswer}
 
 unfoldable pub atomBuiltIn : AtomBuildAnswer → AtomBuiltValues
 atomBuiltIn a = record { number = a .number; builder = a .builder }

@@ -317,7 +317,7 @@ fn atom_reading_of(
     dy: f64,
     dz: f64,
 ) -> EnergyAnswer
-    ensures { λ e. ⌜ energyIn e ≡ atomReadingBy (now (file .entry)) (atomTableFrom table) (now (vertices .entry))
+    ensures { λ z. ⌜ energyIn z ≡ atomReadingBy (now (file .entry)) (atomTableFrom table) (now (vertices .entry))
         (locatorOf (now («cell_offsets» .entry)) (now («cell_vertices» .entry)) (now («face_offsets» .entry)) (now (faces .entry)))
         linear (record { r = r; d = record { x = dx; y = dy; z = dz } }) ⌝ }
 {
@@ -356,7 +356,7 @@ pub extern "C" fn icotable_atom_reading(
     dy: f64,
     dz: f64,
 ) -> EnergyAnswer
-    ensures { λ e. ⌜ energyIn e ≡ atomReadingBy (now (file .entry)) (atomTableFrom (now (table .entry))) (now (vertices .entry))
+    ensures { λ z. ⌜ energyIn z ≡ atomReadingBy (now (file .entry)) (atomTableFrom (now (table .entry))) (now (vertices .entry))
         (locatorOf (now («cell_offsets» .entry)) (now («cell_vertices» .entry)) (now («face_offsets» .entry)) (now (faces .entry)))
         linear (record { r = r; d = record { x = dx; y = dy; z = dz } }) ⌝ }
 {
@@ -389,7 +389,7 @@ fn atom_boltzmann_of(
     dz: f64,
     beta: f64,
 ) -> EnergyAnswer
-    ensures { λ e. ⌜ energyIn e ≡ atomReadingBy (now (file .entry)) (atomTableFrom table) (now (vertices .entry))
+    ensures { λ z. ⌜ energyIn z ≡ atomReadingBy (now (file .entry)) (atomTableFrom table) (now (vertices .entry))
         (locatorOf (now («cell_offsets» .entry)) (now («cell_vertices» .entry)) (now («face_offsets» .entry)) (now (faces .entry)))
         (boltzmann beta) (record { r = r; d = record { x = dx; y = dy; z = dz } }) ⌝ }
 {
@@ -430,7 +430,7 @@ pub extern "C" fn icotable_atom_boltzmann(
     dz: f64,
     beta: f64,
 ) -> EnergyAnswer
-    ensures { λ e. ⌜ energyIn e ≡ atomReadingBy (now (file .entry)) (atomTableFrom (now (table .entry))) (now (vertices .entry))
+    ensures { λ z. ⌜ energyIn z ≡ atomReadingBy (now (file .entry)) (atomTableFrom (now (table .entry))) (now (vertices .entry))
         (locatorOf (now («cell_offsets» .entry)) (now («cell_vertices» .entry)) (now («face_offsets» .entry)) (now (faces .entry)))
         (boltzmann beta) (record { r = r; d = record { x = dx; y = dy; z = dz } }) ⌝ }
 {

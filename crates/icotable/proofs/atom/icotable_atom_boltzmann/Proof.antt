@@ -134,16 +134,16 @@ module _ {M : Type 1} (𝓤 : URA M) (H : Heap 𝓤) (A : Atoms 𝓤) (W : Given
 
   -- what is ensured
   abbrev Said : EnergyAnswer → Type 0
-  Said e = energyIn e ≡ atomReadingBy (file .now) (atomTableFrom (table .now)) (vertices .now) (locatorOf (cell-offsets .now) (cell-vertices .now) (face-offsets .now) (faces .now)) (boltzmann beta) (record { r = r; d = record { x = dx; y = dy; z = dz } })
+  Said z = energyIn z ≡ atomReadingBy (file .now) (atomTableFrom (table .now)) (vertices .now) (locatorOf (cell-offsets .now) (cell-vertices .now) (face-offsets .now) (faces .now)) (boltzmann beta) (record { r = r; d = record { x = dx; y = dy; z = dz } })
 
-  exits : (e : EnergyAnswer) → Said e → Is N.the-row e (mach-N e ∷ []) → ent 𝓤 (⋆ 𝓤 H A Left) (Post (mach-N e))
-  exits e e g =
+  exits : (z : EnergyAnswer) → Said z → Is N.the-row z (mach-N z ∷ []) → ent 𝓤 (⋆ 𝓤 H A Left) (Post (mach-N z))
+  exits z e g =
       qed W Left ∵
-      suffices ! _ (ends-at 𝓤 H A fn.ended stayed (fn.clauses 𝓤 H A at-mem run) W bound (mach-N e) e (tt, (tt, (tt, (tt, (tt, (tt, (tt, (tt, (tt, (tt, (tt, (tt, tt)))))))))))) (tt, (tt, (tt, (tt, (tt, (tt, (tt, (tt, (tt, (tt, (tt, (tt, tt))))))))))))) $
+      suffices ! _ (ends-at 𝓤 H A fn.ended stayed (fn.clauses 𝓤 H A at-mem run) W bound (mach-N z) z (tt, (tt, (tt, (tt, (tt, (tt, (tt, (tt, (tt, (tt, (tt, (tt, tt)))))))))))) (tt, (tt, (tt, (tt, (tt, (tt, (tt, (tt, (tt, (tt, (tt, (tt, tt))))))))))))) $
       says ! e $ join ! $ frame ! $ nothing ! $ owned ! f64 (Is f64) (float-makes 𝓤 H A W binary64) beta _ (refl, g-beta) $ fjoin ! $ owned ! f64 (Is f64) (float-makes 𝓤 H A W binary64) dz _ (refl, g-dz) $
       fjoin ! $ owned ! f64 (Is f64) (float-makes 𝓤 H A W binary64) dy _ (refl, g-dy) $ fjoin ! $ owned ! f64 (Is f64) (float-makes 𝓤 H A W binary64) dx _ (refl, g-dx) $ fjoin ! $
       owned ! f64 (Is f64) (float-makes 𝓤 H A W binary64) r _ (refl, g-r) $ fjoin ! $ move ! (7 ∷ 0 ∷ []) $ fjoin ! $ move ! (6 ∷ 0 ∷ []) $ fjoin ! $ move ! (5 ∷ 0 ∷ []) $ fjoin ! $ move ! (4 ∷ 0 ∷ []) $
-      fjoin ! $ move ! (3 ∷ 0 ∷ []) $ fjoin ! $ move ! (2 ∷ 0 ∷ []) $ fjoin ! $ move ! (1 ∷ 0 ∷ []) $ fjoin ! $ owned ! N.the-row (Is N.the-row) (LL.makes N.the-type N′.the-plain 𝓤 H A) e _ g $
+      fjoin ! $ move ! (3 ∷ 0 ∷ []) $ fjoin ! $ move ! (2 ∷ 0 ∷ []) $ fjoin ! $ move ! (1 ∷ 0 ∷ []) $ fjoin ! $ owned ! N.the-row (Is N.the-row) (LL.makes N.the-type N′.the-plain 𝓤 H A) z _ g $
       move ! (1 ∷ 0 ∷ []) $ done !
 
   -- what goes to `atom_boltzmann_of`
@@ -168,7 +168,7 @@ module _ {M : Type 1} (𝓤 : URA M) (H : Heap 𝓤) (A : Atoms 𝓤) (W : Given
 
   -- what it ensures
   abbrev callee-said : EnergyAnswer → Type 0
-  callee-said e = energyIn e ≡ atomReadingBy (file .now) (atomTableFrom (table .now)) (vertices .now) (locatorOf (cell-offsets .now) (cell-vertices .now) (face-offsets .now) (faces .now)) (boltzmann beta) (record { r = r; d = record { x = dx; y = dy; z = dz } })
+  callee-said z = energyIn z ≡ atomReadingBy (file .now) (atomTableFrom (table .now)) (vertices .now) (locatorOf (cell-offsets .now) (cell-vertices .now) (face-offsets .now) (faces .now)) (boltzmann beta) (record { r = r; d = record { x = dx; y = dy; z = dz } })
 
   module _ (𝓣 : Tables 𝓤 H) (callee-known : Triple 𝓤 (𝓣 .C #icotable·atom-boltzmann-of) (Callee 𝓤 H A at-mem run)) where
     walk : ent 𝓤 (onEntry 𝓤 H A fn.signature (κ, (κ1, (κ2, (κ3, (κ4, (κ5, (κ6, tt))))))) (q, (q1, (q2, (q3, (q4, (q5, (q6, tt))))))) a at) (WpFn 𝓤 H (𝓣 .C) (𝓣 .Λ) code.function (vptr (table .ptr .0) (table .ptr .1) ∷ v-file ∷ v-vertices ∷ v-cell-offsets ∷ v-cell-vertices ∷ v-face-offsets ∷ v-faces ∷ vfloat binary64 r ∷ vfloat binary64 dx ∷ vfloat binary64 dy ∷ vfloat binary64 dz ∷ vfloat binary64 beta ∷ []) Post)
@@ -198,17 +198,17 @@ module _ {M : Type 1} (𝓤 : URA M) (H : Heap 𝓤) (A : Atoms 𝓤) (W : Given
         fsplit ! $ drop ! $ fsplit ! $ drop ! $ drop ! $ move ! (2 ∷ 0 ∷ []) $ fjoin ! $ move ! (3 ∷ 0 ∷ []) $ fjoin ! $ move ! (4 ∷ 0 ∷ []) $ fjoin ! $ move ! (5 ∷ 0 ∷ []) $ fjoin ! $ move ! (6 ∷ 0 ∷ []) $
         fjoin ! $ move ! (9 ∷ 0 ∷ []) $ use2 W (raw (Callee 𝓤 H A at-mem run .pre to-callee)) (into-callee g) $
         calls-at ! (fmOf 𝓤 H (W .laws) 𝓣) (Callee 𝓤 H A at-mem run) callee-known to-callee (and-then ! (load ! (from ! (stop !)) (look ! 9 refl)) (and-then ! (load ! (from ! (stop !)) (look ! 31 refl)) (and-then ! (load ! (from ! (stop !)) (look ! 29 refl)) (and-then ! (load ! (from ! (stop !)) (look ! 27 refl)) (and-then ! (load ! (from ! (stop !)) (look ! 25 refl)) (and-then ! (load ! (from ! (stop !)) (look ! 23 refl)) (and-then ! (load ! (from ! (stop !)) (look ! 21 refl)) (and-then ! (load ! (from ! (stop !)) (look ! 19 refl)) (and-then ! (load ! (from ! (stop !)) (look ! 17 refl)) (and-then ! (load ! (from ! (stop !)) (look ! 15 refl)) (and-then ! (load ! (from ! (stop !)) (look ! 13 refl)) (and-then ! (load ! (from ! (stop !)) (look ! 11 refl)) (no-more !))))))))))))) (λ w.
-        use1 W (later (some (λ (e : EnergyAnswer). (Toks ⊛ ‵ (N.the-row .own e (w ∷ []))) ⊛ raw (ensured 𝓤 H A callee.ended (callee.clauses 𝓤 H A at-mem run) (κ1, (κ2, (κ3, (κ4, (κ5, (κ6, tt)))))) callee-args tt e)))) (id⊢ 𝓤 _) $
-        await ! tt $ pick ! (λ e. split ! $ move ! (1 ∷ []) $
-        use1 W (some (λ (zs : Unit {0} × (Unit {0} × (Unit {0} × (Unit {0} × (Unit {0} × (Unit {0} × (Unit {0} × (Unit {0} × (Unit {0} × (Unit {0} × (Unit {0} × (Unit {0} × (Unit {0}))))))))))))). ‵ (lasts callee.ended (κ1, (κ2, (κ3, (κ4, (κ5, (κ6, tt)))))) callee-args zs) ⊛ raw (fact 𝓤 (callee-said e)))) (id⊢ 𝓤 _) $
-        pick ! (λ zs. split ! $ move ! (1 ∷ []) $ heard ! (callee-said e) (λ e. drop ! $ split ! $ move ! (1 ∷ []) $ peeks ! N.the-row (Is N.the-row) (shows 𝓤 H A N.the-row) e (w ∷ []) (λ is.
-        land ! (from ! (stop !)) (init ! 36 refl (LL.lawful N.the-type N′.the-laws 𝓤 H A W .typed e _ is .0)) $
-        rewrite ! 36 (λ (u : Val). ‵ (fat fullShare N′.mir m0 0 u)) (ap only (LL.tells N.the-type N′.the-laws e (w ∷ []) is)) refl $ returns ! (look ! 36 refl) $ forget ! 36 refl $ forget ! 34 refl $
+        use1 W (later (some (λ (z : EnergyAnswer). (Toks ⊛ ‵ (N.the-row .own z (w ∷ []))) ⊛ raw (ensured 𝓤 H A callee.ended (callee.clauses 𝓤 H A at-mem run) (κ1, (κ2, (κ3, (κ4, (κ5, (κ6, tt)))))) callee-args tt z)))) (id⊢ 𝓤 _) $
+        await ! tt $ pick ! (λ z. split ! $ move ! (1 ∷ []) $
+        use1 W (some (λ (zs : Unit {0} × (Unit {0} × (Unit {0} × (Unit {0} × (Unit {0} × (Unit {0} × (Unit {0} × (Unit {0} × (Unit {0} × (Unit {0} × (Unit {0} × (Unit {0} × (Unit {0}))))))))))))). ‵ (lasts callee.ended (κ1, (κ2, (κ3, (κ4, (κ5, (κ6, tt)))))) callee-args zs) ⊛ raw (fact 𝓤 (callee-said z)))) (id⊢ 𝓤 _) $
+        pick ! (λ zs. split ! $ move ! (1 ∷ []) $ heard ! (callee-said z) (λ e. drop ! $ split ! $ move ! (1 ∷ []) $ peeks ! N.the-row (Is N.the-row) (shows 𝓤 H A N.the-row) z (w ∷ []) (λ is.
+        land ! (from ! (stop !)) (init ! 36 refl (LL.lawful N.the-type N′.the-laws 𝓤 H A W .typed z _ is .0)) $
+        rewrite ! 36 (λ (u : Val). ‵ (fat fullShare N′.mir m0 0 u)) (ap only (LL.tells N.the-type N′.the-laws z (w ∷ []) is)) refl $ returns ! (look ! 36 refl) $ forget ! 36 refl $ forget ! 34 refl $
         forget ! 32 refl $ forget ! 30 refl $ forget ! 28 refl $ forget ! 26 refl $ forget ! 24 refl $ forget ! 22 refl $ forget ! 20 refl $ forget ! 18 refl $ forget ! 16 refl $ forget ! 14 refl $
         forget ! 12 refl $ forget ! 10 refl $ move ! (36 ∷ 37 ∷ []) $ free1 ! $ move ! (34 ∷ 35 ∷ []) $ free1 ! $ move ! (32 ∷ 33 ∷ []) $ free1 ! $ move ! (30 ∷ 31 ∷ []) $ free1 ! $ move ! (28 ∷ 29 ∷ []) $
         free1 ! $ move ! (26 ∷ 27 ∷ []) $ free1 ! $ move ! (24 ∷ 25 ∷ []) $ free1 ! $ move ! (22 ∷ 23 ∷ []) $ free1 ! $ move ! (20 ∷ 21 ∷ []) $ free1 ! $ move ! (18 ∷ 19 ∷ []) $ free1 ! $
         move ! (16 ∷ 17 ∷ []) $ free1 ! $ move ! (14 ∷ 15 ∷ []) $ free1 ! $ move ! (12 ∷ 13 ∷ []) $ free1 ! $ move ! (10 ∷ 11 ∷ []) $ free1 ! $ free0 ! $ keep ! (9 ∷ 1 ∷ 8 ∷ 7 ∷ 6 ∷ 5 ∷ 4 ∷ 3 ∷ 2 ∷ []) $
-        by ! (exits e e (subst (λ (us : List Val). Is N.the-row e us) (LL.tells N.the-type N′.the-laws e (w ∷ []) is) is)))))))))))))))))))))))
+        by ! (exits z e (subst (λ (us : List Val). Is N.the-row z us) (LL.tells N.the-type N′.the-laws z (w ∷ []) is) is)))))))))))))))))))))))
 
 module _ {M : Type 1} (𝓤 : URA M) (H : Heap 𝓤) (A : Atoms 𝓤) (W : Given 𝓤 H A) (mem : Memory → SProp 𝓤) (run : Routine → Fun 𝓤) where
   walks : (𝓣 : Tables 𝓤 H) → Triple 𝓤 (𝓣 .C #icotable·atom-boltzmann-of) (Callee 𝓤 H A mem run) → Walks 𝓤 H A fn.ended stayed (WpFn 𝓤 H (𝓣 .C) (𝓣 .Λ) code.function) (fn.clauses 𝓤 H A mem run)
