@@ -5,7 +5,7 @@ use lib.IntN.{pos, negsuc}
 use lib.Ieee.{nan, inf, fin, binary64, size, round, add, sub, mul, div, lt, isNan, toBits, ofBits, ofInt, toSigned}
 use Rattle.float.specs.Order.{farther, larger, rank, ordered}
 use Rattle.float.specs.Whole.{integral, floored, ceiled}
-use Rattle.float.specs.Exp.{bits, twoTo, doublings, residue, scaled, exponential}
+use Rattle.float.specs.Exp.{bits, twoTo, doublings, residue, halved, raised, scaled, exponential}
 use Rattle.float.specs.Log.{ratio, combined, over, places, logarithm}
 
 -- the floors of -0.5 and -0.0, and the ceiling of -0.5
@@ -28,7 +28,7 @@ exponentials : (toBits binary64 (exponential (bits 0xC086_2000_0000_0000)) ≡ 0
     × (toBits binary64 (exponential (bits 0x4086_2800_0000_0000)) ≡ 0x7FDD_422D_2BE5_DC9B)
     × (toBits binary64 (exponential (bits 0x8000_0000_0000_0000)) ≡ 0x3FF0_0000_0000_0000)
     × (toBits binary64 (exponential (bits 0xBFFC_0000_0000_0000)) ≡ 0x3FC6_3E39_7E02_2072)
-unfolding toBits ofBits exponential isNan lt scaled mul add residue sub doublings integral twoTo toSigned
+unfolding toBits ofBits exponential isNan lt scaled raised halved mul add residue sub doublings integral twoTo toSigned
 exponentials = (refl, refl, refl, refl)
 
 -- the logarithms of 1, of 2 ^ -1074, of 1.4142135623730951 and of the next number, whose m is halved
