@@ -49,7 +49,11 @@ pub fn rule(caller: &Caller, random: &mut Random, calm: bool) -> Rule {
         10 | 11 => r.step = 3.0 / (beta * modulus as f64),
         12 => (r.base, r.step) = (f64::INFINITY, 1.0),
         13 => (r.base, r.step) = (f64::NEG_INFINITY, 1.0),
-        14 => (r.base, r.step) = (-709.5 / beta, 1417.0 / (beta * modulus as f64)),
+        // over both cuts of E, or up to its last finite values and a little beyond
+        14 => {
+            let (base, range) = [(-710.5, 1457.0), (-709.8, 1.5)][random.below(2)];
+            (r.base, r.step) = (base / beta, range / (beta * modulus as f64));
+        }
         15 => r.base = 1e-310 * random.unit(),
         16 => r.base = [1e-46, -1e-46, 1e-40, -1e-45][random.below(4)],
         17 => (r.base, r.step) = (-1.7e308, 1e305),
