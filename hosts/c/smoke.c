@@ -460,7 +460,7 @@ static void atom_zero_weight(void) {
     icotable_energy plain = atom_reading(0.5, vertices), x = atom_weighted(0.5, vertices, 1);
     expect("plain reading at vertex 0", plain.number, 0);
     expect("its energy is 1000", plain.energy == 1000, 1);
-    expect("weighted reading at vertex 0, the others more than 708 below it", x.number, 0);
+    expect("weighted reading at vertex 0, the others more than 746 below it", x.number, 0);
     expect("its energy is infinity", x.energy == INFINITY, 1);
     expect("with a smaller beta it is not", fabs(atom_weighted(0.5, vertices, 0.5).energy - 1000) < 1e-6, 1);
     file[ENERGIES + 2] = 0x80, file[ENERGIES + 3] = 0xFF;
