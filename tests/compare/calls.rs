@@ -42,7 +42,7 @@ mod shape;
 
 use caller::{Answer, Call, Caller, Rule, Sink, What, PRIME};
 use lines::{bits, Fixed};
-use lists::{accident, descent, lend, lengths, list, odd_numbers, refused, repulsive_rows};
+use lists::{accident, descent, far_weights, lend, lengths, list, odd_numbers, refused, repulsive_rows};
 use meshes::{icosphere, Mesh, Random};
 use refusals::{vertices_below, Held, Lists};
 use shape::PAIR;
@@ -250,6 +250,7 @@ fn main() {
     // no pair counts, and every slab that is not repulsive becomes a scalar
     lend(&mut caller, &spheres, |_| odd[other.below(4)]);
     odd_numbers(&mut caller);
+    far_weights(&mut caller);
     for k in 0..6 {
         list(&mut caller, &mut random, [0, 1][k % 2]);
     }
