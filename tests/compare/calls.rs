@@ -239,7 +239,8 @@ fn main() {
     descent(&mut caller);
     refused(&mut caller, &mut random);
     lengths(&mut caller, &mut random);
-    for k in 0..24 {
+    // an atom's lists are short, and more of them are needed for every case
+    for k in 0..if PAIR { 24 } else { 60 } {
         list(&mut caller, &mut random, [0, 1, 2, 1, 2, 2][k % 6]);
     }
     let odd = [0.0, -0.0, 5e-324, 1e-12, 1.0000000000000002e-12, 1e-11, 3.0, 1e308];

@@ -431,9 +431,10 @@ pub fn far_weights(caller: &mut Caller) {
     let all = caller.lists.lengths();
     let s = Settings { rmin: 0.0, rmax: 1.0, dr: 1.0, omega_step: 6.0, threshold: 1e-318, beta: 1.0 };
     let before = caller.lists.word(6, 0);
+    let unmet = if shape::PAIR { 67 } else { 11 };
     caller.entries(6, 0, &[bits(1.0)]);
-    for (base, apart, kind) in [(-709.78, NOWHERE, 3), (-720.0, NOWHERE, 0), (720.0, 67, 3), (746.0, 67, 0)] {
-        let r = Rule { count: 144, modulus: 100, seed: 1, base, step: 0.005, places: [(apart, 0.0), (NOWHERE, 0.0)] };
+    for (base, apart, kind) in [(-709.78, NOWHERE, 3), (-720.0, NOWHERE, 0), (720.0, unmet, 3), (746.0, unmet, 0)] {
+        let r = Rule { count: per(0), modulus: 100, seed: 1, base, step: 0.005, places: [(apart, 0.0), (NOWHERE, 0.0)] };
         assert_eq!(caller.fresh(s, 0, [0, 0], all), 0);
         assert_eq!([caller.set(0, 0, r, all), caller.settle(0, all)], [0, 0]);
         assert_eq!(caller.lists.kinds[0], kind);
