@@ -1,11 +1,15 @@
-// The benchmark beside the Rust: rows of the table that bench/run prints, and two tables of how cost grows.
+// The benchmark beside the Rust: rows of the table that bench/run prints, and two tables of how cost grows. Built with --cfg atom it has the rows of one molecule against an atom.
+#![cfg_attr(atom, allow(dead_code))]
 #[allow(dead_code, clippy::all)]
 mod average {
     include!(concat!(env!("COMPARE"), "/average.rs"));
 }
 #[allow(dead_code, clippy::all)]
 mod builder {
+    #[cfg(not(atom))]
     include!(concat!(env!("COMPARE"), "/builder.rs"));
+    #[cfg(atom)]
+    include!(concat!(env!("COMPARE"), "/atom_builder.rs"));
 }
 #[allow(dead_code, clippy::all)]
 mod oracle {
@@ -13,17 +17,24 @@ mod oracle {
 }
 #[allow(dead_code, clippy::all)]
 mod rust {
+    #[cfg(not(atom))]
     include!(concat!(env!("COMPARE"), "/lookup.rs"));
+    #[cfg(atom)]
+    include!(concat!(env!("COMPARE"), "/atom_lookup.rs"));
 }
 // The Rust's table with the machine's `exp` and `ln` in its weighted readings.
 #[allow(dead_code, clippy::all)]
 mod native {
     use crate::oracle;
+    #[cfg(not(atom))]
     mod average {
         include!(concat!(env!("COMPARE"), "/native.rs"));
     }
     pub mod rust {
+        #[cfg(not(atom))]
         include!(concat!(env!("COMPARE"), "/lookup.rs"));
+        #[cfg(atom)]
+        include!(concat!(env!("COMPARE"), "/atom_native.rs"));
     }
 }
 #[path = "../tests/compare/caller.rs"]
@@ -62,6 +73,10 @@ mod report;
 #[path = "../tests/compare/search.rs"]
 #[allow(dead_code)]
 mod search;
+#[allow(dead_code, unused_imports)]
+#[cfg_attr(atom, path = "../tests/compare/atom.rs")]
+#[cfg_attr(not(atom), path = "../tests/compare/pair.rs")]
+mod shape;
 #[cfg(landed)]
 #[path = "../target/bench/landed/mod.rs"]
 #[allow(dead_code)]
@@ -78,7 +93,7 @@ mod weighted;
 use meshes::{vertex_count, Random};
 use readings::{Caller, Rows};
 use std::sync::atomic::Ordering::Relaxed;
-use timing::{figure, misses, row, used, with_ratio, Bar, LANDED};
+use timing::{figure, row, used, with_ratio, Bar, LANDED};
 
 fn size(megabytes: f64) -> String {
     match megabytes {
@@ -139,6 +154,36 @@ fn reading_rows(random: &mut Random) {
     for (caller, from) in [(Caller::C, "C"), (Caller::Rust, "Rust")] {
         let (time, megabytes) = readings::weighted(caller, 3, [1, 8], 4096, 200, random);
         row(&format!("reading, weighted, level 3, {}, called from {from}", size(megabytes)), "ns", time, Bar::Times(1.5));
+    }
+}
+
+// One molecule against an atom. Its bar is the landed library's time: before n energies are settled or written all meshes are asked about, which neither the Rust nor a plain writer does.
+fn atom_rows(random: &mut Random) {
+    for (level, slabs, rounds) in [(0, 400, 101), (3, 100, 101), (5, 100, 41), (9, 40, 41), (15, 20, 21)] {
+        let [set, settle] = builds::slice(level, slabs, rounds, random);
+        row(&format!("atom, set, level {level}"), "ns an energy", set, Bar::Landed);
+        row(&format!("atom, settle, level {level}"), "ns an energy", settle, Bar::Landed);
+    }
+    for (top, n_r, rounds) in [(3, 48, 201), (5, 400, 101), (9, 4000, 11)] {
+        let ([write, read], megabytes) = builds::file(top, n_r, 1, rounds, random);
+        row(&format!("atom, write, {} (beside a plain writer)", size(megabytes)), "ns a byte", write, Bar::Landed);
+        row(&format!("atom, read, {} (beside a plain checker)", size(megabytes)), "ns a byte", read, Bar::Landed);
+    }
+    let mut rows = vec![("Scalar".to_string(), Rows::Scalar, 0, 8, 4096, 400), ("Scalar".into(), Rows::Scalar, 0, 60_000, 400_000, 8)];
+    for (what, kind) in [("nearest", Rows::Nearest), ("interpolated", Rows::Interpolated)] {
+        for (level, n_r, queries, rounds) in [(0, 8, 4096, 200), (3, 48, 4096, 200), (5, 400, 40_000, 20), (9, 4000, 400_000, 8)] {
+            rows.push((format!("{what}, level {level}"), kind, level, n_r, queries, rounds));
+        }
+    }
+    for (what, kind, level, n_r, queries, rounds) in rows {
+        for (caller, from) in [(Caller::C, "C"), (Caller::Rust, "Rust")] {
+            let (time, megabytes) = readings::measure(caller, kind, level, [n_r, 1], queries, rounds, random);
+            row(&format!("atom, reading, {what}, {}, called from {from}", size(megabytes)), "ns", time, Bar::Landed);
+        }
+    }
+    for (caller, from) in [(Caller::C, "C"), (Caller::Rust, "Rust")] {
+        let (time, megabytes) = readings::weighted(caller, 3, [48, 1], 4096, 200, random);
+        row(&format!("atom, reading, weighted, level 3, {}, called from {from}", size(megabytes)), "ns", time, Bar::Landed);
     }
 }
 
@@ -210,11 +255,13 @@ fn main() {
         LANDED.store(false, Relaxed);
         return only(&what, &mut random);
     }
+    if cfg!(atom) {
+        return atom_rows(&mut random);
+    }
     row("exp, apart, beside the Rust's E", "ns", builds::exp(&mut random), Bar::Landed);
     search_rows(&mut random);
     build_rows(&mut random);
     reading_rows(&mut random);
-    println!("\nAbove its bar by more than a tenth (in bold): {} of the rows that stand beside the Rust.", misses());
     println!("\nHow cost grows with the level; in brackets the ratio to the Rust's.");
     by_level(&mut random);
     println!("\nHow a reading's cost grows with the table, Mesh rows at level 3; in brackets the ratio to the Rust's.");

@@ -1,9 +1,10 @@
 // Set, settle, write and read beside the Rust: set and settle as the Rust's builder has them, with document 01's exponential and the lent angles; write and read, which the Rust has for another
 // format, beside a plain writer and checker of the same file in Rust (tests/compare/plain.rs). What the sides answer is compared first, and lists are in the same state.
-use crate::builder::{exponential, AdaptiveBuilder, MeshLevel, SlabResolution};
+use crate::builder::{exponential, MeshLevel, SlabResolution};
 use crate::meshes::{angle, icosphere, vertex_count, Lent, Random};
 use crate::new::side::Building;
 use crate::plain;
+use crate::shape::{self, per, HEADS};
 use crate::timing::{each, least, least_alone, used};
 use crate::{landed, new};
 use std::hint::black_box;
@@ -32,38 +33,42 @@ fn energies(n: usize, random: &mut Random) -> Vec<f64> {
     (0..n).map(|_| 3.0 * random.unit()).collect()
 }
 
-// Nanoseconds of set and of settle for an energy, on one slice.
-pub fn slice(top: usize, n_omega: usize, rounds: usize, random: &mut Random) -> [[f64; 3]; 2] {
+// Nanoseconds of set and of settle for an energy, on slabs of one slice; an atom's are a slice each.
+pub fn slice(top: usize, slabs: usize, rounds: usize, random: &mut Random) -> [[f64; 3]; 2] {
     let (m, levels) = meshes(top);
-    let per = vertex_count(top).pow(2);
-    let mut a = landed::side::Building::fresh(1, n_omega, top, &m);
-    let mut b = Building::fresh(1, n_omega, top, &m);
+    let per = per(top as u64);
+    let [n_r, n_omega] = shape::slice_bins(slabs);
+    let mut a = landed::side::Building::fresh(n_r, n_omega, top, &m);
+    let mut b = Building::fresh(n_r, n_omega, top, &m);
     let g = b.grid();
-    let mut rust = AdaptiveBuilder::with_subdivision(levels, g.rmin, g.rmax, g.dr, g.omega_step, top, g.threshold, g.beta);
-    let given: Vec<Vec<f64>> = (0..n_omega).map(|_| energies(per, random)).collect();
+    let mut rust = shape::rust_builder(levels, top, [g.rmin, g.rmax, g.dr, shape::dihedral(&g).0, g.threshold, g.beta]);
+    let given: Vec<Vec<f64>> = (0..slabs).map(|_| energies(per, random)).collect();
     let mut in_rust = || {
-        let mut oi = 0;
+        let mut s = 0;
         each(&given, |e| {
-            rust.set_slab(0, oi, e);
-            oi += 1;
+            shape::set_slab(&mut rust, s / n_omega, s % n_omega, e);
+            s += 1;
         })
     };
-    let set = least(rounds, n_omega * per, [&mut || a.set_all(&given), &mut || b.set_all(&given), &mut in_rust]);
+    let set = least(rounds, slabs * per, [&mut || a.set_all(&given), &mut || b.set_all(&given), &mut in_rust]);
     a.set_all(&given);
-    let settled = (rust.finish_r_slice(0).to_bits(), rust.current_level);
-    assert_eq!((a.settle(), b.settle()), (settled, settled));
+    for ri in 0..n_r {
+        let settled = (rust.finish_r_slice(ri).to_bits(), rust.current_level);
+        assert_eq!((a.settle(ri), b.settle(ri)), (settled, settled));
+    }
     for (s, row) in rust.slab_res.iter().enumerate() {
         assert!(matches!(row, SlabResolution::Mesh { interpolate: true, .. }) && (a.kinds()[s], b.kinds()[s]) == (3, 3));
         assert!(rust.slab_data[s].as_deref() == Some(&b.store()[s * per..(s + 1) * per]));
     }
-    let settle = least(rounds, n_omega * per, [&mut || used(a.settle()), &mut || used(b.settle()), &mut || used(black_box(&mut rust).finish_r_slice(0))]);
+    let mut in_rust = || (0..n_r).for_each(|ri| used(black_box(&mut rust).finish_r_slice(ri)));
+    let settle = least(rounds, slabs * per, [&mut || (0..n_r).for_each(|ri| used(a.settle(ri))), &mut || (0..n_r).for_each(|ri| used(b.settle(ri))), &mut in_rust]);
     [set, settle]
 }
 
 // Nanoseconds of write and of read for a byte of a whole table, and its megabytes.
 pub fn file(top: usize, n_r: usize, n_omega: usize, rounds: usize, random: &mut Random) -> ([[f64; 3]; 2], f64) {
     let (m, _) = meshes(top);
-    let per = vertex_count(top).pow(2);
+    let per = per(top as u64);
     let slabs = n_r * n_omega;
     let mut a = landed::side::Building::fresh(n_r, n_omega, top, &m);
     let mut b = Building::fresh(n_r, n_omega, top, &m);
@@ -72,13 +77,13 @@ pub fn file(top: usize, n_r: usize, n_omega: usize, rounds: usize, random: &mut 
         a.set(s / n_omega, s % n_omega, &e);
         b.set(s / n_omega, s % n_omega, &e);
     }
-    let length = 52 + 4 * (top + 1) + 10 * slabs + 4 * slabs * per;
+    let length = 20 + 8 * HEADS[0] + 4 * HEADS[1] + 4 * (top + 1) + 10 * slabs + 4 * slabs * per;
     let mut files = [(); 3].map(|_| vec![0u8; length]);
     let (g, store, kinds, levels, values) = (b.grid(), b.store().to_vec(), b.kinds().to_vec(), b.levels().to_vec(), b.values().to_vec());
     let held = plain::Held {
         rmin: g.rmin,
         dr: g.dr,
-        step: g.omega_step,
+        step: shape::dihedral(&g).0,
         n_r: n_r as u32,
         n_omega: n_omega as u32,
         top: top as u8,
@@ -110,15 +115,15 @@ pub fn exp(random: &mut Random) -> [f64; 3] {
 // Microseconds of settle for a slab, by calls that end early: one that holds no energies has only the questions put, and one that is repulsive only its exponentials worked out.
 pub fn settle_stages(top: usize, rounds: usize, random: &mut Random) -> [f64; 3] {
     let (m, _) = meshes(top);
-    let per = vertex_count(top).pow(2);
+    let per = per(top as u64);
     let mut none = Building::fresh(1, 1, top, &m);
-    let questions = least_alone(rounds, 1000, || used(none.settle()));
+    let questions = least_alone(rounds, 1000, || used(none.settle(0)));
     let [all_exponentials, all] = [vec![20.0; per], energies(per, random)].map(|e| {
         let b = std::cell::RefCell::new(Building::fresh(1, 1, top, &m));
         let mut set = || b.borrow_mut().set(0, 0, &e);
         set();
         // what settle left is set again between the rounds
-        least(rounds, 1000, [&mut || (), &mut || used(b.borrow_mut().settle()), &mut set])[1]
+        least(rounds, 1000, [&mut || (), &mut || used(b.borrow_mut().settle(0)), &mut set])[1]
     });
     [questions, all_exponentials, all]
 }
@@ -126,7 +131,7 @@ pub fn settle_stages(top: usize, rounds: usize, random: &mut Random) -> [f64; 3]
 // Microseconds of write: of a table whose slabs all hold energies, and of one that has rows alone.
 pub fn write_stages(top: usize, slabs: usize, rounds: usize, random: &mut Random) -> [f64; 2] {
     let (m, _) = meshes(top);
-    let per = vertex_count(top).pow(2);
+    let per = per(top as u64);
     let mut b = Building::fresh(slabs, 1, top, &m);
     let mut output = vec![0; 200 + 10 * slabs + 4 * slabs * per];
     let rows = least_alone(rounds, 1000, || used(b.write(&mut output)));

@@ -1,4 +1,5 @@
 // The library of this tree.
+use crate::shape as calls;
 use crate::{icotable, ours};
 #[path = "side.rs"]
 pub mod side;

@@ -6,7 +6,8 @@ use crate::native::rust as native;
 use crate::oracle::{FaceGrid, Vector3};
 use crate::pack::packed;
 use crate::reader::Lists;
-use crate::rust::{MeshLevel, SlabResolution, Table6DAdaptive};
+use crate::rust::{MeshLevel, SlabResolution};
+use crate::shape::{self, lookup, lookup_boltzmann, RustTable};
 use crate::timing::{each, least, used};
 use crate::weighted::Weighted;
 use crate::{landed, new};
@@ -27,7 +28,7 @@ pub enum Caller {
 }
 
 // A table of n_r distances and n_omega angles, Mesh rows at the level; with its file and what is lent beside it.
-fn made(rows: Rows, level: usize, n_r: usize, n_omega: usize, random: &mut Random) -> (Table6DAdaptive<f32>, Lists) {
+fn made(rows: Rows, level: usize, n_r: usize, n_omega: usize, random: &mut Random) -> (RustTable, Lists) {
     let mut lists = Lists::default();
     let mut levels = Vec::new();
     for m in 0..=level {
@@ -36,14 +37,16 @@ fn made(rows: Rows, level: usize, n_r: usize, n_omega: usize, random: &mut Rando
         add_level(&mesh, &grid, 0, || 0, &mut lists);
         levels.push(MeshLevel { n_vertices: mesh.vertices.len(), grid });
     }
-    let per = levels[level].n_vertices * levels[level].n_vertices;
-    let mut t = Table6DAdaptive {
+    let per = shape::per(level as u64);
+    let mut t = RustTable {
         metadata: None,
         rmin: 10.0,
         rmax: f64::mul_add(n_r as f64, 0.5, 10.0),
         dr: 0.5,
         n_r,
+        #[cfg(not(atom))]
         omega_step: std::f64::consts::TAU / n_omega as f64,
+        #[cfg(not(atom))]
         n_omega,
         levels,
         slab_res: Vec::new(),
@@ -64,25 +67,42 @@ fn made(rows: Rows, level: usize, n_r: usize, n_omega: usize, random: &mut Rando
     (t, lists)
 }
 
-fn drawn(count: usize, t: &Table6DAdaptive<f32>, random: &mut Random) -> Vec<Query> {
+fn drawn(count: usize, t: &RustTable, random: &mut Random) -> Vec<Query> {
     let far = |random: &mut Random| 10.0 + (random.unit() + 1.0) / 2.0 * (t.rmax - 10.0);
     (0..count).map(|_| Query { r: far(random), omega: random.unit() * 6.0, a: random.direction(), b: random.direction() }).collect()
 }
 
+#[cfg(not(atom))]
+type NativeTable = native::Table6DAdaptive<f32>;
+#[cfg(atom)]
+type NativeTable = native::Table3DAdaptive<f32>;
+
+#[cfg(not(atom))]
+fn native_boltzmann(t: &NativeTable, q: &Query, beta: f64) -> f64 {
+    t.lookup_boltzmann(q.r, q.omega, &Vector3::from(q.a), &Vector3::from(q.b), beta)
+}
+
+#[cfg(atom)]
+fn native_boltzmann(t: &NativeTable, q: &Query, beta: f64) -> f64 {
+    t.lookup_boltzmann(q.r, &Vector3::from(q.a), beta)
+}
+
 // The same table, for the machine's `exp` and `ln`.
-fn native(t: Table6DAdaptive<f32>) -> native::Table6DAdaptive<f32> {
+fn native(t: RustTable) -> NativeTable {
     let row = |r: SlabResolution| match r {
         SlabResolution::Scalar(x) => native::SlabResolution::Scalar(x),
         SlabResolution::Repulsive => native::SlabResolution::Repulsive,
         SlabResolution::Mesh { level, interpolate } => native::SlabResolution::Mesh { level, interpolate },
     };
-    native::Table6DAdaptive {
+    NativeTable {
         metadata: None,
         rmin: t.rmin,
         rmax: t.rmax,
         dr: t.dr,
         n_r: t.n_r,
+        #[cfg(not(atom))]
         omega_step: t.omega_step,
+        #[cfg(not(atom))]
         n_omega: t.n_omega,
         levels: t.levels.into_iter().map(|l| native::MeshLevel { n_vertices: l.n_vertices, grid: l.grid }).collect(),
         slab_res: t.slab_res.into_iter().map(row).collect(),
@@ -98,10 +118,10 @@ pub fn weighted(caller: Caller, level: usize, bins: [usize; 2], queries: usize, 
     let (t, lists) = made(Rows::Interpolated, level, bins[0], bins[1], random);
     let megabytes = lists.file.len() as f64 / 1e6;
     let queries = drawn(queries, &t, random);
-    let wanted: Vec<u64> = queries.iter().map(|q| t.lookup_boltzmann(q.r, q.omega, &Vector3::from(q.a), &Vector3::from(q.b), BETA).to_bits()).collect();
+    let wanted: Vec<u64> = queries.iter().map(|q| lookup_boltzmann(&t, q, BETA).to_bits()).collect();
     let mut ours = Weighted::new(lists, &queries, BETA, &wanted);
     let t = native(t);
-    let mut rust = || each(&queries, |q| used(t.lookup_boltzmann(q.r, q.omega, &Vector3::from(q.a), &Vector3::from(q.b), BETA)));
+    let mut rust = || each(&queries, |q| used(native_boltzmann(&t, q, BETA)));
     let mut time = match caller {
         Caller::C => least(rounds, queries.len(), [&mut || (), &mut || ours.from_c(), &mut rust]),
         Caller::Rust => least(rounds, queries.len(), [&mut || (), &mut || ours.from_rust(), &mut rust]),
@@ -115,12 +135,11 @@ pub fn measure(caller: Caller, rows: Rows, level: usize, bins: [usize; 2], queri
     let (t, lists) = made(rows, level, bins[0], bins[1], random);
     let megabytes = lists.file.len() as f64 / 1e6;
     let queries = drawn(queries, &t, random);
-    let lookup = |q: &Query| t.lookup(q.r, q.omega, &Vector3::from(q.a), &Vector3::from(q.b));
-    let wanted: Vec<u64> = queries.iter().map(|q| lookup(q).to_bits()).collect();
+    let wanted: Vec<u64> = queries.iter().map(|q| lookup(&t, q).to_bits()).collect();
     let mut a = landed::side::Readings::new(lists.clone(), &queries, &wanted);
     let mut b = new::side::Readings::new(lists.clone(), &queries, &wanted);
     drop(lists);
-    let mut rust = || each(&queries, |q| used(lookup(q)));
+    let mut rust = || each(&queries, |q| used(lookup(&t, q)));
     let time = match caller {
         Caller::C => least(rounds, queries.len(), [&mut || a.from_c(), &mut || b.from_c(), &mut rust]),
         Caller::Rust => least(rounds, queries.len(), [&mut || a.from_rust(), &mut || b.from_rust(), &mut rust]),

@@ -1,14 +1,17 @@
 // What is timed of one library. Compiled for the library of this tree and, by bench/run, once more for the one that landed, each over its own declarations (hosts/rust/src/sys.rs,
 // tests/compare/ours.rs) and with lists of its own, so that no side finds in the cache what another has read.
-use super::icotable::{self, Builder, Grid, Lent, Locator, Meshes, Query, Table, Value};
+use super::calls::{self, Builder, Grid, Table, Value};
+use super::icotable::{self, Lent, Locator, Meshes, Query};
 use super::ours;
-use crate::meshes::{self, vertex_count};
+use crate::meshes;
 use crate::reader;
+use crate::shape::{per, slice_bins};
 use crate::timing::{each, used};
 use std::hint::black_box;
 
 #[rustfmt::skip]
 extern "C" {
+    #[cfg_attr(atom, link_name = "read_atoms")]
     fn read_all(
         table: *const Table, file: *const u8, a: usize, vertices: *const f64, b: usize, cell_offsets: *const u32, c: usize, cell_vertices: *const u16, d: usize,
         face_offsets: *const u32, e: usize, faces: *const u16, f: usize, queries: *const Query, count: usize, out: *mut Value,
@@ -43,10 +46,10 @@ impl<'a> Building<'a> {
     // Settings of n_r distance bins and n_omega dihedral bins. The threshold is so low that every slab is left as it is.
     pub fn fresh(n_r: usize, n_omega: usize, top: usize, meshes: &'a meshes::Lent) -> Building<'a> {
         let omega_step = std::f64::consts::TAU / n_omega as f64;
-        let grid = Grid { rmin: 0.0, rmax: n_r as f64, dr: 1.0, omega_step, threshold: 1e-9, beta: 1.0, n_r: 0, n_omega: 0 };
-        let (n, slabs) = (vertex_count(top), n_r * n_omega);
-        let mut own = Own { store: vec![0.0; slabs * n * n], kinds: vec![0; slabs], levels: vec![0; slabs], values: vec![0; slabs] };
-        let a = icotable::fresh(grid, top as u64, &mut own.lent(), lent(meshes));
+        let grid = calls::grid([0.0, n_r as f64, 1.0, omega_step, 1e-9, 1.0], [0, 0]);
+        let slabs = n_r * n_omega;
+        let mut own = Own { store: vec![0.0; slabs * per(top as u64)], kinds: vec![0; slabs], levels: vec![0; slabs], values: vec![0; slabs] };
+        let a = calls::fresh(grid, top as u64, &mut own.lent(), lent(meshes));
         assert_eq!(a.number, 0);
         Building { meshes, builder: a.builder, own }
     }
@@ -56,21 +59,21 @@ impl<'a> Building<'a> {
     }
 
     pub fn set(&mut self, ri: usize, oi: usize, energies: &[f64]) {
-        assert_eq!(icotable::set(self.builder, &mut self.own.lent(), ri as u64, oi as u64, energies).number, 0);
+        assert_eq!(calls::set(self.builder, &mut self.own.lent(), ri as u64, oi as u64, energies).number, 0);
     }
 
-    // A slice, one slab after another.
+    // One slab after another: a slice of two molecules, or slices of an atom.
     pub fn set_all(&mut self, given: &[Vec<f64>]) {
-        let mut oi = 0;
+        let (mut s, n_omega) = (0, slice_bins(given.len())[1]);
         each(given, |e| {
-            self.set(0, oi, e);
-            oi += 1;
+            self.set(s / n_omega, s % n_omega, e);
+            s += 1;
         });
     }
 
     // The largest gradient, and the level that is left. The builder stays as it was, and so does the work of another call.
-    pub fn settle(&mut self) -> (u64, usize) {
-        let a = icotable::settle(self.builder, &mut black_box(&mut self.own).lent(), lent(self.meshes), 0);
+    pub fn settle(&mut self, ri: usize) -> (u64, usize) {
+        let a = calls::settle(self.builder, &mut black_box(&mut self.own).lent(), lent(self.meshes), ri as u64);
         assert_eq!(a.number, 0);
         (a.gradient.to_bits(), a.builder.level as usize)
     }
@@ -93,14 +96,14 @@ impl<'a> Building<'a> {
 
     // The file's length.
     pub fn write(&mut self, output: &mut [u8]) -> usize {
-        let a = icotable::write(self.builder, black_box(&mut self.own).lent().held(), lent(self.meshes), output);
+        let a = calls::write(self.builder, black_box(&mut self.own).lent().held(), lent(self.meshes), output);
         assert_eq!(a.number, 0);
         a.length as usize
     }
 }
 
 pub fn read(file: &[u8]) {
-    assert_eq!(icotable::read(black_box(file)).number, 0);
+    assert_eq!(calls::read(black_box(file)).number, 0);
 }
 
 pub fn exp(y: f64) -> f64 {
@@ -160,12 +163,12 @@ impl Readings {
     // The energies that are wanted are compared, bit for bit.
     pub fn new(lists: reader::Lists, queries: &[crate::icotable::Query], wanted: &[u64]) -> Readings {
         let queries: Vec<Query> = queries.iter().map(|q| Query { r: q.r, omega: q.omega, a: q.a, b: q.b }).collect();
-        let table = icotable::read(&lists.file);
+        let table = calls::read(&lists.file);
         assert_eq!(table.number, 0);
         let mut made = Readings { lists, table, out: vec![Value::default(); queries.len()], queries };
         made.from_c();
         for ((q, x), &energy) in made.queries.iter().zip(&made.out).zip(wanted) {
-            let y = icotable::reading(&made.table, held(&made.lists), q);
+            let y = calls::reading(&made.table, held(&made.lists), q);
             assert_eq!((x.number, x.energy.to_bits(), y.number, y.energy.to_bits()), (0, energy, 0, energy));
         }
         made
@@ -185,6 +188,6 @@ impl Readings {
 
     pub fn from_rust(&mut self) {
         let l = held(&self.lists);
-        each(&self.queries, |q| used(icotable::reading(&self.table, l, q)));
+        each(&self.queries, |q| used(calls::reading(&self.table, l, q)));
     }
 }

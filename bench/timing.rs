@@ -1,10 +1,9 @@
 // How the sides are timed, and how a figure is printed. The sides are the library that landed, the new one and what they stand beside, in this order.
 use std::hint::black_box;
-use std::sync::atomic::{AtomicBool, AtomicUsize, Ordering::Relaxed};
+use std::sync::atomic::{AtomicBool, Ordering::Relaxed};
 
-// Whether the landed library takes part: not where it was not built, nor for a profiler.
+// Whether the landed library takes part: not where it was not built or has no such function, nor for a profiler. The table has a column for it where it was built.
 pub static LANDED: AtomicBool = AtomicBool::new(cfg!(landed));
-static MISSES: AtomicUsize = AtomicUsize::new(0);
 
 // How much above its bar a ratio may be in one run.
 const NEAR: f64 = 1.1;
@@ -90,17 +89,12 @@ pub fn row(what: &str, unit: &str, [before, new, other]: [f64; 3], bar: Bar) {
         Bar::Landed => (!(new / before > NEAR), "landed".into()),
         Bar::Goal(x) => (true, format!("goal {x}")),
     };
-    MISSES.fetch_add(!held as usize, Relaxed);
     let mark = if held { "" } else { "**" };
-    if landed() {
+    if cfg!(beside) {
         println!("| {what} | {unit} | {} | {} | {} | {} | {mark}{:.2}{mark} | {words} |", figure(before), figure(new), figure(other), ratio(before / other), new / other);
     } else {
         println!("| {what} | {unit} | {} | {} | {mark}{:.2}{mark} | {words} |", figure(new), figure(other), new / other);
     }
-}
-
-pub fn misses() -> usize {
-    MISSES.load(Relaxed)
 }
 
 // A figure of the new library, its ratio, and that of the landed one.

@@ -19,3 +19,23 @@ void read_weighted(
             face_offsets, face_offsets_count, faces, faces_count, q[0], q[1], q[2], q[3], q[4], q[5], q[6], q[7], beta);
     }
 }
+
+/* The same of a table against an atom: r and the first direction of each query. */
+void read_weighted_atoms(
+    const icotable_atom_table *t,
+    const uint8_t *file, size_t file_count,
+    const double *vertices, size_t vertices_count,
+    const uint32_t *cell_offsets, size_t cell_offsets_count,
+    const uint16_t *cell_vertices, size_t cell_vertices_count,
+    const uint32_t *face_offsets, size_t face_offsets_count,
+    const uint16_t *faces, size_t faces_count,
+    const double *queries, size_t count, double beta,
+    icotable_energy *out)
+{
+    for (size_t i = 0; i < count; i++) {
+        const double *q = queries + 8 * i;
+        out[i] = icotable_atom_boltzmann(
+            t, file, file_count, vertices, vertices_count, cell_offsets, cell_offsets_count, cell_vertices, cell_vertices_count,
+            face_offsets, face_offsets_count, faces, faces_count, q[0], q[2], q[3], q[4], beta);
+    }
+}

@@ -1,4 +1,5 @@
-/* Pair-energy tables over distance, dihedral angle and two orientations: build, write, read, look up.
+/* Pair-energy tables over distance, dihedral angle and two orientations: build, write, read, look up. The same for one
+ * molecule against an atom, over distance and one direction: icotable_atom_ and the same names.
  *
  * Link with libicotable.a (`make -C hosts/c lib` writes it to target/staticlib) and the C library's mathematics (-lm).
  * Nothing checks these declarations against the library's source: they are written by hand and tried by hosts/c.
@@ -23,6 +24,9 @@
  * locator takes one level's parts; set takes no mesh. locator needs, with g = max(2, ceiling(sqrt(n/6)*1.2)): 6*g*g+1
  * cell_offsets, 27n cell_vertices, n+1 face_offsets and 45n faces.
  *
+ * Against an atom a slab is one distance bin and holds n energies, so S is n_r and the store S times n of level T.
+ * Rows, meshes and locators are as above: one set of meshes serves tables of both kinds.
+ *
  * Units. omega and omega_step are in radians, threshold is per radian. Distances and energies have the caller's units,
  * and beta is one over the unit of energies.
  *
@@ -44,8 +48,8 @@
 /* The version, raised where a struct, a function or the table file changes (CHANGELOG.md). The pkg-config file and the
  * tool take it from here; a test compares it with hosts/rust. */
 #define ICOTABLE_VERSION_MAJOR 0
-#define ICOTABLE_VERSION_MINOR 8
-#define ICOTABLE_VERSION_PATCH 1
+#define ICOTABLE_VERSION_MINOR 9
+#define ICOTABLE_VERSION_PATCH 0
 
 #define ICOTABLE_STRING_(x) #x
 #define ICOTABLE_DOTTED_(a, b, c) ICOTABLE_STRING_(a) "." ICOTABLE_STRING_(b) "." ICOTABLE_STRING_(c)
@@ -58,15 +62,15 @@
     X(2, LEVEL, "the top level is above 15, or the current level above the top") \
     X(3, BIN_COUNT, "a bin count is not from 1 to 65535, or in a builder not the one that its settings give") \
     X(4, OWN_COUNT, "the distance count does not come out the same with the table's own rmax") \
-    X(5, TOO_MANY_ENERGIES, "slabs times n*n of the top level is above 4294967295") \
+    X(5, TOO_MANY_ENERGIES, "slabs times n*n of the top level, n against an atom, is above 4294967295") \
     X(6, SHORT_LIST, "a list is shorter than needed") \
     X(7, MESH, "a mesh does not keep the mesh rule: finite vertices; 5 or 6 distinct neighbours each, other vertices of the level that list it in turn; angles finite and not below 0") \
     X(8, BIN, "a bin number is not below its count") \
-    X(9, ENERGY_COUNT, "there are not exactly n*n energies, n of the current level") \
+    X(9, ENERGY_COUNT, "there are not exactly n*n energies, n against an atom, with n of the current level") \
     X(10, NAN_ENERGY, "an energy is a NaN") \
     X(11, OTHER_LEVEL, "a slab of the slice holds energies of another level than the current one") \
     X(12, SHORT_OUTPUT, "the output is shorter than the file") \
-    X(13, SECTIONS, "the file's sections do not follow their counts, or do not end with its last byte") \
+    X(13, SECTIONS, "the file's sections do not follow their counts, do not end with its last byte, or are not those of this kind of table") \
     X(14, FILE_GRID, "the file's grid, bin counts, level count, row count or vertex counts are not those of a table") \
     X(15, ROW, "a row has an unknown kind, a Mesh row a level above the top; or, in a file, an unused field that is used, or a scalar NaN other than 0x7FC00000") \
     X(16, TILING, "the rows' offsets do not tile the energies in row order") \
@@ -245,6 +249,132 @@ icotable_value icotable_boltzmann(
     double ax, double ay, double az,
     double bx, double by, double bz,
     double beta);
+
+/* ---- one molecule against an atom */
+
+/* As icotable_grid, without what concerns the dihedral angle. */
+typedef struct icotable_atom_grid {
+    double rmin, rmax, dr, threshold, beta;
+    uint64_t n_r;
+} icotable_atom_grid;
+
+typedef struct icotable_atom_builder {
+    icotable_atom_grid grid;
+    uint64_t top, level;
+} icotable_atom_builder;
+
+typedef struct icotable_atom_built {
+    uint64_t number;
+    icotable_atom_builder builder;
+} icotable_atom_built;
+
+/* gradient: that of the slab, also where it becomes Scalar; 0 where it holds no energies or becomes Repulsive. */
+typedef struct icotable_atom_settled {
+    uint64_t number;
+    double gradient;
+    icotable_atom_builder builder;
+} icotable_atom_settled;
+
+typedef struct icotable_atom_table {
+    uint64_t number;
+    icotable_atom_grid grid;
+    uint64_t levels, rows, energies;
+    uint64_t start[5];
+} icotable_atom_table;
+
+/* energy: as in icotable_value. */
+typedef struct icotable_energy {
+    uint64_t number;
+    double energy;
+} icotable_energy;
+
+/* A builder with no slab set, as icotable_fresh. Questions 1 to 7, of which 5 refuses none: 65535 slabs of level 15
+ * hold fewer energies. */
+icotable_atom_built icotable_atom_fresh(
+    icotable_atom_grid grid,
+    uint64_t top,
+    double *store, size_t store_count,
+    uint8_t *kinds, size_t kinds_count,
+    uint8_t *levels, size_t levels_count,
+    uint32_t *values, size_t values_count,
+    const double *vertices, size_t vertices_count,
+    const uint8_t *neighbour_counts, size_t neighbour_counts_count,
+    const uint16_t *neighbours, size_t neighbours_count,
+    const double *angles, size_t angles_count);
+
+/* Gives distance bin ri its energies, n of the current level. Questions 1 to 6, 8, 9, 10. */
+icotable_atom_built icotable_atom_set(
+    icotable_atom_builder builder,
+    double *store, size_t store_count,
+    uint8_t *kinds, size_t kinds_count,
+    uint8_t *levels, size_t levels_count,
+    uint32_t *values, size_t values_count,
+    uint64_t ri,
+    const double *energies, size_t energies_count);
+
+/* Settles distance bin ri. A level above 0 drops by one where the slab holds energies, does not become Repulsive and
+ * has a gradient below the threshold. Questions 1 to 8, 15, 11. */
+icotable_atom_settled icotable_atom_settle(
+    icotable_atom_builder builder,
+    const double *store, size_t store_count,
+    uint8_t *kinds, size_t kinds_count,
+    uint8_t *levels, size_t levels_count,
+    uint32_t *values, size_t values_count,
+    const double *vertices, size_t vertices_count,
+    const uint8_t *neighbour_counts, size_t neighbour_counts_count,
+    const uint16_t *neighbours, size_t neighbours_count,
+    const double *angles, size_t angles_count,
+    uint64_t ri);
+
+/* Writes the table file, 40 + 4*levels + 10*rows + 4*energies bytes, to the first bytes of output. Questions 1 to 7,
+ * 15, 12. */
+icotable_written icotable_atom_write(
+    icotable_atom_builder builder,
+    const double *store, size_t store_count,
+    const uint8_t *kinds, size_t kinds_count,
+    const uint8_t *levels, size_t levels_count,
+    const uint32_t *values, size_t values_count,
+    const double *vertices, size_t vertices_count,
+    const uint8_t *neighbour_counts, size_t neighbour_counts_count,
+    const uint16_t *neighbours, size_t neighbours_count,
+    const double *angles, size_t angles_count,
+    uint8_t *output, size_t output_count);
+
+/* Looks over a file, all of it. Questions 13 to 17. A file of icotable_write is refused with 13, and one of
+ * icotable_atom_write by icotable_read: the first count, a u32 in the first four bytes, is 2 here and 3 there. */
+icotable_atom_table icotable_atom_read(const uint8_t *file, size_t file_count);
+
+/* The energy at distance r and one direction, in the molecule's frame toward the atom, of any length; all else as for
+ * icotable_reading. */
+icotable_energy icotable_atom_reading(
+    const icotable_atom_table *table,
+    const uint8_t *file, size_t file_count,
+    const double *vertices, size_t vertices_count,
+    const uint32_t *cell_offsets, size_t cell_offsets_count,
+    const uint16_t *cell_vertices, size_t cell_vertices_count,
+    const uint32_t *face_offsets, size_t face_offsets_count,
+    const uint16_t *faces, size_t faces_count,
+    double r,
+    double x, double y, double z);
+
+/* The same, weighted by temperature. Where a Mesh row is interpolated it is -ln(the sum of w*exp(-beta*e))/beta over
+ * three energies e and their weights w, worked out from the least of the three, u, as u - ln(the sum of
+ * w*exp(-beta*(e - u)))/beta. Unlike icotable_boltzmann an energy of weight 0 stays in: where it is the least and the
+ * others are so far above that their exponentials are 0, the reading is infinity, and so it is where the least is
+ * infinite. Questions as for icotable_boltzmann. */
+icotable_energy icotable_atom_boltzmann(
+    const icotable_atom_table *table,
+    const uint8_t *file, size_t file_count,
+    const double *vertices, size_t vertices_count,
+    const uint32_t *cell_offsets, size_t cell_offsets_count,
+    const uint16_t *cell_vertices, size_t cell_vertices_count,
+    const uint32_t *face_offsets, size_t face_offsets_count,
+    const uint16_t *faces, size_t faces_count,
+    double r,
+    double x, double y, double z,
+    double beta);
+
+/* ---- sizes and numbers */
 
 /* n of a level, and 6*g*g+1: what a host sizes its lists with. 0 for a level above 15. */
 uint64_t icotable_vertices(uint64_t level);

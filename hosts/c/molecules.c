@@ -21,6 +21,8 @@ static const site second[SITES] = {
     {{0.2, -0.7, -2.0}, -0.4, 3.2},
 };
 
+static const site ion = {{0.0, 0.0, 0.0}, 1.0, 2.6};
+
 static const double EPSILON = 0.8;        /* of Lennard-Jones */
 static const double COULOMB = 17.7;       /* 1389.35 kJ angstrom / mol over water's 78.5 */
 static const double SCREENING = 1.0 / 9.6; /* Debye length at 0.1 mol/l */
@@ -78,5 +80,14 @@ double pair_energy(const pose *a, const pose *b, double r) {
             double x = b->at[j][0] - a->at[i][0], y = b->at[j][1] - a->at[i][1], z = b->at[j][2] + r - a->at[i][2];
             energy += site_energy(&first[i], &second[j], x * x + y * y + z * z);
         }
+    return energy;
+}
+
+double ion_energy(const pose *a, double r) {
+    double energy = 0;
+    for (int i = 0; i < SITES; i++) {
+        double x = a->at[i][0], y = a->at[i][1], z = r - a->at[i][2];
+        energy += site_energy(&first[i], &ion, x * x + y * y + z * z);
+    }
     return energy;
 }

@@ -1,5 +1,5 @@
-/* Two small molecules for the demonstration: rigid, with a few sites that carry a charge and a Lennard-Jones size. Lengths
- * are in angstrom and energies in kJ/mol. */
+/* Two small molecules and an ion for the demonstration: rigid, with a few sites that carry a charge and a Lennard-Jones
+ * size. Lengths are in angstrom and energies in kJ/mol. */
 #ifndef MOLECULES_H
 #define MOLECULES_H
 
@@ -20,5 +20,8 @@ pose second_pose(const double b[3], double omega);
 
 /* The energy with the second molecule r up the axis. */
 double pair_energy(const pose *first, const pose *second, double r);
+
+/* The energy of the first molecule with the ion r up the axis. */
+double ion_energy(const pose *first, double r);
 
 #endif

@@ -1,5 +1,6 @@
-/* Every number that a call can be refused with, each given by an example: writes docs/REFUSALS.md, and the status is 1 where
- * an example gives another number. The table has two distances, two dihedral bins and two levels. */
+/* Every number that a call can be refused with, each given by an example, and by one against an atom: writes
+ * docs/REFUSALS.md, and the status is 1 where an example gives another number. The table has two distances, two dihedral
+ * bins and two levels; that against an atom has two distances and two levels. */
 #include "mesh.h"
 
 #include <math.h>
@@ -7,7 +8,7 @@
 #include <stdlib.h>
 #include <string.h>
 
-enum { TOP_LEVEL = 1, PER = 42 * 42, SLABS = 4, ROOM = 30000, STORE = SLABS * PER };
+enum { TOP_LEVEL = 1, N = 42, PER = N * N, SLABS = 4, ROOM = 30000, STORE = SLABS * PER };
 
 static const icotable_grid settings = {.rmin = 0, .rmax = 2, .dr = 1, .omega_step = 3, .threshold = 0.1, .beta = 1};
 
@@ -155,20 +156,28 @@ static uint64_t no_rows(void) {
     return reading(t, &held, 1);
 }
 
-/* Vertices that are all 0 keep the mesh rule, and lie in no cell of a direction but one. */
-static uint64_t empty_cell(void) {
+/* A reading over vertices that are all 0: these keep the mesh rule, and lie in no cell of a direction but one. */
+static uint64_t over_flat(uint64_t (*read_over)(const icotable_meshes *m)) {
     icotable_meshes flat;
     uint64_t number = icotable_make_meshes(&flat, TOP_LEVEL);
     memset(flat.vertices, 0, flat.vertices_count * sizeof *flat.vertices);
-    size_t at = 3 * 12, n = 42, cells = icotable_cells(0);
+    size_t at = 3 * 12, cells = icotable_cells(0);
     if (number == 0)
-        number = icotable_locator(1, flat.vertices + at, 3 * n, flat.neighbour_counts + 12, n, flat.neighbours + 6 * 12, 6 * n, flat.angles + 6 * 12, 6 * n,
-                                  flat.cell_offsets + cells, icotable_cells(1), flat.cell_vertices + 27 * 12, 27 * n, flat.face_offsets + 13, n + 1,
-                                  flat.faces + 45 * 12, 45 * n);
+        number = icotable_locator(1, flat.vertices + at, 3 * N, flat.neighbour_counts + 12, N, flat.neighbours + 6 * 12, 6 * N, flat.angles + 6 * 12, 6 * N,
+                                  flat.cell_offsets + cells, icotable_cells(1), flat.cell_vertices + 27 * 12, 27 * N, flat.face_offsets + 13, N + 1,
+                                  flat.faces + 45 * 12, 45 * N);
     if (number == 0)
-        number = reading(icotable_read(file, whole_file()), &flat, 1);
+        number = read_over(&flat);
     icotable_free_meshes(&flat);
     return number;
+}
+
+static uint64_t reading_over(const icotable_meshes *m) {
+    return reading(icotable_read(file, whole_file()), m, 1);
+}
+
+static uint64_t empty_cell(void) {
+    return over_flat(reading_over);
 }
 
 /* Asked whatever the row is, and before the distance: 9 is outside the table. */
@@ -177,34 +186,221 @@ static uint64_t no_beta(void) {
     return icotable_boltzmann(&t, file, ROOM, ICOTABLE_LOCATORS(&held), 9, 0, 1, 0, 0, 0, 0, 1, 0).number;
 }
 
+/* ---- against an atom */
+
+enum { ATOM_SLABS = 2, ATOM_STORE = ATOM_SLABS * N };
+
+static const icotable_atom_grid atom_settings = {.rmin = 0, .rmax = 2, .dr = 1, .threshold = 0.1, .beta = 1};
+
+#define ATOM_ROWS kinds, ATOM_SLABS, levels, ATOM_SLABS, values, ATOM_SLABS
+
+static icotable_atom_built atom_fresh(icotable_atom_grid grid, uint64_t top) {
+    return icotable_atom_fresh(grid, top, store, ATOM_STORE, ATOM_ROWS, ICOTABLE_MESHES(&held));
+}
+
+static icotable_atom_built atom_set(icotable_atom_builder b, uint64_t ri, size_t count) {
+    return icotable_atom_set(b, store, ATOM_STORE, ATOM_ROWS, ri, energies, count);
+}
+
+static icotable_atom_settled atom_settle(icotable_atom_builder b, uint64_t ri) {
+    return icotable_atom_settle(b, store, ATOM_STORE, ATOM_ROWS, ICOTABLE_MESHES(&held), ri);
+}
+
+static icotable_written atom_write(icotable_atom_builder b, size_t room) {
+    return icotable_atom_write(b, store, ATOM_STORE, ATOM_ROWS, ICOTABLE_MESHES(&held), file, room);
+}
+
+/* The first distance holds energies: zeros but for one of 0.05. */
+static icotable_atom_builder atom_begun(void) {
+    memset(energies, 0, sizeof energies);
+    energies[10] = 0.05;
+    return atom_set(atom_fresh(atom_settings, TOP_LEVEL).builder, 0, N).builder;
+}
+
+/* Its file: items of rows from byte 44, the energies' from byte 68. */
+static size_t atom_file(void) {
+    return atom_write(atom_begun(), ROOM).length;
+}
+
+static uint64_t atom_read_with(size_t at, uint8_t byte) {
+    size_t length = atom_file();
+    file[at] = byte;
+    return icotable_atom_read(file, length).number;
+}
+
+static uint64_t atom_reading(icotable_atom_table t, const icotable_meshes *m, double r, double x) {
+    return icotable_atom_reading(&t, file, ROOM, ICOTABLE_LOCATORS(m), r, x, 0, 0).number;
+}
+
+static uint64_t atom_settings_wrong(void) {
+    icotable_atom_grid g = atom_settings;
+    g.threshold = -1;
+    return atom_fresh(g, TOP_LEVEL).number;
+}
+
+static uint64_t atom_level_above(void) {
+    icotable_atom_builder b = atom_begun();
+    b.level = 2;
+    return atom_set(b, 0, N).number;
+}
+
+static uint64_t atom_many_bins(void) {
+    icotable_atom_grid g = atom_settings;
+    g.rmax = 65536;
+    return atom_fresh(g, TOP_LEVEL).number;
+}
+
+static uint64_t atom_other_count(void) {
+    icotable_atom_grid g = atom_settings;
+    g.rmax = 1.79e308;
+    g.dr = 1.1e308;
+    return atom_fresh(g, TOP_LEVEL).number;
+}
+
+/* The most energies that the other questions let through: the next question, 6, is the one that is answered no. */
+static uint64_t atom_most(void) {
+    icotable_atom_grid g = atom_settings;
+    g.rmax = 65535;
+    return atom_fresh(g, 15).number;
+}
+
+static uint64_t atom_short_list(void) {
+    return icotable_atom_set(atom_begun(), store, ATOM_STORE, kinds, ATOM_SLABS, levels, ATOM_SLABS, values, 1, 0, energies, N).number;
+}
+
+static uint64_t atom_mesh_broken(void) {
+    icotable_atom_builder b = atom_begun();
+    uint8_t kept = held.neighbour_counts[3];
+    held.neighbour_counts[3] = 4;
+    uint64_t number = atom_settle(b, 0).number;
+    held.neighbour_counts[3] = kept;
+    return number;
+}
+
+static uint64_t atom_bin_beyond(void) {
+    return atom_settle(atom_begun(), 2).number;
+}
+
+static uint64_t atom_pairs(void) {
+    return atom_set(atom_begun(), 1, PER).number;
+}
+
+static uint64_t atom_nan_energy(void) {
+    icotable_atom_builder b = atom_begun();
+    energies[7] = NAN;
+    return atom_set(b, 1, N).number;
+}
+
+static uint64_t atom_settled_twice(void) {
+    icotable_atom_settled first = atom_settle(atom_begun(), 0);
+    return first.number != 0 || first.builder.level != 0 ? 100 : atom_settle(first.builder, 0).number;
+}
+
+static uint64_t atom_short_output(void) {
+    return atom_write(atom_begun(), 235).number;
+}
+
+static uint64_t atom_other_kind(void) {
+    return icotable_atom_read(file, whole_file()).number;
+}
+
+static uint64_t atom_file_grid(void) {
+    return atom_read_with(24, 3); /* distance bins */
+}
+
+static uint64_t atom_unknown_kind(void) {
+    icotable_atom_builder b = atom_begun();
+    kinds[0] = 4;
+    return atom_settle(b, 0).number;
+}
+
+static uint64_t atom_wrong_offset(void) {
+    return atom_read_with(46, N);
+}
+
+static uint64_t atom_file_nan(void) {
+    size_t length = atom_file();
+    memset(file + 68, 0xFF, 4);
+    return icotable_atom_read(file, length).number;
+}
+
+static uint64_t atom_no_distance(void) {
+    return atom_reading(icotable_atom_read(file, atom_file()), &held, NAN, 1);
+}
+
+static uint64_t atom_no_rows(void) {
+    icotable_atom_table t = icotable_atom_read(file, atom_file());
+    t.rows = 0;
+    return atom_reading(t, &held, 0, 1);
+}
+
+static uint64_t atom_reading_over(const icotable_meshes *m) {
+    return atom_reading(icotable_atom_read(file, atom_file()), m, 0, 1);
+}
+
+static uint64_t atom_empty_cell(void) {
+    return over_flat(atom_reading_over);
+}
+
+static uint64_t atom_no_beta(void) {
+    icotable_atom_table t = icotable_atom_read(file, atom_file());
+    return icotable_atom_boltzmann(&t, file, ROOM, ICOTABLE_LOCATORS(&held), 9, 1, 0, 0, INFINITY).number;
+}
+
+/* instead: the number that is given, where no call can be refused with the example's own. */
 typedef struct example {
     uint64_t (*give)(void);
     const char *words;
+    uint64_t instead;
 } example;
 
 /* In the order of the numbers. */
 static const example examples[] = {
-    {settings_wrong, "fresh with dr 0"},
-    {level_above, "fresh with top level 16"},
-    {no_bin, "fresh with rmin 0, rmax 0.4, dr 1: no distance bin"},
-    {other_count, "fresh with rmin 0, rmax 1.79e308, dr 1.1e308"},
-    {too_many, "fresh with top level 15, 655 distances and one dihedral bin: 655 times 2562 times 2562 energies"},
-    {short_list, "fresh with a store of one place too few"},
-    {mesh_broken, "fresh with a vertex whose x is infinite"},
-    {bin_beyond, "set of distance bin 2, where there are two: 0 and 1"},
-    {few_energies, "set of 144 energies, where the current level has 42 vertices and a slab 1764 energies"},
-    {nan_energy, "set with a NaN among the energies"},
-    {settled_twice, "a slice is set at level 1 and settled, so that the level drops to 0; then it is settled again, as by a job that is restarted"},
-    {short_output, "write to 1000 bytes, where the file has 7156"},
-    {cut_off, "read of a file without its last byte"},
-    {file_grid, "read of a file that says 3 dihedral bins, where its step gives 2"},
-    {unknown_kind, "read of a file whose first row has kind 4"},
-    {wrong_offset, "read of a file whose first Mesh row has offset 1"},
-    {file_nan, "read of a file whose first energy has the bits FFFFFFFF"},
-    {no_direction, "a reading with the direction 0, 0, 0"},
-    {no_rows, "a reading with an answer of read in which the host put 0 rows"},
-    {empty_cell, "a reading over a mesh whose vertices are all 0, in a direction whose cell they are not in"},
-    {no_beta, "a weighted reading with beta 0, at a distance outside the table"},
+    {settings_wrong, "fresh with dr 0", 0},
+    {level_above, "fresh with top level 16", 0},
+    {no_bin, "fresh with rmin 0, rmax 0.4, dr 1: no distance bin", 0},
+    {other_count, "fresh with rmin 0, rmax 1.79e308, dr 1.1e308", 0},
+    {too_many, "fresh with top level 15, 655 distances and one dihedral bin: 655 times 2562 times 2562 energies", 0},
+    {short_list, "fresh with a store of one place too few", 0},
+    {mesh_broken, "fresh with a vertex whose x is infinite", 0},
+    {bin_beyond, "set of distance bin 2, where there are two: 0 and 1", 0},
+    {few_energies, "set of 144 energies, where the current level has 42 vertices and a slab 1764 energies", 0},
+    {nan_energy, "set with a NaN among the energies", 0},
+    {settled_twice, "a slice is set at level 1 and settled, so that the level drops to 0; then it is settled again, as by a job that is restarted", 0},
+    {short_output, "write to 1000 bytes, where the file has 7156", 0},
+    {cut_off, "read of a file without its last byte", 0},
+    {file_grid, "read of a file that says 3 dihedral bins, where its step gives 2", 0},
+    {unknown_kind, "read of a file whose first row has kind 4", 0},
+    {wrong_offset, "read of a file whose first Mesh row has offset 1", 0},
+    {file_nan, "read of a file whose first energy has the bits FFFFFFFF", 0},
+    {no_direction, "a reading with the direction 0, 0, 0", 0},
+    {no_rows, "a reading with an answer of read in which the host put 0 rows", 0},
+    {empty_cell, "a reading over a mesh whose vertices are all 0, in a direction whose cell they are not in", 0},
+    {no_beta, "a weighted reading with beta 0, at a distance outside the table", 0},
+};
+
+static const example atom_examples[] = {
+    {atom_settings_wrong, "fresh with threshold -1", 0},
+    {atom_level_above, "set with a builder in which the host put level 2, where the top is 1", 0},
+    {atom_many_bins, "fresh with rmin 0, rmax 65536, dr 1: 65536 distance bins", 0},
+    {atom_other_count, "fresh with rmin 0, rmax 1.79e308, dr 1.1e308", 0},
+    {atom_most, "none: with top level 15 and 65535 distances, the most that 2 and 3 let through, there are 167900670 energies, and with lists of this example's length the call is refused with 6", ICOTABLE_SHORT_LIST},
+    {atom_short_list, "set with one entry of values, where there are two distances", 0},
+    {atom_mesh_broken, "settle with a vertex that has 4 neighbours", 0},
+    {atom_bin_beyond, "settle of distance bin 2, where there are two: 0 and 1", 0},
+    {atom_pairs, "set of 1764 energies, as two molecules have them, where the current level has 42 vertices", 0},
+    {atom_nan_energy, "set with a NaN among the energies", 0},
+    {atom_settled_twice, "a distance is set at level 1 and settled, so that the level drops to 0; then it is settled again, where the Rust panics", 0},
+    {atom_short_output, "write to 235 bytes, where the file has 236", 0},
+    {atom_other_kind, "read of a file of two molecules by the atom's reader", 0},
+    {atom_file_grid, "read of a file that says 3 distance bins, where it has 2 rows", 0},
+    {atom_unknown_kind, "settle of a distance whose row the host gave kind 4", 0},
+    {atom_wrong_offset, "read of a file whose first Mesh row has offset 42", 0},
+    {atom_file_nan, "read of a file whose first energy has the bits FFFFFFFF", 0},
+    {atom_no_distance, "a reading whose distance is a NaN", 0},
+    {atom_no_rows, "a reading with an answer of read in which the host put 0 rows", 0},
+    {atom_empty_cell, "a reading over a mesh whose vertices are all 0, in a direction whose cell they are not in", 0},
+    {atom_no_beta, "a weighted reading with an infinite beta, at a distance outside the table", 0},
 };
 
 static const char *const names[] = {
@@ -216,6 +412,15 @@ static const char *const names[] = {
 
 enum { NUMBERS = sizeof names / sizeof names[0] - 1, EXAMPLES = sizeof examples / sizeof examples[0] };
 _Static_assert(NUMBERS == EXAMPLES, "an example for each number");
+_Static_assert(sizeof examples == sizeof atom_examples, "one against an atom, too");
+
+/* Whether the example of a number gives another one. */
+static int differs(const example *e, uint64_t number) {
+    uint64_t given = e->give(), wanted = e->instead != 0 ? e->instead : number;
+    if (given != wanted)
+        fprintf(stderr, "refusals: the example of %llu, %s, gives %llu\n", (unsigned long long)number, e->words, (unsigned long long)given);
+    return given != wanted;
+}
 
 int main(void) {
     int differing = 0;
@@ -228,12 +433,17 @@ int main(void) {
          "compares the page with what it writes.\n\n"
          "| number | name | what was answered no | an example |\n|---|---|---|---|");
     for (uint64_t number = 1; number <= NUMBERS; number++) {
-        uint64_t given = examples[number - 1].give();
-        printf("| %llu | %s | %s | %s |\n", (unsigned long long)number, names[number], icotable_words(number), examples[number - 1].words);
-        if (given != number) {
-            fprintf(stderr, "refusals: the example of %llu gives %llu\n", (unsigned long long)number, (unsigned long long)given);
-            differing++;
-        }
+        const example *e = &examples[number - 1];
+        printf("| %llu | %s | %s | %s |\n", (unsigned long long)number, names[number], icotable_words(number), e->words);
+        differing += differs(e, number);
+    }
+    puts("\n## Against an atom\n\nThe calls of a table against an atom (`icotable_atom_fresh` and so on) have the same "
+         "numbers with the same words. What\nconcerns the step, the dihedral angle and the second direction is not asked "
+         "there.\n\n| number | name | an example |\n|---|---|---|");
+    for (uint64_t number = 1; number <= NUMBERS; number++) {
+        const example *e = &atom_examples[number - 1];
+        printf("| %llu | %s | %s |\n", (unsigned long long)number, names[number], e->words);
+        differing += differs(e, number);
     }
     icotable_free_meshes(&held);
     return differing != 0;

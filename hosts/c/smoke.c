@@ -1,6 +1,6 @@
 /* A host in C: an empty table of level 0 from its settings, written, printed and read back; a slab set and settled; calls
  * that are refused; the locator of the icosahedron; readings, also weighted and with locator lists that were altered;
- * sizes and numbers. Every answer is compared with what documents 01 and 02 say, and the status is 1 where one differs. */
+ * the same of a table against an atom; sizes and numbers. Every answer is compared with what documents 01 and 02 say, and the status is 1 where one differs. */
 #include "icotable.h"
 
 #include <math.h>
@@ -75,29 +75,27 @@ static icotable_written written(icotable_builder b, uint8_t *output, size_t coun
     return icotable_write(b, store, PER, kinds, 1, levels, 1, values, 1, vertices, 3 * N, neighbour_counts, N, neighbours, 6 * N, angles, 6 * N, output, count);
 }
 
-/* The bytes in hexadecimal, grouped as document 01 has them; how many differ from its own. */
-static uint64_t print(const uint8_t *file) {
-    static const char wanted[] =
-        "03000000 0000000000000000 000000000000F03F 0000000000001840 02000000 01000000 01000000 01000000 0C000000 "
-        "01000000 00 00 FFFFFFFF 00000000 00000000";
-    static const int groups[] = {4, 8, 8, 8, 4, 4, 4, 4, 4, 4, 1, 1, 4, 4, 4};
-    char text[sizeof wanted];
-    int at = 0, byte = 0;
-    for (size_t g = 0; g < sizeof groups / sizeof groups[0]; g++) {
-        for (int i = 0; i < groups[g]; i++)
-            at += sprintf(text + at, "%02X", file[byte++]);
-        if (g + 1 < sizeof groups / sizeof groups[0])
-            text[at++] = ' ';
+/* The bytes in hexadecimal, grouped as those that are wanted; how many differ from these. */
+static uint64_t print(const uint8_t *file, const char *wanted) {
+    uint64_t differ = 0;
+    for (; *wanted; wanted++) {
+        if (*wanted == ' ') {
+            putchar(' ');
+            continue;
+        }
+        char byte[3];
+        snprintf(byte, sizeof byte, "%02X", *file++);
+        fputs(byte, stdout);
+        differ += memcmp(byte, wanted++, 2) != 0;
     }
-    text[at] = 0;
-    puts(text);
-    uint64_t n = 0;
-    for (size_t i = 0; i < sizeof wanted; i++)
-        n += text[i] != wanted[i];
-    return n;
+    putchar('\n');
+    return differ;
 }
 
 static void empty_table(void) {
+    static const char bytes[] =
+        "03000000 0000000000000000 000000000000F03F 0000000000001840 02000000 01000000 01000000 01000000 0C000000 "
+        "01000000 00 00 FFFFFFFF 00000000 00000000";
     uint8_t output[70];
     memset(output, 0xAB, sizeof output);
     memset(store, 0x7F, sizeof store);
@@ -108,7 +106,7 @@ static void empty_table(void) {
     icotable_written w = written(f.builder, output, sizeof output);
     expect("write", w.number, 0);
     expect("bytes", w.length, 66);
-    expect("places that differ from document 01's bytes", print(output), 0);
+    expect("bytes that differ from document 01's", print(output, bytes), 0);
     expect("the byte behind the file", output[66], 0xAB);
     icotable_table t = icotable_read(output, w.length);
     expect("read", t.number, 0);
@@ -286,6 +284,193 @@ static void empty_spans(void) {
     expect("the same where the row is read at the nearest vertices", reading(0.5, a, b).number, 20);
 }
 
+/* ---- against an atom: a slab holds 12 energies */
+
+static const icotable_atom_grid atom_settings = {.rmin = 0, .rmax = 1, .dr = 1, .threshold = 0.1, .beta = 1, .n_r = 77};
+
+static icotable_atom_built atom_fresh(icotable_atom_grid grid, uint64_t top) {
+    return icotable_atom_fresh(grid, top, store, N, kinds, 1, levels, 1, values, 1, vertices, 3 * N, neighbour_counts, N, neighbours, 6 * N, angles, 6 * N);
+}
+
+static icotable_atom_built atom_set(icotable_atom_builder b, uint64_t ri, const double *energies, size_t count) {
+    return icotable_atom_set(b, store, N, kinds, 1, levels, 1, values, 1, ri, energies, count);
+}
+
+static icotable_atom_settled atom_settle(icotable_atom_builder b, uint64_t ri) {
+    return icotable_atom_settle(b, store, N, kinds, 1, levels, 1, values, 1, vertices, 3 * N, neighbour_counts, N, neighbours, 6 * N, angles, 6 * N, ri);
+}
+
+static icotable_written atom_written(icotable_atom_builder b, uint8_t *output, size_t count) {
+    return icotable_atom_write(b, store, N, kinds, 1, levels, 1, values, 1, vertices, 3 * N, neighbour_counts, N, neighbours, 6 * N, angles, 6 * N, output, count);
+}
+
+static void empty_atom_table(void) {
+    static const char bytes[] = "02000000 0000000000000000 000000000000F03F 01000000 01000000 01000000 0C000000 01000000 00 00 FFFFFFFF 00000000 00000000";
+    static const uint64_t start[5] = {4, 24, 32, 40, 54};
+    uint8_t output[60];
+    memset(output, 0xAB, sizeof output);
+    memset(store, 0x7F, sizeof store);
+    icotable_atom_built f = atom_fresh(atom_settings, 0);
+    expect("fresh against an atom", f.number, 0);
+    expect("distance bins", f.builder.grid.n_r, 1);
+    expect("store entries that are not 0", (store[0] != 0) + (store[N - 1] != 0), 0);
+    expect("the entry behind them is as it was", memcmp(store + N, "\x7F\x7F\x7F\x7F\x7F\x7F\x7F\x7F", 8) == 0, 1);
+    icotable_written w = atom_written(f.builder, output, sizeof output);
+    expect("write", w.number, 0);
+    expect("bytes", w.length, 54);
+    expect("bytes that differ from documents 01's and 02's", print(output, bytes), 0);
+    expect("the byte behind the file", output[54], 0xAB);
+    icotable_atom_table t = icotable_atom_read(output, w.length);
+    expect("read", t.number, 0);
+    expect("rmax is 1", t.grid.rmax == 1, 1);
+    expect("distance bins", t.grid.n_r, 1);
+    expect("levels, rows and energies", 100 * t.levels + 10 * t.rows + t.energies, 110);
+    for (int i = 0; i < 5; i++)
+        expect("start of a section", t.start[i], start[i]);
+    expect("read of a byte more", icotable_atom_read(output, 55).number, 13);
+    expect("read as a table of two molecules", icotable_read(output, w.length).number, 13);
+    w = written(fresh(settings, 0).builder, file, sizeof file);
+    expect("a table of two molecules, read as one against an atom", icotable_atom_read(file, w.length).number, 13);
+}
+
+/* A slab by its Boltzmann weights: 0 and 1, all 1, and a wall. The level is 0 and cannot drop. */
+static void atom_slab(void) {
+    double energies[N] = {1000};
+    icotable_atom_builder b = atom_fresh(atom_settings, 0).builder;
+    expect("settle of an empty distance", atom_settle(b, 0).number, 0);
+    icotable_atom_built s = atom_set(b, 0, energies, N);
+    expect("set", s.number, 0);
+    expect("kind", kinds[0], 3);
+    icotable_atom_settled a = atom_settle(s.builder, 0);
+    expect("settle", a.number, 0);
+    expect("gradient is 1 over the angle", a.gradient == 1 / angles[0], 1);
+    expect("kind", kinds[0], 3);
+    energies[0] = 0.001;
+    expect("set of nearly equal energies", atom_set(b, 0, energies, N).number, 0);
+    a = atom_settle(b, 0);
+    expect("settle", a.number, 0);
+    expect("the gradient of a slab that becomes Scalar is not 0", a.gradient > 0 && a.gradient < 0.01, 1);
+    expect("kind", kinds[0], 0);
+    for (int i = 0; i < N; i++)
+        energies[i] = 10;
+    expect("set of tens", atom_set(b, 0, energies, N).number, 0);
+    a = atom_settle(b, 0);
+    expect("settle", a.number, 0);
+    expect("its gradient is 0", a.gradient == 0, 1);
+    expect("kind", kinds[0], 1);
+}
+
+/* A refused set or settle hands the builder back; all else of a refused answer is 0. */
+static void atom_refused(void) {
+    double energies[PER] = {0};
+    icotable_atom_grid g = atom_settings;
+    g.beta = INFINITY;
+    icotable_atom_built f = atom_fresh(g, 0);
+    expect("fresh with an infinite beta", f.number, 1);
+    expect("its distance bins", f.builder.grid.n_r, 0);
+    expect("fresh with top level 16", atom_fresh(atom_settings, 16).number, 2);
+    expect("fresh with no store", icotable_atom_fresh(atom_settings, 0, NULL, 0, kinds, 1, levels, 1, values, 1, vertices, 3 * N, neighbour_counts, N, neighbours,
+                                                      6 * N, angles, 6 * N).number, 6);
+    icotable_atom_builder b = atom_fresh(atom_settings, 0).builder;
+    f = atom_set(b, 1, energies, N);
+    expect("set of a distance beyond the last", f.number, 8);
+    expect("the builder's bins after it", f.builder.grid.n_r, 1);
+    expect("set of 144 energies", atom_set(b, 0, energies, PER).number, 9);
+    energies[3] = NAN;
+    expect("set with a NaN", atom_set(b, 0, energies, N).number, 10);
+    icotable_atom_settled a = atom_settle(b, 1);
+    expect("settle of a distance beyond the last", a.number, 8);
+    expect("the builder's bins after it", a.builder.grid.n_r, 1);
+    kinds[0] = 4;
+    expect("settle of a row of kind 4", atom_settle(b, 0).number, 15);
+    kinds[0] = 3, levels[0] = 0;
+    uint8_t output[101];
+    expect("write to 101 bytes, where the file has 102", atom_written(b, output, sizeof output).number, 12);
+    expect("read of no bytes", icotable_atom_read(NULL, 0).number, 13);
+}
+
+static icotable_atom_table atom_table;
+
+/* Vertex 0 has the energy of the argument, vertex i the energy i. */
+static void small_atom_table(double first) {
+    double energies[N];
+    for (int i = 0; i < N; i++)
+        energies[i] = i == 0 ? first : i;
+    icotable_atom_builder b = atom_fresh(atom_settings, 0).builder;
+    expect("set", atom_set(b, 0, energies, N).number, 0);
+    file_count = atom_written(b, file, sizeof file).length;
+    atom_table = icotable_atom_read(file, file_count);
+    expect("read", atom_table.number, 0);
+    faces_count = 45 * N;
+    expect("locator", locate(N + 1), 0);
+}
+
+static const double *lent_vertices = vertices;
+
+static icotable_energy atom_reading(double r, const double *p) {
+    return icotable_atom_reading(&atom_table, file, file_count, lent_vertices, 3 * N, cell_offsets, CELLS, cell_vertices, 27 * N, face_offsets, N + 1, faces,
+                                 faces_count, r, p[0], p[1], p[2]);
+}
+
+static icotable_energy atom_weighted(double r, const double *p, double beta) {
+    return icotable_atom_boltzmann(&atom_table, file, file_count, lent_vertices, 3 * N, cell_offsets, CELLS, cell_vertices, 27 * N, face_offsets, N + 1, faces,
+                                   faces_count, r, p[0], p[1], p[2], beta);
+}
+
+/* At the vertices, half way between two of them, outside, and of what is not there. */
+static void atom_readings(void) {
+    static const double none[3] = {0, 0, 0};
+    const double *a = vertices, *b = vertices + 3 * neighbours[0];
+    double middle[3] = {a[0] + b[0], a[1] + b[1], a[2] + b[2]};
+    small_atom_table(0);
+    int far = 0;
+    for (int i = 0; i < N; i++) {
+        icotable_energy v = atom_reading(0.5, vertices + 3 * i), x = atom_weighted(0.5, vertices + 3 * i, 0.001);
+        far += v.number != 0 || fabs(v.energy - i) > 1e-6 || x.number != 0 || fabs(x.energy - i) > 1e-6;
+    }
+    expect("readings against an atom at vertices that are not the energy there", far, 0);
+    icotable_energy v = atom_reading(0.5, middle);
+    expect("reading between two vertices", v.number, 0);
+    expect("its energy is half of the neighbour's", fabs(v.energy - neighbours[0] * 0.5) < 1e-6, 1);
+    v = atom_reading(1.5, a);
+    expect("reading beyond rmax", v.number, 0);
+    expect("its energy is 0", v.energy == 0, 1);
+    expect("reading at no distance", atom_reading(NAN, a).number, 18);
+    expect("reading of no direction", atom_reading(0.5, none).number, 18);
+    expect("weighted reading of no direction", atom_weighted(0.5, none, 0).number, 18);
+    expect("weighted reading with beta 0, beyond rmax", atom_weighted(1.5, a, 0).number, 21);
+    expect("weighted reading with an infinite beta", atom_weighted(0.5, a, INFINITY).number, 21);
+    for (int c = 0; c < CELLS; c++)
+        cell_offsets[c] = 0;
+    expect("reading with cells that list no vertex", atom_reading(0.5, a).number, 20);
+    atom_table.rows = 0;
+    expect("reading of a table that says it has no rows", atom_reading(0.5, a).number, 19);
+}
+
+/* Zero weights stay in: where an energy of weight 0 is the least, and the others are so far above it that their
+ * exponentials are 0, the sum is 0 and the reading infinite. Over vertices of half the length, a direction at one of them
+ * has the weights 1, 0, 0 to the bit. */
+static void atom_zero_weight(void) {
+    enum { ENERGIES = 54 };
+    static double half[3 * N];
+    for (int i = 0; i < 3 * N; i++)
+        half[i] = vertices[i] / 2;
+    lent_vertices = half;
+    small_atom_table(1000);
+    icotable_energy plain = atom_reading(0.5, vertices), x = atom_weighted(0.5, vertices, 1);
+    expect("plain reading at vertex 0", plain.number, 0);
+    expect("its energy is 1000", plain.energy == 1000, 1);
+    expect("weighted reading at vertex 0, the others more than 708 below it", x.number, 0);
+    expect("its energy is infinity", x.energy == INFINITY, 1);
+    expect("with a smaller beta it is not", fabs(atom_weighted(0.5, vertices, 0.5).energy - 1000) < 1e-6, 1);
+    file[ENERGIES + 2] = 0x80, file[ENERGIES + 3] = 0xFF;
+    expect("read with an energy of minus infinity", icotable_atom_read(file, file_count).number, 0);
+    x = atom_weighted(0.5, vertices + 3 * neighbours[0], 1);
+    expect("weighted reading where it is the least, with weight 0", x.number, 0);
+    expect("its energy is infinity", x.energy == INFINITY, 1);
+    lent_vertices = vertices;
+}
+
 static void sizes_and_numbers(void) {
     expect("vertices of level 15", icotable_vertices(15), 2562);
     expect("cell offsets of level 15", icotable_cells(15), 3751);
@@ -326,6 +511,11 @@ int main(void) {
     readings();
     weighted_readings();
     empty_spans();
+    empty_atom_table();
+    atom_slab();
+    atom_refused();
+    atom_readings();
+    atom_zero_weight();
     sizes_and_numbers();
     printf("%d answers differ\n", differing);
     return differing != 0;

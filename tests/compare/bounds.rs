@@ -3,8 +3,9 @@
 use crate::caller::{Caller, Rule, NOWHERE, PRIME};
 use crate::lists::{list, list_of, room, rule, settings};
 use crate::meshes::Random;
-use crate::refusals::{distance_count, vertices_of, Settings};
+use crate::refusals::{distance_count, Settings};
 use crate::samples::{narrow_tie, step};
+use crate::shape::{self, per};
 use std::f64::consts::TAU;
 
 // What the lists of this page are counted as.
@@ -39,7 +40,7 @@ fn unfused_elsewhere(random: &mut Random, most: u64) -> Settings {
         let fused = n_r.mul_add(dr, rmin);
         let counted = [rmax, fused].iter().all(|&end| distance_count(rmin, end, dr) as f64 == n_r);
         if counted && fused != n_r * dr + rmin {
-            let omega_step = TAU / (1 + random.below(most as usize / n_r as usize)) as f64;
+            let omega_step = shape::omega_step(TAU / (1 + random.below(most as usize / n_r as usize)) as f64);
             return Settings { rmin, rmax, dr, omega_step, ..settings(random, most) };
         }
     }
@@ -114,7 +115,7 @@ fn tied_mean(count: f64, random: &mut Random) -> (f64, f64) {
 
 // Energies as above; small ones between which a large one comes and goes; equal ones beside the first that is repulsive.
 fn mean_rule(caller: &Caller, random: &mut Random) -> Rule {
-    let count = vertices_of(caller.held.level).pow(2);
+    let count = per(caller.held.level);
     let flat = |base: f64| Rule { count, modulus: 1, seed: 1, base, step: 0.0, places: [(NOWHERE, 0.0); 2] };
     match random.below(3) {
         0 => {

@@ -1,6 +1,7 @@
 // The caller of a list of calls: the lent lists, the builder as the calls left it, and the Rust's builder. Every call is answered here, by the Rust and by refusals.rs, and handed on with its answer.
-use crate::builder::{AdaptiveBuilder, MeshLevel, SlabResolution};
+use crate::builder::{MeshLevel, SlabResolution};
 use crate::refusals::{self, vertices_below, vertices_of, Held, Lists, Settings};
+use crate::shape::{self, per, RustBuilder};
 use std::collections::BTreeMap;
 
 pub const PRIME: u64 = 2_147_483_647;
@@ -70,7 +71,7 @@ pub struct Caller<'a> {
     pub sink: &'a mut dyn Sink,
     pub lists: Lists,
     pub held: Held,
-    pub rust: Option<AdaptiveBuilder>,
+    pub rust: Option<RustBuilder>,
     // the builder was altered by hand, and every call with it is to be refused
     pub altered: bool,
     pub cases: BTreeMap<String, usize>,
@@ -142,8 +143,8 @@ impl<'a> Caller<'a> {
     pub fn gradient(&self, energies: &[f64]) -> f64 {
         let level = self.held.level;
         let levels = (0..=level).map(|m| self.mesh(m)).collect();
-        let mut b = AdaptiveBuilder::with_subdivision(levels, 0.0, 1.0, 1.0, 6.0, level as usize, 0.0, self.held.settings.beta);
-        b.set_slab(0, 0, energies);
+        let mut b = shape::rust_builder(levels, level as usize, [0.0, 1.0, 1.0, 6.0, 0.0, self.held.settings.beta]);
+        shape::set_slab(&mut b, 0, 0, energies);
         b.finish_r_slice(0)
     }
 
@@ -162,16 +163,13 @@ impl<'a> Caller<'a> {
     pub fn fresh(&mut self, settings: Settings, top: u64, counts: [u64; 2], lent: [usize; 8]) -> u64 {
         let (b, number) = refusals::fresh(settings, top, &lent, &self.lists);
         if number == 0 {
-            let s = settings;
             let levels = (0..=top).map(|m| self.mesh(m)).collect();
-            let rust =
-                AdaptiveBuilder::with_subdivision(levels, s.rmin, s.rmax, s.dr, s.omega_step, top as usize, s.threshold, s.beta);
-            assert_eq!([rust.n_r() as u64, rust.n_omega() as u64], [b.n_r, b.n_omega]);
+            let rust = shape::rust_builder(levels, top as usize, settings.list());
+            assert_eq!(shape::bins(&rust), [b.n_r, b.n_omega]);
             let slabs = rust.slab_res.len();
             self.rust = Some(rust);
             self.held = b;
-            let n = vertices_of(top);
-            self.lists.store[..slabs * n * n].fill(0.0);
+            self.lists.store[..slabs * per(top)].fill(0.0);
             (0..slabs).for_each(|s| self.take_row(s));
         }
         // fresh ignores the counts that it is handed, and is handed no level
@@ -186,9 +184,8 @@ impl<'a> Caller<'a> {
         if number == 0 {
             assert!(!self.altered);
             let s = (ri * self.held.n_omega + oi) as usize;
-            self.rust.as_mut().unwrap().set_slab(ri as usize, oi as usize, &energies);
-            let n = vertices_of(self.held.top);
-            self.lists.store[s * n * n..][..energies.len()].copy_from_slice(&energies);
+            shape::set_slab(self.rust.as_mut().unwrap(), ri as usize, oi as usize, &energies);
+            self.lists.store[s * per(self.held.top)..][..energies.len()].copy_from_slice(&energies);
             self.take_row(s);
         }
         self.finish(What::Set(ri, oi, &rule, &energies), self.held, lent, number, 0.0);
@@ -210,6 +207,11 @@ impl<'a> Caller<'a> {
             slice.clone().for_each(|s| self.take_row(s));
             self.settled(&kinds, slice, level, gradient);
             self.held.level = level;
+        }
+        if number == 11 && !self.altered {
+            if let Some(words) = shape::settled_elsewhere(self.rust.as_ref().unwrap(), ri as usize) {
+                self.case(words);
+            }
         }
         self.finish(What::Settle(ri), before, lent, number, gradient);
         number

@@ -1,6 +1,6 @@
 // Writes the lists of calls that tests/replay has as calls, with the answers, gradients, levels and rows that the Rust gives; a refused call's number is document 01's (refusals.rs). The
 // first argument names the file, and what the replay prints where all agrees goes to the second. Prints which cases occur, and fails where one is missing. A third argument, a number, gives
-// other lists of the same kinds.
+// other lists of the same kinds. Built with --cfg atom it writes calls_atom, of tables of one molecule against an atom.
 mod lines;
 #[allow(dead_code)]
 mod meshes;
@@ -8,16 +8,44 @@ mod meshes;
 mod caller;
 mod lists;
 mod refusals;
+#[allow(dead_code)]
+mod report;
+#[allow(dead_code, clippy::all)]
+mod average {
+    include!(concat!(env!("COMPARE"), "/average.rs"));
+}
 #[allow(dead_code, clippy::all)]
 mod builder {
+    #[cfg(not(atom))]
     include!(concat!(env!("COMPARE"), "/builder.rs"));
+    #[cfg(atom)]
+    include!(concat!(env!("COMPARE"), "/atom_builder.rs"));
 }
+#[allow(dead_code, clippy::all)]
+mod oracle {
+    include!(concat!(env!("COMPARE"), "/oracle.rs"));
+}
+#[allow(dead_code, clippy::all)]
+mod rust {
+    #[cfg(not(atom))]
+    include!(concat!(env!("COMPARE"), "/lookup.rs"));
+    #[cfg(atom)]
+    include!(concat!(env!("COMPARE"), "/atom_lookup.rs"));
+}
+#[allow(dead_code)]
+#[path = "../../hosts/rust/src/sys.rs"]
+mod icotable;
+#[allow(dead_code, unused_imports)]
+#[cfg_attr(atom, path = "atom.rs")]
+#[cfg_attr(not(atom), path = "pair.rs")]
+mod shape;
 
 use caller::{Answer, Call, Caller, Rule, Sink, What, PRIME};
 use lines::{bits, Fixed};
 use lists::{accident, descent, lend, lengths, list, odd_numbers, refused, repulsive_rows};
 use meshes::{icosphere, Mesh, Random};
 use refusals::{vertices_below, Held, Lists};
+use shape::PAIR;
 
 const LINE: usize = 574;
 
@@ -29,6 +57,8 @@ const HEAD: &[&str] = &[
     "Energy i is base + step * (x % m), x being the seed after i + 1 turns of x = x * 16807 % 2147483647. The stamp is h = (h * 16807 + bits % 2147483647 + 1) % 2147483647 over the store, from 1.",
     "04 entries of a lent list (0 kinds, 1 levels, 2 values, 3 vertices, 4 counts, 5 neighbours, 6 angles): the list, the first place, how many, the entries. 05 a builder that is held from there on.",
 ];
+
+const AGAINST_AN_ATOM: &str = "Against an atom: the omega step, the second bin count and the dihedral bin are not handed in.";
 
 type Line = Fixed<LINE>;
 
@@ -139,7 +169,8 @@ fn blank() -> Lists {
 fn needed() -> Vec<String> {
     let mut words = Vec::new();
     for (what, numbers) in [("fresh", 0..8), ("set", 0..7), ("set", 8..11), ("settle", 0..9)] {
-        words.extend(numbers.map(|n| format!("{what} {n}")));
+        // an atom never has too many energies
+        words.extend(numbers.filter(|&n| PAIR || n != 5).map(|n| format!("{what} {n}")));
     }
     words.extend(["settle 11", "settle 15"].map(String::from));
     for level in 0..3 {
@@ -156,13 +187,14 @@ fn needed() -> Vec<String> {
         "the level drops, a row of another slice being Repulsive",
         "the level drops, all rows being Scalar",
         "a slice without energies: no drop",
-        "no drop, a row being Repulsive from before",
         "no drop, a row being Repulsive now",
         "no drop, by the gradient",
         "an infinite gradient",
         "a subnormal gradient",
     ];
     words.extend(other.map(String::from));
+    // an atom's slice is one slab
+    words.push(if PAIR { "no drop, a row being Repulsive from before" } else { "settle 11, where the Rust panics" }.to_string());
     words
 }
 
@@ -191,7 +223,7 @@ fn report(caller: &Caller, path: &str) {
 fn main() {
     let paths: Vec<String> = std::env::args().skip(1).collect();
     let mut written = Written::default();
-    for words in HEAD {
+    for words in HEAD.iter().chain((!PAIR).then_some(&AGAINST_AN_ATOM)) {
         written.out.extend(Line::remark(words).0);
     }
     let mut caller = Caller::new(blank(), &mut written);
@@ -201,7 +233,9 @@ fn main() {
     let spheres: Vec<Mesh> = (0..3).map(icosphere).collect();
     lend(&mut caller, &spheres, |a| a);
     accident(&mut caller);
-    repulsive_rows(&mut caller);
+    if PAIR {
+        repulsive_rows(&mut caller);
+    }
     descent(&mut caller);
     refused(&mut caller, &mut random);
     lengths(&mut caller, &mut random);

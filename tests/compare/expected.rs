@@ -1,5 +1,9 @@
-// The sixteen places where the Rust and document 01 are known to part (docs/DIFFERENCES.md), each on its smallest input: the Rust is run as it stands, a panic being caught, and so is the static
+// The seventeen places where the Rust and document 01 are known to part (docs/DIFFERENCES.md), each on its smallest input: the Rust is run as it stands, a panic being caught, and so is the static
 // library; what each does is compared with what is expected of it, and a line printed. Built with overflow checks, as a debug build of the Rust has them. Status 1 where anything is otherwise.
+#[allow(dead_code, clippy::all)]
+mod atom_builder {
+    include!(concat!(env!("COMPARE"), "/atom_builder.rs"));
+}
 #[allow(dead_code, clippy::all)]
 mod average {
     include!(concat!(env!("COMPARE"), "/average.rs"));
@@ -45,6 +49,9 @@ mod refusals;
 mod report;
 #[allow(dead_code)]
 mod search;
+#[allow(dead_code, unused_imports)]
+#[path = "pair.rs"]
+mod shape;
 #[allow(dead_code)]
 mod worlds;
 
@@ -240,6 +247,34 @@ fn r15(found: &mut Found) {
     );
 }
 
+// A table of one molecule against an atom.
+fn r17(found: &mut Found) {
+    let meshes = [icosphere(0), icosphere(1)];
+    let mut energies = vec![0.0; 42];
+    energies[10] = 0.05;
+    let level = |l: builder::MeshLevel| atom_builder::MeshLevel { n_div: l.n_div, n_vertices: l.n_vertices, angles: l.angles, neighbors: l.neighbors };
+    let levels = builder_levels(&meshes).into_iter().map(level).collect();
+    let mut rust = atom_builder::Adaptive3DBuilder::with_subdivision(levels, 0.0, 1.0, 1.0, 1, 0.1, 1.0);
+    rust.set_slab(0, &energies);
+    let gradient = rust.finish_r_slice(0).to_bits();
+    let panic = panic_of(|| rust.finish_r_slice(0));
+    let mut host = Host::new(&meshes);
+    let lent = host.lists.lengths();
+    let (mut l, m) = library::lists_of(&mut host.lists, &lent);
+    let grid = icotable::AtomGrid { rmin: 0.0, rmax: 1.0, dr: 1.0, threshold: 0.1, beta: 1.0, n_r: 0 };
+    let fresh = icotable::atom_fresh(grid, 1, &mut l, m);
+    let set = icotable::atom_set(fresh.builder, &mut l, 0, &energies);
+    let first = icotable::atom_settle(set.builder, &mut l, m, 0);
+    assert_eq!((fresh.number, set.number, first.number, first.builder.level), (0, 0, 0, 0));
+    let second = icotable::atom_settle(first.builder, &mut l, m, 0);
+    found.tell(
+        "R17",
+        "an atom, top level 1, one distance bin, threshold 0.1, every angle 1: 42 zeros but 0.05 at place 10 set and settled, then settled again",
+        [format!("{gradient:016X}, then {panic}"), "3FA8F874F58D95A0, then panic: index out of bounds: the len is 12 but the index is 12".into()],
+        [format!("{:016X}, then {}", first.gradient.to_bits(), refused(second.number)), "3FA8F874F58D95A0, then refused with 11".into()],
+    );
+}
+
 // ---- the reading
 
 // Two distance bins and two dihedral bins: scalars 1.5, 2.5, and Mesh rows of level 0, interpolated and nearest.
@@ -334,14 +369,14 @@ fn r16(found: &mut Found) {
 fn main() {
     std::panic::set_hook(Box::new(|_| ()));
     let mut found = Found { rows: 0, wrong: 0 };
-    let all: [fn(&mut Found); 13] = [r1, r2, readings, r7, r8, r9, r10, r11, r12, r13, r14, r15, r16];
+    let all: [fn(&mut Found); 14] = [r1, r2, readings, r7, r8, r9, r10, r11, r12, r13, r14, r15, r16, r17];
     for one in all {
         if let Err(e) = catch_unwind(AssertUnwindSafe(|| one(&mut found))) {
             println!("DIFFERENCE: a step before it failed: {:?}", e.downcast_ref::<String>());
             found.wrong += 1;
         }
     }
-    println!("expected: {} inputs of 16 rows, {} differences from what is expected", found.rows, found.wrong);
-    assert_eq!(found.rows, 17);
+    println!("expected: {} inputs of 17 rows, {} differences from what is expected", found.rows, found.wrong);
+    assert_eq!(found.rows, 18);
     std::process::exit((found.wrong > 0) as i32);
 }

@@ -1,6 +1,6 @@
 // The static library libicotable.a at the other end of the calls and readings: each one is made there, and its answer and every lent list compared. Ends at the first difference, with its input.
 use crate::caller::{self, Answer, Call, What};
-use crate::icotable::{self, Builder, Grid, Meshes, Query, Table};
+use crate::icotable::{self, Meshes, Query};
 use crate::lines::bits;
 use crate::meshes::{Mesh, Random};
 use crate::oracle::FaceGrid;
@@ -8,26 +8,19 @@ use crate::reader;
 use crate::reading;
 use crate::refusals::{Held, Lists};
 use crate::report::{self, differ};
+use crate::shape::{self, grid_words, Builder, Table, Value};
 
-pub fn grid_words(g: &Grid) -> [u64; 8] {
-    let [a, b, c, d, e, f] = [g.rmin, g.rmax, g.dr, g.omega_step, g.threshold, g.beta].map(bits);
-    [a, b, c, d, e, f, g.n_r, g.n_omega]
-}
-
-fn builder_words(b: &Builder) -> ([u64; 8], u64, u64) {
+fn builder_words(b: &Builder) -> (Vec<u64>, u64, u64) {
     (grid_words(&b.grid), b.top, b.level)
 }
 
-pub fn table_words(t: &Table) -> ([u64; 8], [u64; 9]) {
+pub fn table_words(t: &Table) -> (Vec<u64>, [u64; 9]) {
     let s = t.start;
     (grid_words(&t.grid), [t.number, t.levels, t.rows, t.energies, s[0], s[1], s[2], s[3], s[4]])
 }
 
 pub fn builder_of(b: &Held) -> Builder {
-    let s = b.settings;
-    let (n_r, n_omega) = (b.n_r, b.n_omega);
-    let grid = Grid { rmin: s.rmin, rmax: s.rmax, dr: s.dr, omega_step: s.omega_step, threshold: s.threshold, beta: s.beta, n_r, n_omega };
-    Builder { grid, top: b.top, level: b.level }
+    Builder { grid: shape::grid(b.settings.list(), [b.n_r, b.n_omega]), top: b.top, level: b.level }
 }
 
 pub fn lists_of<'a>(l: &'a mut Lists, lent: &[usize; 8]) -> (icotable::Lists<'a>, Meshes<'a>) {
@@ -85,15 +78,15 @@ impl caller::Sink for Library {
         let (mut l, m) = lists_of(&mut self.lists, &call.lent);
         let (name, number, gradient, builder) = match call.what {
             What::Fresh => {
-                let a = icotable::fresh(given.grid, given.top, &mut l, m);
+                let a = shape::fresh(given.grid, given.top, &mut l, m);
                 ("fresh", a.number, 0.0, a.builder)
             }
             What::Set(ri, oi, _, energies) => {
-                let a = icotable::set(given, &mut l, ri, oi, energies);
+                let a = shape::set(given, &mut l, ri, oi, energies);
                 ("set", a.number, 0.0, a.builder)
             }
             What::Settle(ri) => {
-                let a = icotable::settle(given, &mut l, m, ri);
+                let a = shape::settle(given, &mut l, m, ri);
                 ("settle", a.number, a.gradient, a.builder)
             }
         };
@@ -177,7 +170,7 @@ pub fn add_level(mesh: &Mesh, grid: &FaceGrid, more: usize, entry: impl FnMut() 
     entries
 }
 
-fn same_value(name: &str, got: icotable::Value, table: &Table, lent: icotable::Lent, asked: impl Fn() -> String, number: u64, energy: f64) {
+fn same_value(name: &str, got: Value, table: &Table, lent: icotable::Lent, asked: impl Fn() -> String, number: u64, energy: f64) {
     report::input();
     if (got.number, bits(got.energy)) != (number, bits(energy)) {
         let lengths = [lent.file.len(), lent.vertices.len(), lent.cell_offsets.len(), lent.cell_vertices.len(), lent.face_offsets.len(), lent.faces.len()];
@@ -188,12 +181,12 @@ fn same_value(name: &str, got: icotable::Value, table: &Table, lent: icotable::L
 
 // A reading, and the file that it is of.
 pub fn same_reading(table: &Table, lent: icotable::Lent, q: &Query, number: u64, energy: f64) {
-    same_value("reading", icotable::reading(table, lent, q), table, lent, || format!("{q:?}"), number, energy);
+    same_value("reading", shape::reading(table, lent, q), table, lent, || format!("{q:?}"), number, energy);
 }
 
 // The same, weighted.
 pub fn same_weighted(table: &Table, lent: icotable::Lent, q: &Query, beta: f64, number: u64, energy: f64) {
-    same_value("weighted reading", icotable::boltzmann(table, lent, q, beta), table, lent, || format!("{q:?}, beta {beta:e}"), number, energy);
+    same_value("weighted reading", shape::boltzmann(table, lent, q, beta), table, lent, || format!("{q:?}, beta {beta:e}"), number, energy);
 }
 
 // A file in words: the first bytes of it, where it is long.
@@ -203,7 +196,7 @@ pub fn file_words(file: &[u8]) -> String {
 
 pub fn same_table(file: &[u8], table: &Table) {
     report::input();
-    let got = icotable::read(file);
+    let got = shape::read(file);
     if table_words(&got) != table_words(table) {
         differ("read", file_words(file), format!("{got:?}"), format!("{table:?}"));
     }

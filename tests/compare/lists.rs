@@ -3,7 +3,8 @@ use crate::caller::{Caller, Rule, NOWHERE, PRIME};
 use crate::lines::bits;
 use crate::meshes::{angle, Mesh, Random};
 use crate::builder::SlabResolution;
-use crate::refusals::{self, dihedral_count, distance_count, vertices_below, vertices_of, Held, Settings};
+use crate::refusals::{self, dihedral_count, distance_count, vertices_below, Held, Settings};
+use crate::shape::{self, per};
 use std::f64::consts::TAU;
 
 // Lends meshes of the levels from 0 on, with angles as a function has them.
@@ -31,12 +32,12 @@ pub fn lend(caller: &mut Caller, meshes: &[Mesh], mut angle_of: impl FnMut(f64) 
 
 // Energies of the current level by a rule; calm ones settle as Scalar or Mesh nearest over most meshes.
 pub fn rule(caller: &Caller, random: &mut Random, calm: bool) -> Rule {
-    let n = vertices_of(caller.held.level);
+    let count = per(caller.held.level);
     let Settings { threshold, beta, .. } = caller.held.settings;
     let modulus = 1 + random.below(1000) as u64;
     let seed = 1 + random.below(PRIME as usize - 1) as u64;
     let slope = threshold / (beta * modulus as f64);
-    let mut r = Rule { count: n * n, modulus, seed, base: 0.0, step: 0.0, places: [(NOWHERE, 0.0); 2] };
+    let mut r = Rule { count, modulus, seed, base: 0.0, step: 0.0, places: [(NOWHERE, 0.0); 2] };
     match if calm { [0, 1, 4, 5, 6, 6, 6, 6][random.below(8)] } else { random.below(20) } {
         0 => (),
         1 => (r.base, r.step) = (-0.0, -0.0),
@@ -61,7 +62,7 @@ pub fn rule(caller: &Caller, random: &mut Random, calm: bool) -> Rule {
     for k in 0..2 {
         if !calm && random.below(8) == 0 {
             let values = [0.0, -0.0, 0.3 / beta, 20.0 / beta, -700.0 / beta, f64::INFINITY, f64::NEG_INFINITY, 5e-324];
-            r.places[k] = (random.below(n * n), values[random.below(8)]);
+            r.places[k] = (random.below(count), values[random.below(8)]);
         }
     }
     r
@@ -70,12 +71,12 @@ pub fn rule(caller: &Caller, random: &mut Random, calm: bool) -> Rule {
 // Settings of at most `most` slabs, all of which question 1 lets through.
 pub fn settings(random: &mut Random, most: u64) -> Settings {
     loop {
-        let n_r = 1 + random.below(4) as u64;
+        let n_r = 1 + random.below(shape::DISTANCES) as u64;
         let n_omega = 1 + random.below(6) as u64;
         let dr = [1.0, 0.3, 1e-3, 1e300][random.below(4)];
         let rmin = [0.0, -0.0, 2.5, -7.0][random.below(4)] * dr;
         let rmax = rmin + dr * (n_r as f64 + random.unit() * 0.49);
-        let omega_step = TAU / (n_omega as f64 + random.unit() * 0.49);
+        let omega_step = shape::omega_step(TAU / (n_omega as f64 + random.unit() * 0.49));
         let threshold = [0.1, 0.1, 0.1, 0.5, 0.5, 2.0, 0.0, 1e-320, 1e308][random.below(9)];
         let beta = [1.0, 1.0, 1.0, 0.4, 3.0, 1e-300, 1e-320, 1e200][random.below(8)];
         let s = Settings { rmin, rmax, dr, omega_step, threshold, beta };
@@ -86,13 +87,13 @@ pub fn settings(random: &mut Random, most: u64) -> Settings {
     }
 }
 
-pub const WRONG: usize = 14;
+pub const WRONG: usize = shape::WRONG.len();
 
 // The builder with one thing wrong.
 pub fn wrong(b: Held, which: usize, random: &mut Random) -> Held {
     let mut b = b;
     let bad = [f64::NAN, f64::INFINITY, 0.0, -1.0][random.below(4)];
-    match which {
+    match shape::WRONG[which] {
         0 => b.settings.rmin = [f64::NAN, f64::NEG_INFINITY][random.below(2)],
         1 => b.settings.rmax = b.settings.rmin,
         2 => b.settings.dr = bad,
@@ -136,10 +137,9 @@ pub fn wrong_mesh(caller: &Caller, which: usize, random: &mut Random) -> (usize,
 
 // How long each list has to be.
 pub fn needed_lengths(b: &Held) -> [usize; 8] {
-    let n = vertices_of(b.top);
     let all = vertices_below(b.top + 1);
     let slabs = (b.n_r * b.n_omega) as usize;
-    [slabs * n * n, slabs, slabs, slabs, 3 * all, all, 6 * all, 6 * all]
+    [slabs * per(b.top), slabs, slabs, slabs, 3 * all, all, 6 * all, 6 * all]
 }
 
 // A call with something wrong about it: what is handed in, and which entries were altered: list, place, before, now.
@@ -164,12 +164,12 @@ impl Odd {
         let slabs = (good.n_r * good.n_omega) as usize;
         match random.below(9) {
             0 => self.ri = [good.n_r, u64::MAX, 1 << 32][random.below(3)],
-            1 => self.oi = [good.n_omega, u64::MAX, 1 << 32][random.below(3)],
+            1 if shape::PAIR => self.oi = [good.n_omega, u64::MAX, 1 << 32][random.below(3)],
             2 => {
-                let n = [vertices_of(0), vertices_of(1), vertices_of(2), 0][random.below(4)];
-                self.rule.count = [n * n, self.rule.count.saturating_sub(1), self.rule.count + 1][random.below(3)];
+                let n = [per(0), per(1), per(2), 0][random.below(4)];
+                self.rule.count = [n, self.rule.count.saturating_sub(1), self.rule.count + 1][random.below(3)];
             }
-            3 => self.rule.places[0] = (random.below(144), f64::NAN),
+            3 => self.rule.places[0] = (random.below(per(0)), f64::NAN),
             4 => {
                 // one short, or exactly as long as needed
                 let k = random.below(8);
@@ -261,7 +261,7 @@ fn unread(caller: &Caller, u: &(usize, usize, u64, u64)) -> bool {
 
 // How many slabs of a level the lent lists have room for.
 pub fn room(caller: &Caller, top: u64) -> u64 {
-    (caller.lists.store.len() / vertices_of(top).pow(2)).min(caller.lists.kinds.len()) as u64
+    (caller.lists.store.len() / per(top)).min(caller.lists.kinds.len()) as u64
 }
 
 // A list of calls: fresh, then slice after slice set and settled, with other calls in between.
@@ -299,18 +299,21 @@ pub fn list_of(caller: &mut Caller, random: &mut Random, top: u64, s: Settings) 
 }
 
 // The accident: twelve slabs of level 1 that stay Mesh nearest are settled, the level drops, and they are settled again. Here the second call is refused with 11. The Rust takes it, and its
-// table has more energies than its rows account for.
+// table has more energies than its rows account for. Against an atom there is one slab, and the Rust panics.
 pub fn accident(caller: &mut Caller) {
     let all = caller.lists.lengths();
-    let s = Settings { rmin: 0.0, rmax: 1.0, dr: 1.0, omega_step: TAU / 12.0, threshold: 0.1, beta: 1.0 };
+    let s = Settings { rmin: 0.0, rmax: 1.0, dr: 1.0, omega_step: shape::omega_step(TAU / 12.0), threshold: 0.1, beta: 1.0 };
     assert_eq!(caller.fresh(s, 1, [0, 0], all), 0);
-    let r = Rule { count: 1764, modulus: 1, seed: 1, base: 0.0, step: 0.0, places: [(100, 0.05), (NOWHERE, 0.0)] };
-    for oi in 0..12 {
+    let r = Rule { count: per(1), modulus: 1, seed: 1, base: 0.0, step: 0.0, places: [(100.min(per(1) - 1), 0.05), (NOWHERE, 0.0)] };
+    for oi in 0..caller.held.n_omega {
         assert_eq!(caller.set(0, oi, r, all), 0);
     }
     assert_eq!(caller.settle(0, all), 0);
     assert_eq!(caller.held.level, 0);
     assert_eq!(caller.settle(0, all), 11);
+    if !shape::PAIR {
+        return;
+    }
     let mut rust = caller.rust.take().unwrap();
     rust.finish_r_slice(0);
     assert!(rust.slab_res.iter().all(|r| *r == SlabResolution::Mesh { level: 0, interpolate: false }));
@@ -344,8 +347,9 @@ pub fn descent(caller: &mut Caller) {
     let s = Settings { rmin: 0.0, rmax: 3.0, dr: 1.0, omega_step: 6.0, threshold: 0.1, beta: 1.0 };
     assert_eq!(caller.fresh(s, 2, [0, 0], all), 0);
     for ri in 0..3 {
-        let n = vertices_of(caller.held.level);
-        let r = Rule { count: n * n, modulus: 100, seed: 1 + ri, base: -0.25, step: 1e-4, places: [(NOWHERE, 0.0); 2] };
+        // of an atom's few energies the steepest pair is less steep at a low level
+        let step = if shape::PAIR { 1e-4 } else { 4e-4 / (1 << caller.held.level) as f64 };
+        let r = Rule { count: per(caller.held.level), modulus: 100, seed: 1 + ri, base: -0.25, step, places: [(NOWHERE, 0.0); 2] };
         assert_eq!([caller.set(ri, 0, r, all), caller.settle(ri, all)], [0, 0]);
     }
     assert_eq!(caller.lists.kinds[..3], [2, 2, 2]);
@@ -355,7 +359,7 @@ pub fn descent(caller: &mut Caller) {
 // Each thing that can be wrong with a builder or a mesh, in each call.
 pub fn refused(caller: &mut Caller, random: &mut Random) {
     let all = caller.lists.lengths();
-    let s = Settings { rmin: 1.0, rmax: 3.0, dr: 1.0, omega_step: TAU / 2.0, threshold: 0.1, beta: 1.0 };
+    let s = Settings { rmin: 1.0, rmax: 3.0, dr: 1.0, omega_step: shape::omega_step(TAU / 2.0), threshold: 0.1, beta: 1.0 };
     assert_eq!(caller.fresh(s, 1, [5, 5], all), 0);
     let good = caller.held;
     let r = rule(caller, random, true);
@@ -384,17 +388,17 @@ pub fn refused(caller: &mut Caller, random: &mut Random) {
 
 // Lists that are exactly as long as needed, and one of them one short.
 pub fn lengths(caller: &mut Caller, random: &mut Random) {
-    let s = Settings { rmin: 1.0, rmax: 3.0, dr: 1.0, omega_step: TAU / 2.0, threshold: 0.1, beta: 1.0 };
+    let s = Settings { rmin: 1.0, rmax: 3.0, dr: 1.0, omega_step: shape::omega_step(TAU / 2.0), threshold: 0.1, beta: 1.0 };
     let (b, _) = refusals::fresh(s, 1, &caller.lists.lengths(), &caller.lists);
     let exact = needed_lengths(&b);
     assert_eq!(caller.fresh(s, 1, [0, 0], exact), 0);
     let r = rule(caller, random, true);
-    assert_eq!(caller.set(1, 1, r, exact), 0);
+    assert_eq!(caller.set(1, b.n_omega - 1, r, exact), 0);
     for k in 0..8 {
         let mut short = exact;
         short[k] -= 1;
         assert_eq!([caller.fresh(s, 1, [0, 0], short), caller.settle(1, short)], [6, 6]);
-        assert_eq!(caller.set(1, 1, r, short), if k < 4 { 6 } else { 0 });
+        assert_eq!(caller.set(1, b.n_omega - 1, r, short), if k < 4 { 6 } else { 0 });
     }
     assert_eq!(caller.settle(1, exact), 0);
 }
@@ -403,7 +407,8 @@ pub fn lengths(caller: &mut Caller, random: &mut Random) {
 pub fn odd_numbers(caller: &mut Caller) {
     let all = caller.lists.lengths();
     let s = Settings { rmin: 0.0, rmax: 1.0, dr: 1.0, omega_step: 6.0, threshold: 0.1, beta: 1.0 };
-    let with = |places| Rule { count: 144, modulus: 1, seed: 1, base: 0.0, step: 0.0, places };
+    let of_vertex_0 = if shape::PAIR { 3 } else { 0 };
+    let with = |places| Rule { count: per(0), modulus: 1, seed: 1, base: 0.0, step: 0.0, places };
     assert_eq!(caller.fresh(s, 0, [0, 0], all), 0);
     caller.set(0, 0, with([(3, f64::INFINITY), (5, f64::NEG_INFINITY)]), all);
     caller.settle(0, all);
@@ -411,7 +416,7 @@ pub fn odd_numbers(caller: &mut Caller) {
     caller.entries(6, 0, &[bits(1e308)]);
     for threshold in [1e-309, 5e-308, 0.1] {
         assert_eq!(caller.fresh(Settings { threshold, ..s }, 0, [0, 0], all), 0);
-        caller.set(0, 0, with([(3, 20.0), (NOWHERE, 0.0)]), all);
+        caller.set(0, 0, with([(of_vertex_0, 20.0), (NOWHERE, 0.0)]), all);
         caller.settle(0, all);
     }
     caller.entries(6, 0, &[before]);

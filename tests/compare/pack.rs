@@ -1,8 +1,8 @@
 // The table file of a table that the Rust built, byte by byte as document 01 lays it out, and what read returns for it.
-use crate::icotable::{Grid, Table};
-use crate::rust::{SlabResolution, Table6DAdaptive};
+use crate::rust::SlabResolution;
+use crate::shape::{self, RustTable, Table, HEADS};
 
-pub fn packed(t: &Table6DAdaptive<f32>) -> (Vec<u8>, Table) {
+pub fn packed(t: &RustTable) -> (Vec<u8>, Table) {
     let mut file = Vec::new();
     let mut start = [0; 5];
     let mut section = |k: usize, count: usize, items: Vec<u8>| {
@@ -10,9 +10,9 @@ pub fn packed(t: &Table6DAdaptive<f32>) -> (Vec<u8>, Table) {
         start[k] = file.len() as u64;
         file.extend(items);
     };
-    let grid = [t.rmin, t.dr, t.omega_step];
-    section(0, 3, grid.iter().flat_map(|x| x.to_le_bytes()).collect());
-    section(1, 2, [t.n_r, t.n_omega].iter().flat_map(|&n| (n as u32).to_le_bytes()).collect());
+    let (omega_step, n_omega) = shape::rust_dihedral(t);
+    section(0, HEADS[0], [t.rmin, t.dr, omega_step][..HEADS[0]].iter().flat_map(|x| x.to_le_bytes()).collect());
+    section(1, HEADS[1], [t.n_r, n_omega][..HEADS[1]].iter().flat_map(|&n| (n as u32).to_le_bytes()).collect());
     section(2, t.levels.len(), t.levels.iter().flat_map(|l| (l.n_vertices as u32).to_le_bytes()).collect());
     let mut rows = Vec::new();
     for (res, offset) in t.slab_res.iter().zip(&t.slab_offsets) {
@@ -27,16 +27,7 @@ pub fn packed(t: &Table6DAdaptive<f32>) -> (Vec<u8>, Table) {
     }
     section(3, t.slab_res.len(), rows);
     section(4, t.data.len(), t.data.iter().flat_map(|x| x.to_bits().to_le_bytes()).collect());
-    let grid = Grid {
-        rmin: t.rmin,
-        rmax: t.rmax,
-        dr: t.dr,
-        omega_step: t.omega_step,
-        threshold: 0.0,
-        beta: 0.0,
-        n_r: t.n_r as u64,
-        n_omega: t.n_omega as u64,
-    };
+    let grid = shape::grid([t.rmin, t.rmax, t.dr, omega_step, 0.0, 0.0], [t.n_r as u64, n_omega as u64]);
     let counts = [t.levels.len(), t.slab_res.len(), t.data.len()].map(|n| n as u64);
     (file, Table { number: 0, grid, levels: counts[0], rows: counts[1], energies: counts[2], start })
 }

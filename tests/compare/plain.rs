@@ -1,10 +1,5 @@
 // A plain writer and checker of the table file (docs/FORMAT.md).
-
-fn per_level(level: u8) -> usize {
-    let m = level as usize + 1;
-    let n = 10 * m * m + 2;
-    n * n
-}
+use crate::shape::{self, per, HEADS};
 
 fn mesh(kind: u8) -> bool {
     kind == 2 || kind == 3
@@ -31,13 +26,15 @@ pub fn write(b: &Held, out: &mut [u8]) -> usize {
         out[at..at + bytes.len()].copy_from_slice(bytes);
         at += bytes.len();
     };
-    put(&3u32.to_le_bytes());
-    for x in [b.rmin, b.dr, b.step] {
+    put(&(HEADS[0] as u32).to_le_bytes());
+    for x in &[b.rmin, b.dr, b.step][..HEADS[0]] {
         put(&x.to_le_bytes());
     }
-    for n in [2, b.n_r, b.n_omega, b.top as u32 + 1] {
+    put(&(HEADS[1] as u32).to_le_bytes());
+    for n in &[b.n_r, b.n_omega][..HEADS[1]] {
         put(&n.to_le_bytes());
     }
+    put(&(b.top as u32 + 1).to_le_bytes());
     for m in 0..b.top as u32 + 1 {
         put(&(10 * (m + 1) * (m + 1) + 2).to_le_bytes());
     }
@@ -50,7 +47,7 @@ pub fn write(b: &Held, out: &mut [u8]) -> usize {
         put(&(if mesh(kind) { offset } else { u32::MAX }).to_le_bytes());
         put(&value.to_le_bytes());
         if mesh(kind) {
-            offset += per_level(level) as u32;
+            offset += per(level as u64) as u32;
         }
     }
     put(&offset.to_le_bytes());
@@ -58,8 +55,8 @@ pub fn write(b: &Held, out: &mut [u8]) -> usize {
         if !mesh(b.kinds[s]) {
             continue;
         }
-        let n = per_level(b.levels[s]);
-        let from = s * per_level(b.top);
+        let n = per(b.levels[s] as u64);
+        let from = s * per(b.top as u64);
         for (place, x) in out[at..at + 4 * n].chunks_exact_mut(4).zip(&b.store[from..from + n]) {
             place.copy_from_slice(&(*x as f32).to_le_bytes());
         }
@@ -86,13 +83,15 @@ fn sections(file: &[u8]) -> Option<[&[u8]; 5]> {
         *part = file.get(at + 4..end)?;
         at = end;
     }
-    (at == file.len() && parts[0].len() == 24 && parts[1].len() == 8).then_some(parts)
+    (at == file.len() && parts[0].len() == 8 * HEADS[0] && parts[1].len() == 4 * HEADS[1]).then_some(parts)
 }
 
 fn grid_held(parts: &[&[u8]; 5]) -> bool {
-    let (rmin, dr, step) = (float(parts[0], 0), float(parts[0], 8), float(parts[0], 16));
+    let (rmin, dr) = (float(parts[0], 0), float(parts[0], 8));
     let n_r = number(parts[1], 0).unwrap() as usize;
-    let n_omega = number(parts[1], 4).unwrap() as usize;
+    // an atom's file has neither, and one bin
+    let step = if shape::PAIR { float(parts[0], 16) } else { 6.0 };
+    let n_omega = number(parts[1], 4).map_or(1, |n| n as usize);
     let levels = parts[2].len() / 4;
     let above = |x: f64| x.is_finite() && x > 0.0;
     let rmax = (n_r as f64).mul_add(dr, rmin);
@@ -104,7 +103,7 @@ fn grid_held(parts: &[&[u8]; 5]) -> bool {
         && (1..=65535).contains(&n_omega)
         && n_omega == (std::f64::consts::TAU / step + 0.5) as usize
         && n_r == ((rmax - rmin) / dr + 0.5) as usize
-        && n_r * n_omega * per_level(levels as u8 - 1) <= u32::MAX as usize
+        && n_r * n_omega * per(levels as u64 - 1) <= u32::MAX as usize
         && parts[3].len() / 10 == n_r * n_omega
         && (0..levels).all(|m| number(parts[2], 4 * m) == Some(10 * (m as u32 + 1).pow(2) + 2))
 }
@@ -137,7 +136,7 @@ pub fn read(file: &[u8]) -> u64 {
         if number(row, 2).unwrap() as usize != place {
             return 16;
         }
-        place += per_level(row[1]);
+        place += per(row[1] as u64);
     }
     if place != parts[4].len() / 4 {
         return 16;

@@ -1,12 +1,13 @@
 // What is asked of tables: readings over tables that the Rust packed, readings that are refused, damaged files, meshes and locators, and tables made by a host.
-use crate::icotable::{Query, Table};
+use crate::icotable::Query;
 use crate::lines::bits;
 use crate::meshes::{icosphere, scaled, sevens, without_faces, Mesh, Random};
 use crate::oracle::FaceGrid;
 use crate::pack::packed;
 use crate::reader::{Damage, Reader, FILE};
 use crate::reading::{cell_offset, search_in, vertices_below};
-use crate::rust::{AdaptiveBuilder, MeshLevel, SlabResolution};
+use crate::rust::{MeshLevel, SlabResolution};
+use crate::shape::{self, per, Table};
 use std::f64::consts::TAU;
 
 #[derive(Clone, Copy)]
@@ -23,7 +24,7 @@ const INTERPOLATED: [Row; 2] = [Row::Mesh(0, true), Row::Mesh(1, true)];
 fn energies(n: usize, random: &mut Random) -> Vec<f64> {
     let some = [0.0, -0.0, f64::INFINITY, f64::NEG_INFINITY, 1e300, 1e-42, -1e-60, 3.4028235e38];
     let odd = random.below(3);
-    let mut list: Vec<f64> = (0..n * n)
+    let mut list: Vec<f64> = (0..n)
         .map(|_| match random.below(30) {
             0 if odd == 0 => some[random.below(8)],
             1 if odd == 0 => random.finite(),
@@ -40,15 +41,15 @@ fn table(reader: &mut Reader, random: &mut Random, meshes: [&Mesh; 2], top: usiz
     reader.lend(meshes);
     let levels = meshes[..top + 1].iter().map(|m| MeshLevel { n_vertices: m.vertices.len(), grid: FaceGrid::new(&m.vertices, &m.neighbours) });
     let [rmin, rmax, dr, step] = grid;
-    let mut b = AdaptiveBuilder::with_subdivision(levels.collect(), rmin, rmax, dr, step, top, 0.1, 1.0);
+    let rmax = shape::rmax_of([rmin, rmax, dr], rows.len());
+    let mut b = shape::table_builder(levels.collect(), top, [rmin, rmax, dr, step, 0.1, 1.0]);
     assert_eq!(b.slab_res.len(), rows.len());
     for (s, row) in rows.iter().enumerate() {
         (b.slab_res[s], b.slab_data[s]) = match *row {
             Row::Scalar(x) => (SlabResolution::Scalar(x), None),
             Row::Repulsive => (SlabResolution::Repulsive, None),
             Row::Mesh(level, interpolate) => {
-                let n = meshes[level as usize].vertices.len();
-                (SlabResolution::Mesh { level, interpolate }, Some(energies(n, random)))
+                (SlabResolution::Mesh { level, interpolate }, Some(energies(per(level as u64), random)))
             }
         };
     }
@@ -80,14 +81,15 @@ fn distance(t: &Table, random: &mut Random) -> f64 {
 }
 
 fn angle(t: &Table, random: &mut Random) -> f64 {
-    let k = random.whole(2 * t.grid.n_omega as usize);
+    let (omega_step, n_omega) = shape::dihedral(&t.grid);
+    let k = random.whole(2 * n_omega as usize);
     let sign = if random.below(3) == 0 { -1.0 } else { 1.0 };
     sign * match random.below(11) {
         0 => [0.0, 5e-324, 1e-20, 1e-16, f64::MAX, 1e300][random.below(6)],
         1 => [TAU, TAU.next_down(), TAU.next_up(), 2.0 * TAU, 1e6 * TAU][random.below(5)],
-        2 => k * t.grid.omega_step,
-        3 => (k + 0.5) * t.grid.omega_step,
-        4 => step_of((k + 0.5) * t.grid.omega_step, random.below(2) == 0),
+        2 => k * omega_step,
+        3 => (k + 0.5) * omega_step,
+        4 => step_of((k + 0.5) * omega_step, random.below(2) == 0),
         5 => random.finite(),
         6 => random.unit() * 1e5,
         _ => random.unit() * TAU,
@@ -124,8 +126,9 @@ pub fn query(t: &Table, meshes: [&Mesh; 2], random: &mut Random) -> Query {
 // A query that reads a slab of the table.
 pub fn query_at(t: &Table, s: u64, meshes: [&Mesh; 2], random: &mut Random) -> Query {
     let m = meshes[random.below(2)];
-    let (ri, oi) = (s / t.grid.n_omega, s % t.grid.n_omega);
-    let (r, omega) = (t.grid.rmin + ri as f64 * t.grid.dr, oi as f64 * t.grid.omega_step);
+    let (omega_step, n_omega) = shape::dihedral(&t.grid);
+    let (ri, oi) = (s / n_omega, s % n_omega);
+    let (r, omega) = (t.grid.rmin + ri as f64 * t.grid.dr, oi as f64 * omega_step);
     Query { r, omega, a: direction(m, random), b: direction(m, random) }
 }
 
@@ -240,10 +243,10 @@ fn host(t: &Table, random: &mut Random) -> Table {
     for _ in 0..1 + random.below(2) {
         match random.below(10) {
             0 => h.grid.dr = odd_float(random),
-            1 => h.grid.omega_step = odd_float(random),
+            1 => shape::put_omega_step(&mut h.grid, odd_float(random)),
             2 => h.grid.rmin = odd_float(random),
             3 => h.grid.n_r = wide(random),
-            4 => h.grid.n_omega = wide(random),
+            4 => shape::put_n_omega(&mut h.grid, wide(random)),
             5 => h.levels = [wide(random), 1, 0][random.below(3)],
             6 => h.rows = [wide(random), random.below(t.rows as usize) as u64][random.below(2)],
             7 => h.energies = [wide(random), random.below(t.energies as usize) as u64][random.below(2)],
@@ -263,7 +266,8 @@ fn host(t: &Table, random: &mut Random) -> Table {
 fn wrapped(reader: &Reader, random: &mut Random) -> (Damage, Query) {
     let mut d = reader.undamaged();
     let t = reader.table;
-    let k = 1 + random.below(30);
+    // an atom's rows are its distances
+    let k = if shape::PAIR { 1 + random.below(30) } else { 0 };
     let s = random.below(t.rows as usize) as u64;
     let mut q = query_at(&t, s, [&icosphere(0), &icosphere(1)], random);
     match random.below(5) {
@@ -277,7 +281,8 @@ fn wrapped(reader: &Reader, random: &mut Random) -> (Damage, Query) {
         _ => d.table.start[4] = t.start[4].wrapping_sub(4 * random.below(2000) as u64),
     }
     if q.r > 1e9 {
-        (d.table.grid.rmin, d.table.grid.dr, d.table.grid.n_r, d.table.grid.n_omega) = (0.0, 1.0, 1 << 63, 1 << k);
+        (d.table.grid.rmin, d.table.grid.dr, d.table.grid.n_r) = (0.0, 1.0, if shape::PAIR { 1 << 63 } else { u64::MAX });
+        shape::put_n_omega(&mut d.table.grid, 1 << k);
     }
     (d.table.rows, d.table.energies) = (u64::MAX, u64::MAX);
     (d, q)
@@ -329,10 +334,10 @@ fn hosts(reader: &mut Reader, random: &mut Random, meshes: [&Mesh; 2]) {
             let mut h = t;
             match field {
                 0 => h.grid.dr = floats[k],
-                1 => h.grid.omega_step = floats[k],
+                1 => shape::put_omega_step(&mut h.grid, floats[k]),
                 2 => h.grid.rmin = floats[k],
                 3 => h.grid.n_r = whole[k],
-                4 => h.grid.n_omega = whole[k],
+                4 => shape::put_n_omega(&mut h.grid, whole[k]),
                 5 => h.levels = whole[k],
                 6 => h.rows = whole[k],
                 7 => h.energies = whole[k],
@@ -390,7 +395,8 @@ fn near_tau(reader: &mut Reader, random: &mut Random, meshes: [&Mesh; 2]) {
     let t = reader.table;
     for (omega_step, n_omega, omega) in [(2.0, 2, -1e-20), (2.0, 4, -5e-324), (2.0, 4, TAU), (4.0, 3, -1e-17), (1e-3, 12, -1e-30)] {
         let mut d = reader.undamaged();
-        (d.table.grid.omega_step, d.table.grid.n_omega) = (omega_step, n_omega);
+        shape::put_omega_step(&mut d.table.grid, omega_step);
+        shape::put_n_omega(&mut d.table.grid, n_omega);
         let q = Query { omega, ..query_at(&t, 0, meshes, random) };
         reader.damaged(&d, &q);
     }
@@ -408,14 +414,14 @@ fn empty_cells(reader: &mut Reader, random: &mut Random, meshes: [&Mesh; 2]) {
             continue;
         }
         let cells = [q.a, q.b].map(|d| cell_offset(level, d) as usize);
-        let which = done / 4 % 2;
+        let which = if shape::PAIR { done / 4 % 2 } else { 0 };
         let (empty, other) = (cells[which], cells[1 - which]);
         let mut d = reader.undamaged();
         d.entries.push((2, empty + 1, reader.lists.word(2, empty)));
         if done >= 8 {
             d.entries.push((2, other + 1, [0, 0xffff_ffff][done % 2]));
         }
-        let wanted = if done >= 8 { 19 } else { 20 };
+        let wanted = if shape::PAIR && done >= 8 { 19 } else { 20 };
         if empty + 1 != other && empty != other + 1 && empty != other && reader.answer(&d, &q).number == wanted {
             reader.damaged(&d, &q);
             done += 1;

@@ -1,12 +1,12 @@
 // The reader of tables: the lent lists, the table that is held, and the Rust's table. Every reading is answered here and handed on with its answer: the Rust's energy where nothing was damaged or
 // made by a host, and that of document 01's text (reading.rs) where something was.
-use crate::icotable::{Lent, Query, Table};
+use crate::icotable::{Lent, Query};
 use crate::lines::bits;
 use crate::meshes::{Mesh, Random};
-use crate::oracle::{FaceGrid, Vector3};
+use crate::oracle::FaceGrid;
 use crate::reading::{cell_offsets_below, reading, vertices_below, weighted, Answer};
 use crate::report::differ;
-use crate::rust::Table6DAdaptive;
+use crate::shape::{lookup, lookup_boltzmann, RustTable, Table};
 use std::collections::BTreeMap;
 
 pub const FILE: usize = 16384;
@@ -94,7 +94,7 @@ pub struct Reader<'a> {
     // what is held
     held: Table,
     file_length: usize,
-    pub rust: Option<Table6DAdaptive<f32>>,
+    pub rust: Option<RustTable>,
     pub cases: BTreeMap<String, usize>,
     pub counts: BTreeMap<&'static str, usize>,
     // of the betas
@@ -102,16 +102,16 @@ pub struct Reader<'a> {
 }
 
 // Where 01 admits a reading of the file as it was written, the Rust has to answer the same.
-pub fn same_as_rust(rust: &Table6DAdaptive<f32>, t: &Table, q: &Query, energy: f64) {
-    let theirs = rust.lookup(q.r, q.omega, &Vector3::from(q.a), &Vector3::from(q.b));
+pub fn same_as_rust(rust: &RustTable, t: &Table, q: &Query, energy: f64) {
+    let theirs = lookup(rust, q);
     if bits(theirs) != bits(energy) {
         differ("the Rust's lookup and document 01's text", format!("{q:?} of {t:?}"), format!("{energy:e}"), format!("{theirs:e}"));
     }
 }
 
 // The same of a weighted reading.
-pub fn weighted_as_rust(rust: &Table6DAdaptive<f32>, t: &Table, q: &Query, beta: f64, energy: f64) {
-    let theirs = rust.lookup_boltzmann(q.r, q.omega, &Vector3::from(q.a), &Vector3::from(q.b), beta);
+pub fn weighted_as_rust(rust: &RustTable, t: &Table, q: &Query, beta: f64, energy: f64) {
+    let theirs = lookup_boltzmann(rust, q, beta);
     if bits(theirs) != bits(energy) {
         differ("the Rust's lookup_boltzmann and document 02's text", format!("{q:?}, beta {beta:e}, of {t:?}"), format!("{energy:e}"), format!("{theirs:e}"));
     }
@@ -143,6 +143,27 @@ pub const COUNTED: [&str; 13] = [
     "refused with 20",
     "weighted, as the Rust",
     "weighted, refused",
+];
+
+// Cases that damage, or a host, is to lead to.
+pub const DAMAGED: &[&str] = &[
+    "19 no bins",
+    "19 a row beyond the count",
+    "19 a row beyond the file",
+    "19 an unknown kind",
+    "19 a level that is not held",
+    "19 a cell offset beyond what was lent",
+    "19 a cell's end below its start",
+    "19 a cell entry beyond what was lent",
+    "19 a cell's vertex number beyond n",
+    "19 a vertex beyond what was lent",
+    "19 a face offset beyond what was lent",
+    "19 a face's end below its start",
+    "19 a face entry beyond what was lent",
+    "19 a face's vertex number beyond n",
+    "19 an energy beyond the count",
+    "19 an energy beyond the file",
+    "20 an empty cell",
 ];
 
 impl<'a> Reader<'a> {
@@ -208,7 +229,7 @@ impl<'a> Reader<'a> {
     }
 
     // The table's file, and what read returns for it.
-    pub fn read(&mut self, rust: Table6DAdaptive<f32>, file: &[u8], table: Table) {
+    pub fn read(&mut self, rust: RustTable, file: &[u8], table: Table) {
         let words: Vec<u64> = file.iter().map(|&b| b as u64).collect();
         self.entries(0, 0, &words);
         self.sink.read(file, &table);

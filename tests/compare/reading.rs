@@ -1,8 +1,8 @@
 // The reading of a table file, from document 01's text and from nothing else, and the weighted one, from document 02's: the number of the first question that is answered no, or 0 and the energy; and
 // which case it is. What a host hands in may be any number, so places are whole numbers of 128 bits.
-use crate::average::{exponential, logarithm};
-use crate::icotable::{Lent, Query, Table};
+use crate::icotable::{Lent, Query};
 use crate::search::{self, cell_of, cells_along, length, vertices_of, Refusal, Search};
+use crate::shape::{self, Table, LENGTHS};
 use std::f64::consts::TAU;
 
 #[derive(Clone, Copy)]
@@ -67,80 +67,48 @@ fn found(lent: &Lent, level: u64, d: [f64; 3], interpolate: bool) -> Result<(Vec
     search.nearest().map(|(v, _)| (vec![v], [0.0; 3]))
 }
 
-// "A weight not above 0 drops its corner": of the others the least, the sum of the weights by their distance from it, and its logarithm.
-fn weighted_average(wa: [f64; 3], wb: [f64; 3], energies: &[f64], beta: f64) -> (f64, &'static str) {
-    let weights: Vec<f64> = (0..9).map(|k| wa[k / 3] * wb[k % 3]).collect();
-    let kept: Vec<(f64, f64)> = weights.iter().copied().zip(energies.iter().copied()).filter(|c| c.0 > 0.0).collect();
-    let least = kept.iter().fold(f64::INFINITY, |u, c| if c.1 < u { c.1 } else { u });
-    if least.is_infinite() {
-        return (f64::INFINITY, "weighted, the least infinite");
-    }
-    let sum = kept.iter().fold(0.0, |sum, c| sum + c.0 * exponential(-beta * (c.1 - least)));
-    if sum <= 0.0 {
-        return (f64::INFINITY, "weighted, no sum");
-    }
-    let energy = least - logarithm(sum) / beta;
-    let underflown = (0..9).any(|k| weights[k] == 0.0 && wa[k / 3] != 0.0 && wb[k % 3] != 0.0);
-    let words = match () {
-        _ if energy.is_nan() => "weighted, a NaN",
-        _ if energy.is_infinite() => "weighted, infinite",
-        _ if underflown => "weighted, a weight underflows",
-        _ if weights.iter().any(|w| *w < 0.0) => "weighted, a weight below 0",
-        _ if kept.len() < 9 => "weighted, a weight of 0",
-        _ => "weighted, nine corners",
-    };
-    (energy, words)
-}
-
 fn mesh_row(t: &Table, lent: Lent, q: &Query, beta: Option<f64>, level: u64, offset: u32, interpolate: bool) -> Result<(f64, &'static str), Refusal> {
-    let (a, b) = (found(&lent, level, q.a, interpolate), found(&lent, level, q.b, interpolate));
+    let sides: Vec<_> = shape::directions(q).into_iter().map(|d| found(&lent, level, d, interpolate)).collect();
     // 19 of either direction before 20 of either
     for number in [19, 20] {
-        for side in [&a, &b] {
+        for side in &sides {
             match side {
                 Err(refusal) if refusal.0 == number => return Err(*refusal),
                 _ => (),
             }
         }
     }
-    let ((a, wa), (b, wb)) = (a?, b?);
+    let (vertices, weights): (Vec<_>, Vec<_>) = sides.into_iter().collect::<Result<Vec<_>, _>>()?.into_iter().unzip();
     let n = vertices_of(level);
+    // that of vertices i and j is at i * n + j, that of one vertex at its number
+    let places = vertices.iter().fold(vec![0], |places, side: &Vec<u16>| places.iter().flat_map(|p| side.iter().map(move |&v| p * n + v as u128)).collect());
     let words = ["an energy beyond the count", "an energy beyond the file"];
     let mut energies = Vec::new();
-    for &i in &a {
-        for &j in &b {
-            let bytes = item(lent.file, t.start[4], t.energies, offset as u128 + i as u128 * n + j as u128, 4, words)?;
-            energies.push(f32::from_bits(u32_of(bytes)) as f64);
-        }
+    for place in places {
+        let bytes = item(lent.file, t.start[4], t.energies, offset as u128 + place, 4, words)?;
+        energies.push(f32::from_bits(u32_of(bytes)) as f64);
     }
     if !interpolate {
         return Ok((energies[0], "nearest"));
     }
     if let Some(beta) = beta {
-        return Ok(weighted_average(wa, wb, &energies, beta));
+        return Ok(shape::weighted_average(&weights, &energies, beta));
     }
-    let mut sum = 0.0;
-    for i in 0..3 {
-        for j in 0..3 {
-            sum += wa[i] * energies[i * 3 + j] * wb[j];
-        }
-    }
-    Ok((sum, "interpolated"))
+    Ok((shape::plain_sum(&weights, &energies), "interpolated"))
 }
 
 fn row(t: &Table, lent: Lent, q: &Query, beta: Option<f64>) -> Result<(f64, &'static str), Refusal> {
     if q.r.is_nan() {
         return Err((18, "r is a NaN"));
     }
-    if !q.omega.is_finite() {
+    if shape::PAIR && !q.omega.is_finite() {
         return Err((18, "omega is not finite"));
     }
     let held = |d: [f64; 3]| length(d).is_finite() && length(d) > 0.0;
-    if !held(q.a) {
-        return Err((18, "the length of the first direction"));
-    }
-    if !held(q.b) {
-        return Err((18, "the length of the second direction"));
+    for (d, words) in shape::directions(q).into_iter().zip(LENGTHS) {
+        if !held(d) {
+            return Err((18, *words));
+        }
     }
     if beta.is_some_and(|beta| !(beta.is_finite() && beta > 0.0)) {
         return Err((21, "beta"));
@@ -148,14 +116,15 @@ fn row(t: &Table, lent: Lent, q: &Query, beta: Option<f64>) -> Result<(f64, &'st
     if q.r < t.grid.rmin || q.r > (t.grid.n_r as f64).mul_add(t.grid.dr, t.grid.rmin) {
         return Ok((0.0, if q.r < t.grid.rmin { "below rmin" } else { "above rmax" }));
     }
-    if t.grid.n_r == 0 || t.grid.n_omega == 0 {
+    let (omega_step, n_omega) = shape::dihedral(&t.grid);
+    if t.grid.n_r == 0 || n_omega == 0 {
         return Err((19, "no bins"));
     }
     let ri = (((q.r - t.grid.rmin) / t.grid.dr + 0.5) as u64).min(t.grid.n_r - 1);
     let angle = q.omega % TAU;
     let angle = if angle < 0.0 { angle + TAU } else { angle };
-    let oi = (angle / t.grid.omega_step + 0.5) as u64 % t.grid.n_omega;
-    let s = ri as u128 * t.grid.n_omega as u128 + oi as u128;
+    let oi = (angle / omega_step + 0.5) as u64 % n_omega;
+    let s = ri as u128 * n_omega as u128 + oi as u128;
     let bytes = item(lent.file, t.start[3], t.rows, s, 10, ["a row beyond the count", "a row beyond the file"])?;
     let level = bytes[1] as u64;
     let interpolate = bytes[0] == 3;

@@ -1,6 +1,6 @@
 // Writes the readings that tests/replay has: tables that the Rust's `build` packs, with what its `lookup` answers; then damaged files, meshes and locators, and tables made by a host, with the
 // answers of document 01's text (reading.rs). The first argument names the file, and what the replay prints where all agrees goes to the second. Prints which cases occur, and fails where one is missing.
-// A third argument, a number, gives other readings of the same kinds.
+// A third argument, a number, gives other readings of the same kinds. Built with --cfg atom it writes readings_atom, of tables of one molecule against an atom.
 mod lines;
 #[allow(dead_code)]
 mod meshes;
@@ -9,12 +9,22 @@ mod average {
     include!(concat!(env!("COMPARE"), "/average.rs"));
 }
 #[allow(dead_code, clippy::all)]
+mod builder {
+    #[cfg(not(atom))]
+    include!(concat!(env!("COMPARE"), "/builder.rs"));
+    #[cfg(atom)]
+    include!(concat!(env!("COMPARE"), "/atom_builder.rs"));
+}
+#[allow(dead_code, clippy::all)]
 mod oracle {
     include!(concat!(env!("COMPARE"), "/oracle.rs"));
 }
 #[allow(dead_code, clippy::all)]
 mod rust {
+    #[cfg(not(atom))]
     include!(concat!(env!("COMPARE"), "/lookup.rs"));
+    #[cfg(atom)]
+    include!(concat!(env!("COMPARE"), "/atom_lookup.rs"));
 }
 #[allow(dead_code)]
 #[path = "../../hosts/rust/src/sys.rs"]
@@ -28,13 +38,18 @@ mod reading;
 #[allow(dead_code)]
 mod report;
 mod search;
+#[allow(dead_code, unused_imports)]
+#[cfg_attr(atom, path = "atom.rs")]
+#[cfg_attr(not(atom), path = "pair.rs")]
+mod shape;
 
-use icotable::{Query, Table};
+use icotable::Query;
 use lines::{bits, Fixed};
 use meshes::{Mesh, Random};
 use queries::asked;
-use reader::{Lists, Reader, Sink, COUNTED};
+use reader::{Lists, Reader, Sink, COUNTED, DAMAGED};
 use reading::Answer;
+use shape::{dihedral, Table, LENGTHS, PAIR};
 
 const HEAD: &[&str] = &[
     "Readings of tables, 192 letters a line; numbers in hexadecimal, floats by their bits. A line that starts so is passed over.",
@@ -46,6 +61,8 @@ const HEAD: &[&str] = &[
     "05 rmin, rmax, dr, omega step, threshold, beta, both bin counts; 06 the counts of levels, rows and energies, and the starts of the five sections.",
     "07 beta: the reading behind it, which says 06, is weighted by it; its energy is the Rust's.",
 ];
+
+const AGAINST_AN_ATOM: &str = "Against an atom: omega, the second direction, the omega step and the second bin count are not handed in.";
 
 const LINE: usize = 192;
 const MESHES: usize = 24 * LINE;
@@ -61,8 +78,9 @@ impl Fixed<LINE> {
 }
 
 fn settings(t: &Table) -> [u64; 8] {
-    let floats = [t.grid.rmin, t.grid.rmax, t.grid.dr, t.grid.omega_step, t.grid.threshold, t.grid.beta].map(bits);
-    [floats[0], floats[1], floats[2], floats[3], floats[4], floats[5], t.grid.n_r, t.grid.n_omega]
+    let (omega_step, n_omega) = dihedral(&t.grid);
+    let floats = [t.grid.rmin, t.grid.rmax, t.grid.dr, omega_step, t.grid.threshold, t.grid.beta].map(bits);
+    [floats[0], floats[1], floats[2], floats[3], floats[4], floats[5], t.grid.n_r, n_omega]
 }
 
 fn sections(t: &Table) -> [u64; 8] {
@@ -156,52 +174,38 @@ const ANSWERED: &[&str] = &[
 ];
 const NEEDED: &[&str] = &[
     "18 r is a NaN",
-    "18 omega is not finite",
-    "18 the length of the first direction",
-    "18 the length of the second direction",
     "20 an empty cell",
     "21 beta, with a beta",
-    " 0 weighted, nine corners, with a beta",
     " 0 weighted, a weight of 0, with a beta",
     " 0 weighted, the least infinite, with a beta",
 ];
-const NEEDED_DAMAGED: &[&str] = &[
-    "19 no bins",
-    "19 a row beyond the count",
-    "19 a row beyond the file",
-    "19 an unknown kind",
-    "19 a level that is not held",
-    "19 a cell offset beyond what was lent",
-    "19 a cell's end below its start",
-    "19 a cell entry beyond what was lent",
-    "19 a cell's vertex number beyond n",
-    "19 a vertex beyond what was lent",
-    "19 a face offset beyond what was lent",
-    "19 a face's end below its start",
-    "19 a face entry beyond what was lent",
-    "19 a face's vertex number beyond n",
-    "19 an energy beyond the count",
-    "19 an energy beyond the file",
-    "20 an empty cell",
-];
+const NEEDED_OF_ITS_KIND: [&str; 2] = if PAIR {
+    ["18 omega is not finite", " 0 weighted, nine corners, with a beta"]
+} else {
+    [" 0 weighted, three corners, with a beta", " 0 weighted, no sum, with a beta"]
+};
 
 fn main() {
     let paths: Vec<String> = std::env::args().skip(1).collect();
     let seed: u64 = paths.get(2).map_or(0, |n| n.parse().unwrap());
     let mut random = Random(0x9e3779b97f4a7c15 ^ seed);
     let mut written = Written::default();
-    for words in HEAD {
+    for words in HEAD.iter().chain((!PAIR).then_some(&AGAINST_AN_ATOM)) {
         written.out.extend(Line::remark(words).0);
     }
     let mut reader = Reader::new(&mut written);
-    asked(&mut reader, &mut random, 1, 6);
+    // an atom's slab has fewer energies, and so fewer odd ones: more readings meet them
+    asked(&mut reader, &mut random, if PAIR { 1 } else { 2 }, 6);
     for (words, n) in &reader.cases {
         println!("{n:5} {words}");
     }
-    for words in ANSWERED.iter().chain(NEEDED) {
+    for words in ANSWERED.iter().chain(NEEDED).chain(&NEEDED_OF_ITS_KIND) {
         assert!(seed != 0 || reader.cases.contains_key(*words), "no reading has this case: {words}");
     }
-    for words in ANSWERED.iter().chain(NEEDED_DAMAGED) {
+    for words in LENGTHS {
+        assert!(seed != 0 || reader.cases.contains_key(&format!("18 {words}")), "no reading is refused for {words}");
+    }
+    for words in ANSWERED.iter().chain(DAMAGED) {
         let words = format!("{words}, damaged or by a host");
         assert!(seed != 0 || reader.cases.contains_key(&words), "no reading has this case: {words}");
     }

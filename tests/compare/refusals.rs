@@ -1,5 +1,6 @@
 // The questions that document 01 puts before fresh, set, settle and write, read from its text and from nothing else: each function gives the number of the first question that is answered no, or 0.
 use crate::lines::bits;
+use crate::shape::{per, HEADS};
 use std::f64::consts::TAU;
 
 #[derive(Clone, Copy, Debug)]
@@ -10,6 +11,12 @@ pub struct Settings {
     pub omega_step: f64,
     pub threshold: f64,
     pub beta: f64,
+}
+
+impl Settings {
+    pub fn list(&self) -> [f64; 6] {
+        [self.rmin, self.rmax, self.dr, self.omega_step, self.threshold, self.beta]
+    }
 }
 
 #[derive(Clone, Copy, Debug)]
@@ -112,8 +119,7 @@ fn one_to_five(b: &Held) -> u64 {
     if b.n_r != distance_count(s.rmin, rmax, s.dr) {
         return 4;
     }
-    let n = vertices_of(b.top) as u64;
-    if b.n_r * b.n_omega * n * n > 4_294_967_295 {
+    if b.n_r * b.n_omega * per(b.top) as u64 > 4_294_967_295 {
         return 5;
     }
     0
@@ -125,8 +131,7 @@ fn slabs(b: &Held) -> usize {
 
 // 6 of store and rows
 fn builder_room(b: &Held, lent: &[usize; 8]) -> bool {
-    let n = vertices_of(b.top);
-    slabs(b) * n * n <= lent[0] && (1..4).all(|k| slabs(b) <= lent[k])
+    slabs(b) * per(b.top) <= lent[0] && (1..4).all(|k| slabs(b) <= lent[k])
 }
 
 fn mesh_room(b: &Held, lent: &[usize; 8]) -> bool {
@@ -185,7 +190,7 @@ pub fn set(b: &Held, lent: &[usize; 8], ri: u64, oi: u64, energies: &[f64]) -> u
     if ri >= b.n_r || oi >= b.n_omega {
         return 8;
     }
-    if energies.len() != vertices_of(b.level) * vertices_of(b.level) {
+    if energies.len() != per(b.level) {
         return 9;
     }
     if energies.iter().any(|e| e.is_nan()) {
@@ -223,11 +228,11 @@ pub fn settle(b: &Held, lent: &[usize; 8], lists: &Lists, ri: u64) -> u64 {
     0
 }
 
-// The file's length by its sections: a count each, then 24 bytes, 8, 4 a level, 10 a row, 4 an energy.
+// The file's length by its sections: a count each, then 8 bytes a float, 4 a bin count, 4 a level, 10 a row, 4 an energy.
 #[allow(dead_code)]
 pub fn file_length(b: &Held, lists: &Lists) -> usize {
-    let energies = |s: usize| if is_mesh(lists, s) { vertices_of(lists.levels[s] as u64).pow(2) } else { 0 };
-    52 + 4 * (b.top as usize + 1) + 10 * slabs(b) + 4 * (0..slabs(b)).map(energies).sum::<usize>()
+    let energies = |s: usize| if is_mesh(lists, s) { per(lists.levels[s] as u64) } else { 0 };
+    20 + 8 * HEADS[0] + 4 * HEADS[1] + 4 * (b.top as usize + 1) + 10 * slabs(b) + 4 * (0..slabs(b)).map(energies).sum::<usize>()
 }
 
 #[allow(dead_code)]

@@ -1,4 +1,4 @@
-// Compares the static library libicotable.a with the Rust over whole tables: tables SEED short|long. Lists of calls of fresh, set and settle, refused ones among them, on meshes of many
+// Compares the static library libicotable.a with the Rust over whole tables: tables SEED short|long; built with --cfg atom it is the program `atoms`, of tables of one molecule against an atom. Lists of calls of fresh, set and settle, refused ones among them, on meshes of many
 // kinds; after each list write, read, damaged copies of the file, and readings; then rounds of readings over damaged lists and tables made by a host. Every answer and every entry of
 // every lent list is compared: with the Rust where document 01 admits a call, with independent readings of 01's text (refusals.rs, plain.rs, reading.rs) where not.
 #[allow(dead_code, clippy::all)]
@@ -7,7 +7,10 @@ mod average {
 }
 #[allow(dead_code, clippy::all)]
 mod builder {
+    #[cfg(not(atom))]
     include!(concat!(env!("COMPARE"), "/builder.rs"));
+    #[cfg(atom)]
+    include!(concat!(env!("COMPARE"), "/atom_builder.rs"));
 }
 #[allow(dead_code, clippy::all)]
 mod oracle {
@@ -15,7 +18,10 @@ mod oracle {
 }
 #[allow(dead_code, clippy::all)]
 mod rust {
+    #[cfg(not(atom))]
     include!(concat!(env!("COMPARE"), "/lookup.rs"));
+    #[cfg(atom)]
+    include!(concat!(env!("COMPARE"), "/atom_lookup.rs"));
 }
 mod arguments;
 mod bounds;
@@ -40,23 +46,27 @@ mod report;
 #[allow(dead_code)]
 mod samples;
 mod search;
+#[allow(dead_code)]
+#[cfg_attr(atom, path = "atom.rs")]
+#[cfg_attr(not(atom), path = "pair.rs")]
+mod shape;
 mod weighted;
 mod worlds;
 
 use arguments::arguments;
 use bounds::{drawn, CASES};
 use caller::Caller;
-use icotable::{Grid, Query, Table};
+use icotable::Query;
 use library::{builder_of, file_words, lists_of, same_reading, same_table, same_weighted, Library, Readings};
 use lines::bits;
 use lists::{needed_lengths, wrong, wrong_mesh, WRONG, WRONG_MESH};
 use meshes::Random;
-use oracle::FaceGrid;
 use pack::packed;
 use queries::{asked, query, query_at};
 use reader::{same_as_rust, weighted_as_rust, Reader};
 use refusals::{Held, Lists};
 use report::differ;
+use shape::{per, OtherTable, RustTable, Table, HEADS};
 use std::collections::BTreeMap;
 use worlds::World;
 
@@ -78,7 +88,7 @@ fn written(held: &Held, lists: &Lists, file: &[u8], random: &mut Random) {
     let (mut output, mut lent) = (before.clone(), lists.clone());
     let (l, m) = lists_of(&mut lent, &lists.lengths());
     report::input();
-    let a = icotable::write(builder_of(held), l.held(), m, &mut output);
+    let a = shape::write(builder_of(held), l.held(), m, &mut output);
     if (a.number, a.length) != (0, file.len() as u64) {
         differ("write", format!("{held:?}"), format!("{}, {} bytes", a.number, a.length), format!("0, {} bytes", file.len()));
     }
@@ -94,7 +104,6 @@ fn written(held: &Held, lists: &Lists, file: &[u8], random: &mut Random) {
 // Lists altered by hand so that an energy of each Mesh row and the scalar of each Scalar row are NaNs of any sign and pattern: each is written as 7FC00000.
 fn written_nans(caller: &Caller, file: &[u8], t: &Table, random: &mut Random) -> u64 {
     let (mut lists, mut wanted) = (caller.lists.clone(), file.to_vec());
-    let per = refusals::vertices_of(caller.held.top).pow(2);
     let mut nans = 0;
     for s in 0..t.rows as usize {
         let row = t.start[3] as usize + 10 * s;
@@ -106,9 +115,9 @@ fn written_nans(caller: &Caller, file: &[u8], t: &Table, random: &mut Random) ->
             }
             1 => continue,
             _ => {
-                let i = random.below(refusals::vertices_of(lists.levels[s] as u64).pow(2));
+                let i = random.below(per(lists.levels[s] as u64));
                 let sign = random.bits() << 63;
-                lists.store[s * per + i] = f64::from_bits(0x7ff0_0000_0000_0001 | random.bits() >> 12 | sign);
+                lists.store[s * per(caller.held.top) + i] = f64::from_bits(0x7ff0_0000_0000_0001 | random.bits() >> 12 | sign);
                 t.start[4] as usize + 4 * (offset + i)
             }
         };
@@ -148,7 +157,7 @@ fn refused_write(caller: &Caller, random: &mut Random, tally: &mut Tally) {
     let (mut output, was) = (before.clone(), lists.clone());
     let (l, m) = lists_of(&mut lists, &lent);
     report::input();
-    let a = icotable::write(builder_of(&held), l.held(), m, &mut output);
+    let a = shape::write(builder_of(&held), l.held(), m, &mut output);
     if (a.number, a.length) != (number, 0) || output != before || !library::same_lists(&lists, &was) {
         differ("write", format!("{held:?}, lent {lent:?}, output {room}"), format!("{}, {} bytes", a.number, a.length), format!("{number}, nothing altered"));
     }
@@ -159,12 +168,16 @@ fn refused_write(caller: &Caller, random: &mut Random, tally: &mut Tally) {
 fn accepted(file: &[u8]) -> Table {
     let word = |at: usize| u32::from_le_bytes(file[at..at + 4].try_into().unwrap()) as u64;
     let float = |at: usize| f64::from_le_bytes(file[at..at + 8].try_into().unwrap());
-    let levels = word(40);
-    let rows = word(44 + 4 * levels as usize);
-    let start = [4, 32, 44, 48 + 4 * levels, 52 + 4 * levels + 10 * rows];
-    let (rmin, dr, omega_step, n_r, n_omega) = (float(4), float(12), float(20), word(32), word(36));
+    let counts = 8 + 8 * HEADS[0];
+    let third = counts + 4 * HEADS[1] + 4;
+    let levels = word(third - 4);
+    let fourth = third as u64 + 4 * levels + 4;
+    let rows = word(fourth as usize - 4);
+    let start = [4, counts as u64, third as u64, fourth, fourth + 10 * rows + 4];
+    let (rmin, dr, n_r) = (float(4), float(12), word(counts));
     let rmax = (n_r as f64).mul_add(dr, rmin);
-    let grid = Grid { rmin, rmax, dr, omega_step, threshold: 0.0, beta: 0.0, n_r, n_omega };
+    // of an atom's file neither is taken
+    let grid = shape::grid([rmin, rmax, dr, float(20), 0.0, 0.0], [n_r, word(counts + 4)]);
     Table { number: 0, grid, levels, rows, energies: word(start[4] as usize - 4), start }
 }
 
@@ -182,8 +195,8 @@ fn damaged(file: &[u8], t: &Table, random: &mut Random) -> Vec<u8> {
             1 => row + random.below(10),
             2 => row + random.below(2),
             3 => energy + 3,
-            4 => [0, 28, 40, rows - 4, t.start[4] as usize - 4][random.below(5)] + random.below(4),
-            5 => 4 + random.below(24),
+            4 => t.start[random.below(5)] as usize - 4 + random.below(4),
+            5 => 4 + random.below(8 * HEADS[0]),
             6 => {
                 copy.truncate(random.below(copy.len() + 1));
                 continue;
@@ -208,6 +221,7 @@ fn damaged(file: &[u8], t: &Table, random: &mut Random) -> Vec<u8> {
 }
 
 // "An accepted file also passes `check_grid` and `check_slabs`": the Rust's, over the file's table.
+#[cfg(not(atom))]
 fn checked(file: &[u8], t: &Table) {
     let part = |start: u64, width: u64, i: u64| &file[(start + width * i) as usize..][..width as usize];
     let word = |bytes: &[u8]| u32::from_le_bytes(bytes.try_into().unwrap());
@@ -217,7 +231,7 @@ fn checked(file: &[u8], t: &Table) {
         1 => rust::SlabResolution::Repulsive,
         kind => rust::SlabResolution::Mesh { level: bytes[1], interpolate: kind == 3 },
     };
-    let level = |m: u64| rust::MeshLevel { n_vertices: word(part(t.start[2], 4, m)) as usize, grid: FaceGrid::new(&[], &[]) };
+    let level = |m: u64| rust::MeshLevel { n_vertices: word(part(t.start[2], 4, m)) as usize, grid: oracle::FaceGrid::new(&[], &[]) };
     let table = rust::Table6DAdaptive {
         rmin: t.grid.rmin,
         rmax: t.grid.rmax,
@@ -236,16 +250,29 @@ fn checked(file: &[u8], t: &Table) {
     }
 }
 
+// A file of the one kind is refused by the other's reader.
+fn read_as_other(file: &[u8]) {
+    report::input();
+    let (got, wanted) = (shape::other_read(file), OtherTable { number: 13, ..OtherTable::default() });
+    if got != wanted {
+        differ("read, as a file of the other kind", file_words(file), format!("{got:?}"), format!("{wanted:?}"));
+    }
+}
+
 fn reads(file: &[u8], t: &Table, random: &mut Random, tally: &mut Tally) {
     same_table(file, t);
+    #[cfg(not(atom))]
     checked(file, t);
     tally.add("read, files as written", 1);
+    read_as_other(file);
+    tally.add("read, as files of the other kind, answered 13", 1);
     for _ in 0..20 {
         let copy = damaged(file, t, random);
         let number = plain::read(&copy);
         if number == 0 {
             let t = accepted(&copy);
             same_table(&copy, &t);
+            #[cfg(not(atom))]
             checked(&copy, &t);
         } else {
             same_table(&copy, &Table { number, ..Table::default() });
@@ -256,7 +283,7 @@ fn reads(file: &[u8], t: &Table, random: &mut Random, tally: &mut Tally) {
 
 // ---- readings
 
-fn readings(world: &World, t: &Table, table: &rust::Table6DAdaptive<f32>, file: &[u8], many: usize, random: &mut Random, tally: &mut Tally) {
+fn readings(world: &World, t: &Table, table: &RustTable, file: &[u8], many: usize, random: &mut Random, tally: &mut Tally) {
     let ends = [&world.meshes[0], world.meshes.last().unwrap()];
     let lent = icotable::Lent { file, ..world.lists.lent(&world.lists.lengths()) };
     let mut found = [0; 21];
@@ -343,13 +370,11 @@ fn signatures(random: &mut Random) {
 }
 
 // Cases of weighted readings that every run has.
-const WEIGHTED: [&str; 10] = [
+const WEIGHTED: [&str; 8] = [
     "0: Scalar",
     "0: Repulsive",
     "0: nearest",
     "0: below rmin",
-    "0: weighted, nine corners",
-    "0: weighted, a weight of 0",
     "0: weighted, infinite",
     "0: weighted, the least infinite",
     "0: weighted, a NaN",
@@ -359,26 +384,30 @@ const WEIGHTED: [&str; 10] = [
 // Cases that have to have occurred.
 fn needed() -> Vec<String> {
     let mut words = Vec::new();
-    for (what, numbers) in [("fresh", vec![0, 1, 2, 3, 4, 5, 6, 7]), ("set", vec![0, 1, 2, 3, 4, 5, 6, 8, 9, 10]), ("settle", vec![0, 1, 2, 3, 4, 5, 6, 7, 8, 11, 15])] {
+    for (what, numbers) in [("fresh", vec![0, 1, 2, 3, 4, 6, 7]), ("set", vec![0, 1, 2, 3, 4, 6, 8, 9, 10]), ("settle", vec![0, 1, 2, 3, 4, 6, 7, 8, 11, 15])] {
         words.extend(numbers.iter().map(|n| format!("{what} {n}")));
     }
-    words.extend([1, 2, 3, 4, 5, 6, 7, 12, 15].map(|n| format!("write, refused with {n}")));
+    words.extend([1, 2, 3, 4, 6, 7, 12, 15].map(|n| format!("write, refused with {n}")));
     words.extend([0, 13, 14, 15, 16, 17].map(|n| format!("read, damaged copies answered {n}")));
     words.extend([0, 18, 20].map(|n| format!("reading, as written, answered {n}")));
+    words.extend(reader::DAMAGED.iter().map(|case| format!("by hand: {case}, damaged or by a host")));
     words.extend(WEIGHTED.map(|case| format!("weighted reading, answered {case}")));
-    words.extend(CASES.map(String::from));
+    words.extend(CASES.iter().chain(shape::NEEDED).map(|&case| case.to_string()));
     words
 }
 
 fn main() {
     let (mut random, length) = arguments();
     // lists of calls at low levels; levels from 6 on, and lists at each; rounds of readings; tables of weighted readings
-    let (all, high, each, rounds, tables) = length.choose((5000, 6..=8, 4, 20, 60), (100_000, 6..=15, 12, 100, 6000));
+    let (high, each, rounds, tables) = length.choose((6..=8, 4, 20, 60), (6..=15, 12, 100, 6000));
     // readings after a list
     let many = 100;
     let mut tally = Tally::default();
-    signatures(&mut random);
-    let mut left = all;
+    if shape::PAIR {
+        signatures(&mut random);
+    }
+    let [short, long] = shape::LISTS;
+    let mut left = length.choose(short, long);
     while left > 0 {
         let count = left.min(1 + random.below(25) as u64);
         lists(World::low(&mut random), count, many, &mut random, &mut tally);
@@ -390,7 +419,9 @@ fn main() {
     let random_beta = Random::of(random.bits());
     let mut sink = Readings { answered: 0, refused: 0, files: 0, random: random_beta, weighted: 0 };
     for _ in 0..rounds {
-        asked(&mut Reader::new(&mut sink), &mut random, 20, usize::MAX);
+        let mut reader = Reader::new(&mut sink);
+        asked(&mut reader, &mut random, 20, usize::MAX);
+        reader.cases.iter().for_each(|(words, &n)| tally.add(&format!("by hand: {words}"), n as u64));
     }
     tally.add("reading, of tables made by hand, damaged or by a host, answered 0", sink.answered);
     tally.add("reading, of tables made by hand, damaged or by a host, refused", sink.refused);
@@ -409,5 +440,5 @@ fn main() {
     for words in needed() {
         assert!(tally.0.contains_key(&words), "nothing was compared of this case: {words}");
     }
-    println!("tables: 0 differences");
+    println!("{}: 0 differences", shape::NAME);
 }

@@ -6,8 +6,9 @@ use crate::lists::lend;
 use crate::meshes::{icosphere, sevens, strange_points, without_faces, Mesh, Random, STRANGE};
 use crate::oracle::FaceGrid;
 use crate::reader;
-use crate::refusals::{vertices_below, vertices_of, Lists, Settings};
-use crate::rust::{AdaptiveBuilder, MeshLevel, SlabResolution, Table6DAdaptive};
+use crate::refusals::{vertices_below, Lists, Settings};
+use crate::rust::{MeshLevel, SlabResolution};
+use crate::shape::{self, per, RustBuilder, RustTable};
 
 pub struct World {
     pub top: usize,
@@ -36,9 +37,9 @@ fn mesh(level: usize, random: &mut Random) -> Mesh {
 }
 
 // The table that the Rust builds of its builder, with the locators of its levels.
-pub fn table_of(s: Settings, levels: Vec<MeshLevel>, rust: &builder::AdaptiveBuilder) -> Table6DAdaptive<f32> {
+pub fn table_of(s: Settings, levels: Vec<MeshLevel>, rust: &RustBuilder) -> RustTable {
     let top = levels.len() - 1;
-    let mut b = AdaptiveBuilder::with_subdivision(levels, s.rmin, s.rmax, s.dr, s.omega_step, top, s.threshold, s.beta);
+    let mut b = shape::table_builder(levels, top, s.list());
     b.slab_data = rust.slab_data.clone();
     b.slab_res = rust
         .slab_res
@@ -53,17 +54,10 @@ pub fn table_of(s: Settings, levels: Vec<MeshLevel>, rust: &builder::AdaptiveBui
 }
 
 impl World {
-    // Low levels more often, since a slab of level 5 has 131,044 energies.
+    // Low levels more often.
     pub fn low(random: &mut Random) -> World {
-        let top = match random.below(200) {
-            0 => 5,
-            1 => 4,
-            2..=5 => 3,
-            6..=35 => 2,
-            36..=99 => 1,
-            _ => 0,
-        };
-        World::new(top, random)
+        let drawn = random.below(200);
+        World::new(shape::TOPS.iter().filter(|&&below| drawn < below).count(), random)
     }
 
     pub fn new(top: usize, random: &mut Random) -> World {
@@ -81,12 +75,11 @@ impl World {
 
     // A builder's lists, each entry a canary, with a few beyond the longest that a call needs.
     pub fn canaries(&self, random: &mut Random) -> Lists {
-        let slabs = [60, 12, 4, 3].get(self.top).copied().unwrap_or(2);
-        let n = vertices_of(self.top as u64);
+        let slabs = shape::SLABS[self.top.min(4)];
         let all = vertices_below(self.top as u64 + 1) + random.below(3);
         let more = random.below(5);
         Lists {
-            store: (0..slabs * n * n + more).map(|_| random.finite()).collect(),
+            store: (0..slabs * per(self.top as u64) + more).map(|_| random.finite()).collect(),
             kinds: (0..slabs + more).map(|_| random.bits() as u8).collect(),
             levels: (0..slabs + more).map(|_| random.bits() as u8).collect(),
             values: (0..slabs + more).map(|_| random.bits() as u32).collect(),
@@ -114,18 +107,17 @@ impl World {
     }
 
     // The Rust's table of what a list of calls left.
-    pub fn built(&mut self, caller: &Caller) -> Table6DAdaptive<f32> {
+    pub fn built(&mut self, caller: &Caller) -> RustTable {
         let levels = std::mem::take(&mut self.levels);
         table_of(caller.held.settings, levels, caller.rust.as_ref().unwrap())
     }
 
     // A table of these rows, one a distance, every energy 0.
-    pub fn of_rows(&mut self, rows: Vec<SlabResolution>) -> Table6DAdaptive<f32> {
+    pub fn of_rows(&mut self, rows: Vec<SlabResolution>) -> RustTable {
         let levels = std::mem::take(&mut self.levels);
-        let n: Vec<usize> = levels.iter().map(|l| l.n_vertices).collect();
-        let mut b = AdaptiveBuilder::with_subdivision(levels, 1.0, 1.0 + 0.5 * rows.len() as f64, 0.5, 6.0, self.top, 0.1, 1.0);
+        let mut b = shape::table_builder(levels, self.top, [1.0, 1.0 + 0.5 * rows.len() as f64, 0.5, 6.0, 0.1, 1.0]);
         let energies = |row: &SlabResolution| match *row {
-            SlabResolution::Mesh { level, .. } => Some(vec![0.0; n[level as usize] * n[level as usize]]),
+            SlabResolution::Mesh { level, .. } => Some(vec![0.0; per(level as u64)]),
             _ => None,
         };
         b.slab_data = rows.iter().map(energies).collect();
@@ -134,7 +126,7 @@ impl World {
     }
 
     // The levels went into the table.
-    pub fn take_back(&mut self, table: Table6DAdaptive<f32>) {
+    pub fn take_back(&mut self, table: RustTable) {
         self.levels = table.levels;
     }
 }

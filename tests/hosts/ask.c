@@ -1,5 +1,6 @@
-/* Readings of a table: ask FILE < QUERIES. A query is a line of eight f64 as hexadecimal bits: r, omega, ax, ay, az, bx, by, bz.
- * Prints for each the number and the bits of the energy. The meshes are the C helper's. */
+/* Readings of a table: ask FILE < QUERIES. A query is a line of f64 as hexadecimal bits: r, omega, ax, ay, az, bx, by, bz or,
+ * of a table against an atom, r, x, y, z. Prints for each the number and the bits of the energy. The meshes are the C
+ * helper's. */
 #include "mesh.h"
 
 #include <inttypes.h>
@@ -21,8 +22,8 @@ static uint8_t *load(const char *name, size_t *count) {
     return bytes;
 }
 
-static int read_query(double query[8]) {
-    for (int k = 0; k < 8; k++) {
+static int read_query(double *query, int count) {
+    for (int k = 0; k < count; k++) {
         uint64_t bits;
         if (scanf("%" SCNx64, &bits) != 1)
             return 0;
@@ -31,21 +32,32 @@ static int read_query(double query[8]) {
     return 1;
 }
 
+static void print_answer(uint64_t number, double energy) {
+    uint64_t bits;
+    memcpy(&bits, &energy, sizeof bits);
+    printf("%d %016" PRIX64 "\n", (int)number, bits);
+}
+
 int main(int count, char **names) {
     size_t length = 0;
     uint8_t *file = count == 2 ? load(names[1], &length) : NULL;
     icotable_table t = icotable_read(file, length);
+    icotable_atom_table u = icotable_atom_read(file, length);
     icotable_meshes m;
-    if (t.number != 0 || icotable_make_meshes(&m, t.levels - 1) != 0) {
-        fprintf(stderr, "ask: refused with %d: %s\n", (int)t.number, icotable_words(t.number));
+    uint64_t levels = t.number == 0 ? t.levels : u.levels;
+    if ((t.number != 0 && u.number != 0) || icotable_make_meshes(&m, levels - 1) != 0) {
+        fprintf(stderr, "ask: refused with %d and %d\n", (int)t.number, (int)u.number);
         return 1;
     }
     double q[8];
-    while (read_query(q)) {
-        icotable_value v = icotable_reading(&t, file, length, ICOTABLE_LOCATORS(&m), q[0], q[1], q[2], q[3], q[4], q[5], q[6], q[7]);
-        uint64_t bits;
-        memcpy(&bits, &v.energy, sizeof bits);
-        printf("%d %016" PRIX64 "\n", (int)v.number, bits);
+    while (read_query(q, t.number == 0 ? 8 : 4)) {
+        if (t.number == 0) {
+            icotable_value v = icotable_reading(&t, file, length, ICOTABLE_LOCATORS(&m), q[0], q[1], q[2], q[3], q[4], q[5], q[6], q[7]);
+            print_answer(v.number, v.energy);
+        } else {
+            icotable_energy v = icotable_atom_reading(&u, file, length, ICOTABLE_LOCATORS(&m), q[0], q[1], q[2], q[3]);
+            print_answer(v.number, v.energy);
+        }
     }
     icotable_free_meshes(&m);
     free(file);

@@ -13,12 +13,19 @@ enum { top = 1, slabs = 32 * 12, n = 42, store_count = slabs * n * n, output_cou
 static double store[store_count], energies[n * n];
 static uint8_t kinds[slabs], levels[slabs], output[output_count];
 static uint32_t values[slabs];
+enum { distances = 48 };
 
 static void check(const char *what, uint64_t number) {
     if (number != 0) {
         fprintf(stderr, "%s: %s\\n", what, icotable_words(number));
         exit(1);
     }
+}
+
+/* the same in every direction */
+static void sample(double *list, uint64_t level, double distance) {
+    for (uint64_t v = 0; v < icotable_vertices(level); v++)
+        list[v] = distance;
 }
 
 int main(void) {
@@ -32,7 +39,13 @@ BETWEEN = """    icotable_free_meshes(&m);
         uint8_t *file = output;
         size_t length = w.length;
 """
-TAIL = """        printf("energy %g, weighted %g\\n", v.energy, x.energy);
+ATOM = """        printf("energy %g, weighted %g\\n", v.energy, x.energy);
+        icotable_free_meshes(&m);
+    }
+    double x = 1, y = 2, z = 3;
+    {
+"""
+TAIL = """        printf("against an atom %g, weighted %g\\n", v.energy, u.energy);
         icotable_free_meshes(&m);
     }
     return 0;
@@ -57,6 +70,8 @@ def main():
         BETWEEN,
         snippets(page, "Reading in a simulation", 4),
         snippets(page, "Readings weighted by temperature", 4),
+        ATOM,
+        snippets(page, "One molecule against an atom", 7),
         TAIL,
     ]
     sys.stdout.write("".join(parts))

@@ -1,8 +1,9 @@
 #!/usr/bin/env python3
-"""docs/FORMAT.md followed in another language, from the page alone: the meshes and their checksums, a table file, and readings.
+"""docs/FORMAT.md followed in another language, from the page alone: the meshes and their checksums, table files of both kinds, and
+readings.
 
-page.py PAGE ASK FOLDER: compares the checksums with the page's table, writes a table to FOLDER, has ASK (tests/hosts/ask.c) read it,
-and compares each energy with the one that the page's rule gives. Ends in the counts; the status is 1 where one differs.
+page.py PAGE ASK FOLDER: compares the checksums with the page's table, writes two tables to FOLDER, has ASK (tests/hosts/ask.c) read
+them, and compares each energy with the one that the page's rule gives. Ends in the counts; the status is 1 where one differs.
 """
 import math
 import random
@@ -200,18 +201,30 @@ class Table:
         self.rows = 48 + 4 * levels
         self.energies = self.rows + 10 * self.n_r * self.n_omega + 4
 
-    def reading(self, meshes, r, omega, a, b):
+    def distance_bin(self, r):
+        """None outside."""
         if r < self.rmin or r > fused(float(self.n_r), self.dr, self.rmin):
+            return None
+        return min(math.trunc((r - self.rmin) / self.dr + 0.5), self.n_r - 1)
+
+    def row(self, slab):
+        return struct.unpack_from("<BBIf", self.data, self.rows + 10 * slab)
+
+    def energy(self, place):
+        return struct.unpack_from("<f", self.data, self.energies + 4 * place)[0]
+
+    def reading(self, meshes, r, omega, a, b):
+        ri = self.distance_bin(r)
+        if ri is None:
             return 0.0
-        ri = min(math.trunc((r - self.rmin) / self.dr + 0.5), self.n_r - 1)
         t = math.fmod(omega, TAU)
         t = t + TAU if t < 0 else t
         oi = math.trunc(t / self.step + 0.5) % self.n_omega
-        kind, level, offset, scalar = struct.unpack_from("<BBIf", self.data, self.rows + 10 * (ri * self.n_omega + oi))
+        kind, level, offset, scalar = self.row(ri * self.n_omega + oi)
         if kind < 2:
             return math.inf if kind == 1 else scalar
         mesh, p, q = meshes[level], unit(a), unit(b)
-        energy = lambda v, w: struct.unpack_from("<f", self.data, self.energies + 4 * (offset + v * mesh.n + w))[0]
+        energy = lambda v, w: self.energy(offset + v * mesh.n + w)
         if kind == 2:
             return energy(nearest(mesh, p), nearest(mesh, q))
         (fa, wa), (fb, wb) = face_and_weights(mesh, p), face_and_weights(mesh, q)
@@ -222,45 +235,83 @@ class Table:
         return total
 
 
+class AtomTable(Table):
+    def __init__(self, data):
+        self.data = data
+        self.rmin, self.dr, _, self.n_r, levels = struct.unpack_from("<ddIII", data, 4)
+        self.rows = 36 + 4 * levels
+        self.energies = self.rows + 10 * self.n_r + 4
+
+    def reading(self, meshes, r, direction):
+        ri = self.distance_bin(r)
+        if ri is None:
+            return 0.0
+        kind, level, offset, scalar = self.row(ri)
+        if kind < 2:
+            return math.inf if kind == 1 else scalar
+        mesh, p = meshes[level], unit(direction)
+        if kind == 2:
+            return self.energy(offset + nearest(mesh, p))
+        face, w = face_and_weights(mesh, p)
+        t = [w[i] * self.energy(offset + face[i]) for i in range(3)]
+        return (t[0] + t[1]) + t[2]
+
+
 # ---- the comparison
 
 
 LEVELS, DISTANCES, DIHEDRALS = 7, 8, 2
 
 
-def made_table(draw):
-    """Every level below LEVELS, nearest and interpolated, a scalar and a wall, by the page's sections and rows."""
+def made_sections(draw, power):
+    """Sections 3 to 5: every level below LEVELS, nearest and interpolated, a scalar and a wall, by the page's rows."""
     rows, energies = b"", b""
     kinds = [(2, m) for m in range(LEVELS)] + [(3, m) for m in range(LEVELS)] + [(0, 0), (1, 0)]
     for kind, m in kinds:
-        n = 10 * (m + 1) ** 2 + 2 if kind >= 2 else 0
-        offset = len(energies) // 4 if n else 0xFFFFFFFF
+        held = (10 * (m + 1) ** 2 + 2) ** power if kind >= 2 else 0
+        offset = len(energies) // 4 if held else 0xFFFFFFFF
         rows += struct.pack("<BBI", kind, m, offset) + (struct.pack("<f", -1.25) if kind == 0 else bytes(4))
-        energies += struct.pack(f"<{n * n}f", *(draw.uniform(-40, 40) for _ in range(n * n)))
+        energies += struct.pack(f"<{held}f", *(draw.uniform(-40, 40) for _ in range(held)))
+    levels = struct.pack(f"<{LEVELS + 1}I", LEVELS, *(10 * (m + 1) ** 2 + 2 for m in range(LEVELS)))
+    return levels + struct.pack("<I", len(kinds)) + rows + struct.pack("<I", len(energies) // 4) + energies
+
+
+def made_table(draw):
     file = struct.pack("<Iddd", 3, 0.75, 0.3, TAU / DIHEDRALS) + struct.pack("<3I", 2, DISTANCES, DIHEDRALS)
-    file += struct.pack(f"<{LEVELS + 1}I", LEVELS, *(10 * (m + 1) ** 2 + 2 for m in range(LEVELS)))
-    return file + struct.pack("<I", len(kinds)) + rows + struct.pack("<I", len(energies) // 4) + energies
+    return file + made_sections(draw, 2)
+
+
+def made_atom_table(draw):
+    file = struct.pack("<Idd", 2, 0.75, 0.15) + struct.pack("<2I", 1, DISTANCES * DIHEDRALS)
+    return file + made_sections(draw, 1)
+
+
+def made_direction(draw, meshes):
+    """At random, of small whole numbers (on edges of the cube and of faces), at vertices and between two."""
+    way = draw.randrange(4)
+    mesh = draw.choice(meshes)
+    v = draw.randrange(mesh.n)
+    if way == 0:
+        d = [float(draw.randint(-3, 3)) for _ in range(3)]
+    elif way == 1:
+        d = mesh.vertices[v]
+    elif way == 2:
+        d = [x + y for x, y in zip(mesh.vertices[v], mesh.vertices[draw.choice(mesh.neighbours[v])])]
+    else:
+        d = [draw.gauss(0, 1) for _ in range(3)]
+    return d if any(d) else [0.0, 0.0, -2.5]
+
+
+def made_distance(draw):
+    return draw.choice([draw.uniform(0.5, 3.5), 0.75 + 0.15 * draw.randrange(18)])
 
 
 def made_query(draw, meshes):
-    """Directions at random, of small whole numbers (on edges of the cube and of faces), at vertices and between two."""
+    return made_distance(draw), draw.uniform(-20, 20), made_direction(draw, meshes), made_direction(draw, meshes)
 
-    def direction():
-        way = draw.randrange(4)
-        mesh = draw.choice(meshes)
-        v = draw.randrange(mesh.n)
-        if way == 0:
-            d = [float(draw.randint(-3, 3)) for _ in range(3)]
-        elif way == 1:
-            d = mesh.vertices[v]
-        elif way == 2:
-            d = [x + y for x, y in zip(mesh.vertices[v], mesh.vertices[draw.choice(mesh.neighbours[v])])]
-        else:
-            d = [draw.gauss(0, 1) for _ in range(3)]
-        return d if any(d) else [0.0, 0.0, -2.5]
 
-    r = draw.choice([draw.uniform(0.5, 3.5), 0.75 + 0.15 * draw.randrange(18)])
-    return r, draw.uniform(-20, 20), direction(), direction()
+def made_atom_query(draw, meshes):
+    return made_distance(draw), made_direction(draw, meshes)
 
 
 def bits(x):
@@ -277,15 +328,16 @@ def compare_checksums(page, meshes):
     return differing
 
 
-def compare_readings(ask, folder, meshes, count):
-    draw = random.Random(20)
-    file = made_table(draw)
-    name = f"{folder}/page.icotable"
+def numbers(query):
+    """Its f64 in their order."""
+    return [x for part in query for x in (part if isinstance(part, list) else [part])]
+
+
+def compare_readings(ask, name, table, queries, meshes):
+    """Of a table, by the page's rule and by ASK, which reads its file."""
     with open(name, "wb") as out:
-        out.write(file)
-    table = Table(file)
-    queries = [made_query(draw, meshes[:LEVELS]) for _ in range(count)]
-    lines = "".join(" ".join(bits(x) for x in (r, omega, *a, *b)) + "\n" for r, omega, a, b in queries)
+        out.write(table.data)
+    lines = "".join(" ".join(bits(x) for x in numbers(query)) + "\n" for query in queries)
     answers = subprocess.run([ask, name], input=lines, capture_output=True, text=True, check=True).stdout.split("\n")
     differing = 0
     for query, answer in zip(queries, answers, strict=False):
@@ -293,7 +345,7 @@ def compare_readings(ask, folder, meshes, count):
         if answer != wanted:
             print(f"the library answers {answer}, the page's rule {wanted}: {query}")
             differing += 1
-    return differing + abs(len(answers) - 1 - count)
+    return differing + abs(len(answers) - 1 - len(queries))
 
 
 def main():
@@ -301,10 +353,15 @@ def main():
     meshes = [Mesh(m) for m in range(16)]
     with open(page, encoding="utf-8") as text:
         wrong = compare_checksums(text.read().split("\n"), meshes)
-    count = 12000
-    differing = compare_readings(ask, folder, meshes, count)
+    count, draw = 12000, random.Random(20)
+    table, atom_table = Table(made_table(draw)), AtomTable(made_atom_table(draw))
+    queries = [made_query(draw, meshes[:LEVELS]) for _ in range(count)]
+    atom_queries = [made_atom_query(draw, meshes[:LEVELS]) for _ in range(count)]
+    differing = compare_readings(ask, f"{folder}/page.icotable", table, queries, meshes)
+    atom_differing = compare_readings(ask, f"{folder}/page_atom.icotable", atom_table, atom_queries, meshes)
     print(f"by the page: 16 levels, {wrong} with other checksums; {count} readings, {differing} differ")
-    return 1 if wrong or differing else 0
+    print(f"by the page, against an atom: {count} readings, {atom_differing} differ")
+    return 1 if wrong or differing or atom_differing else 0
 
 
 sys.exit(main())

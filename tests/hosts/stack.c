@@ -1,5 +1,5 @@
-/* How much stack each operation takes: it is called in a thread whose stack was painted, and what is no longer painted is
- * counted. Prints a row of docs/GUIDE.md for each, with the figure that is stated there; the status is 1 where more was
+/* How much stack each operation takes, of a table of two molecules or against an atom: both are called in a thread whose
+ * stack was painted, and what is no longer painted is counted. Prints a row of docs/GUIDE.md for each, with the figure that is stated there; the status is 1 where more was
  * taken, or so little that the figure says nothing. Each operation is called once before, so that the loader's work is not
  * counted. */
 #include "mesh.h"
@@ -21,10 +21,22 @@ static uint32_t values[SLABS];
 static icotable_table table;
 static volatile double sink;
 
+/* Against an atom, a slab for each distance. */
+enum { N = 162, ATOM_STORE = DISTANCES * N, ATOM_ROOM = 40 + 4 * (TOP + 1) + 10 * DISTANCES + 4 * ATOM_STORE };
+static const icotable_atom_grid atom_settings = {.rmin = 0, .rmax = DISTANCES, .dr = 1, .threshold = 0.5, .beta = 1};
+static icotable_atom_builder atom_held;
+static double atom_store[ATOM_STORE];
+static uint8_t atom_kinds[DISTANCES], atom_levels[DISTANCES], atom_file[ATOM_ROOM];
+static uint32_t atom_values[DISTANCES];
+static size_t atom_length;
+static icotable_atom_table atom_table;
+
 #define LISTS store, store_count, kinds, SLABS, levels, SLABS, values, SLABS
+#define ATOM_LISTS atom_store, ATOM_STORE, atom_kinds, DISTANCES, atom_levels, DISTANCES, atom_values, DISTANCES
 
 static void fresh(void) {
     held = icotable_fresh(settings, TOP, LISTS, ICOTABLE_MESHES(&meshes)).builder;
+    atom_held = icotable_atom_fresh(atom_settings, TOP, ATOM_LISTS, ICOTABLE_MESHES(&meshes)).builder;
 }
 
 /* Distance 0 is a wall, 1 is rough, 2 smoother and 3 flat, so that every kind of row comes out. */
@@ -39,21 +51,26 @@ static void set(void) {
         for (size_t i = 0; i < n * n; i++)
             energies[i] = energy(s / 2, i);
         held = icotable_set(held, LISTS, s / 2, s % 2, energies, n * n).builder;
+        atom_held = icotable_atom_set(atom_held, ATOM_LISTS, s / 2, energies, n).builder;
     }
 }
 
 /* The level is held, so that every slice is of it. */
 static void settle(void) {
-    for (uint64_t ri = 0; ri < DISTANCES; ri++)
+    for (uint64_t ri = 0; ri < DISTANCES; ri++) {
         sink = icotable_settle(held, LISTS, ICOTABLE_MESHES(&meshes), ri).gradient;
+        sink = icotable_atom_settle(atom_held, ATOM_LISTS, ICOTABLE_MESHES(&meshes), ri).gradient;
+    }
 }
 
 static void write_table(void) {
     length = icotable_write(held, LISTS, ICOTABLE_MESHES(&meshes), file, room).length;
+    atom_length = icotable_atom_write(atom_held, ATOM_LISTS, ICOTABLE_MESHES(&meshes), atom_file, ATOM_ROOM).length;
 }
 
 static void read_table(void) {
     table = icotable_read(file, length);
+    atom_table = icotable_atom_read(atom_file, atom_length);
 }
 
 static void locator(void) {
@@ -68,6 +85,8 @@ static void reading(void) {
         double r = i % 5 - 0.25, omega = i * 0.1, x = i % 7 - 3, y = i % 11 - 5, z = i % 13 - 6.5;
         sink = icotable_reading(&table, file, length, ICOTABLE_LOCATORS(&meshes), r, omega, x, y, z, z, x, y).energy;
         sink = icotable_boltzmann(&table, file, length, ICOTABLE_LOCATORS(&meshes), r, omega, x, y, z, z, x, y, 1).energy;
+        sink = icotable_atom_reading(&atom_table, atom_file, atom_length, ICOTABLE_LOCATORS(&meshes), r, x, y, z).energy;
+        sink = icotable_atom_boltzmann(&atom_table, atom_file, atom_length, ICOTABLE_LOCATORS(&meshes), r, x, y, z, 1).energy;
     }
 }
 
@@ -154,10 +173,12 @@ int main(int count, char **names) {
             fprintf(stderr, "stack: %s: %zu bytes\n", o->name, bytes);
         wrong += bytes > o->stated * KB || bytes < 64;
     }
-    unsigned seen = 0; /* kinds of rows */
-    for (int s = 0; s < SLABS; s++)
+    unsigned seen = 0, atom_seen = 0; /* kinds of rows */
+    for (int s = 0; s < SLABS; s++) {
         seen |= 1u << kinds[s];
-    if (length == 0 || table.number != 0 || seen != 15)
+        atom_seen |= 1u << atom_kinds[s / 2];
+    }
+    if (length == 0 || table.number != 0 || seen != 15 || atom_length == 0 || atom_table.number != 0 || atom_seen != 15)
         wrong++;
     return wrong != 0;
 }

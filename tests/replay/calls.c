@@ -1,6 +1,7 @@
 /* Lists of calls of fresh, set and settle (tests/compare/calls.rs writes them). A line is one of these: a call with its
  * stored answer, the level, rows and store after it, and its arguments; entries of a lent list; a builder that is held
- * from there on. The lists and the builder are those that the calls before have left, also refused ones. */
+ * from there on. The lists and the builder are those that the calls before have left, also refused ones. Lines of calls
+ * against an atom are alike; their builder is held here without omega step and dihedral count. */
 #include "replay.h"
 
 #include <string.h>
@@ -52,7 +53,19 @@ static icotable_builder read_builder(replay *r) {
     b.grid = read_grid(r);
     b.top = word(r, 16);
     b.level = word(r, 16);
+    if (r->atom)
+        b.grid.omega_step = 0, b.grid.n_omega = 0;
     return b;
+}
+
+static icotable_atom_builder to_atom(const icotable_builder *b) {
+    const icotable_grid *g = &b->grid;
+    return (icotable_atom_builder){{g->rmin, g->rmax, g->dr, g->threshold, g->beta, g->n_r}, b->top, b->level};
+}
+
+static icotable_builder of_atom(const icotable_atom_builder *b) {
+    const icotable_atom_grid *g = &b->grid;
+    return (icotable_builder){{g->rmin, g->rmax, g->dr, 0, g->threshold, g->beta, g->n_r, 0}, b->top, b->level};
 }
 
 static bool same_settings(const icotable_grid *g, const icotable_grid *h) {
@@ -94,13 +107,25 @@ static size_t read_energies(replay *r, double *energies) {
 
 /* ---- the calls */
 
+#define ROW_LISTS l->kinds, n->kinds, l->levels, n->levels, l->values, n->values
+#define MESH_LISTS \
+    l->vertices, n->vertices, l->counts, n->counts, l->neighbours, n->neighbours, l->angles, n->angles
+
+static outcome call_fresh(const replay *r, lists *l, const lengths *n, icotable_builder b) {
+    if (r->atom) {
+        icotable_atom_built a =
+            icotable_atom_fresh(to_atom(&b).grid, b.top, l->store, n->store, ROW_LISTS, MESH_LISTS);
+        return (outcome){.number = a.number, .builder = of_atom(&a.builder)};
+    }
+    icotable_built a = icotable_fresh(b.grid, b.top, l->store, n->store, ROW_LISTS, MESH_LISTS);
+    return (outcome){.number = a.number, .builder = a.builder};
+}
+
 /* A refused fresh answers zeros, and the builder that was held stays. */
 static outcome fresh(
     replay *r, lists *l, const lengths *n, icotable_builder settings, icotable_builder held, bool *right) {
     static const icotable_builder zeros;
-    icotable_built a = icotable_fresh(settings.grid, settings.top, l->store, n->store, l->kinds, n->kinds, l->levels,
-        n->levels, l->values, n->values, l->vertices, n->vertices, l->counts, n->counts, l->neighbours, n->neighbours,
-        l->angles, n->angles);
+    outcome a = call_fresh(r, l, n, settings);
     if (a.number == 0)
         *right = holds(r, FRESH, same_settings(&a.builder.grid, &settings.grid) && a.builder.top == settings.top,
             "the builder has other settings");
@@ -114,16 +139,21 @@ static outcome set(replay *r, lists *l, const lengths *n, icotable_builder held)
     static double energies[ENERGIES];
     uint64_t ri = word(r, 16), oi = word(r, 16);
     size_t count = read_energies(r, energies);
-    icotable_built a = icotable_set(held, l->store, n->store, l->kinds, n->kinds, l->levels, n->levels, l->values,
-        n->values, ri, oi, energies, count);
+    if (r->atom) {
+        icotable_atom_built a = icotable_atom_set(to_atom(&held), l->store, n->store, ROW_LISTS, ri, energies, count);
+        return (outcome){.number = a.number, .builder = of_atom(&a.builder)};
+    }
+    icotable_built a = icotable_set(held, l->store, n->store, ROW_LISTS, ri, oi, energies, count);
     return (outcome){.number = a.number, .builder = a.builder};
 }
 
 static outcome settle(replay *r, lists *l, const lengths *n, icotable_builder held) {
     uint64_t ri = word(r, 16);
-    icotable_settled a =
-        icotable_settle(held, l->store, n->store, l->kinds, n->kinds, l->levels, n->levels, l->values, n->values,
-            l->vertices, n->vertices, l->counts, n->counts, l->neighbours, n->neighbours, l->angles, n->angles, ri);
+    if (r->atom) {
+        icotable_atom_settled a = icotable_atom_settle(to_atom(&held), l->store, n->store, ROW_LISTS, MESH_LISTS, ri);
+        return (outcome){.number = a.number, .gradient = a.gradient, .builder = of_atom(&a.builder)};
+    }
+    icotable_settled a = icotable_settle(held, l->store, n->store, ROW_LISTS, MESH_LISTS, ri);
     return (outcome){.number = a.number, .gradient = a.gradient, .builder = a.builder};
 }
 

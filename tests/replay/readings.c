@@ -1,8 +1,12 @@
 /* Readings of tables (tests/compare/readings.rs writes them). A line is one of these: a reading with its stored answer;
  * entries of a lent list; meshes, whose letters are behind the line; a file that is read; the grid, or the counts and
  * starts, of a table that a host made. The answer is the Rust's, or document 01's where a file, a mesh or a locator is
- * damaged or a host made the table. */
+ * damaged or a host made the table. Lines of readings against an atom are alike; their omega, second direction, omega
+ * step and dihedral count are not handed in. */
 #include "replay.h"
+#include "tools.h"
+
+#include <string.h>
 
 enum { MESHES, FILES, OUTSIDE, DAMAGED = 7, QUERY, ENTRIES, CELLS, WEIGHTED, UNWEIGHTED };
 
@@ -20,18 +24,45 @@ typedef struct lists {
 
 /* ---- a reading */
 
+typedef struct lengths {
+    size_t file, vertices, cell_offsets, cell_vertices, face_offsets, faces;
+} lengths;
+
+#define LENT \
+    l->file, n.file, l->vertices, n.vertices, l->cell_offsets, n.cell_offsets, l->cell_vertices, n.cell_vertices, \
+        l->face_offsets, n.face_offsets, l->faces, n.faces
+
+static icotable_value of_molecules(
+    const icotable_table *t, const lists *l, lengths n, const double q[8], const double *beta) {
+    if (beta)
+        return icotable_boltzmann(t, LENT, q[0], q[1], q[2], q[3], q[4], q[5], q[6], q[7], *beta);
+    return icotable_reading(t, LENT, q[0], q[1], q[2], q[3], q[4], q[5], q[6], q[7]);
+}
+
+static icotable_value of_atom(
+    const icotable_table *t, const lists *l, lengths n, const double q[8], const double *beta) {
+    const icotable_grid *g = &t->grid;
+    icotable_atom_table a = {
+        t->number, {g->rmin, g->rmax, g->dr, g->threshold, g->beta, g->n_r}, t->levels, t->rows, t->energies, {0}};
+    memcpy(a.start, t->start, sizeof a.start);
+    icotable_energy e = beta ? icotable_atom_boltzmann(&a, LENT, q[0], q[2], q[3], q[4], *beta)
+                             : icotable_atom_reading(&a, LENT, q[0], q[2], q[3], q[4]);
+    return (icotable_value){e.number, e.energy};
+}
+
 /* Weighted where there is a beta. */
 static icotable_value reading(replay *r, const icotable_table *t, const lists *l, const double *beta) {
-    size_t f = lent(r, FILE_ROOM), v = lent(r, 3 * N), i = lent(r, CELL_OFFSETS), j = lent(r, 27 * N),
-           k = lent(r, N + 2), m = lent(r, 45 * N);
+    lengths n;
+    n.file = lent(r, FILE_ROOM);
+    n.vertices = lent(r, 3 * N);
+    n.cell_offsets = lent(r, CELL_OFFSETS);
+    n.cell_vertices = lent(r, 27 * N);
+    n.face_offsets = lent(r, N + 2);
+    n.faces = lent(r, 45 * N);
     double q[8];
-    for (int n = 0; n < 8; n++)
-        q[n] = number(r);
-    if (beta)
-        return icotable_boltzmann(t, l->file, f, l->vertices, v, l->cell_offsets, i, l->cell_vertices, j,
-            l->face_offsets, k, l->faces, m, q[0], q[1], q[2], q[3], q[4], q[5], q[6], q[7], *beta);
-    return icotable_reading(t, l->file, f, l->vertices, v, l->cell_offsets, i, l->cell_vertices, j, l->face_offsets, k,
-        l->faces, m, q[0], q[1], q[2], q[3], q[4], q[5], q[6], q[7]);
+    for (int k = 0; k < 8; k++)
+        q[k] = number(r);
+    return r->atom ? of_atom(t, l, n, q, beta) : of_molecules(t, l, n, q, beta);
 }
 
 /* By the number that is stored, then by whose answer it is: 1 to 5 the Rust's, for distances outside and each kind of
@@ -109,7 +140,7 @@ static void replay_meshes(replay *r, lists *l) {
 /* Reads as much of the file as the line says; a refused answer is not held. */
 static void replay_file(replay *r, size_t start, const lists *l, icotable_table *held) {
     r->at = start + 26;
-    icotable_table t = icotable_read(l->file, lent(r, FILE_ROOM));
+    icotable_table t = read_table(l->file, lent(r, FILE_ROOM), r->atom);
     size_t end = r->at;
     r->at = start + 6;
     counted(r, FILES, same(r, FILES, 2, t.number));

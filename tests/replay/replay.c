@@ -209,11 +209,15 @@ static const struct {
     const char *name;
     kind_count *kinds;
     void (*run)(replay *);
+    bool atom;
 } replays[] = {
-    {"searches", searches, replay_searches},
-    {"calls", calls, replay_calls},
-    {"readings", readings, replay_readings},
-    {"damaged", damaged, replay_damaged},
+    {"searches", searches, replay_searches, false},
+    {"calls", calls, replay_calls, false},
+    {"calls_atom", calls, replay_calls, true},
+    {"readings", readings, replay_readings, false},
+    {"readings_atom", readings, replay_readings, true},
+    {"damaged", damaged, replay_damaged, false},
+    {"damaged_atom", damaged, replay_damaged, true},
 };
 
 static char *letters_of(const char *name, size_t *count) {
@@ -238,7 +242,7 @@ int main(int count, char **words) {
     for (size_t i = 0; count == 3 && i < sizeof replays / sizeof replays[0]; i++) {
         if (strcmp(words[1], replays[i].name) != 0)
             continue;
-        replay r = {.name = words[2], .kinds = replays[i].kinds};
+        replay r = {.name = words[2], .atom = replays[i].atom, .kinds = replays[i].kinds};
         r.letters = letters_of(words[2], &r.count);
         if (r.letters == NULL) {
             perror(words[2]);
@@ -248,6 +252,6 @@ int main(int count, char **words) {
         free(r.letters);
         return report(&r);
     }
-    fputs("usage: replay searches|calls|readings|damaged FILE\n", stderr);
+    fputs("usage: replay searches|calls|calls_atom|readings|readings_atom|damaged|damaged_atom FILE\n", stderr);
     return 2;
 }

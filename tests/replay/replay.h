@@ -13,9 +13,11 @@ typedef struct kind_count {
     size_t agree, all;
 } kind_count;
 
-/* A data file: its letters, the place of the one that is read next, and what was counted so far. */
+/* A data file: its letters, the place of the one that is read next, and what was counted so far; and whether it is of
+ * tables against an atom. */
 typedef struct replay {
     const char *name;
+    bool atom;
     char *letters;
     size_t count, at;
     kind_count *kinds;

@@ -12,6 +12,8 @@ def walks():
     return [
         Look('icotable', 'lib', 'icotable_reading'),
         Look('icotable', 'lib', 'icotable_boltzmann'),
+        Look('icotable', 'atom', 'icotable_atom_reading'),
+        Look('icotable', 'atom', 'icotable_atom_boltzmann'),
         Lend('lent', 'calls', 'set_lent'),
         Lend('lent', 'calls', 'settle_lent'),
         Read('lent', 'records', 'row_at', RECORDS, 'none', 'read (rows .now) s', 'read-beyond (rows .now) s h'),

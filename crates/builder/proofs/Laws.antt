@@ -11,17 +11,21 @@ use lib.Ieee.{Float}
 use lib.ListN.{length}
 use borrow.Author.Tests.{leb-true, ltb-true, eqb-true}
 use Rattle.lists.specs.Questions.{ask, first}
-use Rattle.mesh.specs.Levels.{per, verticesBelow}
+use Rattle.mesh.specs.Levels.{per, vertexCount, verticesBelow}
 use Rattle.mesh.specs.Mesh.{Mesh, meshLong, meshesKeep}
-use Rattle.mesh.proofs.Sizes.{per-mono}
+use Rattle.mesh.proofs.Sizes.{per-mono, count-mono}
 use Rattle.lists.proofs.Places.{place}
 use Rattle.grid.specs.Settings.{question, levelsValid, slabsFit}
+use Rattle.grid.specs.Atom.{atomQuestion}
 use Rattle.grid.specs.declared.Grid.{Grid}
-use Rattle.grid.proofs.Laws.{counts-le}
+use Rattle.grid.specs.declared.AtomGrid.{AtomGrid}
+use Rattle.grid.proofs.Laws.{counts-le, atom-count-le}
 use Rattle.rows.specs.Rows.{rowRoom}
-use Rattle.builder.specs.BuilderLists.{slabs, slab, storePlace, listRoom}
+use Rattle.builder.specs.BuilderLists.{slabs, slab, storePlace, slabRoom, listRoom}
 use Rattle.builder.specs.Refusals.{builderQuestion, setQuestion}
+use Rattle.builder.specs.Atom.{atomBuilderQuestion, atomRoom, atomSetQuestion}
 use Rattle.builder.specs.declared.Builder.{Builder}
+use Rattle.builder.specs.declared.AtomBuilder.{AtomBuilder}
 
 -- the first of two tests was passed before; the branch on `!r`, r being both, was passed by, or taken
 pub second-yes : {a q r : Bool} → r ≡ a && q → a ≡ true → not r ≡ false → q ≡ true
@@ -54,30 +58,29 @@ asked g top level e =
       few = leb-true (slabs g * per top) 4294967295 (q5 .0);
     }
 
--- 6, of store and rows, answered yes
-pub record Roomy (g : Grid) (top store kinds levels values : ℕ) : Type 0 where
-  pub store-le : slabs g * per top ≤ store
-  pub kinds-le : slabs g ≤ kinds
-  pub levels-le : slabs g ≤ levels
-  pub values-le : slabs g ≤ values
+-- 6, of store and rows, answered yes: n slabs of z energies each
+pub record Roomy (n z store kinds levels values : ℕ) : Type 0 where
+  pub store-le : n * z ≤ store
+  pub kinds-le : n ≤ kinds
+  pub levels-le : n ≤ levels
+  pub values-le : n ≤ values
 
-pub roomy : (g : Grid) (top store kinds levels values : ℕ) → listRoom g top store kinds levels values ≡ true → Roomy g top store kinds levels values
-unfolding listRoom rowRoom
-roomy g top store kinds levels values e =
-    let a = and-eq-true-iff (leb (slabs g * per top) store) (leb (slabs g) kinds && (leb (slabs g) levels && leb (slabs g) values)) .0 e in
-    let b = and-eq-true-iff (leb (slabs g) kinds) (leb (slabs g) levels && leb (slabs g) values) .0 (a .1) in
-    let d = and-eq-true-iff (leb (slabs g) levels) (leb (slabs g) values) .0 (b .1) in
-    record {
-      store-le = leb-true (slabs g * per top) store (a .0);
-      kinds-le = leb-true (slabs g) kinds (b .0);
-      levels-le = leb-true (slabs g) levels (d .0);
-      values-le = leb-true (slabs g) values (d .1);
-    }
+pub slab-roomy : (n z store kinds levels values : ℕ) → slabRoom n z store kinds levels values ≡ true → Roomy n z store kinds levels values
+unfolding rowRoom
+slab-roomy n z store kinds levels values e =
+    let a = and-eq-true-iff (leb (n * z) store) (leb n kinds && (leb n levels && leb n values)) .0 e in
+    let b = and-eq-true-iff (leb n kinds) (leb n levels && leb n values) .0 (a .1) in
+    let d = and-eq-true-iff (leb n levels) (leb n values) .0 (b .1) in
+    record { store-le = leb-true (n * z) store (a .0); kinds-le = leb-true n kinds (b .0); levels-le = leb-true n levels (d .0); values-le = leb-true n values (d .1) }
+
+pub roomy : (g : Grid) (top store kinds levels values : ℕ) → listRoom g top store kinds levels values ≡ true → Roomy (slabs g) (per top) store kinds levels values
+unfolding listRoom
+roomy g top store kinds levels values e = slab-roomy (slabs g) (per top) store kinds levels values e
 
 -- what an accepted set may count on: its row is inside the rows, and its energies inside the store
 pub record Set (b : Builder) (ri oi : ℕ) (e : List Float) (store kinds levels values : ℕ) : Type 0 where
   pub asked : Asked (b .grid) (b .top) (b .level)
-  pub room : Roomy (b .grid) (b .top) store kinds levels values
+  pub room : Roomy (slabs (b .grid)) (per (b .top)) store kinds levels values
   pub row : slab (b .grid) ri oi < slabs (b .grid)
   pub energies : storePlace (b .top) (slab (b .grid) ri oi) + length e ≤ store
 
@@ -108,7 +111,7 @@ accepted b ri oi e store kinds levels values p =
 -- what an accepted call may count on that the meshes are lent to
 pub record Meshed (b : Builder) (m : Mesh) (store kinds levels values : ℕ) : Type 0 where
   pub asked : Asked (b .grid) (b .top) (b .level)
-  pub room : Roomy (b .grid) (b .top) store kinds levels values
+  pub room : Roomy (slabs (b .grid)) (per (b .top)) store kinds levels values
   pub held : meshLong (verticesBelow (suc (b .top))) m ≡ true
   pub kept : meshesKeep (b .top) m ≡ true
 
@@ -121,3 +124,58 @@ meshed b m store kinds levels values p =
     let q7 = ask-yes (lit< tt) (q6 .1) in
     let r = and-eq-true-iff (listRoom (b .grid) (b .top) store kinds levels values) (meshLong (verticesBelow (suc (b .top))) m) .0 (q6 .0) in
     record { asked = asked (b .grid) (b .top) (b .level) (f .0); room = roomy (b .grid) (b .top) store kinds levels values (r .0); held = r .1; kept = q7 .0 }
+
+-- ---- the same of a table against an atom
+
+pub record AtomAsked (g : AtomGrid) (top level : ℕ) : Type 0 where
+  pub top-le : top ≤ 15
+  pub level-le : level ≤ top
+  pub rs : g .«n_r» ≤ 65535
+
+pub atom-asked : (g : AtomGrid) (top level : ℕ) → atomQuestion g top level ≡ 0 → AtomAsked g top level
+unfolding atomQuestion levelsValid
+atom-asked g top level e =
+    let q2 = ask-yes (lit< tt) (ask-yes (lit< tt) e .1) in
+    let q3 = ask-yes (lit< tt) (q2 .1) in
+    let l = and-eq-true-iff (leb top 15) (leb level top) .0 (q2 .0) in
+    record { top-le = leb-true top 15 (l .0); level-le = leb-true level top (l .1); rs = atom-count-le g (q3 .0) }
+
+pub atom-roomy : (g : AtomGrid) (top store kinds levels values : ℕ) → atomRoom g top store kinds levels values ≡ true → Roomy (g .«n_r») (vertexCount top) store kinds levels values
+unfolding atomRoom
+atom-roomy g top store kinds levels values e = slab-roomy (g .«n_r») (vertexCount top) store kinds levels values e
+
+pub record AtomSet (b : AtomBuilder) (ri : ℕ) (e : List Float) (store kinds levels values : ℕ) : Type 0 where
+  pub asked : AtomAsked (b .grid) (b .top) (b .level)
+  pub energies : ri * vertexCount (b .top) + length e ≤ store
+
+pub atom-accepted : (b : AtomBuilder) (ri : ℕ) (e : List Float) (store kinds levels values : ℕ)
+    → first (atomBuilderQuestion b) (ask (atomRoom (b .grid) (b .top) store kinds levels values) 6 (atomSetQuestion (b .grid) (b .level) ri e)) ≡ 0
+    → AtomSet b ri e store kinds levels values
+unfolding atomSetQuestion
+atom-accepted b ri e store kinds levels values p =
+    let f = first-yes p in
+    let q6 = ask-yes (lit< tt) (f .1) in
+    let q8 = ask-yes (lit< tt) (q6 .1) in
+    let q9 = ask-yes (lit< tt) (q8 .1) in
+    let g = b .grid in
+    let a = atom-asked g (b .top) (b .level) (f .0) in
+    let r = atom-roomy g (b .top) store kinds levels values (q6 .0) in
+    let many : length e ≡ vertexCount (b .level) = eqb-true (length e) (vertexCount (b .level)) (q9 .0) in
+    let fits : length e ≤ vertexCount (b .top) = omega (arith, many, count-mono (b .level) (b .top) (a .level-le)) in
+    record { asked = a; energies = omega (arith, r .store-le, place ri (g .«n_r») (length e) (vertexCount (b .top)) (ltb-true ri (g .«n_r») (q8 .0)) fits) }
+
+pub record AtomMeshed (b : AtomBuilder) (m : Mesh) (store kinds levels values : ℕ) : Type 0 where
+  pub asked : AtomAsked (b .grid) (b .top) (b .level)
+  pub room : Roomy (b .grid .«n_r») (vertexCount (b .top)) store kinds levels values
+  pub held : meshLong (verticesBelow (suc (b .top))) m ≡ true
+  pub kept : meshesKeep (b .top) m ≡ true
+
+pub atom-meshed : (b : AtomBuilder) (m : Mesh) (store kinds levels values : ℕ)
+    → first (atomBuilderQuestion b) (ask (atomRoom (b .grid) (b .top) store kinds levels values && meshLong (verticesBelow (suc (b .top))) m) 6 (ask (meshesKeep (b .top) m) 7 0)) ≡ 0
+    → AtomMeshed b m store kinds levels values
+atom-meshed b m store kinds levels values p =
+    let f = first-yes p in
+    let q6 = ask-yes (lit< tt) (f .1) in
+    let q7 = ask-yes (lit< tt) (q6 .1) in
+    let r = and-eq-true-iff (atomRoom (b .grid) (b .top) store kinds levels values) (meshLong (verticesBelow (suc (b .top))) m) .0 (q6 .0) in
+    record { asked = atom-asked (b .grid) (b .top) (b .level) (f .0); room = atom-roomy (b .grid) (b .top) store kinds levels values (r .0); held = r .1; kept = q7 .0 }

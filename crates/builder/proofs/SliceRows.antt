@@ -2,22 +2,24 @@
 use mathlib.Core.Path.{_≡_, refl, sym, ap, _∙_}
 use mathlib.Core.Bool.{Bool, true, false, _&&_}
 use mathlib.Core.List.{List, []}
-use Prim.Native.Nat.{ℕ, zero, suc, _+_}
+use Prim.Native.Nat.{ℕ, zero, suc, _+_, _*_}
 use native.Mathlib.Omega.{arith}
 use lib.ListN.{getD, take, drop}
 use lib.Ieee.{Float}
 use Rattle.lists.specs.Questions.{first}
 use Rattle.lists.specs.Lists.{allUpTo, every}
-use Rattle.mesh.specs.Levels.{per}
+use Rattle.mesh.specs.Levels.{per, vertexCount}
 use Rattle.mesh.specs.Mesh.{Mesh}
 use Rattle.rows.specs.declared.SlabResolution.{SlabResolution}
 use Rattle.rows.specs.declared.SlabResolution.the-variants.{Scalar, Mesh as MeshRow, Repulsive}
 use Rattle.rows.specs.Rows.{resolutionAt, rowWith}
 use Rattle.settling.specs.Settling.{fromLevel}
-use Rattle.builder.specs.BuilderLists.{BuilderLists, slab, storePlace, rowAt, rowsFrom}
+use Rattle.builder.specs.BuilderLists.{BuilderLists, slab, storePlace, rowIn, rowAt, rowsIn, rowsFrom, rowsKnown}
 use Rattle.builder.specs.Refusals.{meshedRefusal, settleRefusal}
+use Rattle.builder.specs.Atom.{atomMeshedRefusal, atomSettleRefusal}
 use Rattle.builder.specs.Internal.{rowsFromLevel, settleQuestion}
 use Rattle.builder.specs.declared.Builder.{Builder}
+use Rattle.builder.specs.declared.AtomBuilder.{AtomBuilder}
 
 shift : (n : ℕ) (q : ℕ → Bool) → allUpTo (suc n) q ≡ q 0 && allUpTo n (λ i. q (suc i))
 unfolding allUpTo
@@ -43,7 +45,7 @@ any-energies c (MeshRow v b) e = refl
 any-energies c Repulsive e = refl
 
 by-lists : (c top : ℕ) (l : BuilderLists) (s n : ℕ) → every (fromLevel c) (rowsFrom top l s n) ≡ rowsFromLevel c (l .rows) s n
-unfolding every rowsFrom rowAt rowsFromLevel allUpTo
+unfolding every rowsIn rowIn rowsFromLevel allUpTo
 by-lists c top l s zero = refl
 by-lists c top l s (suc n) =
     let q : ℕ → Bool = λ i. fromLevel c (rowWith (resolutionAt (l .rows) (s + i)) []) in
@@ -60,6 +62,14 @@ by-lists c top l s (suc n) =
     moved i = let e : suc s + i ≡ s + suc i = omega arith in rw e refl
 
 -- the questions in the order of the code
-pub asked-as : (b : Builder) (m : Mesh) (l : BuilderLists) (ri : ℕ) → first (meshedRefusal b m l) (settleQuestion b (l .rows) ri) ≡ settleRefusal b m l ri
+pub asked-as : (b : Builder) (m : Mesh) (l : BuilderLists) (ri : ℕ) → first (meshedRefusal b m l) (settleQuestion (b .grid .«n_r») (b .grid .«n_omega») (b .top) (b .level) (l .rows) ri) ≡ settleRefusal b m l ri
 unfolding settleRefusal settleQuestion
 asked-as b m l ri = rw (by-lists (b .level) (b .top) l (slab (b .grid) ri 0) (b .grid .«n_omega»)) refl
+
+-- .. of a table against an atom, where a slice has one row
+pub atom-asked-as : (b : AtomBuilder) (m : Mesh) (l : BuilderLists) (ri : ℕ)
+    → first (atomMeshedRefusal b m l) (settleQuestion (b .grid .«n_r») 1 (b .top) (b .level) (l .rows) ri) ≡ atomSettleRefusal b m l ri
+unfolding atomSettleRefusal settleQuestion rowsKnown rowsFromLevel allUpTo rowIn
+atom-asked-as b m l ri =
+    let z : ri * 1 + 0 + 0 ≡ ri = omega arith in
+    rw (z, any-energies (b .level) (resolutionAt (l .rows) ri) (take (vertexCount (getD (l .rows .levels) ri 0)) (drop (ri * vertexCount (b .top)) (l .store)))) refl

@@ -31,22 +31,31 @@ slab g ri oi = ri * g .«n_omega» + oi
 abbrev pub storePlace : ℕ → ℕ → ℕ
 storePlace top s = s * per top
 
--- the row of slab s: with the first energies of the slab, as many as the row's level has
-unfoldable pub rowAt : ℕ → BuilderLists → ℕ → Row Float
-rowAt top l s = rowWith (resolutionAt (l .rows) s) (take (per (getD (l .rows .levels) s 0)) (drop (storePlace top s) (l .store)))
+-- the row of slab s, a slab of level v having `each v` energies: with the first energies of the slab, as many as the row's level has
+unfoldable pub rowIn : (ℕ → ℕ) → ℕ → BuilderLists → ℕ → Row Float
+rowIn each top l s = rowWith (resolutionAt (l .rows) s) (take (each (getD (l .rows .levels) s 0)) (drop (s * each top) (l .store)))
+
+abbrev pub rowAt : ℕ → BuilderLists → ℕ → Row Float
+rowAt top l s = rowIn per top l s
 
 -- n rows from slab s on
-unfoldable pub rowsFrom : ℕ → BuilderLists → ℕ → ℕ → List (Row Float)
-rowsFrom top l s zero = []
-rowsFrom top l s (suc n) = rowAt top l s ∷ rowsFrom top l (suc s) n
+unfoldable pub rowsIn : (ℕ → ℕ) → ℕ → BuilderLists → ℕ → ℕ → List (Row Float)
+rowsIn each top l s zero = []
+rowsIn each top l s (suc n) = rowIn each top l s ∷ rowsIn each top l (suc s) n
+
+abbrev pub rowsFrom : ℕ → BuilderLists → ℕ → ℕ → List (Row Float)
+rowsFrom top l s n = rowsIn per top l s n
 
 -- the rows of a slice
 abbrev pub sliceAt : Builder → BuilderLists → ℕ → List (Row Float)
 sliceAt b l ri = rowsFrom (b .top) l (slab (b .grid) ri 0) (b .grid .«n_omega»)
 
--- 6, of store and rows (S5.6)
+-- 6, of store and rows: n slabs of z energies each (S5.6)
+abbrev pub slabRoom : ℕ → ℕ → ℕ → ℕ → ℕ → ℕ → Bool
+slabRoom n z store kinds levels values = leb (n * z) store && rowRoom n kinds levels values
+
 unfoldable pub listRoom : Grid → ℕ → ℕ → ℕ → ℕ → ℕ → Bool
-listRoom g top store kinds levels values = leb (slabs g * per top) store && rowRoom (slabs g) kinds levels values
+listRoom g top store kinds levels values = slabRoom (slabs g) (per top) store kinds levels values
 
 -- S5.6
 abbrev pub listsLong : Builder → BuilderLists → Bool

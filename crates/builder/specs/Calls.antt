@@ -15,7 +15,7 @@ use Rattle.rows.specs.Rows.{Rows, replaced, rowsOf}
 use Rattle.settling.specs.Gradient.{zero}
 use Rattle.settling.specs.Settling.{newRow, replacedBy, verdicts, settledSlice}
 use Rattle.settling.specs.declared.Verdict.{Verdict}
-use Rattle.builder.specs.BuilderLists.{BuilderLists, slabs, slab, storePlace, sliceAt}
+use Rattle.builder.specs.BuilderLists.{BuilderLists, slabs, slab, sliceAt}
 use Rattle.builder.specs.Refusals.{meshedRefusal, setRefusal, settleRefusal}
 use Rattle.builder.specs.declared.Builder.{Builder}
 use Rattle.builder.specs.declared.Built.{Built}
@@ -63,14 +63,16 @@ noBuilder =
 unfoldable pub freshBuilder : Grid → ℕ → Builder
 freshBuilder g top = record { grid = counted g; top = top; level = top }
 
--- "fresh fills rows with Scalar 0.0 and the store with 0.0" (S6.2)
-unfoldable pub filled : Builder → BuilderLists → BuilderLists
-filled b l =
-    let n = slabs (b .grid) in
+-- "fresh fills rows with Scalar 0.0 and the store with 0.0": n slabs of z energies each (S6.2)
+unfoldable pub filledSlabs : ℕ → ℕ → BuilderLists → BuilderLists
+filledSlabs n z l =
     record {
-      store = put (l .store) 0 (replicate (n * per (b .top)) zero);
+      store = put (l .store) 0 (replicate (n * z) zero);
       rows = rowsOf (put (l .rows .kinds) 0 (replicate n 0)) (put (l .rows .levels) 0 (replicate n 0)) (put (l .rows .values) 0 (replicate n 0));
     }
+
+abbrev pub filled : Builder → BuilderLists → BuilderLists
+filled b l = filledSlabs (slabs (b .grid)) (per (b .top)) l
 
 -- what fresh and set leave: the answer and every list that is lent to be altered
 pub record BuiltOut : Type 0 where
@@ -87,8 +89,11 @@ freshOut g top m l =
 -- ---- set
 
 -- "Set writes the first n·n places of its slab in the store and the slab's others stay"; "the row becomes Mesh, current level, flag true"
-unfoldable pub setLists : Builder → BuilderLists → ℕ → List Float → BuilderLists
-setLists b l s e = record { store = put (l .store) (storePlace (b .top) s) e; rows = replaced (l .rows) s (toMesh (b .level) true) }
+unfoldable pub slabSet : ℕ → ℕ → BuilderLists → ℕ → List Float → BuilderLists
+slabSet z level l s e = record { store = put (l .store) (s * z) e; rows = replaced (l .rows) s (toMesh level true) }
+
+abbrev pub setLists : Builder → BuilderLists → ℕ → List Float → BuilderLists
+setLists b l s e = slabSet (per (b .top)) (b .level) l s e
 
 unfoldable pub setOut : Builder → BuilderLists → ℕ → ℕ → List Float → BuiltOut
 setOut b l ri oi e =

@@ -3,23 +3,24 @@ use mathlib.Core.Bool.{Bool, true, false, cond, _&&_}
 use mathlib.Core.List.{List, [], _∷_, map}
 use Prim.Native.Nat.{ℕ, suc, _+_, _*_, _-_, _≤_}
 use mathlib.Core.Path.{_≡_}
-use lib.ListN.{length}
+use lib.ListN.{length, take, drop}
 use lib.Dec.{ltb}
 use lib.Ieee.{Float, binary64, ofBits, lt}
 use Rattle.lists.specs.Lists.{every, allUpTo}
 use Rattle.mesh.specs.Levels.{vertexCount, per, verticesBelow}
 use Rattle.mesh.specs.Mesh.{Mesh, levelPart, meshOf}
 use Rattle.rows.specs.Rows.{Rows, Row, resolutionAt, rowWith}
-use Rattle.settling.specs.Settling.{verdictOf, newRow, fromLevel, replacedBy}
+use Rattle.settling.specs.Settling.{verdictOf, newRow, fromLevel, replacedBy, atomVerdictOf}
 use Rattle.builder.specs.BuilderLists.{BuilderLists, slab, slabs, sliceAt}
 use Rattle.builder.specs.Calls.{settledLists}
 use Rattle.builder.specs.declared.Builder.{Builder}
+use Rattle.builder.specs.declared.AtomBuilder.{AtomBuilder}
 use Rattle.settling.specs.Internal.{tallied}
 use Rattle.settling.specs.declared.Tally.{Tally}
 use Rattle.settling.specs.declared.Verdict.{Verdict}
+use Rattle.settling.specs.declared.AtomVerdict.{AtomVerdict}
 use Rattle.lists.specs.Questions.{ask}
 use Rattle.builder.specs.BuilderLists.{slab, rowsKnown}
-use Rattle.builder.specs.declared.Builder.{Builder}
 
 -- ---- the questions
 
@@ -27,12 +28,12 @@ use Rattle.builder.specs.declared.Builder.{Builder}
 unfoldable pub rowsFromLevel : ℕ → Rows → ℕ → ℕ → Bool
 rowsFromLevel c r s n = allUpTo n (λ i. fromLevel c (rowWith (resolutionAt r (s + i)) []))
 
--- 8, 15 and 11 of settle
-unfoldable pub settleQuestion : Builder → Rows → ℕ → ℕ
-settleQuestion b r ri =
-    ask (ltb ri (b .grid .«n_r»)) 8
-    (ask (rowsKnown (b .top) r (slab (b .grid) ri 0) (b .grid .«n_omega»)) 15
-    (ask (rowsFromLevel (b .level) r (slab (b .grid) ri 0) (b .grid .«n_omega»)) 11 0))
+-- 8, 15 and 11 of settle, with n rows a slice
+unfoldable pub settleQuestion : ℕ → ℕ → ℕ → ℕ → Rows → ℕ → ℕ
+settleQuestion bins n top level r ri =
+    ask (ltb ri bins) 8
+    (ask (rowsKnown top r (ri * n + 0) n) 15
+    (ask (rowsFromLevel level r (ri * n + 0) n) 11 0))
 
 -- ---- settling a slice
 
@@ -60,12 +61,16 @@ pub record SettleReady (b : Builder) (l : BuilderLists) (ri : ℕ) : Type 0 wher
 abbrev pub partLinks : ℕ → Mesh → Mesh
 partLinks m ms = meshOf [] (levelPart m ms .counts) (levelPart m ms .neighbours) (levelPart m ms .angles)
 
--- the same, and the meshes of the levels from 0 to the top are there
+-- the links of the levels from 0 to m are there
+pub record MeshesLinked (m : ℕ) (ms : Mesh) : Type 0 where
+  pub counts-le : verticesBelow (suc m) ≤ length (ms .counts)
+  pub neighbours-le : 6 * verticesBelow (suc m) ≤ length (ms .neighbours)
+  pub angles-le : 6 * verticesBelow (suc m) ≤ length (ms .angles)
+
+-- what an accepted settle over them may count on
 pub record SettleReadyIn (b : Builder) (ms : Mesh) (l : BuilderLists) (ri : ℕ) : Type 0 where
   pub ready : SettleReady b l ri
-  pub counts-le : verticesBelow (suc (b .level)) ≤ length (ms .counts)
-  pub neighbours-le : 6 * verticesBelow (suc (b .level)) ≤ length (ms .neighbours)
-  pub angles-le : 6 * verticesBelow (suc (b .level)) ≤ length (ms .angles)
+  pub linked : MeshesLinked (b .level) ms
 
 -- nothing so far
 abbrev pub start : Tally
@@ -84,3 +89,19 @@ dropsBy t threshold level = t .settled && (t .clear && (lt (t .gradient) thresho
 -- the builder after it
 unfoldable pub droppedBy : Builder → Tally → Builder
 droppedBy b t = record { grid = b .grid; top = b .top; level = cond (dropsBy t (b .grid .threshold) (b .level)) (b .level - 1) (b .level) }
+
+-- ---- against an atom
+
+-- what an accepted settle may count on
+pub record AtomSettleReady (b : AtomBuilder) (ms : Mesh) (store : List Float) (ri : ℕ) : Type 0 where
+  pub top-le : b .top ≤ 15
+  pub level-le : b .level ≤ b .top
+  pub store-le : ri * vertexCount (b .top) + vertexCount (b .level) ≤ length store
+  pub linked : MeshesLinked (b .level) ms
+
+-- what settling slab ri gives and leaves, over the mesh of the current level
+abbrev pub atomSettledSlab : AtomBuilder → Mesh → List Float → ℕ → Rows → AtomVerdict → Rows → Type 0
+atomSettledSlab b m store ri rows v rows′ =
+    let c = b .level in
+    let e = take (vertexCount c) (drop (ri * vertexCount (b .top)) store) in
+    (v ≡ atomVerdictOf (b .grid .threshold) (b .grid .beta) m (vertexCount c) (rowWith (resolutionAt rows ri) e)) × (rows′ ≡ replacedBy rows ri (newRow c (v .verdict)))

@@ -1,12 +1,15 @@
 // Writing into lent lists.
 ghost use mathlib.Core.Path.{_≡_};
-ghost use Prim.Native.Nat.{_+_, _≤_};
+ghost use Prim.Native.Nat.{_+_, _*_, _≤_};
 ghost use lib.ListN.{length, replicate};
 ghost use Rattle.lists.specs.Lists.{put};
 ghost use Rattle.settling.specs.Gradient.{zero};
+ghost use Rattle.builder.specs.BuilderLists.{BuilderLists, listsOf};
+ghost use Rattle.builder.specs.Calls.{filledSlabs, slabSet};
+use rows::SlabResolution;
 
 // Writes a list into another from a place on.
-pub(crate) fn copy_at(dst: &mut [f64], at: usize, src: &[f64])
+fn copy_at(dst: &mut [f64], at: usize, src: &[f64])
     requires { ⌜ at + length (now src) ≤ length (now dst) ⌝ }
     ensures { λ _. ⌜ now (dst .exit) ≡ put (now (dst .entry)) at (now (src .entry)) ⌝ }
 {
@@ -18,7 +21,7 @@ pub(crate) fn copy_at(dst: &mut [f64], at: usize, src: &[f64])
 }
 
 // The first n energies 0.0.
-pub(crate) fn clear_store(store: &mut [f64], n: usize)
+fn clear_store(store: &mut [f64], n: usize)
     requires { ⌜ n ≤ length (now store) ⌝ }
     ensures { λ _. ⌜ now (store .exit) ≡ put (now (store .entry)) 0 (replicate n zero) ⌝ }
 {
@@ -30,7 +33,7 @@ pub(crate) fn clear_store(store: &mut [f64], n: usize)
 }
 
 // The first n rows Scalar 0.0.
-pub(crate) fn clear_rows(kinds: &mut [u8], levels: &mut [u8], values: &mut [u32], n: usize)
+fn clear_rows(kinds: &mut [u8], levels: &mut [u8], values: &mut [u32], n: usize)
     requires { ⌜ (n ≤ length (now kinds)) × (n ≤ length (now levels)) × (n ≤ length (now values)) ⌝ }
     ensures { λ _. ⌜ (now (kinds .exit) ≡ put (now (kinds .entry)) 0 (replicate n 0)) × (now (levels .exit) ≡ put (now (levels .entry)) 0 (replicate n 0))
         × (now (values .exit) ≡ put (now (values .entry)) 0 (replicate n 0)) ⌝ }
@@ -42,4 +45,40 @@ pub(crate) fn clear_rows(kinds: &mut [u8], levels: &mut [u8], values: &mut [u32]
         values[i] = 0;
         i += 1;
     }
+}
+
+// n slabs of z energies each, with none set.
+pub(crate) fn clear_slabs(
+    n: u64,
+    z: u64,
+    store: &mut [f64],
+    kinds: &mut [u8],
+    levels: &mut [u8],
+    values: &mut [u32],
+)
+    requires { ⌜ (n * z ≤ length (now store)) × (n ≤ length (now kinds)) × (n ≤ length (now levels)) × (n ≤ length (now values)) ⌝ }
+    ensures { λ _. ⌜ _≡_ {A = BuilderLists} (listsOf (now (store .exit)) (now (kinds .exit)) (now (levels .exit)) (now (values .exit)))
+        (filledSlabs n z (listsOf (now (store .entry)) (now (kinds .entry)) (now (levels .entry)) (now (values .entry)))) ⌝ }
+{
+    clear_store(store, (n * z) as usize);
+    clear_rows(kinds, levels, values, n as usize);
+}
+
+// Gives slab s its energies; a slab has room for z.
+pub(crate) fn set_slab(
+    z: u64,
+    level: u8,
+    store: &mut [f64],
+    kinds: &mut [u8],
+    levels: &mut [u8],
+    values: &mut [u32],
+    s: u64,
+    energies: &[f64],
+)
+    requires { ⌜ s * z + length (now energies) ≤ length (now store) ⌝ }
+    ensures { λ _. ⌜ _≡_ {A = BuilderLists} (listsOf (now (store .exit)) (now (kinds .exit)) (now (levels .exit)) (now (values .exit)))
+        (slabSet z level (listsOf (now (store .entry)) (now (kinds .entry)) (now (levels .entry)) (now (values .entry))) s (now (energies .entry))) ⌝ }
+{
+    copy_at(store, (s * z) as usize, energies);
+    rows::replace(kinds, levels, values, s, SlabResolution::Mesh(level, true));
 }

@@ -4,19 +4,32 @@ ghost use mathlib.Core.Bool.{true};
 ghost use Rattle.mesh.specs.Mesh.{meshOf};
 ghost use Rattle.builder.specs.BuilderLists.{listsOf};
 ghost use Rattle.builder.specs.Calls.{BuiltOut, SettleOut, builtValues, builtNumbered, settledValues, settledNumbered, noBuilder, freshBuilder, freshOut, setOut, settleOut};
+use grid::AtomGrid;
 use grid::Grid;
-use rows::SlabResolution;
 
+mod atom;
 mod copies;
 mod questions;
 mod slices;
 
+pub use atom::atom_fresh;
+pub use atom::atom_meshed_refusal;
+pub use atom::atom_set;
+pub use atom::atom_settle;
 pub use questions::meshed_refusal;
 
 // The settings, the top level and the current one.
 #[repr(C)]
 pub struct Builder {
     pub grid: Grid,
+    pub top: u64,
+    pub level: u64,
+}
+
+// The same of a table against an atom.
+#[repr(C)]
+pub struct AtomBuilder {
+    pub grid: AtomGrid,
     pub top: u64,
     pub level: u64,
 }
@@ -30,6 +43,17 @@ pub enum Built {
 // What settle answers: the builder, and the largest gradient.
 pub enum Settled {
     Accepted(Builder, f64),
+    Refused(u64),
+}
+
+// The same of a table against an atom; settle's gradient is its slab's.
+pub enum AtomBuilt {
+    Accepted(AtomBuilder),
+    Refused(u64),
+}
+
+pub enum AtomSettled {
+    Accepted(AtomBuilder, f64),
     Refused(u64),
 }
 
@@ -79,9 +103,14 @@ pub fn fresh(
     let n_r = made.grid.n_r;
     let n_omega = made.grid.n_omega;
     let most = made.top;
-    let n = n_r * n_omega;
-    copies::clear_store(store, (n * mesh::per_level(most as u8)) as usize);
-    copies::clear_rows(kinds, levels, values, n as usize);
+    copies::clear_slabs(
+        n_r * n_omega,
+        mesh::per_level(most as u8),
+        store,
+        kinds,
+        levels,
+        values,
+    );
     Built::Accepted(made)
 }
 
@@ -116,14 +145,15 @@ pub fn set(
     let n_omega = b.grid.n_omega;
     let top = b.top;
     let level = b.level;
-    let s = ri * n_omega + oi;
-    copies::copy_at(store, (s * mesh::per_level(top as u8)) as usize, energies);
-    rows::replace(
+    copies::set_slab(
+        mesh::per_level(top as u8),
+        level as u8,
+        store,
         kinds,
         levels,
         values,
-        s,
-        SlabResolution::Mesh(level as u8, true),
+        ri * n_omega + oi,
+        energies,
     );
     Built::Accepted(b)
 }

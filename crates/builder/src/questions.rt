@@ -2,31 +2,28 @@
 ghost use mathlib.Core.Path.{_≡_};
 ghost use mathlib.Core.Bool.{not, _&&_};
 ghost use mathlib.Core.List.{[]};
-ghost use Prim.Native.Nat.{suc, _≤_};
-ghost use lib.Dec.{ltb};
+ghost use Prim.Native.Nat.{suc, _*_, _≤_};
+ghost use lib.Dec.{eqb};
 ghost use lib.Ieee.{isNan};
+ghost use lib.ListN.{length};
 ghost use Rattle.lists.specs.Questions.{ask, first};
 ghost use Rattle.lists.specs.Lists.{every};
 ghost use Rattle.mesh.specs.Levels.{verticesBelow};
 ghost use Rattle.mesh.specs.Mesh.{meshLong, meshesKeep, meshOf};
 ghost use Rattle.rows.specs.Rows.{rowWith, rowsOf};
 ghost use Rattle.settling.specs.Settling.{fromLevel};
-ghost use Rattle.builder.specs.BuilderLists.{listRoom, rowsKnown, listsOf};
+ghost use Rattle.builder.specs.BuilderLists.{slabRoom, listRoom, rowsKnown, listsOf};
 ghost use Rattle.builder.specs.Internal.{rowsFromLevel, settleQuestion};
 ghost use Rattle.builder.specs.Refusals.{builderQuestion, setQuestion, settleRefusal};
 use crate::Builder;
-use grid::Grid;
 use rows::SlabResolution;
 
-// Question 6 of store and rows, once 1 to 5 are answered yes.
-fn list_room(g: Grid, top: u64, store: u64, kinds: u64, levels: u64, values: u64) -> bool
-    requires { ⌜ (g .«n_r» ≤ 65535) × (g .«n_omega» ≤ 65535) × (top ≤ 15) ⌝ }
-    ensures { λ r. ⌜ r ≡ listRoom g top store kinds levels values ⌝ }
+// Question 6 of store and rows: n slabs of z energies each.
+fn slab_room(n: u64, z: u64, store: u64, kinds: u64, levels: u64, values: u64) -> bool
+    requires { ⌜ n * z ≤ 18446744073709551615 ⌝ }
+    ensures { λ r. ⌜ r ≡ slabRoom n z store kinds levels values ⌝ }
 {
-    let n_r = g.n_r;
-    let n_omega = g.n_omega;
-    let n = n_r * n_omega;
-    (n * mesh::per_level(top as u8) <= store) & ((n <= kinds) & ((n <= levels) & (n <= values)))
+    (n * z <= store) & ((n <= kinds) & ((n <= levels) & (n <= values)))
 }
 
 fn is_number(x: f64) -> bool
@@ -48,24 +45,28 @@ fn no_nan(e: &[f64]) -> bool
     held
 }
 
-// Question 8 of set.
-fn bins_inside(g: Grid, ri: u64, oi: u64) -> bool
-    ensures { λ r. ⌜ r ≡ ltb ri (g .«n_r») && ltb oi (g .«n_omega») ⌝ }
+// Questions 6 and 8 to 10 of set: n slabs of z energies each, a bin that is inside or not, and m energies at the current level.
+pub(crate) fn set_question(
+    n: u64,
+    z: u64,
+    store: u64,
+    kinds: u64,
+    levels: u64,
+    values: u64,
+    inside: bool,
+    m: u64,
+    energies: &[f64],
+) -> u64
+    requires { ⌜ n * z ≤ 18446744073709551615 ⌝ }
+    ensures { λ r. ⌜ r ≡ ask (slabRoom n z store kinds levels values) 6 (ask inside 8 (ask (eqb (length (now (energies .entry))) m) 9 (ask (every (λ x. not (isNan x)) (now (energies .entry))) 10 0))) ⌝ }
 {
-    let n_r = g.n_r;
-    let n_omega = g.n_omega;
-    (ri < n_r) & (oi < n_omega)
-}
-
-// Questions 8 to 10 of set.
-fn set_question(g: Grid, level: u64, ri: u64, oi: u64, energies: &[f64]) -> u64
-    requires { ⌜ level ≤ 15 ⌝ }
-    ensures { λ r. ⌜ r ≡ setQuestion g level ri oi (now (energies .entry)) ⌝ }
-{
-    if !bins_inside(g, ri, oi) {
+    if !slab_room(n, z, store, kinds, levels, values) {
+        return 6;
+    }
+    if !inside {
         return 8;
     }
-    if energies.len() as u64 != mesh::per_level(level as u8) {
+    if energies.len() as u64 != m {
         return 9;
     }
     if !no_nan(energies) {
@@ -94,10 +95,55 @@ pub(crate) fn set_refusal(
     if no != 0 {
         return no;
     }
-    if !list_room(g, top, store, kinds, levels, values) {
+    let n_r = g.n_r;
+    let n_omega = g.n_omega;
+    set_question(
+        n_r * n_omega,
+        mesh::per_level(top as u8),
+        store,
+        kinds,
+        levels,
+        values,
+        (ri < n_r) & (oi < n_omega),
+        mesh::per_level(level as u8),
+        energies,
+    )
+}
+
+// Questions 6 and 7, of n slabs of z energies each and of the meshes.
+pub(crate) fn mesh_question(
+    n: u64,
+    z: u64,
+    top: u64,
+    store: u64,
+    kinds: u64,
+    levels: u64,
+    values: u64,
+    vertices: &[f64],
+    counts: &[u8],
+    neighbours: &[u16],
+    angles: &[f64],
+) -> u64
+    requires { ⌜ (n * z ≤ 18446744073709551615) × (top ≤ 15) ⌝ }
+    ensures { λ r. ⌜ r ≡ ask (slabRoom n z store kinds levels values && meshLong (verticesBelow (suc top)) (meshOf (now (vertices .entry)) (now (counts .entry)) (now (neighbours .entry)) (now (angles .entry)))) 6
+        (ask (meshesKeep top (meshOf (now (vertices .entry)) (now (counts .entry)) (now (neighbours .entry)) (now (angles .entry)))) 7 0) ⌝ }
+{
+    if !slab_room(n, z, store, kinds, levels, values) {
         return 6;
     }
-    set_question(g, level, ri, oi, energies)
+    if !mesh::meshes_room(
+        top as u8,
+        vertices.len(),
+        counts.len(),
+        neighbours.len(),
+        angles.len(),
+    ) {
+        return 6;
+    }
+    if !mesh::meshes_keep(top as u8, vertices, counts, neighbours, angles) {
+        return 7;
+    }
+    0
 }
 
 // Questions 1 to 7 of a call that the meshes are lent to.
@@ -123,22 +169,21 @@ pub fn meshed_refusal(
     if no != 0 {
         return no;
     }
-    if !list_room(g, top, store, kinds, levels, values) {
-        return 6;
-    }
-    if !mesh::meshes_room(
-        top as u8,
-        vertices.len(),
-        counts.len(),
-        neighbours.len(),
-        angles.len(),
-    ) {
-        return 6;
-    }
-    if !mesh::meshes_keep(top as u8, vertices, counts, neighbours, angles) {
-        return 7;
-    }
-    0
+    let n_r = g.n_r;
+    let n_omega = g.n_omega;
+    mesh_question(
+        n_r * n_omega,
+        mesh::per_level(top as u8),
+        top,
+        store,
+        kinds,
+        levels,
+        values,
+        vertices,
+        counts,
+        neighbours,
+        angles,
+    )
 }
 
 // The kind and level part of question 15, of the rows of a slice.
@@ -182,16 +227,21 @@ fn rows_from_level(level: u64, kinds: &[u8], levels: &[u8], values: &[u32], s: u
     true
 }
 
-// Questions 8, 15 and 11 of settle.
-fn settle_question(b: Builder, kinds: &[u8], levels: &[u8], values: &[u32], ri: u64) -> u64
-    requires { ⌜ (b .grid .«n_r» ≤ 65535) × (b .grid .«n_omega» ≤ 65535) ⌝ }
-    ensures { λ r. ⌜ r ≡ settleQuestion b (rowsOf (now (kinds .entry)) (now (levels .entry)) (now (values .entry))) ri ⌝ }
+// Questions 8, 15 and 11 of settle, with n rows a slice.
+pub(crate) fn settle_question(
+    bins: u64,
+    n: u64,
+    top: u64,
+    level: u64,
+    kinds: &[u8],
+    levels: &[u8],
+    values: &[u32],
+    ri: u64,
+) -> u64
+    requires { ⌜ (bins ≤ 65535) × (n ≤ 65535) ⌝ }
+    ensures { λ r. ⌜ r ≡ settleQuestion bins n top level (rowsOf (now (kinds .entry)) (now (levels .entry)) (now (values .entry))) ri ⌝ }
 {
-    let n_r = b.grid.n_r;
-    let n = b.grid.n_omega;
-    let top = b.top;
-    let level = b.level;
-    if n_r <= ri {
+    if bins <= ri {
         return 8;
     }
     let s = ri * n;
@@ -234,5 +284,9 @@ pub(crate) fn settle_refusal(
     if no != 0 {
         return no;
     }
-    settle_question(b, kinds, levels, values, ri)
+    let n_r = b.grid.n_r;
+    let n_omega = b.grid.n_omega;
+    let top = b.top;
+    let level = b.level;
+    settle_question(n_r, n_omega, top, level, kinds, levels, values, ri)
 }

@@ -5,6 +5,12 @@ ghost use lib.Ieee.{lt};
 ghost use Rattle.grid.specs.Bins.{nearestBin, distanceCount, dihedralCount, tableRmax, distanceBin, dihedralBin};
 ghost use Rattle.grid.specs.Settings.{above, inRange, levelsValid, binsInRange, countsValid, ownCount, slabsFit, question, counted, freshQuestion, gridRange, gridValid};
 
+mod atom;
+
+pub use atom::atom_counted;
+pub use atom::atom_grid_valid;
+pub use atom::atom_question;
+
 // The settings beside the bin counts that they give. In a table that was read, rmax is the table's own.
 #[repr(C)]
 pub struct Grid {
@@ -16,6 +22,17 @@ pub struct Grid {
     pub beta: f64,
     pub n_r: u64,
     pub n_omega: u64,
+}
+
+// The settings of a table against an atom: it has no dihedral angle.
+#[repr(C)]
+pub struct AtomGrid {
+    pub rmin: f64,
+    pub rmax: f64,
+    pub dr: f64,
+    pub threshold: f64,
+    pub beta: f64,
+    pub n_r: u64,
 }
 
 // x / step, to the nearest whole number, in floats.

@@ -1,3 +1,4 @@
--- A reader has to believe `Answers` and `Sizes`.
+-- A reader has to believe `Answers`, `AtomAnswers` and `Sizes`.
 pub mod Answers
+pub mod AtomAnswers
 pub mod Sizes

@@ -27,6 +27,8 @@ use table::ReadAnswer;
 use table::Table;
 use writer::Written;
 
+mod atom;
+
 // Of fresh and set.
 #[repr(C)]
 pub struct BuildAnswer {

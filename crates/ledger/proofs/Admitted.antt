@@ -4,7 +4,7 @@ use Rattle.lists.proofs.Counting.{chosen}
 use mathlib.Core.Bool.{Bool, true, false, cond, _&&_}
 use mathlib.Core.List.{List, [], _∷_}
 use mathlib.Core.Logic.{_⊎_, inl, inr}
-use Prim.Native.Nat.{ℕ, _+_, _*_, _<_}
+use Prim.Native.Nat.{ℕ, _<_}
 use lib.ListN.{getD}
 use lib.Dec.{eqb}
 use lib.Ieee.{Float}
@@ -12,7 +12,7 @@ use borrow.Author.Tests.{lt-ltb}
 use Rattle.float.specs.Order.{ordered}
 use Rattle.mesh.specs.Levels.{vertexCount, gridSize}
 use Rattle.mesh.specs.Mesh.{Mesh, levelPart}
-use Rattle.grid.specs.Bins.{distanceBin, dihedralBin}
+use Rattle.grid.specs.declared.AtomGrid.{AtomGrid}
 use Rattle.grid.specs.declared.Grid.{Grid}
 use Rattle.rows.specs.Rows.{Row, scalar, repulsive, mesh}
 use Rattle.search.specs.Geometry.{vertexAt, cellIndex, unit}
@@ -21,8 +21,9 @@ use Rattle.search.specs.Search.{squared, notNearest, nearer, nearestFrom, neare
 use Rattle.search.specs.declared.Vector3.{Vector3}
 use Rattle.search.specs.declared.Nearest.{Nearest}
 use Rattle.search.specs.declared.Located.{Located}
-use Rattle.reading.specs.Resolve.{readingValues, Query, Way, wayValid, queryValid, outside, Resolved, unresolved, beyond, slabAt, resolve, Picks, unpicked, picked, joint, nearestPick, facePick}
-use Rattle.reading.specs.Rule.{search, rulePicks, ruleRow, ruleSlab, ruledBy}
+use Rattle.reading.specs.Resolve.{readingValues, Query, Way, wayValid, queryValid, outside, Resolved, unresolved, beyond, slabAt, resolve, Picks, unpicked, picked, Combination, combined, joint, nearestPick, facePick}
+use Rattle.reading.specs.Rule.{search, rulePicksBy, ruleRowBy, ruleSlabBy, ruledBy}
+use Rattle.reading.specs.Atom.{AtomQuery, atomQueryValid, asGrid, atomResolve, atomNearestPick, atomFacePick, atomCombined, atomSearch, atomRuledBy}
 use Rattle.ledger.specs.Promise.{Answered}
 
 -- 20 or nothing, of a search
@@ -85,28 +86,47 @@ search-searched m q v b =
     (λ e. face-picks n (locate l n g (unit (q .a))) (locate l n g (unit (q .b))) (locate-searched l n g (unit (q .a))) (locate-searched l n g (unit (q .b))))
     (nearest-picks n (nearestOf l n g (unit (q .a))) (nearestOf l n g (unit (q .b))) (nearest-searched l n g (unit (q .a))) (nearest-searched l n g (unit (q .b))))
 
-module _ (way : Way) where
-  picks-answered : (b : Bool) (es : List ℕ) (x : Picks) → PicksSearched x → Answered way (readingValues (rulePicks way b es x) .number)
-  picks-answered b es (unpicked n) h = of-search way h
-  picks-answered b es (picked ks x y) h = inl refl
+atom-searched : (m : Mesh) (d : Vector3) (v : ℕ) (b : Bool) → PicksSearched (atomSearch m d v b)
+unfolding atomSearch atomFacePick atomNearestPick
+atom-searched m d v b =
+    let n = vertexCount v in
+    let g = gridSize n in
+    let l = levelPart v m in
+    chosen PicksSearched b _ _ (λ e. chosen PicksSearched (eqb (locate l n g (unit d) .number) 0) _ _ (λ e. tt) (locate-searched l n g (unit d)))
+    (chosen PicksSearched (eqb (nearestOf l n g (unit d) .number) 0) _ _ (λ e. tt) (nearest-searched l n g (unit d)))
 
-  row-answered : (m : Mesh) (q : Query) (r : Row ℕ) → Answered way (readingValues (ruleRow m way q r) .number)
-  row-answered m q (scalar x) = inl refl
-  row-answered m q repulsive = inl refl
-  row-answered m q (mesh v b es) = picks-answered b es (search m q v b) (search-searched m q v b)
+module _ (way : Way) where
+  picks-answered : (f : Combination) (es : List ℕ) (x : Picks) → PicksSearched x → Answered way (readingValues (rulePicksBy f es x) .number)
+  picks-answered f es (unpicked n) h = of-search way h
+  picks-answered f es (picked ks x y) h = inl refl
+
+  -- by any search that refuses with 20 alone
+  module _ (f : Bool → Combination) (search : ℕ → Bool → Picks) (searched : (v : ℕ) (b : Bool) → PicksSearched (search v b)) (rows : List (Row ℕ)) where
+    row-answered : (r : Row ℕ) → Answered way (readingValues (ruleRowBy f search r) .number)
+    row-answered (scalar x) = inl refl
+    row-answered repulsive = inl refl
+    row-answered (mesh v b es) = picks-answered (f b) es (search v b) (searched v b)
+
+    abbrev AnsweredAt : Resolved → Type 0
+    AnsweredAt w = Answered way (readingValues (ruleSlabBy rows (ruleRowBy f search) w) .number)
+
+    -- 18, then 21, then a distance outside, then slab s
+    pub slab-answered : (valid out : Bool) (s : ℕ) → AnsweredAt (cond valid (cond (wayValid way) (cond out beyond (slabAt s)) (unresolved 21)) (unresolved 18))
+    slab-answered valid out s =
+        chosen AnsweredAt valid (cond (wayValid way) (cond out beyond (slabAt s)) (unresolved 21)) (unresolved 18)
+        (λ e. by (cond out beyond (slabAt s)) (wayValid way) refl (chosen AnsweredAt out beyond (slabAt s) (λ f. inl refl) (row-answered (getD rows s repulsive)))) (inr (inl refl))
+      where
+        by : (w : Resolved) (t : Bool) → wayValid way ≡ t → AnsweredAt w → AnsweredAt (cond t w (unresolved 21))
+        by w true v h = h
+        by w false v h = inr (inr (inr (v, refl)))
 
   -- over a grid with bins
   pub rule-answered : (g : Grid) (rs : List (Row ℕ)) (m : Mesh) (q : Query) → 0 < g .«n_r» → 0 < g .«n_omega» → Answered way (ruledBy g rs m way q .number)
   unfolding ruledBy resolve
   rule-answered g rs m q a b =
-      let P : Resolved → Type 0 = λ w. Answered way (readingValues (ruleSlab rs m way q w) .number) in
-      let s = distanceBin (q .r) (g .rmin) (g .dr) (g .«n_r») * g .«n_omega» + dihedralBin (q .omega) (g .«omega_step») (g .«n_omega») in
-      rw (lt-ltb 0 (g .«n_r») a, lt-ltb 0 (g .«n_omega») b)
-      (chosen P (queryValid q) (cond (wayValid way) (cond (outside g (q .r)) beyond (slabAt s)) (unresolved 21)) (unresolved 18)
-      (λ e. by (cond (outside g (q .r)) beyond (slabAt s)) (wayValid way) refl (chosen P (outside g (q .r)) beyond (slabAt s) (λ f. inl refl) (row-answered m q (getD rs s repulsive))))
-      (inr (inl refl)))
-    where
-      by : (w : Resolved) (t : Bool) → wayValid way ≡ t → Answered way (readingValues (ruleSlab rs m way q w) .number)
-          → Answered way (readingValues (ruleSlab rs m way q (cond t w (unresolved 21))) .number)
-      by w true v h = h
-      by w false v h = inr (inr (inr (v, refl)))
+      rw (lt-ltb 0 (g .«n_r») a, lt-ltb 0 (g .«n_omega») b) (slab-answered (combined way) (search m q) (search-searched m q) rs (queryValid q) (outside g (q .r)) _)
+
+  pub atom-rule-answered : (g : AtomGrid) (rs : List (Row ℕ)) (m : Mesh) (q : AtomQuery) → 0 < g .«n_r» → Answered way (atomRuledBy g rs m way q .number)
+  unfolding atomRuledBy atomResolve
+  atom-rule-answered g rs m q a =
+      rw (lt-ltb 0 (g .«n_r») a) (slab-answered (atomCombined way) (atomSearch m (q .d)) (atom-searched m (q .d)) rs (atomQueryValid q) (outside (asGrid g) (q .r)) _)

@@ -28,7 +28,7 @@ use Rattle.locator.proofs.Entries.{getD-put}
 use Rattle.settling.specs.Gradient.{zero as nought}
 use Rattle.settling.specs.Settling.{verdictOf, verdicts, settledRows, settledSlice, drops}
 use Rattle.builder.specs.BuilderLists.{BuilderLists, slabs, slab, sliceAt, listRoom, listsLong}
-use Rattle.builder.specs.Calls.{settledLists, filled, setLists, setOut, settleAccepted, settleOut}
+use Rattle.builder.specs.Calls.{settledLists, filledSlabs, filled, slabSet, setOut, settleAccepted, settleOut}
 use Rattle.builder.specs.Refusals.{meshedRefusal, setQuestion, setRefusal, settleRefusal}
 use Rattle.builder.specs.declared.Builder.{Builder}
 use Rattle.settling.specs.declared.Verdict.{Verdict}
@@ -36,8 +36,8 @@ use Rattle.builder.proofs.Laws.{Roomy}
 use Rattle.writer.specs.Write.{writeRefusal, writeOut}
 use Rattle.table.proofs.OfRows.{Good}
 use Rattle.ledger.specs.Ledger.{Call, set-call, settle-call, write-call, State, called, run, Ledger, opened, ledgerSlice, ledgerQuestion, setEntered, settleEntered, entered, ledger}
-use Rattle.ledger.proofs.Store.{put-same, other-slab, put-sets, all-replicate}
-use Rattle.ledger.proofs.Invariant.{Fit, rows-are, rows-known, fit-set, settled-fit, verdict-fits}
+use Rattle.ledger.proofs.Store.{put-sets}
+use Rattle.ledger.proofs.Invariant.{Fit, rows-are, rows-known, room-held, slab-set-fit, filled-fit, settled-fit, verdict-fits}
 
 -- ---- what an accepted fresh leaves answered yes
 
@@ -60,23 +60,14 @@ lower-asked g top v e h =
     let q5 = ask-yes {q = slabsFit (g .«n_r») (g .«n_omega») top} (lit< tt) (q4 .1) in
     rw (q1 .0, le-leb top 15 (top-le top top (q2 .0)), le-leb v top h, q3 .0, q4 .0, q5 .0)
 
-room-held : (g : Grid) (top store kinds levels values : ℕ) → Roomy g top store kinds levels values → listRoom g top store kinds levels values ≡ true
-unfolding listRoom rowRoom
-room-held g top store kinds levels values r =
-    rw (le-leb (slabs g * per top) store (r .store-le), le-leb (slabs g) kinds (r .kinds-le), le-leb (slabs g) levels (r .levels-le), le-leb (slabs g) values (r .values-le))
-
 -- ---- the calls
 
 pub record Agree (g : Grid) (top : ℕ) (st : State) (b : Ledger) : Type 0 where
   pub same : st .builder ≡ builderAt g top (b .level)
   pub low : b .level ≤ top
-  pub fit : Fit g top (st .lists .store) (st .lists .rows) (b .rows)
+  pub fit : Fit per (slabs g) top (st .lists .store) (st .lists .rows) (b .rows)
 
-apart : (t s : ℕ) → (t ≡ s → ⊥) → (s ≤ t) ⊎ (t < s) → (t < s) ⊎ (s < t)
-apart t s n (inl h) = inr (omega (arith, n))
-apart t s n (inr h) = inl h
-
-lowered : (v n : ℕ) (x : Bool) → v ≤ n → cond x (v - 1) v ≤ n
+pub lowered : (v n : ℕ) (x : Bool) → v ≤ n → cond x (v - 1) v ≤ n
 lowered v n true h = omega arith
 lowered v n false h = h
 
@@ -85,7 +76,7 @@ unfolding settledRows
 settled-many c f [] = refl
 settled-many c f (r ∷ rs) = ap suc (settled-many c f rs)
 
-module _ (g : Grid) (top : ℕ) (m : Mesh) (base : Basis g top m) (v : ℕ) (low : v ≤ top) (store : List Float) (l : Rows) (rows : List (Row Float)) (a : Fit g top store l rows) where
+module _ (g : Grid) (top : ℕ) (m : Mesh) (base : Basis g top m) (v : ℕ) (low : v ≤ top) (store : List Float) (l : Rows) (rows : List (Row Float)) (a : Fit per (slabs g) top store l rows) where
   abbrev b : Builder
   b = builderAt g top v
 
@@ -104,8 +95,9 @@ module _ (g : Grid) (top : ℕ) (m : Mesh) (base : Basis g top m) (v : ℕ) (low
   abbrev asked : question g top v ≡ 0
   asked = lower-asked g top v (base .asked) low
 
-  abbrev roomy : listsLong b ls ≡ true
-  roomy = room-held g top (length store) (length (l .kinds)) (length (l .levels)) (length (l .values)) (a .room)
+  roomy : listsLong b ls ≡ true
+  unfolding listRoom
+  roomy = room-held (slabs g) (per top) (length store) (length (l .kinds)) (length (l .levels)) (length (l .values)) (a .room)
 
   pub meshed-yes : meshedRefusal b m ls ≡ 0
   unfolding meshedRefusal first ask
@@ -118,25 +110,19 @@ module _ (g : Grid) (top : ℕ) (m : Mesh) (base : Basis g top m) (v : ℕ) (low
   set-number ri oi e = rw (asked, roomy)
 
   set-fit : (ri oi : ℕ) (e : List Float) → setQuestion g v ri oi e ≡ 0
-      → Fit g top (put store (slab g ri oi * per top) e) (replaced l (slab g ri oi) (OnMesh v true)) (set rows (slab g ri oi) (mesh v true e))
+      → Fit per (slabs g) top (put store (slab g ri oi * per top) e) (replaced l (slab g ri oi) (OnMesh v true)) (set rows (slab g ri oi) (mesh v true e))
   unfolding setQuestion
   set-fit ri oi e p =
       let q8 = ask-yes (lit< tt) p in
       let q9 = ask-yes (lit< tt) (q8 .1) in
       let q10 = ask-yes (lit< tt) (q9 .1) in
       let bins = and-eq-true-iff (ltb ri (g .«n_r»)) (ltb oi (g .«n_omega»)) .0 (q8 .0) in
-      let s = slab g ri oi in
-      let w = per top in
-      let row : s < slabs g =
+      let row : slab g ri oi < slabs g =
       omega (arith, place ri (g .«n_r») (oi + 1) (g .«n_omega») (ltb-true ri (g .«n_r») (bins .0)) (omega (arith, ltb-true oi (g .«n_omega») (bins .1)))) in
-      let n : length e ≡ per v = eqb-true (length e) (per v) (q9 .0) in
-      let few : length e ≤ w = omega (arith, n, per-mono v top low) in
-      let fits : s * w + length e ≤ length store = omega (arith, a .room .store-le, place s (slabs g) (length e) w row few) in
-      fit-set g top store l rows a s row (mesh v true e) (low, n, q10 .0) (put store (s * w) e) (length-put store (s * w) e fits) (put-same store (s * w) e (omega arith))
-      (λ t k ne i. other-slab store w s t k e fits few i (apart t s ne (le-or-lt s t)))
+      slab-set-fit per per-mono (slabs g) top v low store l rows a (slab g ri oi) row e (eqb-true (length e) (per v) (q9 .0)) (q10 .0)
 
   set-step : (ri oi : ℕ) (e : List Float) (x : Bool) → eqb (setQuestion g v ri oi e) 0 ≡ x → Agree g top (called m st (set-call ri oi e)) (entered g m bk (set-call ri oi e))
-  unfolding called entered setOut setLists setEntered
+  unfolding called entered setOut slabSet setEntered
   set-step ri oi e true d = rw (set-number ri oi e, d) (record { same = refl; low = low; fit = set-fit ri oi e (eqb-true _ _ d) })
   set-step ri oi e false d = rw (set-number ri oi e, d) unchanged
 
@@ -146,18 +132,18 @@ module _ (g : Grid) (top : ℕ) (m : Mesh) (base : Basis g top m) (v : ℕ) (low
   slice-in ri d = omega (arith, place ri (g .«n_r») (g .«n_omega») (g .«n_omega») (ltb-true ri (g .«n_r») d) (omega arith))
 
   slice-is : (ri : ℕ) → ltb ri (g .«n_r») ≡ true → sliceAt b ls ri ≡ ledgerSlice g bk ri
-  slice-is ri d = rows-are g top store l rows a (g .«n_omega») (slab g ri 0) (slice-in ri d)
+  slice-is ri d = rows-are per (slabs g) top store l rows a (g .«n_omega») (slab g ri 0) (slice-in ri d)
 
   settle-number : (ri : ℕ) (x : Bool) → ltb ri (g .«n_r») ≡ x → settleRefusal b m ls ri ≡ ledgerQuestion g bk ri
   unfolding settleRefusal ledgerQuestion first ask
-  settle-number ri true d = rw (meshed-yes, d, rows-known g top store l rows a (g .«n_omega») (slab g ri 0) (slice-in ri d), slice-is ri d)
+  settle-number ri true d = rw (meshed-yes, d, rows-known per (slabs g) top store l rows a (g .«n_omega») (slab g ri 0) (slice-in ri d), slice-is ri d)
   settle-number ri false d = rw (meshed-yes, d)
 
   abbrev seen : Row Float → Verdict
   seen = verdictOf (g .threshold) (g .beta) (levelPart v m) (vertexCount v)
 
   settle-fit : (ri : ℕ) → ledgerQuestion g bk ri ≡ 0
-      → (let rs = ledgerSlice g bk ri in Fit g top store (settledLists v l (slab g ri 0) (map seen rs)) (put rows (slab g ri 0) (settledRows v rs (map seen rs))))
+      → (let rs = ledgerSlice g bk ri in Fit per (slabs g) top store (settledLists v l (slab g ri 0) (map seen rs)) (put rows (slab g ri 0) (settledRows v rs (map seen rs))))
   unfolding ledgerQuestion
   settle-fit ri p =
       let q8 = ask-yes (lit< tt) p in
@@ -168,7 +154,7 @@ module _ (g : Grid) (top : ℕ) (m : Mesh) (base : Basis g top m) (v : ℕ) (low
       let i = slice-in ri (q8 .0) in
       let many : length rs ≡ n = length-take-le n (drop s rows) (omega (arith, length-drop s rows, a .many)) in
       rw (put-sets rows s (settledRows v rs (map seen rs)) (omega (arith, settled-many v seen rs, a .many)))
-      (settled-fit g top v seen (λ x. refl) refl (verdict-fits (g .threshold) (g .beta) (levelPart v m) (vertexCount v)) n s store l rows a i (q11 .0))
+      (settled-fit per per-mono (slabs g) top v seen (λ x. refl) refl (verdict-fits (g .threshold) (g .beta) (levelPart v m) (vertexCount v)) n s store l rows a i (q11 .0))
 
   settle-step : (ri : ℕ) (x : Bool) → eqb (ledgerQuestion g bk ri) 0 ≡ x → Agree g top (called m st (settle-call ri)) (entered g m bk (settle-call ri))
   unfolding called entered settleOut settleAccepted settleEntered settledSlice ledgerQuestion verdicts
@@ -201,31 +187,7 @@ follows g top m base st b (c ∷ cs) a =
 
 -- ---- fresh
 
-filled-at : (d : List ℕ) (n s : ℕ) → s < n → getD (put d 0 (replicate n 0)) s 0 ≡ 0
-filled-at d n s h = getD-put d (replicate n 0) s (omega (arith, length-replicate {A = ℕ} n 0)) ∙ getD-replicate n s 0 0 h
-
-filled-wide : {A : Type 0} (d : List A) (n : ℕ) (x : A) → n ≤ length d → length (put d 0 (replicate n x)) ≡ length d
-filled-wide d n x h = length-put d 0 (replicate n x) (omega (arith, length-replicate n x))
-
-pub starts : (g : Grid) (top : ℕ) (l : BuilderLists) → Roomy g top (length (l .store)) (length (l .rows .kinds)) (length (l .rows .levels)) (length (l .rows .values))
+pub starts : (g : Grid) (top : ℕ) (l : BuilderLists) → Roomy (slabs g) (per top) (length (l .store)) (length (l .rows .kinds)) (length (l .rows .levels)) (length (l .rows .values))
     → Agree g top (record { builder = builderAt g top top; lists = filled (builderAt g top top) l }) (opened g top)
-unfolding filled opened fits ofBits toBits
-starts g top l r =
-    let n = slabs g in
-    record {
-      same = refl;
-      low = omega arith;
-      fit = record {
-        room = record {
-          store-le = omega (arith, filled-wide (l .store) (n * per top) nought (r .store-le), r .store-le);
-          kinds-le = omega (arith, filled-wide (l .rows .kinds) n 0 (r .kinds-le), r .kinds-le);
-          levels-le = omega (arith, filled-wide (l .rows .levels) n 0 (r .levels-le), r .levels-le);
-          values-le = omega (arith, filled-wide (l .rows .values) n 0 (r .values-le), r .values-le);
-        };
-        many = length-replicate n (scalar nought);
-        good = all-replicate (Good per top) n (scalar nought) tt;
-        each = λ s h.
-            rw (getD-replicate {A = Row Float} n s (scalar nought) repulsive h)
-            (filled-at (l .rows .kinds) n s h, filled-at (l .rows .levels) n s h, filled-at (l .rows .values) n s h, refl);
-      };
-    }
+unfolding opened
+starts g top l r = record { same = refl; low = omega arith; fit = filled-fit per (slabs g) top l r }

@@ -1,10 +1,13 @@
--- Laws of lists of calls, and the theorems: `promise` (Theorem), `any-order` and `later` (Order), `within-runs` (Runs).
+-- Laws of lists of calls, and the theorems: `promise` (Theorem), `atom-promise` (AtomTheorem), `any-order` and `later` (Order), `within-runs` (Runs).
 pub mod Store
 pub mod Invariant
 pub mod Follows
 pub mod Readings
 pub mod Admitted
 pub mod Theorem
+pub mod AtomFollows
+pub mod AtomReadings
+pub mod AtomTheorem
 pub mod Sets
 pub mod Runs
 pub mod Order

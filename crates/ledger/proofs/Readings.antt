@@ -24,21 +24,23 @@ use Rattle.locator.proofs.Laid.{nearest-at, locate-at}
 use Rattle.locator.proofs.Picked.{FaceBelow, nearest-vertex, located-face}
 use Rattle.builder.specs.BuilderLists.{slabs}
 use Rattle.lists.proofs.Places.{place}
-use Rattle.table.specs.File.{energiesIn, packedEnergies, entry, fileOf}
+use Rattle.table.specs.File.{energiesIn, packedEnergies, entry, sectionsOf, fileOf}
 use Rattle.table.specs.declared.Table.{Table}
 use Rattle.table.proofs.Back.{All}
 use Rattle.table.proofs.Sound.{Fine}
 use Rattle.table.proofs.OfRows.{before}
-use Rattle.table.proofs.OfFile.{Filable, gridIn, tableIn, file-length, entry-of, energy-of}
-use Rattle.reading.specs.Resolve.{readingValues, Query, Way, wayValid, queryValid, outside, Resolved, unresolved, beyond, slabAt, resolve, Picks, unpicked, picked, joint, pairPlace, nearestPick, facePick}
-use Rattle.reading.specs.Reading.{rowInside, energyInside, entryAt, energyAt, searchIn, readPicks, readEntry, readSlab, readingBy}
+use Rattle.table.proofs.OfSections as OfSections
+use Rattle.table.proofs.OfSections.{Sized}
+use Rattle.table.proofs.OfFile.{Filable, gridIn, tableIn, sized}
+use Rattle.reading.specs.Resolve.{readingValues, Query, Way, wayValid, queryValid, outside, Resolved, unresolved, beyond, slabAt, resolve, Picks, unpicked, picked, Combination, combined, joint, pairPlace, nearestPick, facePick}
+use Rattle.reading.specs.Reading.{rowInside, energyInside, entryAt, energyAt, searchIn, picksBy, entryBy, slabBy, readEntry, readingBy}
 use Rattle.reading.proofs.Picked.{both-found}
-use Rattle.reading.specs.Rule.{search, rulePicks, ruleRow, ruleSlab, ruledBy}
+use Rattle.reading.specs.Rule.{search, rulePicksBy, ruleRowBy, ruleSlabBy, ruledBy}
 use Rattle.ledger.proofs.Store.{all-at}
 
 -- ---- a slab that a reading asks for is one of the grid's
 
-abbrev SlabBelow : ℕ → Resolved → Type 0
+abbrev pub SlabBelow : ℕ → Resolved → Type 0
 SlabBelow n (unresolved k) = Unit {0}
 SlabBelow n beyond = Unit {0}
 SlabBelow n (slabAt s) = s < n
@@ -62,7 +64,7 @@ resolve-below valid g q a b =
 
 -- ---- places that a search picks are a slab's
 
-abbrev PicksBelow : ℕ → Picks → Type 0
+abbrev pub PicksBelow : ℕ → Picks → Type 0
 PicksBelow n (unpicked k) = Unit {0}
 PicksBelow n (picked ks a b) = All (λ k. k < n) ks
 
@@ -110,6 +112,82 @@ unfolding every
 every-yes P p h [] q = refl
 every-yes P p h (k ∷ ks) q = rw (h k (q .0), every-yes P p h ks (q .1))
 
+-- ---- the sections of a file of rows, whatever its heads hold
+
+-- a table's rows and energies are where a reading looks for them
+pub record Laid (each : ℕ → ℕ) (levels : ℕ) (rows : List (Row ℕ)) (file : List ℕ) (t : Table) : Type 0 where
+  pub held : (v : ℕ) → v < levels → ltb v (t .levels) ≡ true
+  pub row-in : (s : ℕ) → s < length rows → rowInside file t s ≡ true
+  pub entry-is : (s : ℕ) → s < length rows → entryAt file t s ≡ entry (before each levels rows s) (getD rows s repulsive)
+  pub found : (s k : ℕ) → s < length rows → k < length (energiesIn (getD rows s repulsive))
+      → (energyInside file t (before each levels rows s + k) ≡ true) × (energyAt file t (before each levels rows s + k) ≡ getD (energiesIn (getD rows s repulsive)) k 0)
+
+module _ {each : ℕ → ℕ} {xs ns : List ℕ} {levels : ℕ} {rows : List (Row ℕ)} (sized : Sized each xs ns levels rows) (g : Grid) where
+  abbrev tableAt : Table
+  tableAt =
+      record {
+        grid = g;
+        levels = levels;
+        rows = length rows;
+        energies = length (packedEnergies rows);
+        «grid_start» = 4;
+        «bins_start» = 4 + length xs * 8 + 4;
+        «levels_start» = OfSections.levelsAt sized + 4;
+        «rows_start» = OfSections.rowsAt sized;
+        «energies_start» = OfSections.energiesAt sized;
+      }
+
+  abbrev sections : List ℕ
+  sections = sectionsOf each xs ns levels rows
+
+  pub laid : Laid each levels rows sections tableAt
+  unfolding rowInside energyInside entryAt energyAt
+  laid =
+      let long = OfSections.sections-length sized in
+      record {
+        held = λ v h. lt-ltb v levels h;
+        row-in = λ s h. rw (lt-ltb s (length rows) h, le-leb (tableAt .«rows_start» + s * 10 + 10) (length sections) (omega (arith, long)));
+        entry-is = OfSections.entry-of sized;
+        found = λ s k h i.
+            let e = OfSections.energy-of sized s k h i in
+            let j = before each levels rows s + k in (
+              rw (lt-ltb j (length (packedEnergies rows)) (e .0), le-leb (tableAt .«energies_start» + j * 4 + 4) (length sections) (omega (arith, long, e .0))),
+              e .1,
+            );
+      }
+
+-- ---- a search of the file's lists against one of the meshes, and what makes one energy of those picked
+
+module _ (each : ℕ → ℕ) (top : ℕ) (rows : List (Row ℕ)) (fine : All (Fine each (suc top)) rows) (file : List ℕ) (t : Table) (at : Laid each (suc top) rows file t)
+    (f : Bool → Combination) (by rule : ℕ → Bool → Picks) (same : (v : ℕ) (b : Bool) → v ≤ top → by v b ≡ rule v b) (inside : (v : ℕ) (b : Bool) → v ≤ top → PicksBelow (each v) (rule v b)) where
+  -- the energies of a row are in the file, from place o on
+  abbrev Found : ℕ → List ℕ → Type 0
+  Found o e = (k : ℕ) → k < length e → (energyInside file t (o + k) ≡ true) × (energyAt file t (o + k) ≡ getD e k 0)
+
+  picks-read : (o n : ℕ) (c : Combination) (e : List ℕ) → length e ≡ n → Found o e → (x : Picks) → PicksBelow n x → picksBy file t c o x ≡ rulePicksBy c e x
+  picks-read o n c e z h (unpicked k) p = refl
+  picks-read o n c e z h (picked ks x y) p =
+      rw (
+        every-yes (λ k. k < n) (λ k. energyInside file t (o + k)) (λ k i. h k (omega arith) .0) ks p,
+        map-same (λ k. k < n) (λ k. energyAt file t (o + k)) (λ k. getD e k 0) (λ k i. h k (omega arith) .1) ks p,
+      )
+
+  mesh-read : (o v : ℕ) (b : Bool) (e : List ℕ) → v < suc top → length e ≡ each v → Found o e → picksBy file t (f b) o (by v b) ≡ rulePicksBy (f b) e (rule v b)
+  mesh-read o v b e h z k = rw (same v b (omega arith)) (picks-read o (each v) (f b) e z k (rule v b) (inside v b (omega arith)))
+
+  row-read : (o : ℕ) (r : Row ℕ) → Fine each (suc top) r → Found o (energiesIn r) → entryBy file t f by (entry o r) ≡ ruleRowBy f rule r
+  row-read o (scalar x) z k = refl
+  row-read o repulsive z k = refl
+  row-read o (mesh v true e) z k = rw (at .held v (z .0)) (mesh-read o v true e (z .0) (z .1) k)
+  row-read o (mesh v false e) z k = rw (at .held v (z .0)) (mesh-read o v false e (z .0) (z .1) k)
+
+  pub slab-read : (w : Resolved) → SlabBelow (length rows) w → slabBy file t (entryBy file t f by) w ≡ ruleSlabBy rows (ruleRowBy f rule) w
+  slab-read (unresolved n) h = refl
+  slab-read beyond h = refl
+  slab-read (slabAt s) h =
+      rw (at .row-in s h, at .entry-is s h)
+      (row-read (before each (suc top) rows s) (getD rows s repulsive) (all-at (Fine each (suc top)) rows s repulsive h fine) (λ k i. at .found s k h i))
+
 -- ---- the meshes of an accepted fresh, and locators made of them
 
 module _ (top : ℕ) (m : Mesh) (l : Locator) (low : top ≤ 15) (held : meshLong (verticesBelow (suc top)) m ≡ true) (kept : meshesKeep top m ≡ true) (roomy : Roomy top l) (way : Way) (q : Query) where
@@ -130,69 +208,23 @@ module _ (top : ℕ) (m : Mesh) (l : Locator) (low : top ≤ 15) (held : meshLon
       (λ e. face-picks (vertexCount v) _ _ (located-face top m l low held kept roomy v h (unit (q .a))) (located-face top m l low held kept roomy v h (unit (q .b))))
       (nearest-picks (vertexCount v) _ _ (nearest-vertex top m l low held kept roomy v h (unit (q .a))) (nearest-vertex top m l low held kept roomy v h (unit (q .b))))
 
-  -- ---- a file of rows
-
   module _ (g : Grid) (rows : List (Row ℕ)) (ok : Filable g (suc top) rows) where
-    abbrev file : List ℕ
-    file = fileOf g (suc top) rows
-
     abbrev t : Table
     t = tableIn g (suc top) rows
 
-    row-in : (s : ℕ) → s < length rows → rowInside file t s ≡ true
-    unfolding rowInside
-    row-in s h = rw (lt-ltb s (length rows) h, le-leb (t .«rows_start» + s * 10 + 10) (length file) (omega (arith, file-length g (suc top) rows ok)))
-
-    energy-in : (k : ℕ) → k < length (packedEnergies rows) → energyInside file t k ≡ true
-    unfolding energyInside
-    energy-in k h =
-        rw (lt-ltb k (length (packedEnergies rows)) h, le-leb (t .«energies_start» + k * 4 + 4) (length file) (omega (arith, file-length g (suc top) rows ok)))
-
-    -- the energies of a row are in the file, from place o on
-    abbrev Found : ℕ → List ℕ → Type 0
-    Found o e = (k : ℕ) → k < length e → (energyInside file t (o + k) ≡ true) × (energyAt file t (o + k) ≡ getD e k 0)
-
-    found : (s : ℕ) → s < length rows → Found (before per (suc top) rows s) (energiesIn (getD rows s repulsive))
-    unfolding energyAt
-    found s h k i = let e = energy-of g (suc top) rows ok s k h i in (energy-in (before per (suc top) rows s + k) (e .0), e .1)
-
-    picks-read : (o n : ℕ) (b : Bool) (e : List ℕ) → length e ≡ n → Found o e → (x : Picks) → PicksBelow n x → readPicks file t way b o x ≡ rulePicks way b e x
-    picks-read o n b e c f (unpicked k) p = refl
-    picks-read o n b e c f (picked ks x y) p =
-        rw (
-          every-yes (λ k. k < n) (λ k. energyInside file t (o + k)) (λ k i. f k (omega arith) .0) ks p,
-          map-same (λ k. k < n) (λ k. energyAt file t (o + k)) (λ k. getD e k 0) (λ k i. f k (omega arith) .1) ks p,
-        )
-
-    abbrev ls : Locator
-    ls = locators top m l
-
-    mesh-read : (o v : ℕ) (b : Bool) (e : List ℕ) → v < suc top → length e ≡ per v → Found o e
-        → readPicks file t way b o (searchIn (m .vertices) ls q v b) ≡ rulePicks way b e (search m q v b)
-    mesh-read o v b e h c f = rw (search-same v b (omega arith)) (picks-read o (per v) b e c f (search m q v b) (search-below v b (omega arith)))
-
-    row-read : (o : ℕ) (r : Row ℕ) → Fine per (suc top) r → Found o (energiesIn r) → readEntry file t (m .vertices) ls way q (entry o r) ≡ ruleRow m way q r
-    unfolding readEntry
-    row-read o (scalar x) z f = refl
-    row-read o repulsive z f = refl
-    row-read o (mesh v true e) z f = rw (lt-ltb v (suc top) (z .0)) (mesh-read o v true e (z .0) (z .1) f)
-    row-read o (mesh v false e) z f = rw (lt-ltb v (suc top) (z .0)) (mesh-read o v false e (z .0) (z .1) f)
-
-    slab-read : (w : Resolved) → SlabBelow (slabs g) w → readSlab file t (m .vertices) ls way q w ≡ ruleSlab rows m way q w
-    unfolding entryAt
-    slab-read (unresolved n) h = refl
-    slab-read beyond h = refl
-    slab-read (slabAt s) h =
-        let i : s < length rows = omega (arith, ok .many) in
-        rw (row-in s i, entry-of g (suc top) rows ok s i)
-        (row-read (before per (suc top) rows s) (getD rows s repulsive) (all-at (Fine per (suc top)) rows s repulsive i (ok .fine)) (found s i))
+    table-laid : Laid per (suc top) rows (fileOf g (suc top) rows) t
+    unfolding fileOf
+    table-laid = laid (sized g (suc top) rows ok) (gridIn g (suc top) rows)
 
     grid-same : (valid : Bool) → resolve valid (gridIn g (suc top) rows) q ≡ resolve valid g q
     unfolding resolve outside
     grid-same valid = refl
 
-    pub reads : readingBy file t (m .vertices) ls way q ≡ ruledBy g rows m way q
-    unfolding readingBy ruledBy
+    pub reads : readingBy (fileOf g (suc top) rows) t (m .vertices) (locators top m l) way q ≡ ruledBy g rows m way q
+    unfolding readingBy ruledBy readEntry
     reads =
         let n = some-bins g (suc top) (ok .held) in
-        rw (grid-same (wayValid way)) (ap readingValues (slab-read (resolve (wayValid way) g q) (resolve-below (wayValid way) g q (n .0) (n .1))))
+        rw (grid-same (wayValid way))
+        (ap readingValues
+        (slab-read per top rows (ok .fine) (fileOf g (suc top) rows) t table-laid (combined way) (searchIn (m .vertices) (locators top m l) q) (search m q) search-same search-below (resolve (wayValid way) g q)
+        (rw (ok .many) (resolve-below (wayValid way) g q (n .0) (n .1)))))

@@ -23,7 +23,7 @@ use Rattle.rows.specs.declared.SlabResolution.{SlabResolution}
 use Rattle.rows.specs.declared.SlabResolution.the-variants.{Mesh as OnMesh}
 use Rattle.rows.specs.Rows.{Rows, kindOf, levelOf, valueOf, replaced}
 use Rattle.builder.specs.BuilderLists.{BuilderLists, slab, storePlace, listsLong}
-use Rattle.builder.specs.Calls.{setLists, setOut}
+use Rattle.builder.specs.Calls.{slabSet, setLists, setOut}
 use Rattle.builder.specs.Refusals.{setQuestion, setRefusal}
 use Rattle.builder.specs.declared.Builder.{Builder}
 use Rattle.builder.proofs.Laws.{accepted}
@@ -77,7 +77,7 @@ lists-after b l ri oi e = entered-lists (taken b l ri oi e) b l (slab (b .grid) 
 -- the lengths stay, and with them the answer of any other set
 room-stays : (b : Builder) (l : BuilderLists) (ri oi : ℕ) (e : List Float) (t : Bool) → taken b l ri oi e ≡ t
     → listsLong b (entered-lists t b l (slab (b .grid) ri oi) e) ≡ listsLong b l
-unfolding setLists replaced
+unfolding slabSet replaced
 room-stays b l ri oi e false d = refl
 room-stays b l ri oi e true d =
     let s = slab (b .grid) ri oi in
@@ -106,7 +106,7 @@ module _ (b : Builder) (l : BuilderLists) (ri oi : ℕ) (e : List Float) (rj oj 
   -- different slabs, or one of the two is refused
   lists-comm : (x y : Bool) → taken b l ri oi e ≡ x → taken b l rj oj f ≡ y → x && (y && (eqb ri rj && eqb oi oj)) ≡ false
       → entered-lists y b (entered-lists x b l s e) t f ≡ entered-lists x b (entered-lists y b l t f) s e
-  unfolding setLists
+  unfolding slabSet
   lists-comm false y d c h = refl
   lists-comm true false d c h = refl
   lists-comm true true d c h =
@@ -121,7 +121,7 @@ module _ (b : Builder) (l : BuilderLists) (ri oi : ℕ) (e : List Float) (rj oj 
 
   -- the same slab, accepted
   lists-again : (x : Bool) → taken b l ri oi e ≡ x → taken b l rj oj f ≡ true → s ≡ t → entered-lists true b (entered-lists x b l s e) t f ≡ entered-lists true b l t f
-  unfolding setLists
+  unfolding slabSet
   lists-again false d c h = refl
   lists-again true d c h =
       let i = inside b l ri oi e d in

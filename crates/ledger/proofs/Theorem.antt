@@ -94,7 +94,7 @@ module _ (h : History) (ok : Accepted h) where
   unfolding fileFrom rows
   rows-written =
       let l = ended h .lists in
-      rw (rows-are g (h .top) (l .store) (l .rows) (last .rows) (agree .fit) (slabs g) 0 (omega arith), take-all (slabs g) (last .rows) (omega (arith, agree .fit .many)))
+      rw (rows-are per (slabs g) (h .top) (l .store) (l .rows) (last .rows) (agree .fit) (slabs g) 0 (omega arith), take-all (slabs g) (last .rows) (omega (arith, agree .fit .many)))
 
   file-is : file h ≡ fileOf g (suc (h .top)) (rows h)
   unfolding file

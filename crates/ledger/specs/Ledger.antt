@@ -67,8 +67,8 @@ unfoldable pub ledgerQuestion : Grid → Ledger → ℕ → ℕ
 ledgerQuestion g b ri = ask (ltb ri (g .«n_r»)) 8 (ask (every (fromLevel (b .level)) (ledgerSlice g b ri)) 11 0)
 
 -- "Set accepted: the row becomes Mesh, current level, flag true, the energies given." (S13.3)
-unfoldable pub setEntered : Grid → Ledger → ℕ → List Float → Ledger
-setEntered g b s e = record { level = b .level; rows = set (b .rows) s (mesh (b .level) true e) }
+unfoldable pub setEntered : Ledger → ℕ → List Float → Ledger
+setEntered b s e = record { level = b .level; rows = set (b .rows) s (mesh (b .level) true e) }
 
 -- "Settle accepted: `finish_r_slice` and `compute_gradient` as they stand"
 unfoldable pub settleEntered : Grid → Mesh → Ledger → ℕ → Ledger
@@ -79,7 +79,7 @@ settleEntered g m b ri =
 
 -- "Refused calls and writes change nothing." (S13.6, S13.5)
 unfoldable pub entered : Grid → Mesh → Ledger → Call → Ledger
-entered g m b (set-call ri oi e) = cond (eqb (setQuestion g (b .level) ri oi e) 0) (setEntered g b (slab g ri oi) e) b
+entered g m b (set-call ri oi e) = cond (eqb (setQuestion g (b .level) ri oi e) 0) (setEntered b (slab g ri oi) e) b
 entered g m b (settle-call ri) = cond (eqb (ledgerQuestion g b ri) 0) (settleEntered g m b ri) b
 entered g m b (write-call out) = b
 

@@ -1,5 +1,7 @@
--- A reader has to believe `Ledger`, `Promise`, `Replies` and `Order`.
+-- A reader has to believe `Ledger`, `Promise`, `Replies`, `Order` and, of tables against an atom, `AtomLedger` and `AtomPromise`.
 pub mod Ledger
 pub mod Promise
 pub mod Replies
 pub mod Order
+pub mod AtomLedger
+pub mod AtomPromise

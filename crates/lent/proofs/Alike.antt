@@ -21,7 +21,7 @@ use Rattle.builder.specs.BuilderLists.{BuilderLists, slabs}
 use Rattle.builder.specs.Refusals.{meshedRefusal, setRefusal, settleRefusal}
 use Rattle.builder.specs.declared.Builder.{Builder}
 use Rattle.builder.proofs.Laws.{meshed}
-use Rattle.builder.specs.Calls.{BuiltOut, SettleOut, freshBuilder, filled, freshOut, setLists, setOut, settledLists, settleAccepted, settleOut}
+use Rattle.builder.specs.Calls.{BuiltOut, SettleOut, freshBuilder, filledSlabs, freshOut, slabSet, setOut, settledLists, settleAccepted, settleOut}
 use Rattle.writer.specs.Write.{WriteOut, writeRefusal, writeOut}
 use Rattle.table.specs.Read.{readOut}
 use Rattle.reading.specs.Reading.{readingBy}
@@ -46,7 +46,7 @@ module _ (rs : List RowRecord) where
       record { kinds = length-set (l .kinds) s (kindOf x) ∙ h .kinds; levels = length-set (l .levels) s (levelOf x) ∙ h .levels; values = length-set (l .values) s (valueOf x) ∙ h .values }
 
   set-long : (b : Builder) (l : BuilderLists) (ri oi : ℕ) (e : List Float) → Long rs (l .rows) → Long rs (setOut b l ri oi e .lists .rows)
-  unfolding setOut setLists
+  unfolding setOut slabSet
   set-long b l ri oi e h = chosen (λ (o : BuiltOut). Long rs (o .lists .rows)) (eqb (setRefusal b l ri oi e) 0) _ _ (λ _. replaced-long (l .rows) _ _ h) h
 
   by-verdict-long : (l : Rows) (s : ℕ) (x : Option SlabResolution) → Long rs l → Long rs (replacedBy l s x)
@@ -67,7 +67,7 @@ module _ (rs : List RowRecord) where
   write-long b m l out h = chosen (λ (o : WriteOut). Long rs (o .lists .rows)) (eqb (writeRefusal b m l (length out)) 0) _ _ (λ _. h) h
 
   fresh-long : (g : Grid) (top : ℕ) (m : Mesh) (l : BuilderLists) → Long rs (l .rows) → Long rs (freshOut g top m l .lists .rows)
-  unfolding freshOut filled meshedRefusal
+  unfolding freshOut filledSlabs meshedRefusal
   fresh-long g top m l h =
       let b = freshBuilder g top in
       let n = slabs (b .grid) in

@@ -8,7 +8,8 @@ use native.Mathlib.Nat.{le-div-iff-mul-le, mul-le-mul}
 use native.Mathlib.Omega.{arith}
 use lib.ListN.{length, take, drop, getD}
 use lib.Dec.{leb, ltb, eqb}
-use lib.Ieee.{Float, inf, binary32, ofBits}
+use lib.Ieee.{Float, inf, binary32, binary64, ofBits, lt}
+use lib.Ieee.Scale.{finite}
 use borrow.Author.Tests.{lt-ltb, le-ltb, le-leb, lt-leb, leb-true, eqb-true, eqb-false, ne-eqb}
 use Rattle.ieee.proofs.Pack.{le-or-lt}
 use Rattle.lists.specs.Lists.{every}
@@ -23,11 +24,12 @@ use Rattle.search.specs.declared.Located.{Located}
 use Rattle.table.specs.Bytes.{numberAt}
 use Rattle.table.specs.File.{Entry, entryOf}
 use Rattle.table.proofs.Items.{entryAt as rowAt, entry-at}
+use Rattle.grid.specs.Settings.{above}
 use Rattle.grid.specs.declared.Grid.{Grid}
 use Rattle.table.specs.declared.Table.{Table}
-use Rattle.reading.specs.Resolve.{readingValues, readingNumbered, Query, Way, wayValid, Resolved, unresolved, beyond, slabAt, queryValid, outside, resolve, Picks, unpicked, picked, joint, nearestPick, facePick, widened}
-use Rattle.reading.specs.Reading.{rowInside, energyInside, energyAt, entryAt, readEntry, readSlab, readingBy, searchIn, readPicks}
-use Rattle.reading.specs.Internal.{itemsInside, slabOf, rowsTable, toward, readResolution}
+use Rattle.reading.specs.Resolve.{readingValues, readingNumbered, Query, Way, wayValid, Resolved, unresolved, beyond, slabAt, queryValid, outside, resolve, Picks, unpicked, picked, Combination, joint, nearestPick, facePick, widened, combined, boltzmann}
+use Rattle.reading.specs.Reading.{rowInside, energyInside, energyAt, entryAt, picksBy, entryBy, slabBy, readEntry, readSlab, readingBy, searchIn, readPicks}
+use Rattle.reading.specs.Internal.{itemsInside, slabOf, rowsTable, wayOf, toward, readResolution}
 use Rattle.reading.specs.declared.Reading.{Reading}
 use Rattle.reading.specs.declared.Reading.the-variants.{Energy, Refused}
 
@@ -56,6 +58,10 @@ module _ (start w count n : ℕ) (W : 1 ≤ w) where
       (le-or-lt ((n - start) / w) k))
       (le-or-lt count k)
 
+  -- the bytes of one that is held
+  pub held-fits : (k held : ℕ) → held ≡ itemsInside start w count n → k < held → start + k * w + w ≤ n
+  held-fits k held h l = leb-true _ _ (and-eq-true-iff (ltb k count) (leb (start + k * w + w) n) .0 (items-inside k ∙ rw (← h) (lt-ltb k held l)) .1)
+
 -- a product that the limit is far above
 pub not-past : (ri n oi limit : ℕ) → 1 ≤ n → oi < limit → ri ≤ (limit - oi - 1) / n → ri * n + oi < limit
 not-past ri n oi limit N h l = let m : ri * n ≤ limit - oi - 1 = le-div-iff-mul-le N .0 l in omega arith
@@ -76,15 +82,14 @@ module _ (file : List ℕ) (t : Table) where
 
   -- the bytes of a row that was placed
   pub row-fits : (r held : ℕ) → held ≡ itemsInside (t .«rows_start») 10 (t .rows) (length file) → r < held → t .«rows_start» + r * 10 + 10 ≤ length file
-  unfolding rowInside
-  row-fits r held h l = leb-true _ _ (and-eq-true-iff (ltb r (t .rows)) (leb (t .«rows_start» + r * 10 + 10) (length file)) .0 (places-below r held h ∙ lt-ltb r held l) .1)
+  row-fits r held h l = held-fits (t .«rows_start») 10 (t .rows) (length file) (omega arith) r held h l
 
 -- a search that picks nothing says why, by a number that is not 0
-picksNumbered : Picks → Bool
+pub picksNumbered : Picks → Bool
 picksNumbered (unpicked n) = not (eqb n 0)
 picksNumbered (picked ks u v) = true
 
-found-numbered : (x : Bool) (n : ℕ) (ks : List ℕ) (u v : Weights) → eqb n 0 ≡ x → picksNumbered (cond x (picked ks u v) (unpicked n)) ≡ true
+pub found-numbered : (x : Bool) (n : ℕ) (ks : List ℕ) (u v : Weights) → eqb n 0 ≡ x → picksNumbered (cond x (picked ks u v) (unpicked n)) ≡ true
 unfolding picksNumbered
 found-numbered true n ks u v e = refl
 found-numbered false n ks u v e = rw e
@@ -97,77 +102,104 @@ faces-numbered : (n : ℕ) (a b : Located) → picksNumbered (facePick n a b) �
 unfolding facePick
 faces-numbered n a b = let r = joint (a .number) (b .number) in found-numbered (eqb r 0) r _ _ _ refl
 
-module _ (file : List ℕ) (t : Table) (vs : List Float) (l : Locator) (way : Way) (q : Query) where
+-- no refusal is numbered 0
+abbrev pub Numbered : Reading → Type 0
+Numbered z = readingNumbered z ≡ true
+
+pub resolvedNumbered : Resolved → Bool
+resolvedNumbered (unresolved n) = not (eqb n 0)
+resolvedNumbered beyond = true
+resolvedNumbered (slabAt s) = true
+
+-- the first stage, by the answers of its questions
+pub stage-numbered : (a v b c : Bool) (s : ℕ) → resolvedNumbered (cond a (cond v (cond b beyond (cond c (slabAt s) (unresolved 19))) (unresolved 21)) (unresolved 18)) ≡ true
+unfolding resolvedNumbered
+stage-numbered true true true c s = refl
+stage-numbered true true false true s = refl
+stage-numbered true true false false s = refl
+stage-numbered true false b c s = refl
+stage-numbered false v b c s = refl
+
+-- by what reads a row
+module _ (file : List ℕ) (t : Table) (read : Entry → Reading) where
   -- the row of slab s, where r is s or the number of rows held
   module _ (s r held : ℕ) (h : held ≡ itemsInside (t .«rows_start») 10 (t .rows) (length file)) (e : r ≡ min s held) where
-    pub row-none : held ≤ r → Refused 19 ≡ readSlab file t vs l way q (slabAt s)
-    row-none k = rw (places-below file t s held h, le-ltb s held (omega arith))
+    pub no-row : held ≤ r → Refused 19 ≡ slabBy file t read (slabAt s)
+    no-row k = rw (places-below file t s held h, le-ltb s held (omega arith))
 
-    pub row-at : r < held → readEntry file t vs l way q (entryOf (take 10 (drop (t .«rows_start» + r * 10) file))) ≡ readSlab file t vs l way q (slabAt s)
+    pub row-at : r < held → read (entryOf (take 10 (drop (t .«rows_start» + r * 10) file))) ≡ slabBy file t read (slabAt s)
     unfolding entryAt
     row-at k = let z : r ≡ s = omega arith in rw (places-below file t s held h, lt-ltb s held (omega arith), z)
 
-  -- no refusal is numbered 0
-  abbrev Numbered : Reading → Type 0
-  Numbered z = readingNumbered z ≡ true
+  -- an answer of what is resolved
+  module _ (N : (e : Entry) → Numbered (read e)) where
+    slab-numbered : (x : Resolved) → resolvedNumbered x ≡ true → Numbered (slabBy file t read x)
+    unfolding resolvedNumbered
+    slab-numbered (unresolved n) e = e
+    slab-numbered beyond e = refl
+    slab-numbered (slabAt s) e = chosen Numbered (rowInside file t s) _ _ (λ h. N (entryAt file t s)) refl
 
-  picks-numbered : (i : Bool) (o : ℕ) (p : Picks) → picksNumbered p ≡ true → Numbered (readPicks file t way i o p)
+    pub answered-by : (x : Resolved) (z : Reading) → resolvedNumbered x ≡ true → z ≡ slabBy file t read x → Numbered z × readingValues z ≡ readingValues (slabBy file t read x)
+    answered-by x z n e = (ap readingNumbered e ∙ slab-numbered x n, ap readingValues e)
+
+-- by a search of a level and what makes one energy of those that it picks
+module _ (file : List ℕ) (t : Table) (f : Bool → Combination) (find : ℕ → Bool → Picks) where
+  picks-numbered : (i : Bool) (o : ℕ) (p : Picks) → picksNumbered p ≡ true → Numbered (picksBy file t (f i) o p)
   unfolding picksNumbered
   picks-numbered i o (unpicked n) e = e
   picks-numbered i o (picked ks u v) e = chosen Numbered (every (λ k. energyInside file t (o + k)) ks) _ _ (λ h. refl) refl
 
+  pub entry-numbered : ((v : ℕ) (i : Bool) → picksNumbered (find v i) ≡ true) → (e : Entry) → Numbered (entryBy file t f find e)
+  entry-numbered n e =
+      chosen Numbered (eqb (e .kind) 0) _ _ (λ h. refl)
+      (chosen Numbered (eqb (e .kind) 1) _ _ (λ h. refl)
+      (chosen Numbered (leb (e .kind) 3 && ltb (e .level) (t .levels)) _ _ (λ h. picks-numbered (eqb (e .kind) 3) (e .offset) _ (n (e .level) (eqb (e .kind) 3))) refl))
+
+  -- a Scalar row's short answer
+  pub scalar-entry : (e : Entry) → e .kind ≡ 0 → Energy (widened (e .scalar)) ≡ entryBy file t f find e
+  scalar-entry e h = rw h
+
+  -- picks, and so a row, ask a table for three numbers alone
+  picks-table : (i : Bool) (o : ℕ) (p : Picks) → picksBy file (rowsTable (t .levels) (t .«energies_start») (t .energies)) (f i) o p ≡ picksBy file t (f i) o p
+  unfolding energyInside energyAt
+  picks-table i o (unpicked n) = refl
+  picks-table i o (picked ks u v) = refl
+
+  pub entry-table : (e : Entry) → entryBy file (rowsTable (t .levels) (t .«energies_start») (t .energies)) f find e ≡ entryBy file t f find e
+  entry-table e = rw (picks-table (eqb (e .kind) 3) (e .offset) (find (e .level) (eqb (e .kind) 3)))
+
+module _ (file : List ℕ) (t : Table) (vs : List Float) (l : Locator) (way : Way) (q : Query) where
   search-numbered : (v : ℕ) (i : Bool) → picksNumbered (searchIn vs l q v i) ≡ true
   unfolding searchIn
   search-numbered v true = faces-numbered _ _ _
   search-numbered v false = vertices-numbered _ _ _
 
-  entry-numbered : (e : Entry) → Numbered (readEntry file t vs l way q e)
-  unfolding readEntry
-  entry-numbered e =
-      chosen Numbered (eqb (e .kind) 0) _ _ (λ h. refl)
-      (chosen Numbered (eqb (e .kind) 1) _ _ (λ h. refl)
-      (chosen Numbered (leb (e .kind) 3 && ltb (e .level) (t .levels)) _ _ (λ h. picks-numbered (eqb (e .kind) 3) (e .offset) _ (search-numbered (e .level) (eqb (e .kind) 3))) refl))
-
-  resolved-numbered : (a v b c : Bool) (s : ℕ) → Numbered (readSlab file t vs l way q (cond a (cond v (cond b beyond (cond c (slabAt s) (unresolved 19))) (unresolved 21)) (unresolved 18)))
-  resolved-numbered true true true c s = refl
-  resolved-numbered true true false true s = chosen Numbered (rowInside file t s) _ _ (λ h. entry-numbered (entryAt file t s)) refl
-  resolved-numbered true true false false s = refl
-  resolved-numbered true false b c s = refl
-  resolved-numbered false v b c s = refl
-
-  slab-numbered : Numbered (readSlab file t vs l way q (resolve (wayValid way) (t .grid) q))
-  unfolding resolve
-  slab-numbered = resolved-numbered (queryValid q) (wayValid way) (outside (t .grid) (q .r)) (ltb 0 (t .grid .«n_r») && ltb 0 (t .grid .«n_omega»)) _
-
-  -- an answer of what is resolved
   pub answered : (x : Resolved) (z : Reading) → x ≡ resolve (wayValid way) (t .grid) q → z ≡ readSlab file t vs l way q x → Numbered z × readingValues z ≡ readingBy file t vs l way q
-  unfolding readingBy
+  unfolding readingBy readEntry resolve
   answered x z e a =
-      let w : z ≡ readSlab file t vs l way q (resolve (wayValid way) (t .grid) q) = a ∙ ap (λ (x : Resolved). readSlab file t vs l way q x) e in
-      (ap readingNumbered w ∙ slab-numbered, ap readingValues w)
+      answered-by file t (readEntry file t vs l way q) (entry-numbered file t (combined way) (searchIn vs l q) search-numbered) (resolve (wayValid way) (t .grid) q) z
+      (stage-numbered (queryValid q) (wayValid way) (outside (t .grid) (q .r)) (ltb 0 (t .grid .«n_r») && ltb 0 (t .grid .«n_omega»)) _)
+      (a ∙ ap (λ (x : Resolved). readSlab file t vs l way q x) e)
 
-  -- a Scalar row's short answer
-  pub scalar-entry : (e : Entry) → e .kind ≡ 0 → Energy (widened (e .scalar)) ≡ readEntry file t vs l way q e
+  pub row-none : (s r held : ℕ) → held ≡ itemsInside (t .«rows_start») 10 (t .rows) (length file) → r ≡ min s held → held ≤ r → Refused 19 ≡ readSlab file t vs l way q (slabAt s)
+  row-none s r held h e k = no-row file t (readEntry file t vs l way q) s r held h e k
+
+  scalar-read : (e : Entry) → e .kind ≡ 0 → Energy (widened (e .scalar)) ≡ readEntry file t vs l way q e
   unfolding readEntry
-  scalar-entry e h = rw h
-
-  -- picks, and so a row, ask a table for three numbers alone
-  picks-table : (i : Bool) (o : ℕ) (p : Picks) → readPicks file (rowsTable (t .levels) (t .«energies_start») (t .energies)) way i o p ≡ readPicks file t way i o p
-  unfolding energyInside energyAt
-  picks-table i o (unpicked n) = refl
-  picks-table i o (picked ks u v) = refl
-
-  entry-table : (e : Entry) → readEntry file (rowsTable (t .levels) (t .«energies_start») (t .energies)) vs l way (toward (q .a) (q .b)) e ≡ readEntry file t vs l way q e
-  unfolding readEntry searchIn
-  entry-table e = rw (picks-table (eqb (e .kind) 3) (e .offset) (searchIn vs l q (e .level) (eqb (e .kind) 3)))
+  scalar-read e h = scalar-entry file t (combined way) (searchIn vs l q) e h
 
   -- the answers of a row that is inside: a Scalar row's at once, and by the three numbers of the table and the two directions
   module _ (s r held : ℕ) (h : held ≡ itemsInside (t .«rows_start») 10 (t .rows) (length file)) (e : r ≡ min s held) (k : r < held) where
     pub scalar-row : getD file (t .«rows_start» + r * 10) 0 ≡ 0 → Energy (widened (numberAt 4 file (t .«rows_start» + r * 10 + 6))) ≡ readSlab file t vs l way q (slabAt s)
-    scalar-row z = scalar-entry (rowAt file (t .«rows_start» + r * 10)) z ∙ rw (← entry-at file (t .«rows_start» + r * 10)) (row-at s r held h e k)
+    scalar-row z =
+        scalar-read (rowAt file (t .«rows_start» + r * 10)) z
+        ∙ rw (← entry-at file (t .«rows_start» + r * 10)) (row-at file t (readEntry file t vs l way q) s r held h e k)
 
     pub entry-row : readEntry file (rowsTable (t .levels) (t .«energies_start») (t .energies)) vs l way (toward (q .a) (q .b)) (entryOf (take 10 (drop (t .«rows_start» + r * 10) file))) ≡ readSlab file t vs l way q (slabAt s)
-    entry-row = entry-table (entryOf (take 10 (drop (t .«rows_start» + r * 10) file))) ∙ row-at s r held h e k
+    unfolding readEntry searchIn
+    entry-row =
+        entry-table file t (combined way) (searchIn vs l q) (entryOf (take 10 (drop (t .«rows_start» + r * 10) file)))
+        ∙ row-at file t (readEntry file t vs l way q) s r held h e k
 
   -- the answer by the row as the enum
   pub entry-by : (e : Entry) → readResolution file t vs l way q (e .kind) (e .offset) (resolutionOf (e .kind) (e .level) (e .scalar)) ≡ readEntry file t vs l way q e
@@ -204,6 +236,11 @@ bins-none a b h =
     rw (lt-ltb 0 a l, z))
     (le-or-lt a 0)
 
+-- a beta that is finite and above 0 stands for itself
+pub own-way : (beta : Float) → wayValid (boltzmann beta) ≡ true → wayOf beta ≡ boltzmann beta
+unfolding wayValid above
+own-way beta h = rw (and-eq-true-iff (finite beta) (lt (ofBits binary64 0) beta) .0 h .1)
+
 module _ (valid : Bool) (g : Grid) (q : Query) where
   pub refused-18 : queryValid q ≡ false → unresolved 18 ≡ resolve valid g q
   unfolding resolve
@@ -229,7 +266,7 @@ module _ (valid : Bool) (g : Grid) (q : Query) where
 -- ---- the row as the enum
 
 -- a kind that is known and a level that is held, or not
-kept : (k v n : ℕ) → (leb k 3 && ltb v n) ≡ not (ltb 3 k || leb n v)
+pub kept : (k v n : ℕ) → (leb k 3 && ltb v n) ≡ not (ltb 3 k || leb n v)
 kept k v n =
     ⊎-elim
     (λ h. ⊎-elim

@@ -2,3 +2,5 @@
 pub mod Inside
 pub mod Picked
 pub mod Parts
+pub mod AtomPicked
+pub mod AtomStages

@@ -8,7 +8,7 @@ use native.Mathlib.Omega.{arith}
 use lib.ListN.{length}
 use lib.Dec.{leb, ltb, eqb}
 use lib.Ieee.{Float}
-use borrow.Author.Tests.{lt-ltb, le-ltb, ltb-true, leb-true, eqb-true, eqb-false, ne-eqb}
+use borrow.Author.Tests.{lt-ltb, le-ltb, ltb-true, eqb-true, eqb-false, ne-eqb}
 use Rattle.lists.specs.Lists.{every, forEach}
 use Rattle.mesh.specs.declared.Face.{Face}
 use Rattle.search.specs.declared.Weights.{Weights}
@@ -20,7 +20,7 @@ use Rattle.reading.specs.Resolve.{Way, linear, boltzmann, Picks, unpicke
 use Rattle.reading.specs.Reading.{energyInside, energyAt, readPicks}
 use Rattle.reading.specs.Internal.{Small, itemsInside, placesBelow, facePlacesBelow, PlaceInside, RowInside, rowTerms, faceTerms, rowCorners, faceCorners, faceAverage}
 use Rattle.reading.specs.declared.Reading.the-variants.{Energy, Refused}
-use Rattle.reading.proofs.Inside.{items-inside}
+use Rattle.reading.proofs.Inside.{items-inside, held-fits}
 
 -- both searches answered
 pub both-found : (a b : ℕ) → joint a b ≡ 0 → (a ≡ 0) × (b ≡ 0)
@@ -45,10 +45,9 @@ module _ (file : List ℕ) (t : Table) (held : ℕ) (H : held ≡ itemsInside (t
   energy-held k = rw H (items-inside (t .«energies_start») 4 (t .energies) (length file) (omega arith) k)
 
   pub energy-fits : (k : ℕ) → k < held → PlaceInside file (t .«energies_start») k
-  unfolding energyInside
-  energy-fits k l = leb-true _ _ (and-eq-true-iff (ltb k (t .energies)) (leb (t .«energies_start» + k * 4 + 4) (length file)) .0 (energy-held k ∙ lt-ltb k held l) .1)
+  energy-fits k l = held-fits (t .«energies_start») 4 (t .energies) (length file) (omega arith) k held H l
 
-  row-fits : (o k : ℕ) (f : Face) → placesBelow held o k f ≡ true → RowInside file (t .«energies_start») o k f
+  pub row-fits : (o k : ℕ) (f : Face) → placesBelow held o k f ≡ true → RowInside file (t .«energies_start») o k f
   row-fits o k f h =
       let x = and-eq-true-iff (ltb (o + (k + f .a)) held) (ltb (o + (k + f .b)) held && ltb (o + (k + f .c)) held) .0 h in
       let y = and-eq-true-iff (ltb (o + (k + f .b)) held) (ltb (o + (k + f .c)) held) .0 (x .1) in
@@ -75,7 +74,7 @@ module _ (file : List ℕ) (t : Table) (held : ℕ) (H : held ≡ itemsInside (t
 
   -- ---- interpolated
 
-  every-same : (p q : ℕ → Bool) → ((k : ℕ) → p k ≡ q k) → (l : List ℕ) → every p l ≡ every q l
+  pub every-same : (p q : ℕ → Bool) → ((k : ℕ) → p k ≡ q k) → (l : List ℕ) → every p l ≡ every q l
   unfolding every
   every-same p q h [] = refl
   every-same p q h (k ∷ l) = rw (h k, every-same p q h l)

@@ -21,6 +21,7 @@ use Rattle.search.specs.declared.Nearest.{Nearest}
 use Rattle.search.specs.declared.Located.{Located}
 use Rattle.table.specs.Bytes.{numberAt}
 use Rattle.table.specs.declared.Table.{Table}
+use Rattle.table.specs.declared.AtomTable.{AtomTable}
 use Rattle.reading.specs.Resolve.{Query, Way, linear, boltzmann, widened, infinite}
 use Rattle.reading.specs.Reading.{searchIn, readPicks}
 use Rattle.reading.specs.declared.Reading.{Reading}
@@ -50,6 +51,13 @@ rowsTable levels start count =
       «rows_start» = 0;
       «energies_start» = start;
     }
+
+-- where the row of a distance starts in a file of n bytes, against an atom; n where there is none
+abbrev pub atomRowPlace : AtomTable → ℕ → Float → ℕ
+atomRowPlace t n r =
+    let g = t .grid in
+    let s = distanceBin r (g .rmin) (g .dr) (g .«n_r») in
+    cond (ltb 0 (g .«n_r») && ltb s (itemsInside (t .«rows_start») 10 (t .rows) n)) (t .«rows_start» + s * 10) n
 
 -- the way that a number stands for once 21 has been asked: a beta, or 0 for the plain sum
 abbrev pub wayOf : Float → Way

@@ -1,5 +1,6 @@
--- A reader has to believe `Resolve`, `Reading` and `Rule`. Only the code and the proofs need `Internal`.
+-- A reader has to believe `Resolve`, `Reading`, `Rule` and, of a table against an atom, `Atom`. Only the code and the proofs need `Internal`.
 pub mod Resolve
 pub mod Reading
 pub mod Rule
+pub mod Atom
 pub mod Internal

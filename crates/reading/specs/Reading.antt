@@ -12,7 +12,7 @@ use Rattle.search.specs.Search.{Locator, locatorFrom, verticesFrom, nearestIn, 
 use Rattle.table.specs.Bytes.{numberAt}
 use Rattle.table.specs.File.{Entry, entryOf}
 use Rattle.table.specs.declared.Table.{Table}
-use Rattle.reading.specs.Resolve.{ReadingValues, readingValues, Query, Way, linear, wayValid, Resolved, unresolved, beyond, slabAt, resolve, Picks, unpicked, picked, nearestPick, facePick, widened, combined}
+use Rattle.reading.specs.Resolve.{ReadingValues, readingValues, Query, Way, linear, wayValid, Resolved, unresolved, beyond, slabAt, resolve, Picks, unpicked, picked, Combination, nearestPick, facePick, widened, combined}
 use Rattle.reading.specs.declared.Reading.{Reading}
 use Rattle.reading.specs.declared.Reading.the-variants.{Energy, Refused}
 
@@ -40,27 +40,36 @@ searchIn vertices l q v interpolate =
     (facePick n (locateIn p vs n g (unit (q .a))) (locateIn p vs n g (unit (q .b))))
     (nearestPick n (nearestIn p vs n g (unit (q .a))) (nearestIn p vs n g (unit (q .b))))
 
--- the energies picked, from a row's offset o on; the last of 19
-abbrev pub readPicks : List ℕ → Table → Way → Bool → ℕ → Picks → Reading
-readPicks file t way interpolate o (unpicked n) = Refused n
-readPicks file t way interpolate o (picked ks a b) =
-    cond (every (λ k. energyInside file t (o + k)) ks)
-    (Energy (combined way interpolate a b (map (λ k. energyAt file t (o + k)) ks)))
-    (Refused 19)
+-- the energies picked, from a row's offset o on, made into one by f; the last of 19
+abbrev pub picksBy : List ℕ → Table → Combination → ℕ → Picks → Reading
+picksBy file t f o (unpicked n) = Refused n
+picksBy file t f o (picked ks a b) =
+    cond (every (λ k. energyInside file t (o + k)) ks) (Energy (f a b (map (λ k. energyAt file t (o + k)) ks))) (Refused 19)
 
--- "the row's kind known, a Mesh row's level held"; "then the row: Scalar as f64, Repulsive infinity, nearest or the nine-term sum"
-unfoldable pub readEntry : List ℕ → Table → List Float → Locator → Way → Query → Entry → Reading
-readEntry file t vertices l way q e =
+abbrev pub readPicks : List ℕ → Table → Way → Bool → ℕ → Picks → Reading
+readPicks file t way interpolate o x = picksBy file t (combined way interpolate) o x
+
+-- "the row's kind known, a Mesh row's level held"; "then the row: Scalar as f64, Repulsive infinity, nearest or the nine-term sum": by a search of a level and what
+-- makes one energy of those that it picks
+abbrev pub entryBy : List ℕ → Table → (Bool → Combination) → (ℕ → Bool → Picks) → Entry → Reading
+entryBy file t f search e =
     cond (eqb (e .kind) 0) (Energy (widened (e .scalar)))
     (cond (eqb (e .kind) 1) (Energy (inf false))
     (cond (leb (e .kind) 3 && ltb (e .level) (t .levels))
-    (readPicks file t way (eqb (e .kind) 3) (e .offset) (searchIn vertices l q (e .level) (eqb (e .kind) 3)))
+    (picksBy file t (f (eqb (e .kind) 3)) (e .offset) (search (e .level) (eqb (e .kind) 3)))
     (Refused 19)))
 
+unfoldable pub readEntry : List ℕ → Table → List Float → Locator → Way → Query → Entry → Reading
+readEntry file t vertices l way q e = entryBy file t (combined way) (searchIn vertices l q) e
+
+-- the slab's row, by what reads a row
+abbrev pub slabBy : List ℕ → Table → (Entry → Reading) → Resolved → Reading
+slabBy file t read (unresolved n) = Refused n
+slabBy file t read beyond = Energy (ofBits binary64 0)
+slabBy file t read (slabAt s) = cond (rowInside file t s) (read (entryAt file t s)) (Refused 19)
+
 abbrev pub readSlab : List ℕ → Table → List Float → Locator → Way → Query → Resolved → Reading
-readSlab file t vertices l way q (unresolved n) = Refused n
-readSlab file t vertices l way q beyond = Energy (ofBits binary64 0)
-readSlab file t vertices l way q (slabAt s) = cond (rowInside file t s) (readEntry file t vertices l way q (entryAt file t s)) (Refused 19)
+readSlab file t vertices l way q x = slabBy file t (readEntry file t vertices l way q) x
 
 unfoldable pub readingBy : List ℕ → Table → List Float → Locator → Way → Query → ReadingValues
 readingBy file t vertices l way q = readingValues (readSlab file t vertices l way q (resolve (wayValid way) (t .grid) q))

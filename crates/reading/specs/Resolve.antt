@@ -147,6 +147,10 @@ boltzmannAverage beta a b es =
     cond (infinite u) (inf false)
     (cond (le sum (ofBits binary64 0)) (inf false) (sub binary64 u (div binary64 (logarithm sum) beta)))
 
+-- what makes one energy of those picked, by the weights of both faces and the energies' bits
+abbrev pub Combination : Type 0
+Combination = Weights → Weights → List ℕ → Float
+
 -- nearest: the one energy; interpolated: the sum, or the weighted average
 unfoldable pub combined : Way → Bool → Weights → Weights → List ℕ → Float
 combined linear true a b es = nineTerms a b es

@@ -28,7 +28,7 @@ fn joint(a: u64, b: u64) -> u64
 }
 
 // Energy k of those that start at a byte.
-fn energy(file: &[u8], start: u64, k: u64) -> f64
+pub(crate) fn energy(file: &[u8], start: u64, k: u64) -> f64
     requires { ⌜ start + k * 4 + 4 ≤ length (now file) ⌝ }
     ensures { λ r. ⌜ r ≡ widened (numberAt 4 (now (file .entry)) (start + k * 4)) ⌝ }
 {
@@ -59,7 +59,7 @@ pub(crate) fn nearest(t: Table, file: &[u8], offset: u64, n: u64, x: Nearest, y:
 }
 
 // The energies of a vertex, whose places begin at k, against those of a face are among the first ones held.
-fn places_below(held: u64, offset: u64, k: u64, f: Face) -> bool
+pub(crate) fn places_below(held: u64, offset: u64, k: u64, f: Face) -> bool
     requires { ⌜ (offset < 4294967296) × (k ≤ 429499351044) × Small f ⌝ }
     ensures { λ r. ⌜ r ≡ placesBelow held offset k f ⌝ }
 {

@@ -84,7 +84,7 @@ fn interpolated_in(
 }
 
 // Where a level's part of a list begins: at its end, where the list is shorter.
-fn part_from(length: usize, at: u64) -> usize
+pub(crate) fn part_from(length: usize, at: u64) -> usize
     ensures { λ r. ⌜ (r ≡ partFrom at length) × (r ≤ length) ⌝ }
 {
     if at < length as u64 {

@@ -1,10 +1,14 @@
 // The reading of a table file, in stages: the slab's row is resolved, energies are gathered by a search of both directions, and combined.
+mod atom;
+mod atom_combine;
 mod combine;
 mod gather;
 mod places;
 mod resolve;
 mod stages;
 
+pub use atom::atom_lookup;
+pub use atom::atom_lookup_boltzmann;
 pub use stages::lookup;
 pub use stages::lookup_boltzmann;
 

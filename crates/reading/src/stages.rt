@@ -86,7 +86,7 @@ fn read_resolution(
 }
 
 // A table of which a row's answer asks no more than these three numbers.
-fn rows_table(levels: u64, start: u64, count: u64) -> Table
+pub(crate) fn rows_table(levels: u64, start: u64, count: u64) -> Table
     ensures { λ r. ⌜ r ≡ rowsTable levels start count ⌝ }
 {
     Table {

@@ -1,6 +1,6 @@
 -- What a verdict makes of a row. Assumes nothing.
 use mathlib.Core.Path.{_≡_, refl, sym}
-use mathlib.Core.Bool.{true, false, true≢false}
+use mathlib.Core.Bool.{Bool, true, false, cond, true≢false}
 use mathlib.Core.List.{List}
 use Prim.Native.Nat.{ℕ}
 use lib.Ieee.{Float}
@@ -11,6 +11,11 @@ use Rattle.settling.specs.Settling.{newRow, inPlaceOf, notRepulsive, rep
 use Rattle.settling.specs.Internal.{stays, becomes, leftRow, isClear}
 use Rattle.settling.specs.declared.Verdict.{Verdict}
 use Rattle.settling.specs.declared.Verdict.the-variants.{Empty, Blocked, Isotropic, Smooth, Rough}
+
+-- a row with no energies, at whatever level
+pub either-way : {A : Type 0} (b : Bool) (x : A) → cond b x x ≡ x
+either-way true x = refl
+either-way false x = refl
 
 pub row-stays : (r : Rows) (s c : ℕ) (v : Verdict) → stays v ≡ true → r ≡ replacedBy r s (newRow c v)
 row-stays r s c Empty e = refl

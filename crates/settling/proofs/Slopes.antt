@@ -8,7 +8,8 @@ use Prim.Native.Nat.{ℕ, zero as none, suc, _+_, _*_, _≤_, _<_}
 use native.Mathlib.Nat.{mul-comm, one-mul, add-comm}
 use native.Mathlib.Omega.{arith}
 use lib.Dec.{T, eqb}
-use lib.ListN.{getD, List·getD-eq-default}
+use lib.ListN.{length, getD, take, length-map, length-take, List·getD-eq-default}
+use lib.Seq.{getD-take}
 use lib.Ieee.{Float, nan, inf, fin, binary64, up, down, round, ofBits, neg, sub, mul, div, lt, isNan}
 use lib.Ieee.Fits.{div-fits}
 use borrow.Author.Tests.{lt-ltb, le-ltb}
@@ -18,7 +19,7 @@ use Rattle.float.specs.Exp.{exponential}
 use Rattle.lists.specs.Lists.{forEach}
 use Rattle.mesh.specs.Mesh.{Mesh, degree, neighbour, angleTo, meshOf}
 use Rattle.float.proofs.Order.{clear, round-clear}
-use Rattle.settling.specs.Gradient.{zero, weight, steeper, alongNeighbours, pairWeight, gradientOf, gradient}
+use Rattle.settling.specs.Gradient.{zero, weight, steeper, alongNeighbours, pairWeight, gradientOf, gradient, atomGradient}
 use Rattle.settling.specs.Internal.{lineWeights, lineGradient, linesGradient}
 use Rattle.settling.proofs.Largest.{Slope, larger-swap}
 use Rattle.settling.proofs.Orders.{Commute, loops-commute, each-split, each-swap, each-same}
@@ -156,8 +157,32 @@ module _ (m : Mesh) (n : ℕ) (beta : Float) (e : List Float) where
   pub by-lines : linesGradient m n beta e n 1 (linesGradient m n beta e 1 n zero) ≡ gradient m n beta e
   by-lines = ap (linesGradient m n beta e n 1) (columns zero) ∙ rows (forEach n (λ j. forEach n (λ i. first i j)) zero) ∙ sym by-parts
 
+  -- ---- against an atom: one line, from the first place on
+
+  in-line : (j : ℕ) → getD (lineWeights beta e 0 1 n) j nan ≡ getD (map (weight beta) (take n e)) j nan
+  in-line j = by (le-or-lt n j)
+    where
+      by : (n ≤ j) ⊎ (j < n) → getD (lineWeights beta e 0 1 n) j nan ≡ getD (map (weight beta) (take n e)) j nan
+      by (inl h) = past 0 1 j h ∙ sym (List·getD-eq-default (map (weight beta) (take n e)) nan (omega (arith, length-map (take n e) (weight beta), length-take n e)))
+      by (inr h) =
+          let z : 0 + 1 * j ≡ j = omega arith in
+          line-at (weight beta) e 0 1 n j h ∙ rw (z, ← getD-take n e j nan h) (sym (rw (weight-none beta) at (map-at (weight beta) (take n e) j nan)))
+
+  pub by-line : lineGradient m n (lineWeights beta e 0 1 n) zero ≡ lineGradient m n (map (weight beta) (take n e)) zero
+  unfolding lineGradient
+  by-line =
+      each-same n (λ v. alongNeighbours m v (λ k. getD (lineWeights beta e 0 1 n) k nan) (getD (lineWeights beta e 0 1 n) v nan))
+      (λ v. alongNeighbours m v (λ k. getD (map (weight beta) (take n e)) k nan) (getD (map (weight beta) (take n e)) v nan))
+      (λ j t h. along-same m j (λ k. getD (lineWeights beta e 0 1 n) k nan) (λ k. getD (map (weight beta) (take n e)) k nan) (getD (lineWeights beta e 0 1 n) j nan) (getD (map (weight beta) (take n e)) j nan)
+      (λ k l. in-line (neighbour m j k)) (in-line j) t) zero
+
 -- a gradient looks at the links alone
 pub gradient-links : (m : Mesh) (n : ℕ) (beta : Float) (e : List Float)
     → gradient (meshOf [] (m .counts) (m .neighbours) (m .angles)) n beta e ≡ gradient m n beta e
 unfolding gradient gradientOf alongNeighbours
 gradient-links m n beta e = refl
+
+pub atom-links : (m : Mesh) (n : ℕ) (beta : Float) (e : List Float)
+    → atomGradient (meshOf [] (m .counts) (m .neighbours) (m .angles)) n beta e ≡ atomGradient m n beta e
+unfolding atomGradient lineGradient alongNeighbours
+atom-links m n beta e = refl

@@ -2,7 +2,7 @@
 use mathlib.Core.Bool.{Bool, cond, _&&_}
 use mathlib.Core.List.{List, [], _∷_, map}
 use Prim.Native.Nat.{ℕ, _+_, _*_}
-use lib.ListN.{length, getD}
+use lib.ListN.{length, getD, take}
 use lib.Dec.{ltb}
 use lib.IntN.{pos}
 use lib.Ieee.{Float, nan, binary64, ofBits, ofInt, neg, add, sub, mul, div, lt}
@@ -37,6 +37,14 @@ steeper x y angle g =
 -- of the weight x at vertex v against the weights at v's neighbours
 unfoldable pub alongNeighbours : Mesh → ℕ → (ℕ → Float) → Float → Float → Float
 alongNeighbours m v weightAt x g = forEach (degree m v) (λ k h. steeper x (weightAt (neighbour m v k)) (angleTo m v k) h) g
+
+-- along a line of weights, one for each vertex: every vertex against its neighbours
+unfoldable pub lineGradient : Mesh → ℕ → List Float → Float → Float
+lineGradient m n ws g = forEach n (λ v. alongNeighbours m v (λ k. getD ws k nan) (getD ws v nan)) g
+
+-- `compute_gradient_1d` over the n energies of a slab against an atom
+unfoldable pub atomGradient : Mesh → ℕ → Float → List Float → Float
+atomGradient m n beta e = lineGradient m n (map (weight beta) (take n e)) zero
 
 -- the weight at a pair of vertices; a NaN where one of them is no vertex, which the mesh rule rules out
 unfoldable pub pairWeight : ℕ → List Float → ℕ → ℕ → Float

@@ -10,7 +10,8 @@ use Rattle.rows.specs.Rows.{Row}
 use Rattle.rows.specs.declared.SlabResolution.{SlabResolution}
 use Rattle.rows.specs.declared.SlabResolution.the-variants.{Scalar as toScalar, Mesh as toMesh, Repulsive as toRepulsive}
 use Rattle.settling.specs.Gradient as Gradient
-use Rattle.settling.specs.Gradient.{weight, alongNeighbours}
+use Rattle.settling.specs.Gradient.{weight}
+unfoldable pub use Rattle.settling.specs.Gradient.{lineGradient}
 use Rattle.settling.specs.Settling.{newRow, inPlaceOf, steeperOf, settles, notRepulsive}
 use Rattle.settling.specs.declared.Tally.{Tally}
 use Rattle.settling.specs.declared.Verdict.{Verdict}
@@ -27,10 +28,6 @@ lineWeights beta = lineOf (weight beta)
 
 abbrev pub lineExponents : Float → List Float → ℕ → ℕ → ℕ → List Float
 lineExponents beta = lineOf (mul binary64 (neg beta))
-
--- the gradient along a line of weights, one for each vertex
-unfoldable pub lineGradient : Mesh → ℕ → List Float → Float → Float
-lineGradient m n ws g = forEach n (λ v. alongNeighbours m v (λ k. getD ws k nan) (getD ws v nan)) g
 
 -- along a column, four columns side by side, and the first k columns
 unfoldable pub columnGradient : Mesh → ℕ → Float → List Float → ℕ → Float → Float

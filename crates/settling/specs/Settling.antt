@@ -15,7 +15,8 @@ use Rattle.rows.specs.declared.SlabResolution.the-variants.{Scalar as toScalar,
 use Rattle.rows.specs.Rows.{Rows, replaced, Row, scalar, repulsive, mesh, rowWith}
 use Rattle.settling.specs.declared.Verdict.{Verdict}
 use Rattle.settling.specs.declared.Verdict.the-variants.{Empty as empty, Blocked as blocked, Isotropic as isotropic, Smooth as smooth, Rough as rough}
-use Rattle.settling.specs.Gradient.{zero, allRepulsive, gradient, meanNarrowed}
+use Rattle.settling.specs.declared.AtomVerdict.{AtomVerdict}
+use Rattle.settling.specs.Gradient.{zero, allRepulsive, gradient, atomGradient, meanNarrowed}
 
 -- "Gradient below threshold/10: Scalar of the mean narrowed to f32 .. Below threshold: flag false."
 unfoldable pub byGradient : Float → List Float → Float → Verdict
@@ -113,3 +114,21 @@ abbrev pub fromLevel : ℕ → Row Float → Bool
 fromLevel c (scalar x) = true
 fromLevel c repulsive = true
 fromLevel c (mesh v b e) = eqb v c
+
+-- ---- against an atom (`Adaptive3DBuilder::finish_r_slice`), where a slice is one slab
+
+-- of n energies: "any other settling returns its slab's gradient, also where the slab becomes Scalar" (S18.4)
+unfoldable pub atomVerdict : Float → Float → Mesh → ℕ → List Float → AtomVerdict
+atomVerdict threshold beta m n e =
+    let x = atomGradient m n beta e in
+    cond (allRepulsive beta e) (record { verdict = blocked; gradient = zero }) (record { verdict = byGradient threshold e x; gradient = x })
+
+-- "An empty slice or a Repulsive one .. returns 0"
+abbrev pub atomVerdictOf : Float → Float → Mesh → ℕ → Row Float → AtomVerdict
+atomVerdictOf threshold beta m n (scalar x) = record { verdict = empty; gradient = zero }
+atomVerdictOf threshold beta m n repulsive = record { verdict = empty; gradient = zero }
+atomVerdictOf threshold beta m n (mesh v b e) = atomVerdict threshold beta m n e
+
+-- ".. leaves the level"; any other "drops a level above 0 where that gradient is below the threshold" (S18.4)
+unfoldable pub atomLevel : Float → ℕ → AtomVerdict → ℕ
+atomLevel threshold c v = cond (settles (v .verdict) && (lt (v .gradient) threshold && ltb 0 c)) (c - 1) c

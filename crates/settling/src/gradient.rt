@@ -9,7 +9,7 @@ ghost use lib.Ieee.{nan, isNan, binary64, mul, neg};
 ghost use Rattle.mesh.specs.Mesh.{meshOf};
 ghost use Rattle.lists.specs.Lists.{put};
 ghost use Rattle.float.specs.Exp.{exponential};
-ghost use Rattle.settling.specs.Gradient.{weight, steeper, alongNeighbours};
+ghost use Rattle.settling.specs.Gradient.{weight, steeper, alongNeighbours, atomGradient};
 ghost use Rattle.settling.specs.Internal.{lineExponents, lineWeights, lineGradient, fourColumns, firstColumns, linesGradient, byLines};
 
 // The Boltzmann weight of an energy.
@@ -326,6 +326,33 @@ pub(crate) fn gradient(
         1,
         n,
         h,
+        &mut weights,
+    )
+}
+
+// The gradient of a slab against an atom, whose energies are one line.
+pub(crate) fn atom_gradient(
+    counts: &[u8],
+    neighbours: &[u16],
+    angles: &[f64],
+    energies: &[f64],
+    beta: f64,
+    n: u32,
+) -> f64
+    requires { ⌜ n ≤ 2562 ⌝ }
+    ensures { λ r. ⌜ r ≡ atomGradient (meshOf [] (now (counts .entry)) (now (neighbours .entry)) (now (angles .entry))) n beta (now (energies .entry)) ⌝ }
+{
+    let mut weights = [0.0; 2562];
+    line(
+        counts,
+        neighbours,
+        angles,
+        energies,
+        beta,
+        0,
+        1,
+        n,
+        0.0,
         &mut weights,
     )
 }

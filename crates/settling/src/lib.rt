@@ -1,7 +1,10 @@
 // The settling of one slab: its gradient, what settling finds of it, and the row that it leaves.
+mod atom;
 mod gradient;
 mod verdicts;
 
+pub use atom::atom_level;
+pub use atom::atom_verdict_of;
 pub use verdicts::replace_by;
 pub use verdicts::tallied;
 pub use verdicts::verdict_of;
@@ -13,6 +16,12 @@ pub enum Verdict {
     Isotropic(f32),
     Smooth(f64),
     Rough(f64),
+}
+
+// What settling finds of a slab against an atom, with the slab's gradient; 0 beside a slab that holds no energies or is repulsive.
+pub struct AtomVerdict {
+    pub verdict: Verdict,
+    pub gradient: f64,
 }
 
 // What a slice adds up to: the largest gradient of slabs left as Mesh, whether some slab was settled, and whether no row is Repulsive.

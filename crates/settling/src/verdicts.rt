@@ -22,7 +22,7 @@ fn is_repulsive(beta: f64, e: f64) -> bool
     gradient::weight(beta, e) - 1.0 < 1e-4 - 1.0
 }
 
-fn all_repulsive(beta: f64, energies: &[f64]) -> bool
+pub(crate) fn all_repulsive(beta: f64, energies: &[f64]) -> bool
     ensures { λ r. ⌜ r ≡ allRepulsive beta (now (energies .entry)) ⌝ }
 {
     let mut i = 0;
@@ -54,7 +54,7 @@ fn mean_narrowed(energies: &[f64]) -> f32
     ieee::narrow(sum(energies) / float::of_u64(energies.len() as u64))
 }
 
-fn by_gradient(threshold: f64, energies: &[f64], x: f64) -> Verdict
+pub(crate) fn by_gradient(threshold: f64, energies: &[f64], x: f64) -> Verdict
     ensures { λ r. ⌜ r ≡ byGradient threshold (now (energies .entry)) x ⌝ }
 {
     if x < threshold / 10.0 {
@@ -78,7 +78,7 @@ fn steeper_of(x: f64, v: Verdict) -> f64
     }
 }
 
-fn settles(v: Verdict) -> bool
+pub(crate) fn settles(v: Verdict) -> bool
     ensures { λ r. ⌜ r ≡ settles v ⌝ }
 {
     match v {

@@ -1,105 +1,76 @@
--- The reader accepts a written file. Assumes nothing.
+-- Questions 13 and 15 to 17 of a written file of five sections, and the levels' part of 14, are answered yes. Assumes nothing.
 use mathlib.Core.Path.{_≡_, refl, sym, ap, _∙_}
-use mathlib.Core.Bool.{Bool, true, not}
-use mathlib.Core.List.{List}
+use mathlib.Core.Bool.{Bool, true}
+use mathlib.Core.List.{List, map}
 use Prim.Native.Nat.{ℕ, zero, suc, _+_, _*_, _^_, _<_}
-use native.Mathlib.Nat.{mul-comm}
+use native.Mathlib.Nat.{mul-comm, zero-add}
 use native.Mathlib.Omega.{arith}
 use lib.ListN.{length, getD}
 use lib.Dec.{eqb}
-use lib.Ieee.{binary32, binary64, ofBits, nanBits}
 use borrow.Author.Tests.{eq-eqb}
 use Rattle.lists.specs.Questions.{ask}
-use Rattle.lists.specs.Lists.{allUpTo, every}
-use Rattle.mesh.specs.Levels.{vertexCount, per}
-use Rattle.grid.specs.Bins.{tableRmax}
-use Rattle.grid.specs.Settings.{gridValid}
-use Rattle.grid.specs.declared.Grid.{Grid}
+use Rattle.lists.specs.Lists.{allUpTo, below}
+use Rattle.mesh.specs.Levels.{vertexCount}
+use Rattle.rows.specs.Rows.{Row}
 use Rattle.table.specs.Bytes.{numberOf, numberAt}
-use Rattle.table.specs.File.{Entry}
-use Rattle.table.specs.Read.{layout, tableOf, tableValid, entryValid, tiled, readValues, readOut}
-use Rattle.table.specs.Internal.{tableQuestion}
-use Rattle.table.specs.declared.Table.{Table}
-use Rattle.table.specs.declared.ReadAnswer.the-variants.{Accepted as Reads}
-use Rattle.table.proofs.Accepted.{read-accepted}
-use Rattle.table.proofs.Back.{All, Fitting, item-at}
-use Rattle.table.proofs.Parsed.{sections, laid, laid-out, levels-count, rows-count, energies-count, levels-back, rows-back, energies-back, grid-back}
+use Rattle.table.specs.File.{entries, packedEnergies}
+use Rattle.table.specs.Read.{countAt, layout, laidOut}
+use Rattle.table.specs.Internal.{rowsQuestion}
+use Rattle.table.proofs.Back.{item-at}
+use Rattle.table.proofs.Sound.{entries-length, entries-held, entries-tiled, numbers, energies-valid}
+use Rattle.table.proofs.OfRows.{counts-many, counts-at, counts-fit}
+use Rattle.table.proofs.OfSections.{Sized, file, few-counts, few-entries, levelsAt, rowsAt, energiesAt, laid, sections-length, entries-are, energies-are}
+use Rattle.table.proofs.Sections as Sections
 
 pub all-is : (p : ℕ → Bool) (n : ℕ) → ((k : ℕ) → k < n → p k ≡ true) → allUpTo n p ≡ true
 unfolding allUpTo
 all-is p zero h = refl
 all-is p (suc n) h = rw (all-is p n (λ k l. h k (omega arith)), h n (omega arith))
 
-module _ (x y z n m : ℕ) (ls : List ℕ) (rs : List Entry) (es : List ℕ)
-    (fewLevels : length ls < 256 ^ 4) (fewRows : length rs < 256 ^ 4) (fewEnergies : length es < 256 ^ 4)
-    (hx : x < 256 ^ 8) (hy : y < 256 ^ 8) (hz : z < 256 ^ 8) (hn : n < 256 ^ 4) (hm : m < 256 ^ 4) where
-  abbrev pub written : List ℕ
-  written = sections x y z n m ls rs es fewLevels fewRows fewEnergies
+module _ {each : ℕ → ℕ} {xs ns : List ℕ} {levels : ℕ} {rows : List (Row ℕ)} (w : Sized each xs ns levels rows) where
+  pub levels-count : countAt (file w) (levelsAt w) ≡ levels
+  levels-count =
+      Sections.levels-count xs ns _ _ _ (w .few-floats) (w .few-bins) (few-counts w) (few-entries w) (w .few-energies) ∙ counts-many levels
 
-  -- the grid and the table that the reader finds
-  abbrev pub gridFound : Grid
-  gridFound = record {
-    rmin = ofBits binary64 x;
-    rmax = tableRmax n (ofBits binary64 y) (ofBits binary64 x);
-    dr = ofBits binary64 y;
-    «omega_step» = ofBits binary64 z;
-    threshold = ofBits binary64 0;
-    beta = ofBits binary64 0;
-    «n_r» = n;
-    «n_omega» = m;
-  }
+  pub rows-count : countAt (file w) (levelsAt w + 4 + levels * 4) ≡ length rows
+  rows-count =
+      rw (counts-many levels, entries-length each 0 rows) at
+      (Sections.rows-count xs ns (map vertexCount (below levels)) (entries each 0 rows) (packedEnergies rows) (w .few-floats) (w .few-bins) (few-counts w) (few-entries w) (w .few-energies))
 
-  abbrev pub tableFound : Table
-  tableFound = record {
-    grid = gridFound;
-    levels = length ls;
-    rows = length rs;
-    energies = length es;
-    «grid_start» = 4;
-    «bins_start» = 28 + 4;
-    «levels_start» = 40 + 4;
-    «rows_start» = 40 + 4 + length ls * 4 + 4;
-    «energies_start» = 40 + 4 + length ls * 4 + 4 + length rs * 10 + 4;
-  }
+  pub energies-count : countAt (file w) (rowsAt w + length rows * 10) ≡ length (packedEnergies rows)
+  energies-count =
+      rw (counts-many levels, entries-length each 0 rows) at
+      (Sections.energies-count xs ns (map vertexCount (below levels)) (entries each 0 rows) (packedEnergies rows) (w .few-floats) (w .few-bins) (few-counts w) (few-entries w) (w .few-energies))
 
-  pub table-back : tableOf written (layout written) ≡ tableFound
-  unfolding tableOf
-  table-back =
+  pub laid-out : laidOut (length xs) (length ns) (file w) (layout (file w)) ≡ true
+  unfolding laidOut
+  laid-out =
       rw (
-        grid-back x y z n m ls rs es fewLevels fewRows fewEnergies hx hy hz hn hm,
-        laid x y z n m ls rs es fewLevels fewRows fewEnergies,
-        levels-count x y z n m ls rs es fewLevels fewRows fewEnergies,
-        rows-count x y z n m ls rs es fewLevels fewRows fewEnergies,
-        energies-count x y z n m ls rs es fewLevels fewRows fewEnergies,
+        laid w,
+        Sections.floats-count xs ns (map vertexCount (below levels)) (entries each 0 rows) (packedEnergies rows) (w .few-floats) (w .few-bins) (few-counts w) (few-entries w) (w .few-energies),
+        Sections.bins-count xs ns (map vertexCount (below levels)) (entries each 0 rows) (packedEnergies rows) (w .few-floats) (w .few-bins) (few-counts w) (few-entries w) (w .few-energies),
+        eq-eqb (length xs) (length xs) refl,
+        eq-eqb (length ns) (length ns) refl,
+      ) (eq-eqb _ _ (sym (sections-length w)))
+
+  level : (k : ℕ) → k < levels → eqb (numberAt 4 (file w) (levelsAt w + 4 + 4 * k)) (vertexCount k) ≡ true
+  unfolding numberAt
+  level k l =
+      let back = Sections.levels-back xs ns (map vertexCount (below levels)) (entries each 0 rows) (packedEnergies rows) (w .few-floats) (w .few-bins) (few-counts w) (few-entries w) (w .few-energies) (counts-fit levels (w .few-levels)) in
+      eq-eqb _ (vertexCount k)
+      (rw (mul-comm 4 k) (sym (item-at numberOf 4 (file w) 0 (levelsAt w + 4) (length (map vertexCount (below levels))) k (omega (arith, l, counts-many levels)))
+      ∙ ap (λ (q : List ℕ). getD q k 0) back ∙ counts-at levels k l))
+
+  pub levels-held : allUpTo levels (λ k. eqb (numberAt 4 (file w) (levelsAt w + 4 + 4 * k)) (vertexCount k)) ≡ true
+  levels-held = all-is (λ k. eqb (numberAt 4 (file w) (levelsAt w + 4 + 4 * k)) (vertexCount k)) levels level
+
+  pub rows-asked : rowsQuestion each (file w) levels (rowsAt w) (length rows) (energiesAt w) (length (packedEnergies rows)) ≡ 0
+  unfolding ask
+  rows-asked =
+      rw (
+        entries-are w,
+        energies-are w,
+        entries-held each levels 0 rows (w .fine),
+        entries-tiled each levels 0 (length (packedEnergies rows)) rows (w .fine) (zero-add (length (packedEnergies rows))),
+        energies-valid (packedEnergies rows) (numbers each levels rows (w .fine)),
       )
-
-  module _ (counts : (k : ℕ) → k < length ls → getD ls k 0 ≡ vertexCount k) (fitLevels : All (λ k. k < 256 ^ 4) ls) (fitRows : All Fitting rs) (fitEnergies : All (λ k. k < 256 ^ 4) es)
-      (q14 : gridValid gridFound (length ls) ≡ true) (product : length rs ≡ n * m)
-      (q15 : every (entryValid (length ls)) rs ≡ true) (q16 : tiled per 0 (length es) rs ≡ true) (q17 : every (λ k. not (nanBits binary32 k)) es ≡ true) where
-    level : (k : ℕ) → k < length ls → eqb (numberAt 4 written (40 + 4 + 4 * k)) (vertexCount k) ≡ true
-    unfolding numberAt
-    level k l =
-        eq-eqb _ (vertexCount k)
-        (rw (mul-comm 4 k) (sym (item-at numberOf 4 written 0 (40 + 4) (length ls) k l)
-        ∙ ap (λ (q : List ℕ). getD q k 0) (levels-back x y z n m ls rs es fewLevels fewRows fewEnergies fitLevels) ∙ counts k l))
-
-    held : tableValid written tableFound ≡ true
-    unfolding tableValid
-    held = rw (q14, eq-eqb (length rs) (n * m) product, all-is (λ k. eqb (numberAt 4 written (40 + 4 + 4 * k)) (vertexCount k)) (length ls) level)
-
-    asked : 0 ≡ tableQuestion written (tableOf written (layout written))
-    unfolding ask
-    asked =
-        rw (
-          table-back,
-          held,
-          rows-back x y z n m ls rs es fewLevels fewRows fewEnergies fitRows,
-          q15,
-          q16,
-          energies-back x y z n m ls rs es fewLevels fewRows fewEnergies fitEnergies,
-          q17,
-        )
-
-    -- the reader accepts the file, and answers with what it holds
-    pub accepts : readOut written ≡ readValues (Reads tableFound)
-    accepts = read-accepted written (laid-out x y z n m ls rs es fewLevels fewRows fewEnergies) 0 asked refl ∙ ap (λ (t : Table). readValues (Reads t)) table-back

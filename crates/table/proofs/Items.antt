@@ -2,7 +2,7 @@
 use mathlib.Core.Path.{_≡_, refl, sym, ap, _∙_}
 use mathlib.Core.Bool.{Bool, true, false, cond, _&&_, _||_, and-true, and-assoc}
 use mathlib.Core.List.{List, [], _∷_}
-use Prim.Native.Nat.{ℕ, zero, suc, _+_, _-_, _≤_, _<_}
+use Prim.Native.Nat.{ℕ, zero, suc, _+_, _*_, _-_, _≤_, _<_}
 use native.Mathlib.Nat.{add-zero}
 use native.Mathlib.Omega.{arith}
 use lib.ListN.{getD, take, drop}
@@ -10,10 +10,11 @@ use lib.Seq.{drop-drop}
 use lib.Dec.{leb, eqb}
 use borrow.Author.Tests.{eqb-true}
 use Rattle.lists.specs.Lists.{every}
+use Rattle.mesh.proofs.Laws.{count-le, per-le}
 use Rattle.table.specs.Bytes.{numberOf, numberAt, items}
 use Rattle.table.specs.File.{Entry, entryOf}
 use Rattle.table.specs.Read.{tiled}
-use Rattle.table.specs.Internal.{placedAt, nextPlace}
+use Rattle.table.specs.Internal.{eachOf, placedAt, nextPlace}
 use Rattle.table.proofs.Numbers.{number-suc, no-bytes}
 
 module _ {A : Type 0} (dec : List ℕ → A) (w : ℕ) (file : List ℕ) where
@@ -112,3 +113,8 @@ module _ (each : ℕ → ℕ) (file : List ℕ) (e o at n : ℕ) (l : 0 < n) whe
 pub tiled-end : (each : ℕ → ℕ) (file : List ℕ) (e o at n : ℕ) → n ≤ 0 → tiled each o e (items entryOf 10 file at n) ≡ eqb o e
 unfolding tiled items
 tiled-end each file e o at n h = let z : n ≡ 0 = omega arith in rw z
+
+-- the energies of a row whose level is a byte
+pub each-le : (pairs : Bool) (v : ℕ) → v < 256 → eachOf pairs v ≤ 655362 * 655362
+each-le true v h = per-le v 256 h
+each-le false v h = omega (arith, count-le v 256 h)

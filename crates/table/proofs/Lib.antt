@@ -5,10 +5,10 @@ pub mod Accepted
 pub mod Lengths
 pub mod Back
 pub mod Sections
-pub mod Parsed
 pub mod Sound
 pub mod Accepts
 pub mod OfRows
 pub mod OfSections
 pub mod OfFile
+pub mod AtomFile
 pub mod Checked

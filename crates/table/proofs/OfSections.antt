@@ -10,16 +10,30 @@ use Rattle.mesh.specs.Levels.{vertexCount}
 use Rattle.rows.specs.Rows.{Row, repulsive}
 use Rattle.table.specs.Bytes.{numberOf, numberAt, items}
 use Rattle.table.specs.File.{Entry, entryOf, entry, entries, energiesIn, packedEnergies, sectionsOf}
+use Rattle.table.specs.Read.{layout}
+use Rattle.table.specs.declared.Layout.{Layout}
 use Rattle.table.proofs.Back.{All, Fitting, item-at}
 use Rattle.table.proofs.Sound.{Fine, entries-length, entries-fit, numbers}
-use Rattle.table.proofs.OfRows.{before, counts-many, numbers-fit, entry-is, energies-in, energy-is}
+use Rattle.table.proofs.OfRows.{before, counts-many, numbers-fit, entry-is, energies-in, energy-is, same-rows}
 use Rattle.table.proofs.Sections as Sections
 
-module _ (each : ℕ → ℕ) (xs ns : List ℕ) (levels : ℕ) (rows : List (Row ℕ))
-    (fewFloats : length xs < 256 ^ 4) (fewBins : length ns < 256 ^ 4) (small : levels ≤ 16) (fewRows : length rows < 256 ^ 4) (few : length (packedEnergies rows) < 256 ^ 4)
-    (fine : All (Fine each levels) rows) where
-  abbrev file : List ℕ
+-- the numbers of the heads, a level count and rows that a file can hold
+pub record Sized (each : ℕ → ℕ) (xs ns : List ℕ) (levels : ℕ) (rows : List (Row ℕ)) : Type 0 where
+  pub floats : All (λ k. k < 256 ^ 8) xs
+  pub bins : All (λ k. k < 256 ^ 4) ns
+  pub few-floats : length xs < 256 ^ 4
+  pub few-bins : length ns < 256 ^ 4
+  pub few-levels : levels ≤ 16
+  pub few-rows : length rows < 256 ^ 4
+  pub few-energies : length (packedEnergies rows) < 256 ^ 4
+  pub fine : All (Fine each levels) rows
+
+module _ {each : ℕ → ℕ} {xs ns : List ℕ} {levels : ℕ} {rows : List (Row ℕ)} (w : Sized each xs ns levels rows) where
+  abbrev pub file : List ℕ
   file = sectionsOf each xs ns levels rows
+
+  abbrev ls : List ℕ
+  ls = map vertexCount (below levels)
 
   abbrev rs : List Entry
   rs = entries each 0 rows
@@ -27,11 +41,11 @@ module _ (each : ℕ → ℕ) (xs ns : List ℕ) (levels : ℕ) (rows : List (Ro
   abbrev es : List ℕ
   es = packedEnergies rows
 
-  few-levels : length (map vertexCount (below levels)) < 256 ^ 4
-  few-levels = omega (arith, counts-many levels)
+  pub few-counts : length ls < 256 ^ 4
+  few-counts = omega (arith, counts-many levels, w .few-levels)
 
-  few-entries : length rs < 256 ^ 4
-  few-entries = omega (arith, entries-length each 0 rows)
+  pub few-entries : length rs < 256 ^ 4
+  few-entries = omega (arith, entries-length each 0 rows, w .few-rows)
 
   -- where the third section begins, and the numbers of sections 4 and 5
   abbrev pub levelsAt : ℕ
@@ -43,26 +57,40 @@ module _ (each : ℕ → ℕ) (xs ns : List ℕ) (levels : ℕ) (rows : List (Ro
   abbrev pub energiesAt : ℕ
   energiesAt = rowsAt + length rows * 10 + 4
 
-  pub fit-rows : All Fitting rs
-  fit-rows = entries-fit each levels 0 rows (omega arith) fine (omega arith)
+  pub laid : layout file ≡ record {
+    bins = 4 + length xs * 8;
+    levels = levelsAt;
+    rows = levelsAt + 4 + levels * 4;
+    energies = rowsAt + length rows * 10;
+    end = energiesAt + length es * 4;
+  }
+  laid =
+      rw (counts-many levels, entries-length each 0 rows) at
+      (Sections.laid xs ns ls rs es (w .few-floats) (w .few-bins) few-counts few-entries (w .few-energies))
 
-  pub fit-energies : All (λ k. k < 256 ^ 4) es
-  fit-energies = numbers-fit es (numbers each levels rows fine)
+  pub float-of : (i : ℕ) → i < length xs → numberAt 8 file (4 + i * 8) ≡ getD xs i 0
+  float-of = Sections.float-back xs ns ls rs es (w .few-floats) (w .few-bins) few-counts few-entries (w .few-energies) (w .floats)
+
+  pub bin-of : (i : ℕ) → i < length ns → numberAt 4 file (4 + length xs * 8 + 4 + i * 4) ≡ getD ns i 0
+  bin-of = Sections.bin-back xs ns ls rs es (w .few-floats) (w .few-bins) few-counts few-entries (w .few-energies) (w .bins)
+
+  fit-rows : All Fitting rs
+  fit-rows = entries-fit each levels 0 rows (omega (arith, w .few-levels)) (w .fine) (omega (arith, w .few-energies))
 
   pub sections-length : length file ≡ energiesAt + length es * 4
   sections-length =
-      Sections.ends xs ns (map vertexCount (below levels)) rs es fewFloats fewBins few-levels few-entries few
+      Sections.ends xs ns ls rs es (w .few-floats) (w .few-bins) few-counts few-entries (w .few-energies)
       ∙ rw (counts-many levels, entries-length each 0 rows)
 
   pub entries-are : items entryOf 10 file rowsAt (length rows) ≡ rs
   entries-are =
       rw (counts-many levels, entries-length each 0 rows) at
-      (Sections.rows-back xs ns (map vertexCount (below levels)) rs es fewFloats fewBins few-levels few-entries few fit-rows)
+      (Sections.rows-back xs ns ls rs es (w .few-floats) (w .few-bins) few-counts few-entries (w .few-energies) fit-rows)
 
   pub energies-are : items numberOf 4 file energiesAt (length es) ≡ es
   energies-are =
       rw (counts-many levels, entries-length each 0 rows) at
-      (Sections.energies-back xs ns (map vertexCount (below levels)) rs es fewFloats fewBins few-levels few-entries few fit-energies)
+      (Sections.energies-back xs ns ls rs es (w .few-floats) (w .few-bins) few-counts few-entries (w .few-energies) (numbers-fit es (numbers each levels rows (w .fine))))
 
   -- row s, its energies at the place where those of the rows before it end
   pub entry-of : (s : ℕ) → s < length rows → entryOf (take 10 (drop (rowsAt + s * 10) file)) ≡ entry (before each levels rows s) (getD rows s repulsive)
@@ -78,7 +106,22 @@ module _ (each : ℕ → ℕ) (xs ns : List ℕ) (levels : ℕ) (rows : List (Ro
   unfolding numberAt
   energy-of s k h i =
       let j = before each levels rows s + k in
-      let l : j < length es = omega (arith, energies-in each levels rows s fine h) in (
+      let l : j < length es = omega (arith, energies-in each levels rows s (w .fine) h) in (
         l,
-        sym (item-at numberOf 4 file 0 energiesAt (length es) j l) ∙ ap (λ (q : List ℕ). getD q j 0) energies-are ∙ energy-is each levels rows s k fine h i,
+        sym (item-at numberOf 4 file 0 energiesAt (length es) j l) ∙ ap (λ (q : List ℕ). getD q j 0) energies-are ∙ energy-is each levels rows s k (w .fine) h i,
       )
+
+-- files are equal only where the rows are
+pub rows-same : {each : ℕ → ℕ} {xs ns ys ks : List ℕ} {m n : ℕ} {a b : List (Row ℕ)} (v : Sized each xs ns m a) (w : Sized each ys ks n b)
+    → sectionsOf each xs ns m a ≡ sectionsOf each ys ks n b → a ≡ b
+rows-same {each = each} {m = m} {n = n} {a = a} {b = b} v w e =
+    let t = sym (laid v) ∙ ap layout e ∙ laid w in
+    let rows = ap (λ (p : Layout). p .rows) t in
+    let energies = ap (λ (p : Layout). p .energies) t in
+    let many : length a ≡ length b = omega (arith, rows, energies) in
+    let few : length (packedEnergies a) ≡ length (packedEnergies b) = omega (arith, energies, ap (λ (p : Layout). p .end) t) in
+    let at : rowsAt v ≡ rowsAt w = omega (arith, rows) in
+    let from : energiesAt v ≡ energiesAt w = omega (arith, energies) in
+    same-rows each m n a b (v .fine) (w .fine)
+    (sym (entries-are v) ∙ rw (e, at, many) (entries-are w))
+    (sym (energies-are v) ∙ rw (e, from, few) (energies-are w))

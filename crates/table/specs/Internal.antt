@@ -1,6 +1,6 @@
 -- What only the code and the proofs need; a reader need not believe it. Definitions only.
 use mathlib.Core.Path.{_≡_}
-use mathlib.Core.Bool.{Bool, not, cond, _||_}
+use mathlib.Core.Bool.{Bool, true, false, not, cond, _||_}
 use mathlib.Core.List.{List}
 use Prim.Native.Nat.{ℕ, _+_, _*_, _≤_}
 use lib.ListN.{length}
@@ -8,10 +8,14 @@ use lib.Dec.{leb, eqb}
 use lib.Ieee.{binary32, nanBits}
 use Rattle.lists.specs.Questions.{ask}
 use Rattle.lists.specs.Lists.{every}
-use Rattle.mesh.specs.Levels.{per}
-use Rattle.table.specs.Read.{countAt, rowItems, energyItems, tableValid, entryValid, tiled}
+use Rattle.mesh.specs.Levels.{vertexCount, per}
+use Rattle.table.specs.Bytes.{numberOf, items}
+use Rattle.table.specs.File.{entryOf}
+use Rattle.table.specs.Read.{countAt, tableValid, entryValid, tiled}
+use Rattle.table.specs.Atom.{atomTableValid}
 use Rattle.table.specs.declared.Layout.{Layout}
 use Rattle.table.specs.declared.Table.{Table}
+use Rattle.table.specs.declared.AtomTable.{AtomTable}
 
 -- where the sections are, once 13 is answered yes, with i numbers in section 1 and j in section 2
 pub record SectionsInside (i j : ℕ) (file : List ℕ) (p : Layout) : Type 0 where
@@ -21,19 +25,37 @@ pub record SectionsInside (i j : ℕ) (file : List ℕ) (p : Layout) : Type 0 wh
   pub energies : p .energies ≡ p .rows + 4 + countAt file (p .rows) * 10
   pub end : length file ≡ p .energies + 4 + countAt file (p .energies) * 4
 
--- the sections that the later questions walk are inside the file
-pub record Inside (file : List ℕ) (t : Table) : Type 0 where
-  pub levels : t .«levels_start» + t .levels * 4 ≤ length file
-  pub rows : t .«rows_start» + t .rows * 10 ≤ length file
-  pub energies : t .«energies_start» + t .energies * 4 ≤ length file
+-- the sections that the later questions walk are inside the file: i levels at byte x, j rows at y and k energies at z
+pub record Inside (file : List ℕ) (x i y j z k : ℕ) : Type 0 where
+  pub levels : x + i * 4 ≤ length file
+  pub rows : y + j * 10 ≤ length file
+  pub energies : z + k * 4 ≤ length file
+
+abbrev pub TableInside : List ℕ → Table → Type 0
+TableInside file t = Inside file (t .«levels_start») (t .levels) (t .«rows_start») (t .rows) (t .«energies_start») (t .energies)
+
+abbrev pub AtomTableInside : List ℕ → AtomTable → Type 0
+AtomTableInside file t = Inside file (t .«levels_start») (t .levels) (t .«rows_start») (t .rows) (t .«energies_start») (t .energies)
+
+-- the energies of a Mesh row of a level: n·n of them where two directions are paired, and n otherwise
+abbrev pub eachOf : Bool → ℕ → ℕ
+eachOf true = per
+eachOf false = vertexCount
+
+-- 15 to 17, of rows at byte y and energies at byte z
+abbrev pub rowsQuestion : (ℕ → ℕ) → List ℕ → ℕ → ℕ → ℕ → ℕ → ℕ → ℕ
+rowsQuestion each file levels y rows z energies =
+    ask (every (entryValid levels) (items entryOf 10 file y rows)) 15
+    (ask (tiled each 0 energies (items entryOf 10 file y rows)) 16
+    (ask (every (λ x. not (nanBits binary32 x)) (items numberOf 4 file z energies)) 17 0))
 
 -- 14 to 17, of a table whose sections are inside the file
 abbrev pub tableQuestion : List ℕ → Table → ℕ
-tableQuestion file t =
-    ask (tableValid file t) 14
-    (ask (every (entryValid (t .levels)) (rowItems file t)) 15
-    (ask (tiled per 0 (t .energies) (rowItems file t)) 16
-    (ask (every (λ x. not (nanBits binary32 x)) (energyItems file t)) 17 0)))
+tableQuestion file t = ask (tableValid file t) 14 (rowsQuestion per file (t .levels) (t .«rows_start») (t .rows) (t .«energies_start») (t .energies))
+
+abbrev pub atomTableQuestion : List ℕ → AtomTable → ℕ
+atomTableQuestion file t =
+    ask (atomTableValid file t) 14 (rowsQuestion vertexCount file (t .levels) (t .«rows_start») (t .rows) (t .«energies_start») (t .energies))
 
 -- a row has no energies, or they start at place o; and where those of the next row start
 abbrev pub placedAt : ℕ → ℕ → ℕ → Bool

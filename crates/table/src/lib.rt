@@ -1,4 +1,5 @@
 // The table file, and read.
+use grid::AtomGrid;
 use grid::Grid;
 
 mod bytes;
@@ -7,6 +8,8 @@ mod reader;
 mod walk;
 
 pub use bytes::u32_from_le_bytes;
+pub use questions::energies_of;
+pub use reader::atom_read;
 pub use reader::read;
 
 // Where each section after the first begins, with its count, and where the last one ends.
@@ -31,8 +34,26 @@ pub struct Table {
     pub energies_start: u64,
 }
 
+// What a file of a table against an atom holds; its second section has the distance count alone.
+pub struct AtomTable {
+    pub grid: AtomGrid,
+    pub levels: u64,
+    pub rows: u64,
+    pub energies: u64,
+    pub grid_start: u64,
+    pub bins_start: u64,
+    pub levels_start: u64,
+    pub rows_start: u64,
+    pub energies_start: u64,
+}
+
 // What read answers.
 pub enum ReadAnswer {
     Accepted(Table),
+    Refused(u64),
+}
+
+pub enum AtomReadAnswer {
+    Accepted(AtomTable),
     Refused(u64),
 }

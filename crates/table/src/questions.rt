@@ -6,11 +6,13 @@ ghost use lib.ListN.{length, take, drop};
 ghost use lib.Dec.{eqb};
 ghost use lib.Ieee.{binary32, nanBits};
 ghost use Rattle.lists.specs.Lists.{allUpTo, every};
-ghost use Rattle.mesh.specs.Levels.{vertexCount, per};
+ghost use Rattle.mesh.specs.Levels.{vertexCount};
 ghost use Rattle.table.specs.Bytes.{numberOf, numberAt, items};
 ghost use Rattle.table.specs.File.{entryOf};
 ghost use Rattle.table.specs.Read.{tableValid, scalarValid, entryValid, tiled};
-ghost use Rattle.table.specs.Internal.{Inside, tableQuestion, placedAt, nextPlace};
+ghost use Rattle.table.specs.Atom.{atomTableValid};
+ghost use Rattle.table.specs.Internal.{TableInside, AtomTableInside, eachOf, rowsQuestion, tableQuestion, atomTableQuestion, placedAt, nextPlace};
+use crate::AtomTable;
 use crate::Table;
 use crate::bytes::u32_in;
 use crate::bytes::u64_in;
@@ -45,6 +47,25 @@ fn table_valid(file: &[u8], t: Table) -> bool
         return false;
     }
     if rows != n_r * n_omega {
+        return false;
+    }
+    levels_valid(file, start, levels)
+}
+
+// Question 14 of a table against an atom.
+fn atom_table_valid(file: &[u8], t: AtomTable) -> bool
+    requires { ⌜ t .«levels_start» + t .levels * 4 ≤ length (now file) ⌝ }
+    ensures { λ r. ⌜ r ≡ atomTableValid (now (file .entry)) t ⌝ }
+{
+    let g = t.grid;
+    let n_r = t.grid.n_r;
+    let levels = t.levels;
+    let rows = t.rows;
+    let start = t.levels_start;
+    if !grid::atom_grid_valid(g, levels) {
+        return false;
+    }
+    if rows != n_r {
         return false;
     }
     levels_valid(file, start, levels)
@@ -116,21 +137,32 @@ fn placed(kind: u8, offset: u32, o: u64) -> bool
     (kind <= 1) | (offset as u64 == o)
 }
 
+// The energies of a Mesh row of a level: n·n where two directions are paired, n against an atom.
+pub fn energies_of(pairs: bool, level: u8) -> u64
+    ensures { λ r. ⌜ r ≡ eachOf pairs level ⌝ }
+{
+    let n = mesh::vertex_count(level);
+    if pairs {
+        return n * n;
+    }
+    n
+}
+
 // Where the energies of the next row start. From the offset, which is the place, since an offset is known to be small.
-fn next_place(kind: u8, level: u8, offset: u32, o: u64) -> u64
+fn next_place(pairs: bool, kind: u8, level: u8, offset: u32, o: u64) -> u64
     requires { ⌜ o ≤ 433794318339 ⌝ }
-    ensures { λ r. ⌜ (r ≡ nextPlace per kind level offset o) × (r ≤ 433794318339) ⌝ }
+    ensures { λ r. ⌜ (r ≡ nextPlace (eachOf pairs) kind level offset o) × (r ≤ 433794318339) ⌝ }
 {
     if kind <= 1 {
         return o;
     }
-    offset as u64 + mesh::per_level(level)
+    offset as u64 + energies_of(pairs, level)
 }
 
 // Question 16.
-fn rows_tiled(file: &[u8], start: u64, rows: u64, energies: u64) -> bool
+fn rows_tiled(file: &[u8], pairs: bool, start: u64, rows: u64, energies: u64) -> bool
     requires { ⌜ start + rows * 10 ≤ length (now file) ⌝ }
-    ensures { λ r. ⌜ r ≡ tiled per 0 energies (items entryOf 10 (now (file .entry)) start rows) ⌝ }
+    ensures { λ r. ⌜ r ≡ tiled (eachOf pairs) 0 energies (items entryOf 10 (now (file .entry)) start rows) ⌝ }
 {
     let mut at = start;
     let mut left = rows;
@@ -143,7 +175,7 @@ fn rows_tiled(file: &[u8], start: u64, rows: u64, energies: u64) -> bool
         if !placed(kind, offset, o) {
             return false;
         }
-        o = next_place(kind, level, offset, o);
+        o = next_place(pairs, kind, level, offset, o);
         at += 10;
         left -= 1;
     }
@@ -181,9 +213,34 @@ fn energies_valid(file: &[u8], start: u64, energies: u64) -> bool
     held
 }
 
-// Questions 14 to 17: the number of the first one that is answered no, or 0.
+// Questions 15 to 17 of a table's rows and energies: the number of the first one that is answered no, or 0.
+fn rows_question(
+    file: &[u8],
+    pairs: bool,
+    levels: u64,
+    rows_start: u64,
+    rows: u64,
+    energies_start: u64,
+    energies: u64,
+) -> u64
+    requires { ⌜ («rows_start» + rows * 10 ≤ length (now file)) × («energies_start» + energies * 4 ≤ length (now file)) ⌝ }
+    ensures { λ r. ⌜ r ≡ rowsQuestion (eachOf pairs) (now (file .entry)) levels «rows_start» rows «energies_start» energies ⌝ }
+{
+    if !rows_valid(file, rows_start, rows, levels) {
+        return 15;
+    }
+    if !rows_tiled(file, pairs, rows_start, rows, energies) {
+        return 16;
+    }
+    if !energies_valid(file, energies_start, energies) {
+        return 17;
+    }
+    0
+}
+
+// Questions 14 to 17.
 pub(crate) fn table_question(file: &[u8], t: Table) -> u64
-    requires { ⌜ Inside (now file) t ⌝ }
+    requires { ⌜ TableInside (now file) t ⌝ }
     ensures { λ r. ⌜ r ≡ tableQuestion (now (file .entry)) t ⌝ }
 {
     let rows = t.rows;
@@ -194,14 +251,36 @@ pub(crate) fn table_question(file: &[u8], t: Table) -> u64
     if !table_valid(file, t) {
         return 14;
     }
-    if !rows_valid(file, rows_start, rows, levels) {
-        return 15;
+    rows_question(
+        file,
+        true,
+        levels,
+        rows_start,
+        rows,
+        energies_start,
+        energies,
+    )
+}
+
+pub(crate) fn atom_table_question(file: &[u8], t: AtomTable) -> u64
+    requires { ⌜ AtomTableInside (now file) t ⌝ }
+    ensures { λ r. ⌜ r ≡ atomTableQuestion (now (file .entry)) t ⌝ }
+{
+    let rows = t.rows;
+    let levels = t.levels;
+    let energies = t.energies;
+    let rows_start = t.rows_start;
+    let energies_start = t.energies_start;
+    if !atom_table_valid(file, t) {
+        return 14;
     }
-    if !rows_tiled(file, rows_start, rows, energies) {
-        return 16;
-    }
-    if !energies_valid(file, energies_start, energies) {
-        return 17;
-    }
-    0
+    rows_question(
+        file,
+        false,
+        levels,
+        rows_start,
+        rows,
+        energies_start,
+        energies,
+    )
 }

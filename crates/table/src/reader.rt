@@ -2,8 +2,12 @@
 ghost use mathlib.Core.Path.{_≡_};
 ghost use mathlib.Core.Bool.{true};
 ghost use Rattle.table.specs.Read.{readValues, readNumbered, readOut};
+ghost use Rattle.table.specs.Atom.{atomReadValues, atomReadNumbered, atomReadOut};
+use crate::AtomReadAnswer;
 use crate::ReadAnswer;
+use crate::questions::atom_table_question;
 use crate::questions::table_question;
+use crate::walk::atom_table_of;
 use crate::walk::laid_out;
 use crate::walk::sections;
 use crate::walk::table_of;
@@ -13,7 +17,7 @@ pub fn read(file: &[u8]) -> ReadAnswer
     ensures { λ r. ⌜ (readNumbered r ≡ true) × (readValues r ≡ readOut (now (file .entry))) ⌝ }
 {
     let p = sections(file);
-    if !laid_out(file, p) {
+    if !laid_out(file, p, 3, 2) {
         return ReadAnswer::Refused(13);
     }
     let t = table_of(file, p);
@@ -22,4 +26,20 @@ pub fn read(file: &[u8]) -> ReadAnswer
         return ReadAnswer::Refused(no);
     }
     ReadAnswer::Accepted(t)
+}
+
+// The same of the file of a table against an atom.
+pub fn atom_read(file: &[u8]) -> AtomReadAnswer
+    ensures { λ r. ⌜ (atomReadNumbered r ≡ true) × (atomReadValues r ≡ atomReadOut (now (file .entry))) ⌝ }
+{
+    let p = sections(file);
+    if !laid_out(file, p, 2, 1) {
+        return AtomReadAnswer::Refused(13);
+    }
+    let t = atom_table_of(file, p);
+    let no = atom_table_question(file, t);
+    if no != 0 {
+        return AtomReadAnswer::Refused(no);
+    }
+    AtomReadAnswer::Accepted(t)
 }

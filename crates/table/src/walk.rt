@@ -3,12 +3,15 @@ ghost use mathlib.Core.Path.{_≡_};
 ghost use Prim.Native.Nat.{_+_, _*_, _≤_};
 ghost use lib.ListN.{length};
 ghost use Rattle.table.specs.Read.{past, layout, laidOut, f64At, gridOf, tableOf};
+ghost use Rattle.table.specs.Atom.{atomGridOf, atomTableOf};
 ghost use Rattle.table.specs.Internal.{SectionsInside};
+use crate::AtomTable;
 use crate::Layout;
 use crate::Table;
 use crate::bytes::u32_at;
 use crate::bytes::u32_in;
 use crate::bytes::u64_in;
+use grid::AtomGrid;
 use grid::Grid;
 
 // The byte after the section at a byte, its items w bytes each.
@@ -36,13 +39,13 @@ pub(crate) fn sections(file: &[u8]) -> Layout
     }
 }
 
-// Question 13.
-pub(crate) fn laid_out(file: &[u8], p: Layout) -> bool
-    ensures { λ r. ⌜ r ≡ laidOut 3 2 (now (file .entry)) p ⌝ }
+// Question 13, with i numbers in section 1 and j in section 2.
+pub(crate) fn laid_out(file: &[u8], p: Layout, i: u32, j: u32) -> bool
+    ensures { λ r. ⌜ r ≡ laidOut i j (now (file .entry)) p ⌝ }
 {
     let bins = p.bins;
     let end = p.end;
-    (u32_at(file, 0) == 3) & ((u32_at(file, bins) == 2) & (end == file.len() as u64))
+    (u32_at(file, 0) == i) & ((u32_at(file, bins) == j) & (end == file.len() as u64))
 }
 
 fn f64_in(file: &[u8], at: u64) -> f64
@@ -73,6 +76,24 @@ fn grid_of(file: &[u8], p: Layout) -> Grid
     }
 }
 
+fn atom_grid_of(file: &[u8], p: Layout) -> AtomGrid
+    requires { ⌜ SectionsInside 2 1 (now file) p ⌝ }
+    ensures { λ r. ⌜ r ≡ atomGridOf (now (file .entry)) p ⌝ }
+{
+    let bins = p.bins;
+    let rmin = f64_in(file, 4);
+    let dr = f64_in(file, 12);
+    let n_r = u32_in(file, bins + 4) as u64;
+    AtomGrid {
+        rmin,
+        rmax: grid::table_rmax(n_r, dr, rmin),
+        dr,
+        threshold: 0.0,
+        beta: 0.0,
+        n_r,
+    }
+}
+
 pub(crate) fn table_of(file: &[u8], p: Layout) -> Table
     requires { ⌜ SectionsInside 3 2 (now file) p ⌝ }
     ensures { λ r. ⌜ r ≡ tableOf (now (file .entry)) p ⌝ }
@@ -83,6 +104,28 @@ pub(crate) fn table_of(file: &[u8], p: Layout) -> Table
     let energies = p.energies;
     let grid = grid_of(file, p);
     Table {
+        grid,
+        levels: u32_in(file, levels) as u64,
+        rows: u32_in(file, rows) as u64,
+        energies: u32_in(file, energies) as u64,
+        grid_start: 4,
+        bins_start: bins + 4,
+        levels_start: levels + 4,
+        rows_start: rows + 4,
+        energies_start: energies + 4,
+    }
+}
+
+pub(crate) fn atom_table_of(file: &[u8], p: Layout) -> AtomTable
+    requires { ⌜ SectionsInside 2 1 (now file) p ⌝ }
+    ensures { λ r. ⌜ r ≡ atomTableOf (now (file .entry)) p ⌝ }
+{
+    let bins = p.bins;
+    let levels = p.levels;
+    let rows = p.rows;
+    let energies = p.energies;
+    let grid = atom_grid_of(file, p);
+    AtomTable {
         grid,
         levels: u32_in(file, levels) as u64,
         rows: u32_in(file, rows) as u64,

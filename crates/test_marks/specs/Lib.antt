@@ -9,3 +9,4 @@ pub mod Searched
 pub mod Weighted
 pub mod Cased
 pub mod Ordered
+pub mod Atom

@@ -99,3 +99,16 @@ grid-put d x y z h =
     puts-four d 0 (bytesOf 4 3) (bytesOf 8 x) (bytesOf 8 y) (bytesOf 8 z) 4 12 20
     (omega (arith, bytes-length 4 3)) (omega (arith, bytes-length 8 x)) (omega (arith, bytes-length 8 y)) (omega arith)
     ∙ rw (append-nil (bytesOf 8 z))
+
+-- both heads of a table against an atom
+pub atom-head-put : (d : List ℕ) (x y n : ℕ) → 28 ≤ length d
+    → put (put (put (put (put d 0 (bytesOf 4 2)) 4 (bytesOf 8 x)) 12 (bytesOf 8 y)) 20 (bytesOf 4 1)) 24 (bytesOf 4 n)
+    ≡ put d 0 (section (bytesOf 8) (x ∷ y ∷ []) ++ section (bytesOf 4) (n ∷ []))
+unfolding section packed
+atom-head-put d x y n h =
+    let k = bytesOf 4 2 ++ (bytesOf 8 x ++ (bytesOf 8 y ++ bytesOf 4 1)) in
+    let e : length k ≡ length (bytesOf 4 2) + (length (bytesOf 8 x) + (length (bytesOf 8 y) + length (bytesOf 4 1))) = simp length-append in
+    ap (λ (o : List ℕ). put o 24 (bytesOf 4 n))
+    (puts-four d 0 (bytesOf 4 2) (bytesOf 8 x) (bytesOf 8 y) (bytesOf 4 1) 4 12 20 (omega (arith, bytes-length 4 2)) (omega (arith, bytes-length 8 x)) (omega (arith, bytes-length 8 y)) (omega arith))
+    ∙ puts d 0 k (bytesOf 4 n) 24 (omega (arith, e, bytes-length 4 2, bytes-length 8 x, bytes-length 8 y, bytes-length 4 1)) (omega arith)
+    ∙ ap (λ (o : List ℕ). put d 0 o) (simp (append-assoc, append-nil))

@@ -3,20 +3,21 @@ use mathlib.Core.Path.{_≡_}
 use mathlib.Core.List.{List, [], _∷_, _++_, map}
 use Prim.Native.Nat.{ℕ, zero, suc, _+_, _*_, _≤_}
 use lib.ListN.{length, take, drop}
-use lib.Ieee.{Float, binary64, toBits}
+use lib.Ieee.{Float}
 use Rattle.lists.specs.Questions.{ask, first}
 use Rattle.lists.specs.Lists.{below}
-use Rattle.mesh.specs.Levels.{vertexCount, per}
+use Rattle.mesh.specs.Levels.{vertexCount}
 use Rattle.mesh.specs.Mesh.{Mesh}
-use Rattle.grid.specs.declared.Grid.{Grid}
 use Rattle.rows.specs.declared.SlabResolution.{SlabResolution}
 use Rattle.rows.specs.declared.SlabResolution.the-variants.{Scalar, Mesh as OnMesh, Repulsive}
 use Rattle.rows.specs.Rows.{Rows, kindOf, levelOf, valueOf, resolutionAt, narrowBits}
 use Rattle.builder.specs.BuilderLists.{BuilderLists, slabs, rowsKnown}
 use Rattle.builder.specs.Refusals.{meshedRefusal}
+use Rattle.builder.specs.Atom.{atomMeshedRefusal}
 use Rattle.builder.specs.declared.Builder.{Builder}
+use Rattle.builder.specs.declared.AtomBuilder.{AtomBuilder}
 use Rattle.table.specs.Bytes.{bytesOf, section}
-use Rattle.table.specs.File.{Entry}
+use Rattle.table.specs.File.{Entry, entryBytes}
 
 -- ---- rows as the code reads them, without their energies
 
@@ -57,23 +58,33 @@ unfoldable pub Bounded : (ℕ → ℕ) → ℕ → List SlabResolution → Type 
 Bounded each z [] = Unit
 Bounded each z (x ∷ xs) = (heldBy each x ≤ z) × Bounded each z xs
 
--- the sections before the rows
-abbrev pub headBytes : Grid → ℕ → List ℕ
-headBytes g levels =
-    section (bytesOf 8) (toBits binary64 (g .rmin) ∷ toBits binary64 (g .dr) ∷ toBits binary64 (g .«omega_step») ∷ [])
-    ++ (section (bytesOf 4) (g .«n_r» ∷ g .«n_omega» ∷ []) ++ section (bytesOf 4) (map vertexCount (below levels)))
+-- the two head sections, of the bits of a grid's settings and of its bin counts
+abbrev pub headBytes : List ℕ → List ℕ → List ℕ
+headBytes xs ns = section (bytesOf 8) xs ++ section (bytesOf 4) ns
 
--- a builder and its lists that every question of write was answered yes for; their rows hold e energies together
-pub record WriteReady (b : Builder) (l : BuilderLists) (e room : ℕ) : Type 0 where
-  pub top-le : b .top ≤ 15
-  pub rs : b .grid .«n_r» ≤ 65535
-  pub omegas : b .grid .«n_omega» ≤ 65535
-  pub store : slabs (b .grid) * per (b .top) ≤ length (l .store)
-  pub bounded : Bounded per (per (b .top)) (resolutions (l .rows) 0 (slabs (b .grid)))
-  pub energies : e ≡ total per (resolutions (l .rows) 0 (slabs (b .grid)))
-  pub few : e ≤ 4294967295
-  pub fits : 56 + 4 * b .top + 10 * slabs (b .grid) + 4 * e ≤ room
+-- the other three, of n slabs
+abbrev pub restBytes : (ℕ → ℕ) → ℕ → ℕ → BuilderLists → List ℕ
+restBytes each top n l =
+    let rows = resolutions (l .rows) 0 n in
+    section (bytesOf 4) (map vertexCount (below (suc top)))
+    ++ (section entryBytes (entriesFor each 0 rows) ++ section (bytesOf 4) (energiesFor each (each top) (l .store) 0 rows))
+
+-- n slabs that every question of write was answered yes for; and with them the room for a file, its heads being `at` bytes and its rows holding e energies together
+pub record Sure (each : ℕ → ℕ) (top n : ℕ) (l : BuilderLists) : Type 0 where
+  pub top-le : top ≤ 15
+  pub slabs-le : n ≤ 4294836225
+  pub store : n * each top ≤ length (l .store)
+  pub bounded : Bounded each (each top) (resolutions (l .rows) 0 n)
+  pub few : total each (resolutions (l .rows) 0 n) ≤ 4294967295
+
+pub record WriteReady (each : ℕ → ℕ) (at top n : ℕ) (l : BuilderLists) (e room : ℕ) : Type 0 where
+  pub sure : Sure each top n l
+  pub energies : e ≡ total each (resolutions (l .rows) 0 n)
+  pub fits : at + 16 + 4 * top + 10 * n + 4 * e ≤ room
 
 -- 1 to 7, then 15 of every row
 abbrev pub writeQuestion : Builder → Mesh → BuilderLists → ℕ
 writeQuestion b m l = first (meshedRefusal b m l) (ask (rowsKnown (b .top) (l .rows) 0 (slabs (b .grid))) 15 0)
+
+abbrev pub atomWriteQuestion : AtomBuilder → Mesh → BuilderLists → ℕ
+atomWriteQuestion b m l = first (atomMeshedRefusal b m l) (ask (rowsKnown (b .top) (l .rows) 0 (b .grid .«n_r»)) 15 0)

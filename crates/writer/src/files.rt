@@ -7,24 +7,20 @@ ghost use lib.ListN.{length};
 ghost use Rattle.rows.specs.Rows.{rowsOf};
 ghost use Rattle.lists.specs.Questions.{ask, first};
 ghost use Rattle.lists.specs.Lists.{put};
-ghost use Rattle.mesh.specs.Levels.{verticesBelow};
+ghost use Rattle.mesh.specs.Levels.{per, verticesBelow};
 ghost use Rattle.mesh.specs.Mesh.{meshLong, meshesKeep, meshOf};
 ghost use Rattle.builder.specs.BuilderLists.{slabs, listRoom, rowsKnown, listsOf};
 ghost use Rattle.builder.specs.Refusals.{builderQuestion};
 ghost use Rattle.writer.specs.Write.{WriteOut, writtenValues, writtenNumbered, fileFrom, writeOut};
-ghost use Rattle.writer.specs.Internal.{headBytes, WriteReady};
+ghost use Rattle.writer.specs.Internal.{WriteReady};
 use crate::Written;
 use crate::sections::energy_total;
-use crate::sections::put_bins;
-use crate::sections::put_grid;
-use crate::sections::put_levels;
-use crate::sections::put_rows;
-use crate::sections::put_tail;
+use crate::sections::put_head;
+use crate::sections::put_rest;
 use builder::Builder;
-use grid::Grid;
 
 // The kind and level part of question 15, of every row.
-fn rows_known(top: u64, kinds: &[u8], levels: &[u8], n: u64) -> bool
+pub(crate) fn rows_known(top: u64, kinds: &[u8], levels: &[u8], n: u64) -> bool
     ensures { λ r. ⌜ r ≡ rowsKnown top (rowsOf (now (kinds .entry)) (now (levels .entry)) []) 0 n ⌝ }
 {
     let mut s: u64 = 0;
@@ -77,21 +73,6 @@ fn write_question(
     0
 }
 
-// The sections before the rows.
-fn put_head(out: &mut [u8], g: Grid, levels: u64)
-    requires { ⌜ (44 + 4 * levels ≤ length (now out)) × (levels ≤ 16) × (g .«n_r» ≤ 65535) × (g .«n_omega» ≤ 65535) ⌝ }
-    ensures { λ _. ⌜ now (out .exit) ≡ put (now (out .entry)) 0 (headBytes g levels) ⌝ }
-{
-    let rmin = g.rmin;
-    let dr = g.dr;
-    let step = g.omega_step;
-    let n_r = g.n_r;
-    let n_omega = g.n_omega;
-    put_grid(out, rmin, dr, step);
-    put_bins(out, n_r as u32, n_omega as u32);
-    put_levels(out, levels);
-}
-
 // The file, whose rows hold e energies together.
 fn put_file(
     b: Builder,
@@ -102,27 +83,26 @@ fn put_file(
     e: u64,
     out: &mut [u8],
 )
-    requires { ⌜ WriteReady b (listsOf (now store) (now kinds) (now levels) (now values)) e (length (now out)) ⌝ }
+    requires { ⌜ WriteReady per 40 (b .top) (slabs (b .grid)) (listsOf (now store) (now kinds) (now levels) (now values)) e (length (now out))
+        × (b .grid .«n_r» ≤ 65535) × (b .grid .«n_omega» ≤ 65535) ⌝ }
     ensures { λ _. ⌜ now (out .exit) ≡ put (now (out .entry)) 0 (fileFrom b (listsOf (now (store .entry)) (now (kinds .entry)) (now (levels .entry)) (now (values .entry)))) ⌝ }
 {
     let g = b.grid;
     let n_r = b.grid.n_r;
     let n_omega = b.grid.n_omega;
     let top = b.top;
-    let n = n_r * n_omega;
-    let z = mesh::per_level(top as u8);
-    put_head(out, g, top + 1);
-    put_rows(out, 48 + 4 * top, kinds, levels, values, n);
-    put_tail(
+    put_head(out, g);
+    put_rest(
         out,
-        52 + 4 * top + 10 * n,
+        40,
+        true,
+        top,
+        n_r * n_omega,
         e,
-        z,
         store,
         kinds,
         levels,
         values,
-        n,
     );
 }
 
@@ -162,7 +142,7 @@ pub fn write(
         return Written::Refused(no);
     }
     let n = n_r * n_omega;
-    let e = energy_total(kinds, levels, values, n);
+    let e = energy_total(true, kinds, levels, values, n);
     let size = 56 + 4 * top + 10 * n + 4 * e;
     if (output.len() as u64) < size {
         return Written::Refused(12);

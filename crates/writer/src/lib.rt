@@ -1,8 +1,10 @@
 // Write: a builder's table as a file.
+mod atom;
 mod bytes;
 mod files;
 mod sections;
 
+pub use atom::atom_write;
 pub use files::write;
 
 // What write answers: the length of the file.

@@ -5,16 +5,20 @@ ghost use Prim.Native.Nat.{_+_, _*_, _≤_, min};
 ghost use lib.ListN.{length, take, drop};
 ghost use lib.Ieee.{binary32, binary64, toBits};
 ghost use Rattle.lists.specs.Lists.{put, below};
-ghost use Rattle.mesh.specs.Levels.{vertexCount, per};
+ghost use Rattle.mesh.specs.Levels.{vertexCount};
 ghost use Rattle.rows.specs.Rows.{narrowBits, rowsOf};
+ghost use Rattle.builder.specs.BuilderLists.{listsOf};
 ghost use Rattle.table.specs.Bytes.{bytesOf, packed, section};
 ghost use Rattle.table.specs.File.{entryBytes};
-ghost use Rattle.writer.specs.Internal.{heldBy, offsetOf, resolutions, entriesFor, total, energiesFor, Bounded};
+ghost use Rattle.table.specs.Internal.{eachOf};
+ghost use Rattle.writer.specs.Internal.{heldBy, offsetOf, resolutions, entriesFor, total, energiesFor, Bounded, headBytes, restBytes, WriteReady};
 use crate::bytes::put_f64;
 use crate::bytes::put_u32;
+use grid::AtomGrid;
+use grid::Grid;
 use rows::SlabResolution;
 
-pub(crate) fn put_grid(out: &mut [u8], rmin: f64, dr: f64, step: f64)
+fn put_grid(out: &mut [u8], rmin: f64, dr: f64, step: f64)
     requires { ⌜ 28 ≤ length (now out) ⌝ }
     ensures { λ _. ⌜ now (out .exit) ≡ put (now (out .entry)) 0 (section (bytesOf 8) (toBits binary64 rmin ∷ toBits binary64 dr ∷ toBits binary64 step ∷ [])) ⌝ }
 {
@@ -24,7 +28,7 @@ pub(crate) fn put_grid(out: &mut [u8], rmin: f64, dr: f64, step: f64)
     put_f64(out, 20, step);
 }
 
-pub(crate) fn put_bins(out: &mut [u8], n: u32, m: u32)
+fn put_bins(out: &mut [u8], n: u32, m: u32)
     requires { ⌜ 40 ≤ length (now out) ⌝ }
     ensures { λ _. ⌜ now (out .exit) ≡ put (now (out .entry)) 28 (section (bytesOf 4) (n ∷ m ∷ [])) ⌝ }
 {
@@ -33,32 +37,60 @@ pub(crate) fn put_bins(out: &mut [u8], n: u32, m: u32)
     put_u32(out, 36, m);
 }
 
-fn put_vertex_counts(out: &mut [u8], levels: u64)
-    requires { ⌜ (44 + 4 * levels ≤ length (now out)) × (levels ≤ 16) ⌝ }
-    ensures { λ _. ⌜ now (out .exit) ≡ put (now (out .entry)) 44 (packed (bytesOf 4) (map vertexCount (below levels))) ⌝ }
+// The two head sections of a grid.
+pub(crate) fn put_head(out: &mut [u8], g: Grid)
+    requires { ⌜ (40 ≤ length (now out)) × (g .«n_r» ≤ 65535) × (g .«n_omega» ≤ 65535) ⌝ }
+    ensures { λ _. ⌜ now (out .exit) ≡ put (now (out .entry)) 0 (headBytes (toBits binary64 (g .rmin) ∷ toBits binary64 (g .dr) ∷ toBits binary64 (g .«omega_step») ∷ []) (g .«n_r» ∷ g .«n_omega» ∷ [])) ⌝ }
+{
+    let rmin = g.rmin;
+    let dr = g.dr;
+    let step = g.omega_step;
+    let n_r = g.n_r;
+    let n_omega = g.n_omega;
+    put_grid(out, rmin, dr, step);
+    put_bins(out, n_r as u32, n_omega as u32);
+}
+
+pub(crate) fn put_atom_head(out: &mut [u8], g: AtomGrid)
+    requires { ⌜ (28 ≤ length (now out)) × (g .«n_r» ≤ 65535) ⌝ }
+    ensures { λ _. ⌜ now (out .exit) ≡ put (now (out .entry)) 0 (headBytes (toBits binary64 (g .rmin) ∷ toBits binary64 (g .dr) ∷ []) (g .«n_r» ∷ [])) ⌝ }
+{
+    let rmin = g.rmin;
+    let dr = g.dr;
+    let n_r = g.n_r;
+    put_u32(out, 0, 2);
+    put_f64(out, 4, rmin);
+    put_f64(out, 12, dr);
+    put_u32(out, 20, 1);
+    put_u32(out, 24, n_r as u32);
+}
+
+fn put_vertex_counts(out: &mut [u8], at: u64, levels: u64)
+    requires { ⌜ (at + 4 * levels ≤ length (now out)) × (levels ≤ 16) ⌝ }
+    ensures { λ _. ⌜ now (out .exit) ≡ put (now (out .entry)) at (packed (bytesOf 4) (map vertexCount (below levels))) ⌝ }
 {
     let mut m: u64 = 0;
     while m < levels {
-        put_u32(out, 44 + 4 * m, mesh::vertex_count(m as u8) as u32);
+        put_u32(out, at + 4 * m, mesh::vertex_count(m as u8) as u32);
         m += 1;
     }
 }
 
-pub(crate) fn put_levels(out: &mut [u8], levels: u64)
-    requires { ⌜ (44 + 4 * levels ≤ length (now out)) × (levels ≤ 16) ⌝ }
-    ensures { λ _. ⌜ now (out .exit) ≡ put (now (out .entry)) 40 (section (bytesOf 4) (map vertexCount (below levels))) ⌝ }
+fn put_levels(out: &mut [u8], at: u64, levels: u64)
+    requires { ⌜ (at + 4 + 4 * levels ≤ length (now out)) × (levels ≤ 16) ⌝ }
+    ensures { λ _. ⌜ now (out .exit) ≡ put (now (out .entry)) at (section (bytesOf 4) (map vertexCount (below levels))) ⌝ }
 {
-    put_u32(out, 40, levels as u32);
-    put_vertex_counts(out, levels);
+    put_u32(out, at, levels as u32);
+    put_vertex_counts(out, at + 4, levels);
 }
 
 // How many energies a row holds.
-pub(crate) fn energy_count(x: SlabResolution) -> u64
-    ensures { λ r. ⌜ r ≡ heldBy per x ⌝ }
+fn energy_count(pairs: bool, x: SlabResolution) -> u64
+    ensures { λ r. ⌜ r ≡ heldBy (eachOf pairs) x ⌝ }
 {
     match x {
         SlabResolution::Scalar(_) => 0,
-        SlabResolution::Mesh(level, _) => mesh::per_level(level),
+        SlabResolution::Mesh(level, _) => table::energies_of(pairs, level),
         SlabResolution::Repulsive => 0,
     }
 }
@@ -93,10 +125,18 @@ fn put_row(out: &mut [u8], at: u64, kind: u8, level: u8, offset: u32, value: u32
 }
 
 // The rows, one after another; their energies are packed in row order.
-fn put_entries(out: &mut [u8], at: u64, kinds: &[u8], levels: &[u8], values: &[u32], n: u64)
+fn put_entries(
+    out: &mut [u8],
+    at: u64,
+    pairs: bool,
+    kinds: &[u8],
+    levels: &[u8],
+    values: &[u32],
+    n: u64,
+)
     requires { ⌜ (at + n * 10 ≤ length (now out))
-        × (total per (resolutions (rowsOf (now kinds) (now levels) (now values)) 0 n) ≤ 4294967295) ⌝ }
-    ensures { λ _. ⌜ now (out .exit) ≡ put (now (out .entry)) at (packed entryBytes (entriesFor per 0 (resolutions (rowsOf (now (kinds .entry)) (now (levels .entry)) (now (values .entry))) 0 n))) ⌝ }
+        × (total (eachOf pairs) (resolutions (rowsOf (now kinds) (now levels) (now values)) 0 n) ≤ 4294967295) ⌝ }
+    ensures { λ _. ⌜ now (out .exit) ≡ put (now (out .entry)) at (packed entryBytes (entriesFor (eachOf pairs) 0 (resolutions (rowsOf (now (kinds .entry)) (now (levels .entry)) (now (values .entry))) 0 n))) ⌝ }
 {
     let mut s: u64 = 0;
     let mut left = n;
@@ -113,7 +153,7 @@ fn put_entries(out: &mut [u8], at: u64, kinds: &[u8], levels: &[u8], values: &[u
             offset,
             rows::value_of(x),
         );
-        o += energy_count(x);
+        o += energy_count(pairs, x);
         to += 10;
         s += 1;
         left -= 1;
@@ -121,15 +161,15 @@ fn put_entries(out: &mut [u8], at: u64, kinds: &[u8], levels: &[u8], values: &[u
 }
 
 // The energies of all rows together.
-pub(crate) fn energy_total(kinds: &[u8], levels: &[u8], values: &[u32], n: u64) -> u64
-    requires { ⌜ total per (resolutions (rowsOf (now kinds) (now levels) (now values)) 0 n) ≤ 4294967295 ⌝ }
-    ensures { λ r. ⌜ r ≡ total per (resolutions (rowsOf (now (kinds .entry)) (now (levels .entry)) (now (values .entry))) 0 n) ⌝ }
+pub(crate) fn energy_total(pairs: bool, kinds: &[u8], levels: &[u8], values: &[u32], n: u64) -> u64
+    requires { ⌜ total (eachOf pairs) (resolutions (rowsOf (now kinds) (now levels) (now values)) 0 n) ≤ 4294967295 ⌝ }
+    ensures { λ r. ⌜ r ≡ total (eachOf pairs) (resolutions (rowsOf (now (kinds .entry)) (now (levels .entry)) (now (values .entry))) 0 n) ⌝ }
 {
     let mut s: u64 = 0;
     let mut left = n;
     let mut o: u64 = 0;
     while 0 < left {
-        o += energy_count(rows::resolution_at(kinds, levels, values, s));
+        o += energy_count(pairs, rows::resolution_at(kinds, levels, values, s));
         s += 1;
         left -= 1;
     }
@@ -200,6 +240,7 @@ fn put_energies(out: &mut [u8], at: u64, store: &[f64], from: u64, n: u64)
 fn put_slabs(
     out: &mut [u8],
     at: u64,
+    pairs: bool,
     z: u64,
     store: &[f64],
     kinds: &[u8],
@@ -207,16 +248,16 @@ fn put_slabs(
     values: &[u32],
     n: u64,
 )
-    requires { ⌜ (at + total per (resolutions (rowsOf (now kinds) (now levels) (now values)) 0 n) * 4 ≤ length (now out))
-        × (n * z ≤ length (now store)) × (Bounded per z (resolutions (rowsOf (now kinds) (now levels) (now values)) 0 n)) ⌝ }
-    ensures { λ _. ⌜ now (out .exit) ≡ put (now (out .entry)) at (packed (bytesOf 4) (energiesFor per z (now (store .entry)) 0 (resolutions (rowsOf (now (kinds .entry)) (now (levels .entry)) (now (values .entry))) 0 n))) ⌝ }
+    requires { ⌜ (at + total (eachOf pairs) (resolutions (rowsOf (now kinds) (now levels) (now values)) 0 n) * 4 ≤ length (now out))
+        × (n * z ≤ length (now store)) × (Bounded (eachOf pairs) z (resolutions (rowsOf (now kinds) (now levels) (now values)) 0 n)) ⌝ }
+    ensures { λ _. ⌜ now (out .exit) ≡ put (now (out .entry)) at (packed (bytesOf 4) (energiesFor (eachOf pairs) z (now (store .entry)) 0 (resolutions (rowsOf (now (kinds .entry)) (now (levels .entry)) (now (values .entry))) 0 n))) ⌝ }
 {
     let mut s: u64 = 0;
     let mut left = n;
     let mut to = at;
     let mut p: u64 = 0;
     while 0 < left {
-        let k = energy_count(rows::resolution_at(kinds, levels, values, s));
+        let k = energy_count(pairs, rows::resolution_at(kinds, levels, values, s));
         put_energies(out, to, store, p, k);
         to += 4 * k;
         p += z;
@@ -226,20 +267,29 @@ fn put_slabs(
 }
 
 // The section of rows.
-pub(crate) fn put_rows(out: &mut [u8], at: u64, kinds: &[u8], levels: &[u8], values: &[u32], n: u64)
+fn put_rows(
+    out: &mut [u8],
+    at: u64,
+    pairs: bool,
+    kinds: &[u8],
+    levels: &[u8],
+    values: &[u32],
+    n: u64,
+)
     requires { ⌜ (at + 4 + n * 10 ≤ length (now out)) × (n ≤ 4294967295)
-        × (total per (resolutions (rowsOf (now kinds) (now levels) (now values)) 0 n) ≤ 4294967295) ⌝ }
-    ensures { λ _. ⌜ now (out .exit) ≡ put (now (out .entry)) at (section entryBytes (entriesFor per 0 (resolutions (rowsOf (now (kinds .entry)) (now (levels .entry)) (now (values .entry))) 0 n))) ⌝ }
+        × (total (eachOf pairs) (resolutions (rowsOf (now kinds) (now levels) (now values)) 0 n) ≤ 4294967295) ⌝ }
+    ensures { λ _. ⌜ now (out .exit) ≡ put (now (out .entry)) at (section entryBytes (entriesFor (eachOf pairs) 0 (resolutions (rowsOf (now (kinds .entry)) (now (levels .entry)) (now (values .entry))) 0 n))) ⌝ }
 {
     put_u32(out, at, n as u32);
-    put_entries(out, at + 4, kinds, levels, values, n);
+    put_entries(out, at + 4, pairs, kinds, levels, values, n);
 }
 
 // The section of energies, of which there are e.
-pub(crate) fn put_tail(
+fn put_tail(
     out: &mut [u8],
     at: u64,
     e: u64,
+    pairs: bool,
     z: u64,
     store: &[f64],
     kinds: &[u8],
@@ -248,10 +298,43 @@ pub(crate) fn put_tail(
     n: u64,
 )
     requires { ⌜ (at + 4 + e * 4 ≤ length (now out)) × (e ≤ 4294967295)
-        × (e ≡ total per (resolutions (rowsOf (now kinds) (now levels) (now values)) 0 n))
-        × (n * z ≤ length (now store)) × (Bounded per z (resolutions (rowsOf (now kinds) (now levels) (now values)) 0 n)) ⌝ }
-    ensures { λ _. ⌜ now (out .exit) ≡ put (now (out .entry)) at (section (bytesOf 4) (energiesFor per z (now (store .entry)) 0 (resolutions (rowsOf (now (kinds .entry)) (now (levels .entry)) (now (values .entry))) 0 n))) ⌝ }
+        × (e ≡ total (eachOf pairs) (resolutions (rowsOf (now kinds) (now levels) (now values)) 0 n))
+        × (n * z ≤ length (now store)) × (Bounded (eachOf pairs) z (resolutions (rowsOf (now kinds) (now levels) (now values)) 0 n)) ⌝ }
+    ensures { λ _. ⌜ now (out .exit) ≡ put (now (out .entry)) at (section (bytesOf 4) (energiesFor (eachOf pairs) z (now (store .entry)) 0 (resolutions (rowsOf (now (kinds .entry)) (now (levels .entry)) (now (values .entry))) 0 n))) ⌝ }
 {
     put_u32(out, at, e as u32);
-    put_slabs(out, at + 4, z, store, kinds, levels, values, n);
+    put_slabs(out, at + 4, pairs, z, store, kinds, levels, values, n);
+}
+
+// The sections behind the heads, which end at byte `at`: those of n slabs, whose rows hold e energies together.
+pub(crate) fn put_rest(
+    out: &mut [u8],
+    at: u64,
+    pairs: bool,
+    top: u64,
+    n: u64,
+    e: u64,
+    store: &[f64],
+    kinds: &[u8],
+    levels: &[u8],
+    values: &[u32],
+)
+    requires { ⌜ WriteReady (eachOf pairs) at top n (listsOf (now store) (now kinds) (now levels) (now values)) e (length (now out)) × (at ≤ 40) ⌝ }
+    ensures { λ _. ⌜ now (out .exit) ≡ put (now (out .entry)) at (restBytes (eachOf pairs) top n (listsOf (now (store .entry)) (now (kinds .entry)) (now (levels .entry)) (now (values .entry)))) ⌝ }
+{
+    let z = table::energies_of(pairs, top as u8);
+    put_levels(out, at, top + 1);
+    put_rows(out, at + 8 + 4 * top, pairs, kinds, levels, values, n);
+    put_tail(
+        out,
+        at + 12 + 4 * top + 10 * n,
+        e,
+        pairs,
+        z,
+        store,
+        kinds,
+        levels,
+        values,
+        n,
+    );
 }

@@ -41,20 +41,21 @@ static double apart(float x, float y) {
 static void diff_energies(const table_file *f, const table_file *g, const row *r, const row *s) {
     uint64_t differing = 0;
     double most = 0;
-    for (uint64_t i = 0; i < per_row(r); i++) {
+    for (uint64_t i = 0; i < per_row(f, r); i++) {
         float x = energy_of(f, r, i), y = energy_of(g, s, i);
         differing += memcmp(&x, &y, sizeof x) != 0;
         most = apart(x, y) > most ? apart(x, y) : most;
     }
-    printf("%llu of %llu energies differ, by at most %g", (unsigned long long)differing, (unsigned long long)per_row(r), most);
+    printf("%llu of %llu energies differ, by at most %g", (unsigned long long)differing, (unsigned long long)per_row(f, r), most);
 }
 
 static void diff_row(const table_file *f, const table_file *g, uint64_t slab) {
-    const icotable_grid *grid = &f->table.grid;
     row r = row_of(f, slab), s = row_of(g, slab);
-    uint64_t ri = slab / grid->n_omega, oi = slab % grid->n_omega;
-    printf("  slab (%llu, %llu), distance %g, dihedral %g: ", (unsigned long long)ri, (unsigned long long)oi, grid->rmin + (double)ri * grid->dr,
-           (double)oi * grid->omega_step);
+    fputs("  slab ", stdout);
+    print_slab(stdout, f, slab);
+    fputs(", ", stdout);
+    print_bins(stdout, f, slab);
+    fputs(": ", stdout);
     bool meshes = r.kind >= NEAREST && s.kind >= NEAREST && r.level == s.level;
     if (r.kind == s.kind && meshes) {
         printf("%s level %u, ", kind_words(r.kind), r.level);
@@ -83,8 +84,9 @@ static void diff_rows(const table_file *f, const table_file *g) {
         puts("every slab has the same row");
         return;
     }
-    printf("%llu of %llu slabs have another row; the first is (%llu, %llu)\n", (unsigned long long)differing, (unsigned long long)slabs,
-           (unsigned long long)(first / f->table.grid.n_omega), (unsigned long long)(first % f->table.grid.n_omega));
+    printf("%llu of %llu slabs have another row; the first is ", (unsigned long long)differing, (unsigned long long)slabs);
+    print_slab(stdout, f, first);
+    putchar('\n');
     for (uint64_t s = first; s < slabs; s++)
         if (!same_row(f, g, s))
             diff_row(f, g, s);
@@ -103,8 +105,12 @@ static int compare(const table_file *f, const table_file *g) {
         return GOOD;
     }
     printf("%s and %s differ\n", f->name, g->name);
+    if (f->atom != g->atom) {
+        printf("they are of two kinds: %s and %s\n", table_words(f->atom), table_words(g->atom));
+        return FOUND;
+    }
     diff_grids(&f->table, &g->table);
-    if (f->table.grid.n_r == g->table.grid.n_r && f->table.grid.n_omega == g->table.grid.n_omega)
+    if (same_slabs(f, g))
         diff_rows(f, g);
     else
         puts("with other bin counts the slabs are not the same ones, and are not set side by side");

@@ -26,6 +26,25 @@ static int read_whole(table_file *f, FILE *in) {
     }
 }
 
+icotable_table read_table(const uint8_t *bytes, size_t count, bool atom) {
+    if (!atom)
+        return icotable_read(bytes, count);
+    icotable_atom_table t = icotable_atom_read(bytes, count);
+    const icotable_atom_grid *g = &t.grid;
+    icotable_table held = {
+        .number = t.number, .grid = {.rmin = g->rmin, .rmax = g->rmax, .dr = g->dr, .n_r = g->n_r, .n_omega = t.number == 0},
+        .levels = t.levels, .rows = t.rows, .energies = t.energies,
+    };
+    memcpy(held.start, t.start, sizeof held.start);
+    return held;
+}
+
+/* A grid of two numbers has no step. */
+static void look_over(table_file *f) {
+    f->atom = f->count >= 4 && u32_of(f->bytes) == 2;
+    f->table = read_table(f->bytes, f->count, f->atom);
+}
+
 int open_table(table_file *f, const char *name) {
     *f = (table_file){.name = name};
     struct stat what;
@@ -39,13 +58,17 @@ int open_table(table_file *f, const char *name) {
     int status = read_whole(f, in);
     fclose(in);
     if (status == GOOD)
-        f->table = icotable_read(f->bytes, f->count);
+        look_over(f);
     return status;
 }
 
 void close_table(table_file *f) {
     free(f->bytes);
     *f = (table_file){0};
+}
+
+const char *table_words(bool atom) {
+    return atom ? "a table against an atom" : "a table of two molecules";
 }
 
 uint32_t u32_of(const uint8_t *b) {
@@ -70,13 +93,22 @@ row row_of(const table_file *f, uint64_t slab) {
     return (row){b[0], b[1], u32_of(b + 2), u32_of(b + 6)};
 }
 
-uint64_t per_row(const row *r) {
-    uint64_t n = icotable_vertices(r->level);
-    return r->kind < NEAREST ? 0 : n * n;
+uint64_t per_level(bool atom, uint64_t level) {
+    uint64_t n = icotable_vertices(level);
+    return atom ? n : n * n;
+}
+
+uint64_t per_row(const table_file *f, const row *r) {
+    return r->kind < NEAREST ? 0 : per_level(f->atom, r->level);
 }
 
 float energy_of(const table_file *f, const row *r, uint64_t i) {
     return f32_of(u32_of(f->bytes + f->table.start[4] + 4 * (r->offset + i)));
+}
+
+/* Whether the slabs of one table are those of the other: the kind and the bin counts are the same. */
+bool same_slabs(const table_file *f, const table_file *g) {
+    return f->atom == g->atom && f->table.grid.n_r == g->table.grid.n_r && f->table.grid.n_omega == g->table.grid.n_omega;
 }
 
 /* As document 01 compares rows: kind, level, flag, scalar bits and each energy's bits. */
@@ -86,7 +118,7 @@ bool same_row(const table_file *f, const table_file *g, uint64_t slab) {
         return false;
     if (r.kind < NEAREST)
         return true;
-    return memcmp(f->bytes + f->table.start[4] + 4 * (size_t)r.offset, g->bytes + g->table.start[4] + 4 * (size_t)s.offset, 4 * per_row(&r)) == 0;
+    return memcmp(f->bytes + f->table.start[4] + 4 * (size_t)r.offset, g->bytes + g->table.start[4] + 4 * (size_t)s.offset, 4 * per_row(f, &r)) == 0;
 }
 
 const char *kind_words(unsigned kind) {
@@ -101,10 +133,25 @@ void print_row(FILE *out, const table_file *f, const row *r) {
     if (r->kind < NEAREST)
         return;
     float least = energy_of(f, r, 0), most = least;
-    for (uint64_t i = 1; i < per_row(r); i++) {
+    for (uint64_t i = 1; i < per_row(f, r); i++) {
         float e = energy_of(f, r, i);
         least = e < least ? e : least;
         most = e > most ? e : most;
     }
     fprintf(out, " level %u, energies from %g to %g", r->level, (double)least, (double)most);
+}
+
+void print_slab(FILE *out, const table_file *f, uint64_t slab) {
+    const icotable_grid *g = &f->table.grid;
+    if (f->atom)
+        fprintf(out, "%llu", (unsigned long long)slab);
+    else
+        fprintf(out, "(%llu, %llu)", (unsigned long long)(slab / g->n_omega), (unsigned long long)(slab % g->n_omega));
+}
+
+void print_bins(FILE *out, const table_file *f, uint64_t slab) {
+    const icotable_grid *g = &f->table.grid;
+    fprintf(out, "distance %g", g->rmin + (double)(slab / g->n_omega) * g->dr);
+    if (!f->atom)
+        fprintf(out, ", dihedral %g", (double)(slab % g->n_omega) * g->omega_step);
 }

@@ -3,7 +3,7 @@
 
 #include <math.h>
 
-enum { LEVELS = 16, SHOWN = 400 };
+enum { LEVELS = 16, SHOWN = 400, ACROSS = 50 };
 
 typedef struct tally {
     uint64_t kind[4], level[LEVELS][4], infinite;
@@ -11,7 +11,7 @@ typedef struct tally {
 } tally;
 
 static void count_energies(const table_file *f, const row *r, tally *t) {
-    for (uint64_t i = 0; i < per_row(r); i++) {
+    for (uint64_t i = 0; i < per_row(f, r); i++) {
         double e = energy_of(f, r, i);
         if (isinf(e)) {
             t->infinite++;
@@ -53,17 +53,19 @@ static char letter(const row *r) {
     return r->kind == SCALAR ? '.' : r->kind == REPULSIVE ? '#' : r->kind == NEAREST ? (char)('a' + r->level) : (char)('A' + r->level);
 }
 
-/* A line for each distance, a letter for each dihedral bin. */
-static void print_slabs(const icotable_table *t, const table_file *f) {
-    puts("\nslabs, a letter for each dihedral bin: # Repulsive, . Scalar, A Mesh interpolated of level 0, B of level 1 and so on, a, b, .. Mesh nearest");
-    for (uint64_t ri = 0; ri < t->grid.n_r; ri++) {
-        printf("%10g  ", t->grid.rmin + (double)ri * t->grid.dr);
-        for (uint64_t oi = 0; oi < t->grid.n_omega; oi++) {
-            row r = row_of(f, ri * t->grid.n_omega + oi);
-            putchar(letter(&r));
-        }
-        putchar('\n');
+/* A letter for each slab: a line for each distance or, against an atom, for ACROSS distances. */
+static void print_slabs(const table_file *f) {
+    const icotable_grid *g = &f->table.grid;
+    uint64_t across = f->atom ? ACROSS : g->n_omega;
+    printf("\nslabs, a letter for each %s: # Repulsive, . Scalar, A Mesh interpolated of level 0, B of level 1 and so on, a, b, .. Mesh nearest",
+           f->atom ? "distance" : "dihedral bin");
+    for (uint64_t s = 0; s < f->table.rows; s++) {
+        row r = row_of(f, s);
+        if (s % across == 0)
+            printf("\n%10g  ", g->rmin + (double)(s / g->n_omega) * g->dr);
+        putchar(letter(&r));
     }
+    putchar('\n');
 }
 
 int inspect_tool(int count, char **names) {
@@ -78,9 +80,10 @@ int inspect_tool(int count, char **names) {
         return FOUND;
     }
     tally seen = count_rows(&f);
-    printf("%s: a table, %zu bytes\n", f.name, f.count);
+    printf("%s: %s, %zu bytes\n", f.name, table_words(f.atom), f.count);
     printf("distance    from %.17g to %.17g by %.17g: %llu bins\n", t->grid.rmin, t->grid.rmax, t->grid.dr, (unsigned long long)t->grid.n_r);
-    printf("dihedral    %llu bins, step %.17g\n", (unsigned long long)t->grid.n_omega, t->grid.omega_step);
+    if (!f.atom)
+        printf("dihedral    %llu bins, step %.17g\n", (unsigned long long)t->grid.n_omega, t->grid.omega_step);
     printf("levels      %llu, the top one with %llu vertices\n", (unsigned long long)t->levels, (unsigned long long)icotable_vertices(t->levels - 1));
     print_rows(&f, &seen);
     printf("energies    %llu", (unsigned long long)t->energies);
@@ -90,7 +93,7 @@ int inspect_tool(int count, char **names) {
         printf(", %llu infinite", (unsigned long long)seen.infinite);
     putchar('\n');
     if (t->grid.n_r <= SHOWN && t->grid.n_omega <= SHOWN)
-        print_slabs(t, &f);
+        print_slabs(&f);
     close_table(&f);
     return GOOD;
 }

@@ -1,5 +1,6 @@
-/* map [-o OUT] FILE [FILE]: a picture of the slabs as SVG, distance against dihedral angle, coloured by kind and level, with
- * the lowest energy of each distance below. Two files stand side by side, and slabs whose rows differ have a frame. */
+/* map [-o OUT] FILE [FILE]: a picture of the slabs as SVG, distance against dihedral angle or, of a table against an atom, a
+ * strip over distance, coloured by kind and level, with the lowest energy of each distance below. Two files stand side by
+ * side, and slabs whose rows differ have a frame. */
 #include "tools.h"
 
 #include <errno.h>
@@ -7,7 +8,7 @@
 #include <stdlib.h>
 #include <string.h>
 
-enum { WIDE = 560, HIGH = 260, LEFT = 64, TOP = 60, CURVE = 90, GAP = 46, PANEL = LEFT + WIDE + 24, COLUMNS = 240, LINES = 120 };
+enum { WIDE = 560, HIGH = 260, STRIP = 40, LEFT = 64, TOP = 60, CURVE = 90, GAP = 46, PANEL = LEFT + WIDE + 24, COLUMNS = 240, LINES = 120, SECOND = 20 };
 
 /* One table's part of the picture. A cell stands for one slab, or in a large table for a block of them. */
 typedef struct panel {
@@ -63,7 +64,7 @@ static double lowest_of(const table_file *f, const row *r) {
     if (r->kind == SCALAR)
         return f32_of(r->scalar);
     double least = INFINITY;
-    for (uint64_t i = 0; i < per_row(r); i++)
+    for (uint64_t i = 0; i < per_row(f, r); i++)
         least = fmin(least, energy_of(f, r, i));
     return least;
 }
@@ -85,15 +86,16 @@ static bool cell_differs(const panel *p, uint64_t column, uint64_t line) {
 }
 
 static void cell(FILE *out, const panel *p, uint64_t column, uint64_t line) {
-    const icotable_table *t = &p->file->table;
-    uint64_t ri = first_bin(column, p->n_r, p->columns), oi = first_bin(line, p->n_omega, p->lines);
-    row r = row_of(p->file, ri * p->n_omega + oi);
+    uint64_t slab = first_bin(column, p->n_r, p->columns) * p->n_omega + first_bin(line, p->n_omega, p->lines);
+    row r = row_of(p->file, slab);
     double w = p->width / (double)p->columns, h = p->height / (double)p->lines;
     double x = p->x + w * (double)column, y = TOP + h * (double)(p->lines - 1 - line);
     rectangle(out, x, y, w, h);
     fputs(" shape-rendering=\"crispEdges\" fill=\"", out);
-    colour(out, &r, t->levels);
-    fprintf(out, "\"><title>distance %g, dihedral %g: ", t->grid.rmin + (double)ri * t->grid.dr, (double)oi * t->grid.omega_step);
+    colour(out, &r, p->file->table.levels);
+    fputs("\"><title>", out);
+    print_bins(out, p->file, slab);
+    fputs(": ", out);
     print_row(out, p->file, &r);
     fputs("</title></rect>\n", out);
     if (r.kind == NEAREST) {
@@ -119,15 +121,23 @@ static void numbered(FILE *out, double x, double y, const char *anchor, double n
     label(out, x, y, anchor, "", words);
 }
 
+static void dihedral_numbers(FILE *out, const panel *p) {
+    double step = p->file->table.grid.omega_step;
+    uint64_t every = p->n_omega <= 6 ? 1 : (p->n_omega + 5) / 6;
+    for (uint64_t oi = 0; oi < p->n_omega; oi += every)
+        numbered(out, p->x - 8, TOP + p->height * (1 - ((double)oi + 0.5) / (double)p->n_omega) + 4, "end", (double)oi * step * 57.29577951308232);
+}
+
 static void axes(FILE *out, const panel *p) {
     const icotable_grid *g = &p->file->table.grid;
     uint64_t every = p->n_r <= 8 ? 1 : (p->n_r + 7) / 8;
     for (uint64_t ri = 0; ri < p->n_r; ri += every)
         numbered(out, p->x + p->width * ((double)ri + 0.5) / (double)p->n_r, TOP + p->height + 16, "middle", g->rmin + (double)ri * g->dr);
-    every = p->n_omega <= 6 ? 1 : (p->n_omega + 5) / 6;
-    for (uint64_t oi = 0; oi < p->n_omega; oi += every)
-        numbered(out, p->x - 8, TOP + p->height * (1 - ((double)oi + 0.5) / (double)p->n_omega) + 4, "end", (double)oi * g->omega_step * 57.29577951308232);
+    if (!p->file->atom)
+        dihedral_numbers(out, p);
     label(out, p->x + p->width / 2, TOP + p->height + 33, "middle", "", "distance");
+    if (p->file->atom)
+        return;
     char turned[80];
     snprintf(turned, sizeof turned, " transform=\"rotate(-90 %.1f %.1f)\"", p->x - 46, TOP + p->height / 2);
     label(out, p->x - 46, TOP + p->height / 2, "middle", turned, "dihedral, degrees");
@@ -135,7 +145,7 @@ static void axes(FILE *out, const panel *p) {
 
 /* The lowest energy of each distance, cut off above at the depth of the well. */
 static void curve(FILE *out, const panel *p) {
-    double top = TOP + HIGH + GAP, least = 0;
+    double top = TOP + p->height + GAP, least = 0;
     for (uint64_t ri = 0; ri < p->n_r; ri++)
         least = fmin(least, p->lowest[ri]);
     double depth = least < 0 && isfinite(least) ? -least : 1, zero = top + CURVE / 2.0;
@@ -153,6 +163,7 @@ static void curve(FILE *out, const panel *p) {
     label(out, p->x + p->width / 2, top + CURVE + 16, "middle", "", "lowest energy of each distance (cut off above)");
 }
 
+/* In two lines where there are more levels than one has room for, which are six. */
 static void legend(FILE *out, const panel *p, double y) {
     const uint64_t levels = p->file->table.levels;
     double x = p->x;
@@ -162,6 +173,10 @@ static void legend(FILE *out, const panel *p, double y) {
         row mesh = {k == levels + 1 ? NEAREST : INTERPOLATED, k == 0 || k > levels ? 0 : k - 1, 0, 0};
         snprintf(words, sizeof words, "%u", mesh.level);
         const char *named = k == 0 ? "wall" : k == levels + 1 ? "nearest" : k == levels + 2 ? "one number" : words;
+        if (x + 7.0 * (double)strlen(named) > p->x + p->width) {
+            x = p->x;
+            y += SECOND;
+        }
         rectangle(out, x, y, 14, 14);
         fputs(" stroke=\"#999\" fill=\"", out);
         colour(out, k == 0 ? &wall : k == levels + 2 ? &scalar : &mesh, levels);
@@ -180,6 +195,7 @@ static void legend(FILE *out, const panel *p, double y) {
 }
 
 static void draw(FILE *out, const panel *p, uint64_t differing) {
+    const icotable_table *t = &p->file->table;
     char words[200];
     for (uint64_t column = 0; column < p->columns; column++)
         for (uint64_t line = 0; line < p->lines; line++)
@@ -187,8 +203,10 @@ static void draw(FILE *out, const panel *p, uint64_t differing) {
     rectangle(out, p->x, TOP, p->width, p->height);
     fputs(" fill=\"none\" stroke=\"#555\"/>\n", out);
     label(out, p->x, 26, "start", " font-size=\"16\" font-weight=\"bold\"", base_name(p->file->name));
-    snprintf(words, sizeof words, "%llu distances, %llu dihedral bins, %llu levels, %llu energies", (unsigned long long)p->n_r, (unsigned long long)p->n_omega,
-             (unsigned long long)p->file->table.levels, (unsigned long long)p->file->table.energies);
+    snprintf(words, sizeof words, p->file->atom ? "against an atom: %llu distances" : "%llu distances", (unsigned long long)p->n_r);
+    if (!p->file->atom)
+        snprintf(words + strlen(words), sizeof words - strlen(words), ", %llu dihedral bins", (unsigned long long)p->n_omega);
+    snprintf(words + strlen(words), sizeof words - strlen(words), ", %llu levels, %llu energies", (unsigned long long)t->levels, (unsigned long long)t->energies);
     if (p->other != NULL)
         snprintf(words + strlen(words), sizeof words - strlen(words), "; slabs that differ: %llu", (unsigned long long)differing);
     if (p->columns < p->n_r || p->lines < p->n_omega)
@@ -196,12 +214,12 @@ static void draw(FILE *out, const panel *p, uint64_t differing) {
     label(out, p->x, 46, "start", "", words);
     axes(out, p);
     curve(out, p);
-    legend(out, p, TOP + HIGH + GAP + CURVE + 30);
+    legend(out, p, TOP + p->height + GAP + CURVE + 30);
 }
 
 static bool prepare(panel *p, const table_file *f, const table_file *other, int place) {
     const icotable_grid *g = &f->table.grid;
-    *p = (panel){.file = f, .other = other, .n_r = g->n_r, .n_omega = g->n_omega, .x = LEFT + PANEL * place, .width = WIDE, .height = HIGH};
+    *p = (panel){.file = f, .other = other, .n_r = g->n_r, .n_omega = g->n_omega, .x = LEFT + PANEL * place, .width = WIDE, .height = f->atom ? STRIP : HIGH};
     p->columns = g->n_r < COLUMNS ? g->n_r : COLUMNS;
     p->lines = g->n_omega < LINES ? g->n_omega : LINES;
     p->lowest = calloc(g->n_r, sizeof *p->lowest);
@@ -223,7 +241,11 @@ static void picture(FILE *out, const panel *panels, int count) {
     uint64_t differing = 0;
     for (uint64_t s = 0; panels[0].other != NULL && s < panels[0].file->table.rows; s++)
         differing += !same_row(panels[0].file, panels[0].other, s);
-    int wide = PANEL * count, high = TOP + HIGH + GAP + CURVE + 60;
+    int wide = PANEL * count, high = 0;
+    for (int i = 0; i < count; i++) {
+        int own = TOP + (int)panels[i].height + GAP + CURVE + 60 + (panels[i].file->table.levels > 6 ? SECOND : 0);
+        high = own > high ? own : high;
+    }
     fprintf(out, "<svg xmlns=\"http://www.w3.org/2000/svg\" viewBox=\"0 0 %d %d\" width=\"%d\" height=\"%d\" font-family=\"sans-serif\" font-size=\"12\">\n", wide, high, wide, high);
     fputs("<defs><pattern id=\"nearest\" width=\"6\" height=\"6\" patternUnits=\"userSpaceOnUse\" patternTransform=\"rotate(45)\">"
           "<rect width=\"2\" height=\"6\" fill=\"#fff\" fill-opacity=\"0.65\"/></pattern></defs>\n<rect width=\"100%\" height=\"100%\" fill=\"#fff\"/>\n",
@@ -257,8 +279,7 @@ static int map_files(const char *name, table_file *files, int count) {
         }
     if (status != GOOD)
         return status;
-    const icotable_grid *g = &files[0].table.grid, *h = &files[count - 1].table.grid;
-    bool compared = count == 2 && g->n_r == h->n_r && g->n_omega == h->n_omega;
+    bool compared = count == 2 && same_slabs(&files[0], &files[1]);
     panel panels[2] = {{0}, {0}};
     for (int i = 0; i < count; i++)
         if (!prepare(&panels[i], &files[i], compared ? &files[1 - i] : NULL, i))

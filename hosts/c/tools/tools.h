@@ -10,11 +10,13 @@
 
 enum { GOOD = 0, FOUND = 1, TROUBLE = 2 };
 
-/* A file in memory; the number is the library's. */
+/* A file in memory, and what the library's reader for its kind answered. A table against an atom is held like one of two
+ * molecules that has one dihedral bin; its step is 0. */
 typedef struct table_file {
     const char *name;
     uint8_t *bytes;
     size_t count;
+    bool atom;
     icotable_table table;
 } table_file;
 
@@ -33,22 +35,31 @@ typedef struct place {
     char why[200];
 } place;
 
-/* file.c: reads the whole file and has the library look it over. TROUBLE, with a line to standard error, where it cannot
- * be read; GOOD otherwise, whatever the verdict. */
+/* file.c: reads the whole file and has the library look it over, as a table against an atom where its first count is that
+ * of one. TROUBLE, with a line to standard error, where it cannot be read; GOOD otherwise, whatever the verdict. */
 int open_table(table_file *f, const char *name);
 void close_table(table_file *f);
+/* What the reader of its kind answers; a table against an atom with one dihedral bin. */
+icotable_table read_table(const uint8_t *bytes, size_t count, bool atom);
+const char *table_words(bool atom);
 uint32_t u32_of(const uint8_t *bytes);
 double f64_of(const uint8_t *bytes);
 float f32_of(uint32_t bits);
 row row_of(const table_file *f, uint64_t slab);
+bool same_slabs(const table_file *f, const table_file *g);
 bool same_row(const table_file *f, const table_file *g, uint64_t slab);
 float energy_of(const table_file *f, const row *r, uint64_t i);
-uint64_t per_row(const row *r);
+/* The energies that a level's Mesh row holds, and those of a row. */
+uint64_t per_level(bool atom, uint64_t level);
+uint64_t per_row(const table_file *f, const row *r);
 const char *kind_words(unsigned kind);
 void print_row(FILE *out, const table_file *f, const row *r);
+/* A slab's bins, and where they are. */
+void print_slab(FILE *out, const table_file *f, uint64_t slab);
+void print_bins(FILE *out, const table_file *f, uint64_t slab);
 
 /* walk.c: document 01's questions 13 to 17 once more, by the host, for the byte alone: a hint. */
-place find_place(const uint8_t *bytes, size_t count);
+place find_place(const uint8_t *bytes, size_t count, bool atom);
 /* The library's number in words, and the byte where the walk agrees with it. */
 void print_verdict(FILE *out, const table_file *f);
 

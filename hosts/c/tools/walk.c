@@ -9,8 +9,9 @@
 static const double TAU = 6.283185307179586;
 static const uint32_t UNUSED = 0xFFFFFFFF;
 
-/* Where each section's items begin, and how many there are. */
+/* Where each section's items begin, and how many there are; and whose table it is taken for. */
 typedef struct sections {
+    bool atom;
     size_t at[5], count[5];
 } sections;
 
@@ -28,6 +29,7 @@ static const place nothing = {0};
 static place walk_sections(const uint8_t *bytes, size_t count, sections *s) {
     static const size_t width[5] = {8, 4, 4, 10, 4};
     static const char *const name[5] = {"grid", "bins", "levels", "rows", "energies"};
+    const size_t wanted[2] = {s->atom ? 2 : 3, s->atom ? 1 : 2};
     size_t at = 0;
     place second = nothing;
     if (count == 0)
@@ -36,8 +38,9 @@ static place walk_sections(const uint8_t *bytes, size_t count, sections *s) {
         if (count - at < 4)
             return found(13, at, "the file ends before the count of section %d (%s)", k + 1, name[k]);
         size_t items = u32_of(bytes + at);
-        if (k < 2 && items != (k == 0 ? 3 : 2) && second.number == 0)
-            second = found(13, at, "the count of section %d (%s) is %zu, where a table has %d: not a table of this library, or damaged", k + 1, name[k], items, 3 - k);
+        if (k < 2 && items != wanted[k] && second.number == 0)
+            second = found(13, at, "the count of section %d (%s) is %zu, where %s has %zu: not a table of this library, or damaged", k + 1, name[k], items,
+                           table_words(s->atom), wanted[k]);
         s->at[k] = at + 4;
         s->count[k] = items;
         if ((count - at - 4) / width[k] < items)
@@ -58,20 +61,29 @@ static uint64_t truncated(double x) {
     return !(x > 0) ? 0 : x >= 18446744073709551616.0 ? UINT64_MAX : (uint64_t)x;
 }
 
-static place walk_bins(const uint8_t *bytes, const sections *s) {
-    double rmin = f64_of(bytes + s->at[0]), dr = f64_of(bytes + s->at[0] + 8), step = f64_of(bytes + s->at[0] + 16);
-    uint32_t n_r = u32_of(bytes + s->at[1]), n_omega = u32_of(bytes + s->at[1] + 4);
-    if (n_r < 1 || n_r > 65535)
-        return found(14, s->at[1], "%u distance bins", n_r);
+static place walk_dihedrals(const uint8_t *bytes, const sections *s) {
+    double step = f64_of(bytes + s->at[0] + 16);
+    uint32_t n_omega = u32_of(bytes + s->at[1] + 4);
     if (n_omega < 1 || n_omega > 65535)
         return found(14, s->at[1] + 4, "%u dihedral bins", n_omega);
     if (n_omega != truncated(TAU / step + 0.5))
         return found(14, s->at[1] + 4, "%u dihedral bins, where the step %g gives %llu", n_omega, step, (unsigned long long)truncated(TAU / step + 0.5));
+    return nothing;
+}
+
+static place walk_bins(const uint8_t *bytes, const sections *s) {
+    double rmin = f64_of(bytes + s->at[0]), dr = f64_of(bytes + s->at[0] + 8);
+    uint32_t n_r = u32_of(bytes + s->at[1]), n_omega = s->atom ? 1 : u32_of(bytes + s->at[1] + 4);
+    if (n_r < 1 || n_r > 65535)
+        return found(14, s->at[1], "%u distance bins", n_r);
+    place p = s->atom ? nothing : walk_dihedrals(bytes, s);
+    if (p.number != 0)
+        return p;
     double rmax = fma(n_r, dr, rmin);
     if (n_r != truncated((rmax - rmin) / dr + 0.5))
         return found(14, s->at[1], "%u distance bins, which do not come out the same with the table's own rmax %g", n_r, rmax);
-    uint64_t n = icotable_vertices(s->count[2] - 1), slabs = (uint64_t)n_r * n_omega;
-    if (slabs > 4294967295 / (n * n))
+    uint64_t slabs = (uint64_t)n_r * n_omega;
+    if (slabs > 4294967295 / per_level(s->atom, s->count[2] - 1))
         return found(14, s->at[1], "%llu slabs of the top level hold too many energies", (unsigned long long)slabs);
     if (s->count[3] != slabs)
         return found(14, s->at[3] - 4, "%zu rows, where the bins give %llu", s->count[3], (unsigned long long)slabs);
@@ -80,10 +92,10 @@ static place walk_bins(const uint8_t *bytes, const sections *s) {
 
 static place walk_grid(const uint8_t *bytes, const sections *s) {
     static const char *const name[3] = {"rmin", "dr", "the omega step"};
-    for (int k = 0; k < 3; k++) {
-        double x = f64_of(bytes + s->at[0] + 8 * (size_t)k);
+    for (size_t k = 0; k < s->count[0]; k++) {
+        double x = f64_of(bytes + s->at[0] + 8 * k);
         if (!isfinite(x) || (k > 0 && !(x > 0)))
-            return found(14, s->at[0] + 8 * (size_t)k, "%s is %g", name[k], x);
+            return found(14, s->at[0] + 8 * k, "%s is %g", name[k], x);
     }
     if (s->count[2] < 1 || s->count[2] > 16)
         return found(14, s->at[2] - 4, "%zu levels", s->count[2]);
@@ -137,8 +149,7 @@ static place walk_tiling(const uint8_t *bytes, const sections *s) {
             continue;
         if (u32_of(bytes + at + 2) != next)
             return found(16, at + 2, "row %zu has offset %u, where the rows before it end at %llu", i, u32_of(bytes + at + 2), (unsigned long long)next);
-        uint64_t n = icotable_vertices(bytes[at + 1]);
-        next += n * n;
+        next += per_level(s->atom, bytes[at + 1]);
     }
     if (next != s->count[4])
         return found(16, s->at[4] - 4, "%zu energies, where the rows hold %llu", s->count[4], (unsigned long long)next);
@@ -152,9 +163,9 @@ static place walk_energies(const uint8_t *bytes, const sections *s) {
     return nothing;
 }
 
-place find_place(const uint8_t *bytes, size_t count) {
+place find_place(const uint8_t *bytes, size_t count, bool atom) {
     static place (*const walks[])(const uint8_t *, const sections *) = {walk_grid, walk_rows, walk_tiling, walk_energies};
-    sections s;
+    sections s = {.atom = atom};
     place p = walk_sections(bytes, count, &s);
     for (size_t k = 0; p.number == 0 && k < sizeof walks / sizeof walks[0]; k++)
         p = walks[k](bytes, &s);
@@ -164,11 +175,11 @@ place find_place(const uint8_t *bytes, size_t count) {
 void print_verdict(FILE *out, const table_file *f) {
     uint64_t number = f->table.number;
     if (number == 0) {
-        fprintf(out, "%s: a table, accepted\n", f->name);
+        fprintf(out, "%s: %s, accepted\n", f->name, table_words(f->atom));
         return;
     }
-    fprintf(out, "%s: refused with %llu: %s\n", f->name, (unsigned long long)number, icotable_words(number));
-    place p = find_place(f->bytes, f->count);
+    fprintf(out, "%s: refused with %llu as %s: %s\n", f->name, (unsigned long long)number, table_words(f->atom), icotable_words(number));
+    place p = find_place(f->bytes, f->count, f->atom);
     if (p.number == number)
         fprintf(out, "%s: at byte %zu: %s\n", f->name, p.byte, p.why);
 }

@@ -1,6 +1,7 @@
 //! A table that is being built.
 use crate::environment::FloatEnvironment;
 use crate::error::Error;
+use crate::lists::{bins, passed, Lists};
 use crate::refusal::{answer, Refusal};
 use crate::sys::{self, Grid};
 use crate::Mesh;
@@ -14,28 +15,18 @@ pub struct Builder {
     lists: Lists,
 }
 
-// The store, and the three numbers of each row.
-#[derive(Clone, Debug, Default, PartialEq)]
-struct Lists {
-    store: Vec<f64>,
-    kinds: Vec<u8>,
-    levels: Vec<u8>,
-    values: Vec<u32>,
-}
-
-impl Lists {
-    fn lent(&mut self) -> sys::Lists<'_> {
-        sys::Lists { store: &mut self.store, kinds: &mut self.kinds, levels: &mut self.levels, values: &mut self.values }
-    }
+// Energies of a slab.
+pub(crate) fn per(level: u64) -> usize {
+    (sys::vertices(level) as usize).pow(2)
 }
 
 impl Builder {
     /// A builder with no slab set, at the mesh's top level.
     pub fn new(settings: Grid, mesh: Arc<Mesh>) -> Result<Builder, Error> {
         FloatEnvironment::ask()?;
-        let slabs = slabs(settings, &mesh)?;
-        let n = sys::vertices(mesh.top()) as usize;
-        let mut lists = Lists { store: vec![0.0; slabs * n * n], kinds: vec![0; slabs], levels: vec![0; slabs], values: vec![0; slabs] };
+        passed(sys::fresh(settings, mesh.top(), &mut Lists::default().lent(), mesh.lent()).number)?;
+        let slabs = bins(settings.rmax - settings.rmin, settings.dr) * bins(std::f64::consts::TAU, settings.omega_step);
+        let mut lists = Lists::of(slabs, per(mesh.top()));
         let built = sys::fresh(settings, mesh.top(), &mut lists.lent(), mesh.lent());
         Ok(answer(built.number, Builder { held: built.builder, mesh, lists })?)
     }
@@ -56,10 +47,8 @@ impl Builder {
 
     /// The table file.
     pub fn write(&self) -> Result<Vec<u8>, Refusal> {
-        let mut output = vec![0; self.longest()];
-        let l = &self.lists;
-        let held = sys::Held { store: &l.store, kinds: &l.kinds, levels: &l.levels, values: &l.values };
-        let written = sys::write(self.held, held, self.mesh.lent(), &mut output);
+        let mut output = vec![0; self.lists.file_length(52, self.mesh.top(), per)];
+        let written = sys::write(self.held, self.lists.held(), self.mesh.lent(), &mut output);
         output.truncate(written.length as usize);
         answer(written.number, output)
     }
@@ -82,26 +71,4 @@ impl Builder {
     pub fn directions(&self) -> Vec<[f64; 3]> {
         self.mesh.directions(self.level()).collect()
     }
-
-    // The length of the file, by the levels of the rows.
-    fn longest(&self) -> usize {
-        let rows = self.lists.kinds.iter().zip(&self.lists.levels);
-        let energies: u64 = rows.map(|(&kind, &level)| if kind < 2 { 0 } else { sys::vertices(level as u64).pow(2) }).sum();
-        52 + 4 * (self.mesh.top() as usize + 1) + 10 * self.lists.kinds.len() + 4 * energies as usize
-    }
-}
-
-// How many slabs the settings give; what questions 1 to 5 refuse is answered here. Lists of no length are refused with 6 once those are passed.
-fn slabs(settings: Grid, mesh: &Mesh) -> Result<usize, Refusal> {
-    let asked = sys::fresh(settings, mesh.top(), &mut Lists::default().lent(), mesh.lent());
-    match Refusal::of(asked.number) {
-        Some(Refusal::ShortList) => Ok(bins(settings.rmax - settings.rmin, settings.dr) * bins(std::f64::consts::TAU, settings.omega_step)),
-        Some(refusal) => Err(refusal),
-        None => unreachable!("a table has a slab"),
-    }
-}
-
-// As document 01 counts bins; the library has found the count to be from 1 to 65,535.
-fn bins(length: f64, step: f64) -> usize {
-    (length / step + 0.5) as usize
 }

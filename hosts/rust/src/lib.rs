@@ -1,33 +1,44 @@
-//! Pair-energy tables over distance, dihedral angle and two orientations: build, write, read, look up.
+//! Pair-energy tables over distance, dihedral angle and two orientations, and of one molecule against an atom over distance
+//! and one orientation: build, write, read, look up.
 //!
 //! A safe wrapper over libicotable.a, whose functions are proved. [`Mesh`] holds the meshes and locators of all levels,
-//! [`Builder`] the lists that a table is built in, [`Table`] a table file. What the library refuses is a [`Refusal`], with
-//! document 01's number and its words; a refused call alters nothing. The wrapper itself is not proved: it sizes the lists,
-//! hands them over and turns numbers into the enum.
+//! [`Builder`] the lists that a table is built in, [`Table`] a table file; [`AtomBuilder`] and [`AtomTable`] are the same of
+//! one molecule against an atom. What the library refuses is a [`Refusal`], with document 01's number and its words; a refused
+//! call alters nothing. The wrapper itself is not proved: it sizes the lists, hands them over and turns numbers into the enum.
 //!
-//! The proofs speak of one floating-point environment; [`Builder::new`] and [`Table::read`] ask whether the thread has it
-//! ([`FloatEnvironment`]), and calls of a thread that alters it afterwards are not asked again. Settling takes up to
-//! 88 kB of stack (docs/GUIDE.md).
+//! The proofs speak of one floating-point environment; [`Builder::new`], [`Table::read`] and the atom's two ask whether the
+//! thread has it ([`FloatEnvironment`]), and calls of a thread that alters it afterwards are not asked again. Settling takes up
+//! to 88 kB of stack (docs/GUIDE.md).
 
+mod atom;
 mod builder;
 mod environment;
 mod error;
+mod lists;
 mod mesh;
 mod refusal;
+mod row;
 mod sys;
 mod table;
 
+pub use atom::{AtomBuilder, AtomTable};
 pub use builder::Builder;
 pub use environment::FloatEnvironment;
 pub use error::Error;
 pub use mesh::{Level, Mesh};
 pub use refusal::Refusal;
-pub use sys::Grid;
-pub use table::{Kind, Row, Table};
+pub use row::{Kind, Row};
+pub use sys::{AtomGrid, Grid};
+pub use table::Table;
 
 /// Settings of a new table; the library works out the two bin counts.
 pub fn settings(rmin: f64, rmax: f64, dr: f64, omega_step: f64, threshold: f64, beta: f64) -> Grid {
     Grid { rmin, rmax, dr, omega_step, threshold, beta, n_r: 0, n_omega: 0 }
+}
+
+/// Settings of a new table of one molecule against an atom; the library works out the bin count.
+pub fn atom_settings(rmin: f64, rmax: f64, dr: f64, threshold: f64, beta: f64) -> AtomGrid {
+    AtomGrid { rmin, rmax, dr, threshold, beta, n_r: 0 }
 }
 
 /// Vertices of a level; none above level 15.

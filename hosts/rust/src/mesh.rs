@@ -6,14 +6,14 @@ use crate::sys;
 #[derive(Clone, Debug, PartialEq)]
 pub struct Mesh {
     top: u64,
-    pub(crate) vertices: Vec<f64>,
-    pub(crate) counts: Vec<u8>,
-    pub(crate) neighbours: Vec<u16>,
-    pub(crate) angles: Vec<f64>,
-    pub(crate) cell_offsets: Vec<u32>,
-    pub(crate) cell_vertices: Vec<u16>,
-    pub(crate) face_offsets: Vec<u32>,
-    pub(crate) faces: Vec<u16>,
+    vertices: Vec<f64>,
+    counts: Vec<u8>,
+    neighbours: Vec<u16>,
+    angles: Vec<f64>,
+    cell_offsets: Vec<u32>,
+    cell_vertices: Vec<u16>,
+    face_offsets: Vec<u32>,
+    faces: Vec<u16>,
 }
 
 /// One level of a mesh as a host makes it: for each vertex its place, and its neighbours with the angle to each.
@@ -81,6 +81,18 @@ impl Mesh {
 
     pub(crate) fn lent(&self) -> sys::Meshes<'_> {
         sys::Meshes { vertices: &self.vertices, counts: &self.counts, neighbours: &self.neighbours, angles: &self.angles }
+    }
+
+    // What a reading of a file is lent.
+    pub(crate) fn lent_with<'a>(&'a self, file: &'a [u8]) -> sys::Lent<'a> {
+        sys::Lent {
+            file,
+            vertices: &self.vertices,
+            cell_offsets: &self.cell_offsets,
+            cell_vertices: &self.cell_vertices,
+            face_offsets: &self.face_offsets,
+            faces: &self.faces,
+        }
     }
 
     // One level more, with its locator.

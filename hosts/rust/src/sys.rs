@@ -64,6 +64,59 @@ pub struct Value {
     pub energy: f64,
 }
 
+/// The settings of a table of one molecule against an atom, and the bin count that they give.
+#[repr(C)]
+#[derive(Clone, Copy, Debug, Default, PartialEq)]
+pub struct AtomGrid {
+    pub rmin: f64,
+    pub rmax: f64,
+    pub dr: f64,
+    pub threshold: f64,
+    pub beta: f64,
+    pub n_r: u64,
+}
+
+#[repr(C)]
+#[derive(Clone, Copy, Debug, Default, PartialEq)]
+pub struct AtomBuilder {
+    pub grid: AtomGrid,
+    pub top: u64,
+    pub level: u64,
+}
+
+#[repr(C)]
+#[derive(Clone, Copy, Debug, PartialEq)]
+pub struct AtomBuilt {
+    pub number: u64,
+    pub builder: AtomBuilder,
+}
+
+#[repr(C)]
+#[derive(Clone, Copy, Debug, PartialEq)]
+pub struct AtomSettled {
+    pub number: u64,
+    pub gradient: f64,
+    pub builder: AtomBuilder,
+}
+
+#[repr(C)]
+#[derive(Clone, Copy, Debug, Default, PartialEq)]
+pub struct AtomTable {
+    pub number: u64,
+    pub grid: AtomGrid,
+    pub levels: u64,
+    pub rows: u64,
+    pub energies: u64,
+    pub start: [u64; 5],
+}
+
+#[repr(C)]
+#[derive(Clone, Copy, Debug, Default, PartialEq)]
+pub struct Energy {
+    pub number: u64,
+    pub energy: f64,
+}
+
 #[rustfmt::skip]
 extern "C" {
     fn icotable_fresh(
@@ -96,6 +149,32 @@ extern "C" {
         table: *const Table, file: *const u8, a: usize, vertices: *const f64, b: usize, cell_offsets: *const u32, c: usize, cell_vertices: *const u16, d: usize,
         face_offsets: *const u32, e: usize, faces: *const u16, f: usize, r: f64, omega: f64, ax: f64, ay: f64, az: f64, bx: f64, by: f64, bz: f64, beta: f64,
     ) -> Value;
+    fn icotable_atom_fresh(
+        grid: AtomGrid, top: u64, store: *mut f64, a: usize, kinds: *mut u8, b: usize, levels: *mut u8, c: usize, values: *mut u32, d: usize,
+        vertices: *const f64, e: usize, counts: *const u8, f: usize, neighbours: *const u16, g: usize, angles: *const f64, h: usize,
+    ) -> AtomBuilt;
+    fn icotable_atom_set(
+        builder: AtomBuilder, store: *mut f64, a: usize, kinds: *mut u8, b: usize, levels: *mut u8, c: usize, values: *mut u32, d: usize,
+        ri: u64, energies: *const f64, e: usize,
+    ) -> AtomBuilt;
+    fn icotable_atom_settle(
+        builder: AtomBuilder, store: *const f64, a: usize, kinds: *mut u8, b: usize, levels: *mut u8, c: usize, values: *mut u32, d: usize,
+        vertices: *const f64, e: usize, counts: *const u8, f: usize, neighbours: *const u16, g: usize, angles: *const f64, h: usize, ri: u64,
+    ) -> AtomSettled;
+    fn icotable_atom_write(
+        builder: AtomBuilder, store: *const f64, a: usize, kinds: *const u8, b: usize, levels: *const u8, c: usize, values: *const u32, d: usize,
+        vertices: *const f64, e: usize, counts: *const u8, f: usize, neighbours: *const u16, g: usize, angles: *const f64, h: usize,
+        output: *mut u8, i: usize,
+    ) -> Written;
+    fn icotable_atom_read(file: *const u8, a: usize) -> AtomTable;
+    fn icotable_atom_reading(
+        table: *const AtomTable, file: *const u8, a: usize, vertices: *const f64, b: usize, cell_offsets: *const u32, c: usize, cell_vertices: *const u16, d: usize,
+        face_offsets: *const u32, e: usize, faces: *const u16, f: usize, r: f64, x: f64, y: f64, z: f64,
+    ) -> Energy;
+    fn icotable_atom_boltzmann(
+        table: *const AtomTable, file: *const u8, a: usize, vertices: *const f64, b: usize, cell_offsets: *const u32, c: usize, cell_vertices: *const u16, d: usize,
+        face_offsets: *const u32, e: usize, faces: *const u16, f: usize, r: f64, x: f64, y: f64, z: f64, beta: f64,
+    ) -> Energy;
     fn icotable_vertices(level: u64) -> u64;
     fn icotable_cells(level: u64) -> u64;
     fn icotable_root(x: f64) -> f64;
@@ -166,47 +245,65 @@ pub struct Query {
     pub b: [f64; 3],
 }
 
+// The arguments that calls have in common: what is lent to a builder; the meshes; a written table; what a reading is lent beside its table. Others stand before them and behind them.
 #[rustfmt::skip]
+macro_rules! with_lists {
+    ($call:ident, ($($before:expr),*), $l:expr, ($($behind:expr),*)) => {
+        unsafe {
+            $call(
+                $($before,)* $l.store.as_mut_ptr(), $l.store.len(), $l.kinds.as_mut_ptr(), $l.kinds.len(), $l.levels.as_mut_ptr(), $l.levels.len(),
+                $l.values.as_mut_ptr(), $l.values.len(), $($behind),*
+            )
+        }
+    };
+    ($call:ident, ($($before:expr),*), $l:expr, $m:expr, ($($behind:expr),*)) => {
+        with_lists!($call, ($($before),*), $l, (
+            $m.vertices.as_ptr(), $m.vertices.len(), $m.counts.as_ptr(), $m.counts.len(), $m.neighbours.as_ptr(), $m.neighbours.len(), $m.angles.as_ptr(), $m.angles.len()
+            $(, $behind)*
+        ))
+    };
+}
+
+#[rustfmt::skip]
+macro_rules! with_held {
+    ($call:ident, $b:expr, $l:expr, $m:expr, $output:expr) => {
+        unsafe {
+            $call(
+                $b, $l.store.as_ptr(), $l.store.len(), $l.kinds.as_ptr(), $l.kinds.len(), $l.levels.as_ptr(), $l.levels.len(),
+                $l.values.as_ptr(), $l.values.len(), $m.vertices.as_ptr(), $m.vertices.len(), $m.counts.as_ptr(), $m.counts.len(),
+                $m.neighbours.as_ptr(), $m.neighbours.len(), $m.angles.as_ptr(), $m.angles.len(), $output.as_mut_ptr(), $output.len(),
+            )
+        }
+    };
+}
+
+#[rustfmt::skip]
+macro_rules! with_lent {
+    ($call:ident, $table:expr, $l:expr, $($behind:expr),*) => {
+        unsafe {
+            $call(
+                $table, $l.file.as_ptr(), $l.file.len(), $l.vertices.as_ptr(), $l.vertices.len(), $l.cell_offsets.as_ptr(), $l.cell_offsets.len(),
+                $l.cell_vertices.as_ptr(), $l.cell_vertices.len(), $l.face_offsets.as_ptr(), $l.face_offsets.len(), $l.faces.as_ptr(), $l.faces.len(),
+                $($behind),*
+            )
+        }
+    };
+}
+
 pub fn fresh(grid: Grid, top: u64, l: &mut Lists, m: Meshes) -> Built {
-    unsafe {
-        icotable_fresh(
-            grid, top, l.store.as_mut_ptr(), l.store.len(), l.kinds.as_mut_ptr(), l.kinds.len(), l.levels.as_mut_ptr(), l.levels.len(),
-            l.values.as_mut_ptr(), l.values.len(), m.vertices.as_ptr(), m.vertices.len(), m.counts.as_ptr(), m.counts.len(),
-            m.neighbours.as_ptr(), m.neighbours.len(), m.angles.as_ptr(), m.angles.len(),
-        )
-    }
+    with_lists!(icotable_fresh, (grid, top), l, m, ())
 }
 
-#[rustfmt::skip]
 pub fn set(b: Builder, l: &mut Lists, ri: u64, oi: u64, energies: &[f64]) -> Built {
-    unsafe {
-        icotable_set(
-            b, l.store.as_mut_ptr(), l.store.len(), l.kinds.as_mut_ptr(), l.kinds.len(), l.levels.as_mut_ptr(), l.levels.len(),
-            l.values.as_mut_ptr(), l.values.len(), ri, oi, energies.as_ptr(), energies.len(),
-        )
-    }
+    with_lists!(icotable_set, (b), l, (ri, oi, energies.as_ptr(), energies.len()))
 }
 
-#[rustfmt::skip]
 pub fn settle(b: Builder, l: &mut Lists, m: Meshes, ri: u64) -> Settled {
-    unsafe {
-        icotable_settle(
-            b, l.store.as_ptr(), l.store.len(), l.kinds.as_mut_ptr(), l.kinds.len(), l.levels.as_mut_ptr(), l.levels.len(),
-            l.values.as_mut_ptr(), l.values.len(), m.vertices.as_ptr(), m.vertices.len(), m.counts.as_ptr(), m.counts.len(),
-            m.neighbours.as_ptr(), m.neighbours.len(), m.angles.as_ptr(), m.angles.len(), ri,
-        )
-    }
+    with_lists!(icotable_settle, (b), l, m, (ri))
 }
 
-#[rustfmt::skip]
 pub fn write(b: Builder, l: Held, m: Meshes, output: &mut [u8]) -> Written {
-    unsafe {
-        icotable_write(
-            b, l.store.as_ptr(), l.store.len(), l.kinds.as_ptr(), l.kinds.len(), l.levels.as_ptr(), l.levels.len(),
-            l.values.as_ptr(), l.values.len(), m.vertices.as_ptr(), m.vertices.len(), m.counts.as_ptr(), m.counts.len(),
-            m.neighbours.as_ptr(), m.neighbours.len(), m.angles.as_ptr(), m.angles.len(), output.as_mut_ptr(), output.len(),
-        )
-    }
+    with_held!(icotable_write, b, l, m, output)
 }
 
 pub fn read(file: &[u8]) -> Table {
@@ -224,28 +321,42 @@ pub fn locator(level: u64, m: Meshes, l: &mut Locator) -> u64 {
     }
 }
 
-#[rustfmt::skip]
 pub fn reading(table: &Table, l: Lent, q: &Query) -> Value {
     let (a, b) = (q.a, q.b);
-    unsafe {
-        icotable_reading(
-            table, l.file.as_ptr(), l.file.len(), l.vertices.as_ptr(), l.vertices.len(), l.cell_offsets.as_ptr(), l.cell_offsets.len(),
-            l.cell_vertices.as_ptr(), l.cell_vertices.len(), l.face_offsets.as_ptr(), l.face_offsets.len(), l.faces.as_ptr(), l.faces.len(),
-            q.r, q.omega, a[0], a[1], a[2], b[0], b[1], b[2],
-        )
-    }
+    with_lent!(icotable_reading, table, l, q.r, q.omega, a[0], a[1], a[2], b[0], b[1], b[2])
 }
 
-#[rustfmt::skip]
 pub fn boltzmann(table: &Table, l: Lent, q: &Query, beta: f64) -> Value {
     let (a, b) = (q.a, q.b);
-    unsafe {
-        icotable_boltzmann(
-            table, l.file.as_ptr(), l.file.len(), l.vertices.as_ptr(), l.vertices.len(), l.cell_offsets.as_ptr(), l.cell_offsets.len(),
-            l.cell_vertices.as_ptr(), l.cell_vertices.len(), l.face_offsets.as_ptr(), l.face_offsets.len(), l.faces.as_ptr(), l.faces.len(),
-            q.r, q.omega, a[0], a[1], a[2], b[0], b[1], b[2], beta,
-        )
-    }
+    with_lent!(icotable_boltzmann, table, l, q.r, q.omega, a[0], a[1], a[2], b[0], b[1], b[2], beta)
+}
+
+pub fn atom_fresh(grid: AtomGrid, top: u64, l: &mut Lists, m: Meshes) -> AtomBuilt {
+    with_lists!(icotable_atom_fresh, (grid, top), l, m, ())
+}
+
+pub fn atom_set(b: AtomBuilder, l: &mut Lists, ri: u64, energies: &[f64]) -> AtomBuilt {
+    with_lists!(icotable_atom_set, (b), l, (ri, energies.as_ptr(), energies.len()))
+}
+
+pub fn atom_settle(b: AtomBuilder, l: &mut Lists, m: Meshes, ri: u64) -> AtomSettled {
+    with_lists!(icotable_atom_settle, (b), l, m, (ri))
+}
+
+pub fn atom_write(b: AtomBuilder, l: Held, m: Meshes, output: &mut [u8]) -> Written {
+    with_held!(icotable_atom_write, b, l, m, output)
+}
+
+pub fn atom_read(file: &[u8]) -> AtomTable {
+    unsafe { icotable_atom_read(file.as_ptr(), file.len()) }
+}
+
+pub fn atom_reading(table: &AtomTable, l: Lent, r: f64, d: [f64; 3]) -> Energy {
+    with_lent!(icotable_atom_reading, table, l, r, d[0], d[1], d[2])
+}
+
+pub fn atom_boltzmann(table: &AtomTable, l: Lent, r: f64, d: [f64; 3], beta: f64) -> Energy {
+    with_lent!(icotable_atom_boltzmann, table, l, r, d[0], d[1], d[2], beta)
 }
 
 pub fn vertices(level: u64) -> u64 {

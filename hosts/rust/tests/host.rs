@@ -1,5 +1,5 @@
 //! The wrapper, used as a host does.
-use icotable::{settings, vertex_count, Builder, Error, FloatEnvironment, Grid, Kind, Level, Mesh, Refusal, Table};
+use icotable::{atom_settings, settings, vertex_count, AtomBuilder, AtomTable, Builder, Error, FloatEnvironment, Grid, Kind, Level, Mesh, Refusal, Table};
 use std::sync::Arc;
 
 fn mesh(top: u64) -> Arc<Mesh> {
@@ -75,18 +75,20 @@ fn meshes_have_the_pages_checksums() {
 }
 
 // What is found in a thread of its own with these bits set in MXCSR, the register that x86-64 keeps the environment in.
-fn found_with(bits: u32) -> (FloatEnvironment, Option<Error>, Option<Error>) {
+fn found_with(bits: u32) -> (FloatEnvironment, [Option<Error>; 4]) {
     let file = builder(0).write().unwrap();
-    let mesh = mesh(0);
+    let (mesh, atom) = (mesh(0), atom_settings(0.0, 2.0, 1.0, 0.1, 1.0));
+    let atom_file = AtomBuilder::new(atom, mesh.clone()).unwrap().write().unwrap();
     let thread = std::thread::spawn(move || {
         let mut was = 0u32;
         unsafe { std::arch::asm!("stmxcsr [{}]", in(reg) &mut was) };
         let now = was | bits;
         unsafe { std::arch::asm!("ldmxcsr [{}]", in(reg) &now) };
         let found = FloatEnvironment::of_thread();
-        let (built, read) = (Builder::new(small(), mesh.clone()).err(), Table::read(file, mesh).err());
+        let pair = [Builder::new(small(), mesh.clone()).err(), Table::read(file, mesh.clone()).err()];
+        let [built, read] = [AtomBuilder::new(atom, mesh.clone()).err(), AtomTable::read(atom_file, mesh).err()];
         unsafe { std::arch::asm!("ldmxcsr [{}]", in(reg) &was) };
-        (found, built, read)
+        (found, [pair[0], pair[1], built, read])
     });
     thread.join().unwrap()
 }
@@ -97,7 +99,7 @@ fn another_float_environment_is_told() {
     const UP: u32 = 0x4000;
     const FLUSH_RESULTS: u32 = 0x8000;
     const FLUSH_OPERANDS: u32 = 0x40;
-    assert_eq!(found_with(0), (FloatEnvironment::default(), None, None));
+    assert_eq!(found_with(0), (FloatEnvironment::default(), [None; 4]));
     for (bits, flags) in [
         (DOWN, (true, false, false)),
         (UP, (true, false, false)),
@@ -109,7 +111,7 @@ fn another_float_environment_is_told() {
         let (rounding, results_flushed, operands_flushed) = flags;
         let wanted = FloatEnvironment { rounding, results_flushed, operands_flushed };
         let error = Some(Error::Environment(wanted));
-        assert_eq!(found_with(bits), (wanted, error, error), "with {bits:X}");
+        assert_eq!(found_with(bits), (wanted, [error; 4]), "with {bits:X}");
     }
 }
 

@@ -5,7 +5,7 @@ use lib.ListN.{length}
 use borrow.Author.Needs.{needs}
 use borrow.Author.Tests.{eq-eqb, ne-eqb}
 use Rattle.mesh.specs.Mesh.{meshOf}
-use Rattle.builder.specs.Calls.{freshOut, filled}
+use Rattle.builder.specs.Calls.{freshOut, filledSlabs}
 use Rattle.builder.specs.Refusals.{meshedRefusal}
 use Rattle.builder.proofs.Laws.{Meshed, meshed}
 use Rattle.builder.proofs.fresh.Statement.{statement}
@@ -21,29 +21,22 @@ returns : tie.Need-returns
 unfolding freshOut meshedRefusal
 returns c = (rw (ne-eqb _ _ (c .if1 .taken)), rw (← c .before .before .fresh-builder .ensures, ← c .before .meshed-refusal .ensures, ne-eqb _ _ (c .if1 .taken)))
 
-mul-n : tie.Need-mul-n
-mul-n c = let f = facts c in omega (arith, f .room .kinds-le)
+mul-clear-slabs : tie.Need-mul-clear-slabs
+mul-clear-slabs c = let f = facts c in omega (arith, f .room .kinds-le)
 
 cast-per-level : tie.Need-cast-per-level
-cast-per-level c = let f = facts (c .before) in omega (arith, f .asked .top-le)
+cast-per-level c = let f = facts c in omega (arith, f .asked .top-le)
 
-mul-clear-store : tie.Need-mul-clear-store
-mul-clear-store c = let f = facts (c .before .before) in rw (c .per-level .ensures) (omega (arith, f .room .store-le))
-
-clear-store-requires : tie.Need-clear-store-requires
-clear-store-requires c κs = let f = facts (c .before .before) in rw (c .per-level .ensures) (f .room .store-le)
-
-clear-rows-requires : tie.Need-clear-rows-requires
-clear-rows-requires c κs = let f = facts (c .before .before .before .before .before .before .before .before) in (f .room .kinds-le, f .room .levels-le, f .room .values-le)
+clear-slabs-requires : tie.Need-clear-slabs-requires
+clear-slabs-requires c κs = let f = facts (c .before .before .before .before .before) in rw (c .before .before .before .before .per-level .ensures) (f .room .store-le, f .room .kinds-le, f .room .levels-le, f .room .values-le)
 
 returns-2 : tie.Need-returns-2
-unfolding freshOut meshedRefusal filled
+unfolding freshOut meshedRefusal
 returns-2 c =
-    let d = c .before .before .before .before .before .before .before .before .before .before .before .before .before .before .before in
-    let w = c .before .before .before .before .before .before .clear-rows .ensures in
-    (refl, rw (← d .before .before .fresh-builder .ensures, ← d .before .meshed-refusal .ensures, eq-eqb _ _ (d .if1 .left), c .before .before .before .before .before .before .before .before .before .before .before .before .clear-store .ensures, c .before .before .before .before .before .before .before .before .before .before .before .before .before .per-level .ensures, w .0, w .1, w .2))
+    let d = c .before .before .before .before .before .before .before .before .before .before .before .before .before .before in
+    (refl, rw (← d .before .before .fresh-builder .ensures, ← d .before .meshed-refusal .ensures, eq-eqb _ _ (d .if1 .left), ← c .before .before .before .before .before .before .before .before .before .before .before .before .before .per-level .ensures, c .before .before .before .before .before .before .before .before .clear-slabs .ensures))
 
 pub fresh-spec : {M : Type 1} → statement M
 fresh-spec =
     tie.close
-    (tie.spec (λ c κs. search needs) (λ c κs. search needs) returns mul-n cast-per-level (λ c κs. search needs) mul-clear-store clear-store-requires clear-rows-requires (λ c. search needs) (λ c. search needs) (λ c. search needs) (λ c. search needs) returns-2)
+    (tie.spec (λ c κs. search needs) (λ c κs. search needs) returns mul-clear-slabs cast-per-level (λ c κs. search needs) clear-slabs-requires (λ c. search needs) (λ c. search needs) (λ c. search needs) (λ c. search needs) returns-2)

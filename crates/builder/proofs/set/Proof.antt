@@ -3,7 +3,7 @@ use mathlib.Core.Path.{refl, sym, _∙_}
 use native.Mathlib.Omega.{arith}
 use lib.ListN.{length}
 use borrow.Author.Tests.{eq-eqb, ne-eqb}
-use Rattle.builder.specs.Calls.{setOut, setLists}
+use Rattle.builder.specs.Calls.{setOut, slabSet}
 use Rattle.builder.specs.Refusals.{setRefusal}
 use Rattle.builder.proofs.Laws.{Set, accepted}
 use borrow.Author.Needs.{needs}
@@ -19,31 +19,28 @@ returns : tie.Need-returns
 unfolding setOut setRefusal
 returns c = (rw (ne-eqb _ _ (c .if1 .taken)), rw (← c .before .set-refusal .ensures, ne-eqb _ _ (c .if1 .taken)))
 
-mul-s : tie.Need-mul-s
-mul-s c = let f = facts c in omega (arith, f .row, f .room .kinds-le)
-
-add-s : tie.Need-add-s
-add-s c = let f = facts c in omega (arith, f .row, f .room .kinds-le)
-
 cast-per-level : tie.Need-cast-per-level
-cast-per-level c = let f = facts (c .before) in omega (arith, f .asked .top-le)
+cast-per-level c = let f = facts c in omega (arith, f .asked .top-le)
 
-mul-copy-at : tie.Need-mul-copy-at
-mul-copy-at c = let f = facts (c .before .before) in rw (c .per-level .ensures) (omega (arith, f .energies))
+cast-set-slab : tie.Need-cast-set-slab
+cast-set-slab c = let f = facts (c .before) in omega (arith, f .asked .top-le, f .asked .level-le)
 
-copy-at-requires : tie.Need-copy-at-requires
-copy-at-requires c κs = let f = facts (c .before .before) in rw (c .per-level .ensures) (f .energies)
+mul-set-slab : tie.Need-mul-set-slab
+mul-set-slab c = let f = facts (c .before .before .before .before .before) in omega (arith, f .row, f .room .kinds-le)
 
-cast-t26 : tie.Need-cast-t26
-cast-t26 c = let f = facts (c .before .before .before .before .before .before .before .before) in omega (arith, f .asked .top-le, f .asked .level-le)
+add-set-slab : tie.Need-add-set-slab
+add-set-slab c = let f = facts (c .before .before .before .before .before) in omega (arith, f .row, f .room .kinds-le)
+
+set-slab-requires : tie.Need-set-slab-requires
+set-slab-requires c κs = let f = facts (c .before .before .before .before .before) in rw (c .before .before .before .before .per-level .ensures) (f .energies)
 
 returns-2 : tie.Need-returns-2
-unfolding setOut setRefusal setLists
+unfolding setOut setRefusal
 returns-2 c =
-    let e = c .before .before .before .before .before .before .before .before .before .before .before .before .before .before .before in
-    (refl, rw (← e .before .set-refusal .ensures, eq-eqb _ _ (e .if1 .left), c .before .before .before .before .before .before .before .before .before .before .before .before .copy-at .ensures, c .before .before .before .before .before .before .before .before .before .before .before .before .before .per-level .ensures, ← c .before .before .before .before .before .before .replace .ensures))
+    let e = c .before .before .before .before .before .before .before .before .before .before .before .before .before .before in
+    (refl, rw (← e .before .set-refusal .ensures, eq-eqb _ _ (e .if1 .left), ← c .before .before .before .before .before .before .before .before .before .before .before .before .before .per-level .ensures, c .before .before .before .before .before .before .before .before .set-slab .ensures))
 
 pub set-spec : {M : Type 1} → statement M
 set-spec =
     tie.close
-    (tie.spec (λ c κs. search needs) returns mul-s add-s cast-per-level (λ c κs. search needs) mul-copy-at copy-at-requires cast-t26 (λ c κs. search needs) (λ c. search needs) (λ c. search needs) (λ c. search needs) (λ c. search needs) returns-2)
+    (tie.spec (λ c κs. search needs) returns cast-per-level (λ c κs. search needs) cast-set-slab mul-set-slab add-set-slab set-slab-requires (λ c. search needs) (λ c. search needs) (λ c. search needs) (λ c. search needs) returns-2)

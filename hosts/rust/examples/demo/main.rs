@@ -1,8 +1,9 @@
-//! Builds the demonstration's table, as hosts/c/demo.c does, and writes it: demo FILE. Both files are the same, byte for byte.
+//! Builds the demonstration's tables, as hosts/c/demo.c does, and writes them: demo FILE [ION_FILE], of two molecules and of one
+//! against an ion. The files are the same as those that are written there, byte for byte.
 mod molecules;
 
-use icotable::{settings, Builder, Mesh, Refusal, Table};
-use molecules::{first_pose, pair_energy, second_pose, Pose, BETA};
+use icotable::{atom_settings, settings, AtomBuilder, AtomTable, Builder, Mesh, Refusal, Table};
+use molecules::{first_pose, ion_energy, pair_energy, second_pose, Pose, BETA};
 use std::error::Error;
 use std::sync::Arc;
 
@@ -26,8 +27,34 @@ fn build(builder: &mut Builder) -> Result<(), Refusal> {
     Ok(())
 }
 
+fn build_ion(builder: &mut AtomBuilder) -> Result<(), Refusal> {
+    let grid = builder.grid();
+    for ri in 0..grid.n_r {
+        let r = grid.rmin + ri as f64 * grid.dr;
+        let energies: Vec<f64> = builder.directions().into_iter().map(|d| ion_energy(&first_pose(d), r)).collect();
+        builder.set(ri, &energies)?;
+        let gradient = builder.settle(ri)?;
+        println!("distance {r}: gradient {gradient:.4}, level {}", builder.level());
+    }
+    Ok(())
+}
+
+fn ion(name: &str) -> Result<(), Box<dyn Error>> {
+    let mesh = Arc::new(Mesh::icospheres(5)?);
+    let mut builder = AtomBuilder::new(atom_settings(1.0, 25.0, 0.5, 0.5, BETA), mesh.clone())?;
+    build_ion(&mut builder)?;
+    let file = builder.write()?;
+    std::fs::write(name, &file)?;
+    let table = AtomTable::read(std::fs::read(name)?, mesh)?;
+    let up = [0.0, 0.6, 0.8];
+    let (plain, weighted) = (table.lookup(5.5, up)?, table.lookup_boltzmann(5.5, up, BETA)?);
+    println!("{name}: {} bytes; at distance 5.5 the energy is {plain}, weighted by temperature {weighted}", file.len());
+    Ok(())
+}
+
 fn main() -> Result<(), Box<dyn Error>> {
-    let name = std::env::args().nth(1).ok_or("usage: demo FILE")?;
+    let mut names = std::env::args().skip(1);
+    let name = names.next().ok_or("usage: demo FILE [ION_FILE]")?;
     let mesh = Arc::new(Mesh::icospheres(3)?);
     let mut builder = Builder::new(settings(1.0, 25.0, 0.75, 0.5235987755982988, 0.5, BETA), mesh.clone())?;
     build(&mut builder)?;
@@ -39,5 +66,5 @@ fn main() -> Result<(), Box<dyn Error>> {
     std::fs::write(&name, &file)?;
     let table = Table::read(std::fs::read(&name)?, mesh)?;
     println!("{name}: {} bytes; at distance 5.5 the energy is {}", file.len(), table.lookup(5.5, 0.5, [0.0, 0.0, 1.0], [0.0, 1.0, 0.0])?);
-    Ok(())
+    names.next().map_or(Ok(()), |name| ion(&name))
 }

@@ -1,4 +1,4 @@
-//! The two molecules of the demonstration, with the same operations in the same order as hosts/c/molecules.c, so that both hosts
+//! The two molecules and the ion of the demonstration, with the same operations in the same order as hosts/c/molecules.c, so that both hosts
 //! give the same bytes. Lengths are in angstrom and energies in kJ/mol.
 
 struct Site {
@@ -17,6 +17,7 @@ const FIRST: [Site; 4] =
 // an anion with a polar end
 const SECOND: [Site; 4] =
     [site([0.0, 0.0, 2.0], -1.0, 3.0), site([0.6, 0.5, 0.4], 0.0, 3.6), site([-0.6, 0.4, -1.0], 0.4, 3.4), site([0.2, -0.7, -2.0], -0.4, 3.2)];
+const ION: Site = site([0.0, 0.0, 0.0], 1.0, 2.6);
 
 // 1 / RT at 298.15 K
 pub const BETA: f64 = 0.40339;
@@ -74,6 +75,16 @@ pub fn pair_energy(a: &Pose, b: &Pose, r: f64) -> f64 {
             let (x, y, z) = (q[0] - p[0], q[1] - p[1], q[2] + r - p[2]);
             energy += site_energy(&FIRST[i], &SECOND[j], x * x + y * y + z * z);
         }
+    }
+    energy
+}
+
+/// The energy of the first molecule with the ion r up the axis.
+pub fn ion_energy(a: &Pose, r: f64) -> f64 {
+    let mut energy = 0.0;
+    for (i, p) in a.iter().enumerate() {
+        let (x, y, z) = (p[0], p[1], r - p[2]);
+        energy += site_energy(&FIRST[i], &ION, x * x + y * y + z * z);
     }
     energy
 }

@@ -1,9 +1,11 @@
 -- `set_refusal` meets its contract. Assumes nothing.
 use mathlib.Core.Path.{sym, _∙_}
-use Rattle.lists.proofs.Counting.{yes, no}
+use native.Mathlib.Nat.{mul-le-mul}
 use native.Mathlib.Omega.{arith}
 use borrow.Author.Tests.{eq-eqb, ne-eqb}
 use Rattle.lists.specs.Questions.{ask, first}
+use Rattle.builder.specs.BuilderLists.{listRoom}
+use Rattle.builder.specs.Refusals.{setQuestion}
 use Rattle.builder.proofs.Laws.{Asked, asked}
 use borrow.Author.Needs.{needs}
 use Rattle.builder.proofs.questions.set_refusal.Statement.{statement}
@@ -17,26 +19,25 @@ returns : tie.Need-returns
 unfolding ask first
 returns c = rw (← c .before .question .ensures, ne-eqb _ _ (c .if1 .taken))
 
-list-room-requires : tie.Need-list-room-requires
-list-room-requires c κs = let a = held c in (a .rs, a .omegas, a .top-le)
+mul-set-question : tie.Need-mul-set-question
+mul-set-question c = let a = held c in omega (arith, mul-le-mul (a .rs) (a .omegas))
 
-returns-2 : tie.Need-returns-2
-unfolding ask first
-returns-2 c =
-    let d = c .before .before in
-    rw (← d .before .question .ensures, eq-eqb _ _ (d .if1 .left), no (c .before .list-room .ensures) (c .if2 .taken))
+cast-per-level : tie.Need-cast-per-level
+cast-per-level c = let a = held c in omega (arith, a .top-le)
+
+cast-per-level-2 : tie.Need-cast-per-level-2
+cast-per-level-2 c = let a = held (c .before) in omega (arith, a .top-le, a .level-le)
 
 set-question-requires : tie.Need-set-question-requires
-set-question-requires c κs = let a = held (c .before .before) in omega (arith, a .top-le, a .level-le)
+set-question-requires c κs = let a = held (c .before .before) in rw (c .before .per-level .ensures) (omega (arith, a .few))
 
-returns-3 : tie.Need-returns-3
-unfolding ask first
-returns-3 c =
-    let e = c .before in
-    let d = e .before .before in
-    rw (← d .before .question .ensures, eq-eqb _ _ (d .if1 .left), yes (e .before .list-room .ensures) (e .if2 .left), c .set-question .ensures)
+returns-2 : tie.Need-returns-2
+unfolding ask first listRoom setQuestion
+returns-2 c =
+    let d = c .before .before .before in
+    rw (← d .before .question .ensures, eq-eqb _ _ (d .if1 .left), c .set-question .ensures, c .before .per-level2 .ensures, c .before .before .per-level .ensures)
 
 pub set-refusal-spec : {M : Type 1} → statement M
 set-refusal-spec =
     tie.close
-    (tie.spec (λ c κs. search needs) returns list-room-requires returns-2 set-question-requires returns-3)
+    (tie.spec (λ c κs. search needs) returns mul-set-question cast-per-level (λ c κs. search needs) cast-per-level-2 (λ c κs. search needs) set-question-requires returns-2)

@@ -12,13 +12,13 @@ use Rattle.builder.proofs.questions.settle_question.Statement.{statemen
 use Rattle.builder.proofs.questions.settle_question.Tie as tie
 
 -- where the slice begins
-small : (c : tie.Else1) → c .before .before .before .before .args .ri * c .before .before .before .before .args .b .grid .«n_omega» ≤ 65535 * 65535
+small : (c : tie.Else1) → c .before .before .before .before .args .ri * c .before .before .before .before .args .n ≤ 65535 * 65535
 small c =
     let s = c .before .before .before .before in
     let h : s .args .ri ≤ 65535 = omega (arith, s .pre .0) in
     mul-le-mul h (s .pre .1)
 
-flat : (c : tie.Else1) → let a = c .before .before .before .before .args in a .ri * a .b .grid .«n_omega» + 0 ≡ a .ri * a .b .grid .«n_omega»
+flat : (c : tie.Else1) → let a = c .before .before .before .before .args in a .ri * a .n + 0 ≡ a .ri * a .n
 flat c = omega arith
 
 returns : tie.Need-returns

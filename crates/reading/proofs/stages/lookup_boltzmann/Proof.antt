@@ -1,20 +1,19 @@
 -- `lookup_boltzmann` meets its contract. Assumes nothing.
 use borrow.Author.Needs.{needs}
 use mathlib.Core.Path.{_≡_, refl, sym, _∙_}
-use mathlib.Core.Bool.{true, false, _&&_, and-eq-true-iff}
+use mathlib.Core.Bool.{true, false, _&&_}
 use Prim.Native.Nat.{_+_, _*_, _≤_, min}
 use native.Mathlib.Omega.{arith}
 use lib.ListN.{length}
-use lib.Ieee.{Float, binary64, ofBits, lt}
-use lib.Ieee.Scale.{finite}
+use lib.Ieee.{binary64, ofBits, lt}
 use borrow.Author.Tests.{not-true, not-false}
 use Rattle.lists.proofs.Counting.{yes, no}
 use Rattle.grid.specs.Settings.{above}
 use Rattle.search.specs.Search.{Locator, locatorOf}
 use Rattle.reading.specs.Resolve.{Query, boltzmann, wayValid, Resolved, unresolved, beyond, slabAt, queryValid, outside, resolve}
 use Rattle.reading.specs.declared.Reading.the-variants.{Energy}
-use Rattle.reading.specs.Internal.{wayOf, slabOf}
-use Rattle.reading.proofs.Inside.{refused-18, refused-21, beyond-out, no-bins, some-bins, bins-some, row-none, row-fits, scalar-row, entry-row, answered}
+use Rattle.reading.specs.Internal.{slabOf}
+use Rattle.reading.proofs.Inside.{refused-18, refused-21, beyond-out, no-bins, some-bins, bins-some, row-none, row-fits, scalar-row, entry-row, answered, own-way}
 use Rattle.reading.proofs.Parts.{whole}
 use Rattle.reading.proofs.stages.lookup_boltzmann.Statement.{statement}
 use Rattle.reading.proofs.stages.lookup_boltzmann.Tie as tie
@@ -27,11 +26,6 @@ query s = record { r = s .args .r; omega = s .args .omega; a = s .args .a; b = s
 
 asked : (c : tie.Else1) → queryValid (query (c .before .before .before .before .before .before .before .before .before)) ≡ true
 asked c = yes (c .before .query-valid .ensures) (c .if1 .left)
-
--- a beta that is finite and above 0 stands for itself
-own-way : (beta : Float) → wayValid (boltzmann beta) ≡ true → wayOf beta ≡ boltzmann beta
-unfolding wayValid above
-own-way beta h = rw (and-eq-true-iff (finite beta) (lt (ofBits binary64 0) beta) .0 h .1)
 
 weighted : (c : tie.Else2) → wayValid (boltzmann (c .before .before .before .before .before .before .before .before .before .before .before .args .beta)) ≡ true
 unfolding wayValid above

@@ -2,7 +2,7 @@
 use native.Mathlib.Omega.{arith}
 use borrow.Author.Tests.{le-leb, lt-leb}
 use borrow.Author.Needs.{needs}
-use Rattle.mesh.proofs.Laws.{per-le}
+use Rattle.table.proofs.Items.{each-le}
 use Rattle.table.proofs.questions.next_place.Statement.{statement}
 use Rattle.table.proofs.questions.next_place.Tie as tie
 
@@ -10,10 +10,14 @@ returns : tie.Need-returns
 returns c = (rw (le-leb _ _ (c .if1 .taken)), c .before .pre)
 
 add-result : tie.Need-add-result
-add-result c = omega (arith, c .per-level .ensures, per-le (c .before .before .args .level) 256 (omega arith))
+add-result c =
+    let a = c .before .before .args in
+    omega (arith, c .energies-of .ensures, each-le (a .pairs) (a .level) (omega arith))
 
 returns-2 : tie.Need-returns-2
-returns-2 c = (rw (lt-leb _ _ (c .before .if1 .left), c .per-level .ensures), omega (arith, c .per-level .ensures, per-le (c .before .before .args .level) 256 (omega arith)))
+returns-2 c =
+    let a = c .before .before .args in
+    (rw (lt-leb _ _ (c .before .if1 .left), c .energies-of .ensures), omega (arith, c .energies-of .ensures, each-le (a .pairs) (a .level) (omega arith)))
 
 pub next-place-spec : {M : Type 1} → statement M
 next-place-spec = tie.close

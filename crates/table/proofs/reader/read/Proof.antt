@@ -28,6 +28,7 @@ table-of-requires : tie.Need-table-of-requires
 table-of-requires c κs = placed c
 
 table-question-requires : tie.Need-table-question-requires
+unfolding tableOf
 table-question-requires c κs = rw (c .table-of .ensures) (inside 3 2 _ _ (placed (c .before)))
 
 returns-2 : tie.Need-returns-2

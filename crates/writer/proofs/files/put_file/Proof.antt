@@ -1,30 +1,33 @@
 -- `put_file` meets its contract. Assumes nothing.
-use native.Mathlib.Nat.{mul-le-mul}
+use mathlib.Core.Path.{refl}
+use mathlib.Core.List.{[], _∷_}
 use native.Mathlib.Omega.{arith}
+use lib.Ieee.{binary64, toBits}
 use borrow.Author.Needs.{needs}
-use Rattle.builder.specs.BuilderLists.{listsOf}
+use Rattle.mesh.specs.Levels.{per}
+use Rattle.builder.specs.BuilderLists.{slabs, listsOf}
+use Rattle.table.specs.File.{fileOf}
+use Rattle.writer.specs.Write.{fileFrom}
 use Rattle.writer.proofs.Whole.{file-put}
 use Rattle.writer.proofs.files.put_file.Statement.{statement}
 use Rattle.writer.proofs.files.put_file.Tie as tie
 
-put-rows-requires : tie.Need-put-rows-requires
-put-rows-requires c κs =
-    let p = c .before .before .before .before .before .before .before .before .before .before .before .before .pre in
-    (omega (arith, p .fits), omega (arith, mul-le-mul (p .rs) (p .omegas)), rw (← p .energies) (p .few))
-
-put-tail-requires : tie.Need-put-tail-requires
-put-tail-requires c κs =
-    let p = c .before .before .before .before .before .before .before .before .before .before .before .before .before .before .before .before .pre in
-    (omega (arith, p .fits), p .few, p .energies, rw (c .before .before .before .before .before .before .before .before .before .per-level .ensures) (p .store), rw (c .before .before .before .before .before .before .before .before .before .per-level .ensures) (p .bounded))
+put-rest-requires : tie.Need-put-rest-requires
+put-rest-requires c κs =
+    let p = c .before .before .before .before .before .before .before .before .before .before .before .pre .0 in
+    (record { sure = p .sure; energies = p .energies; fits = omega (arith, p .fits) }, omega arith)
 
 returns : tie.Need-returns
+unfolding fileFrom fileOf
 returns c =
-    let s = c .before .before .before .before .before .before .before .before .before .before .before .before .before .before .before .before .before .before .before in
+    let s = c .before .before .before .before .before .before .before .before .before .before .before .before .before .before in
     let a = s .args in
-    rw (c .before .before .put-tail .ensures, c .before .before .before .before .before .before .put-rows .ensures, c .before .before .before .before .before .before .before .before .before .before .put-head .ensures, c .before .before .before .before .before .before .before .before .before .before .before .before .per-level .ensures)
-    (file-put (a .b) (listsOf (a .store .now) (a .kinds .now) (a .levels .now) (a .values .now)) (a .out .now) (a .e) (s .pre))
+    let g = a .b .grid in
+    rw (c .before .before .put-rest .ensures, c .before .before .before .before .before .before .put-head .ensures)
+    (file-put per (a .b .top) (slabs g) (listsOf (a .store .now) (a .kinds .now) (a .levels .now) (a .values .now))
+    (toBits binary64 (g .rmin) ∷ toBits binary64 (g .dr) ∷ toBits binary64 (g .«omega_step») ∷ []) (g .«n_r» ∷ g .«n_omega» ∷ []) (a .out .now) 40 refl (omega (arith, s .pre .0 .fits)))
 
 pub put-file-spec : {M : Type 1} → statement M
 put-file-spec =
     tie.close
-    (tie.spec (λ c. search needs) (λ c. search needs) (λ c κs. search needs) (λ c. search needs) (λ c κs. search needs) (λ c. search needs) (λ c. search needs) put-rows-requires (λ c. search needs) (λ c. search needs) (λ c. search needs) (λ c. search needs) put-tail-requires (λ c. search needs) returns)
+    (tie.spec (λ c κs. search needs) (λ c. search needs) put-rest-requires (λ c. search needs) returns)

@@ -1,17 +1,17 @@
 -- `write` meets its contract. Assumes nothing.
 use mathlib.Core.Path.{_≡_, refl, sym, _∙_}
-use native.Mathlib.Nat.{mul-le-mul}
+use Prim.Native.Nat.{_≤_}
 use native.Mathlib.Omega.{arith}
 use lib.ListN.{length}
 use borrow.Author.Tests.{lt-leb, le-leb, ne-eqb}
 use borrow.Author.Needs.{needs}
+use Rattle.mesh.specs.Levels.{per}
 use Rattle.mesh.specs.Mesh.{Mesh, meshOf}
 use Rattle.builder.specs.Refusals.{meshedRefusal}
-use Rattle.builder.specs.BuilderLists.{BuilderLists, rowsKnown, listsOf}
+use Rattle.builder.specs.BuilderLists.{BuilderLists, slabs, rowsKnown, listsOf}
 use Rattle.writer.specs.Write.{fileFrom}
-use Rattle.writer.specs.Internal.{writeQuestion}
-use Rattle.writer.proofs.Whole.{file-length}
-use Rattle.writer.proofs.Outcome.{Sure, sure, ready, write-refused, write-short, write-done}
+use Rattle.writer.specs.Internal.{Sure, writeQuestion}
+use Rattle.writer.proofs.Outcome.{sure, write-length, write-refused, write-short, write-done}
 use Rattle.writer.proofs.files.write.Statement.{statement}
 use Rattle.writer.proofs.files.write.Tie as tie
 
@@ -28,7 +28,8 @@ answer : (c : tie.After-write-question) → let s = c .before .before .before .b
 unfolding meshedRefusal rowsKnown
 answer c = c .write-question .ensures
 
-certain : (c : tie.Else1) → let s = c .before .before .before .before .before .before .before .before .before .before .before in Sure (s .args .b) (lists s)
+certain : (c : tie.Else1) → let s = c .before .before .before .before .before .before .before .before .before .before .before in
+    Sure per (s .args .b .top) (slabs (s .args .b .grid)) (lists s) × (s .args .b .grid .«n_r» ≤ 65535) × (s .args .b .grid .«n_omega» ≤ 65535)
 certain c =
     let s = c .before .before .before .before .before .before .before .before .before .before .before in
     sure (s .args .b) (meshes s) (lists s) (sym (answer (c .before)) ∙ c .if1 .left)
@@ -39,62 +40,62 @@ returns c =
     (rw (ne-eqb _ _ (c .if1 .taken)), sym (write-refused (s .args .b) (meshes s) (lists s) (s .args .output .now) (c .before .write-question .result) (answer (c .before)) (c .if1 .taken)))
 
 mul-n : tie.Need-mul-n
-mul-n c = let f = certain c in omega (arith, mul-le-mul (f .rs) (f .omegas))
+mul-n c = omega (arith, certain c .0 .slabs-le)
 
 energy-total-requires : tie.Need-energy-total-requires
-energy-total-requires c κs = certain c .few
+energy-total-requires c κs = certain c .0 .few
 
 mul-size : tie.Need-mul-size
 mul-size c =
-    let f = certain (c .before) in
-    omega (arith, mul-le-mul (f .rs) (f .omegas), f .top-le, f .few, c .energy-total .ensures)
+    let f = certain (c .before) .0 in
+    omega (arith, f .slabs-le, f .top-le, f .few, c .energy-total .ensures)
 
 add-size : tie.Need-add-size
 add-size c =
-    let f = certain (c .before) in
-    omega (arith, mul-le-mul (f .rs) (f .omegas), f .top-le, f .few, c .energy-total .ensures)
+    let f = certain (c .before) .0 in
+    omega (arith, f .slabs-le, f .top-le, f .few, c .energy-total .ensures)
 
 mul-size-2 : tie.Need-mul-size-2
 mul-size-2 c =
-    let f = certain (c .before) in
-    omega (arith, mul-le-mul (f .rs) (f .omegas), f .top-le, f .few, c .energy-total .ensures)
+    let f = certain (c .before) .0 in
+    omega (arith, f .slabs-le, f .top-le, f .few, c .energy-total .ensures)
 
 add-size-2 : tie.Need-add-size-2
 add-size-2 c =
-    let f = certain (c .before) in
-    omega (arith, mul-le-mul (f .rs) (f .omegas), f .top-le, f .few, c .energy-total .ensures)
+    let f = certain (c .before) .0 in
+    omega (arith, f .slabs-le, f .top-le, f .few, c .energy-total .ensures)
 
 mul-size-3 : tie.Need-mul-size-3
 mul-size-3 c =
-    let f = certain (c .before) in
-    omega (arith, mul-le-mul (f .rs) (f .omegas), f .top-le, f .few, c .energy-total .ensures)
+    let f = certain (c .before) .0 in
+    omega (arith, f .slabs-le, f .top-le, f .few, c .energy-total .ensures)
 
 add-size-3 : tie.Need-add-size-3
 add-size-3 c =
-    let f = certain (c .before) in
-    omega (arith, mul-le-mul (f .rs) (f .omegas), f .top-le, f .few, c .energy-total .ensures)
+    let f = certain (c .before) .0 in
+    omega (arith, f .slabs-le, f .top-le, f .few, c .energy-total .ensures)
 
 returns-2 : tie.Need-returns-2
 returns-2 c =
     let s = c .before .before .before .before .before .before .before .before .before .before .before .before .before in
     let zero = sym (answer (c .before .before .before)) ∙ c .before .before .if1 .left in
-    let f = certain (c .before .before) in
+    let f = certain (c .before .before) .0 in
     let e = c .before .energy-total .result in
-    let len = file-length (s .args .b) (lists s) e (f .store) (f .bounded) (c .before .energy-total .ensures) in
+    let len = write-length (s .args .b) (lists s) e f (c .before .energy-total .ensures) in
     (refl, sym (write-short (s .args .b) (meshes s) (lists s) (s .args .output .now) zero (lt-leb (length (fileFrom (s .args .b) (lists s))) (length (s .args .output .now)) (omega (arith, len, c .if2 .taken)))))
 
 put-file-requires : tie.Need-put-file-requires
 put-file-requires c κs =
-    let s = c .before .before .before .before .before .before .before .before .before .before .before .before .before .before in
-    ready (s .args .b) (lists s) (c .before .before .energy-total .result) _ (certain (c .before .before .before)) (c .before .before .energy-total .ensures) (omega (arith, c .before .if2 .left))
+    let f = certain (c .before .before .before) in
+    (record { sure = f .0; energies = c .before .before .energy-total .ensures; fits = omega (arith, c .before .if2 .left) }, f .1, f .2)
 
 returns-3 : tie.Need-returns-3
 returns-3 c =
     let s = c .before .before .before .before .before .before .before .before .before .before .before .before .before .before .before .before .before in
     let zero = sym (answer (c .before .before .before .before .before .before .before)) ∙ c .before .before .before .before .before .before .if1 .left in
-    let f = certain (c .before .before .before .before .before .before) in
+    let f = certain (c .before .before .before .before .before .before) .0 in
     let e = c .before .before .before .before .before .energy-total .result in
-    let len = file-length (s .args .b) (lists s) e (f .store) (f .bounded) (c .before .before .before .before .before .energy-total .ensures) in
+    let len = write-length (s .args .b) (lists s) e f (c .before .before .before .before .before .energy-total .ensures) in
     (refl, rw (c .before .before .put-file .ensures, write-done (s .args .b) (meshes s) (lists s) (s .args .output .now) zero (le-leb (length (fileFrom (s .args .b) (lists s))) (length (s .args .output .now)) (omega (arith, len, c .before .before .before .before .if2 .left))), len))
 
 pub write-spec : {M : Type 1} → statement M

@@ -3,18 +3,18 @@ use mathlib.Core.Path.{_≡_, ap, _∙_}
 use Prim.Native.Nat.{_+_}
 use native.Mathlib.Omega.{arith}
 use borrow.Author.Needs.{needs}
-use Rattle.mesh.specs.Levels.{per}
 use Rattle.rows.specs.Rows.{Rows, resolutionAt, rowsOf}
+use Rattle.table.specs.Internal.{eachOf}
 use Rattle.writer.specs.Internal.{heldBy, resolutions, total}
 use Rattle.writer.proofs.Filed.{total-turn, total-end}
 use Rattle.writer.proofs.sections.energy_total.Statement.{statement}
 use Rattle.writer.proofs.sections.energy_total.Tie as tie
 
 abbrev Inv-loop : tie.InvT-loop
-Inv-loop kinds levels values n s₀ left₀ o₀ s left o = (s + left ≡ n) × (o + total per (resolutions (rowsOf kinds levels values) s left) ≡ total per (resolutions (rowsOf kinds levels values) 0 n))
+Inv-loop pairs kinds levels values n s₀ left₀ o₀ s left o = (s + left ≡ n) × (o + total (eachOf pairs) (resolutions (rowsOf kinds levels values) s left) ≡ total (eachOf pairs) (resolutions (rowsOf kinds levels values) 0 n))
 
 abbrev μ-loop : tie.MeasureT-loop
-μ-loop kinds levels values n s₀ left₀ o₀ s left o = left
+μ-loop pairs kinds levels values n s₀ left₀ o₀ s left o = left
 
 loop-holds : tie.Need-loop-holds Inv-loop μ-loop
 loop-holds c = (omega arith, omega arith)
@@ -24,8 +24,8 @@ add-o c =
     let l = c .before .before .before in
     let a = l .before .before .before .before .args in
     let r : Rows = rowsOf (a .kinds .now) (a .levels .now) (a .values .now) in
-    let t = total-turn per r (l .loop .s) (l .loop .left) (omega arith) in
-    let e : c .energy-count .result ≡ heldBy per (resolutionAt r (l .loop .s)) = c .energy-count .ensures ∙ ap (heldBy per) (c .before .resolution-at .ensures) in
+    let t = total-turn (eachOf (a .pairs)) r (l .loop .s) (l .loop .left) (omega arith) in
+    let e : c .energy-count .result ≡ heldBy (eachOf (a .pairs)) (resolutionAt r (l .loop .s)) = c .energy-count .ensures ∙ ap (heldBy (eachOf (a .pairs))) (c .before .resolution-at .ensures) in
     omega (arith, t, e, l .loop .inv .1, c .before .before .before .before .before .before .before .pre)
 
 add-s : tie.Need-add-s Inv-loop μ-loop
@@ -42,8 +42,8 @@ loop-again c =
     let l = c .before .before .before in
     let a = l .before .before .before .before .args in
     let r : Rows = rowsOf (a .kinds .now) (a .levels .now) (a .values .now) in
-    let t = total-turn per r (l .loop .s) (l .loop .left) (omega arith) in
-    let e : c .energy-count .result ≡ heldBy per (resolutionAt r (l .loop .s)) = c .energy-count .ensures ∙ ap (heldBy per) (c .before .resolution-at .ensures) in
+    let t = total-turn (eachOf (a .pairs)) r (l .loop .s) (l .loop .left) (omega arith) in
+    let e : c .energy-count .result ≡ heldBy (eachOf (a .pairs)) (resolutionAt r (l .loop .s)) = c .energy-count .ensures ∙ ap (heldBy (eachOf (a .pairs))) (c .before .resolution-at .ensures) in
     (omega arith, omega (arith, t, e, l .loop .inv .1))
 
 returns : tie.Need-returns Inv-loop μ-loop
@@ -51,7 +51,7 @@ returns c =
     let l = c .before in
     let a = l .before .before .before .before .args in
     let r : Rows = rowsOf (a .kinds .now) (a .levels .now) (a .values .now) in
-    omega (arith, l .loop .inv .1, total-end per r (l .loop .s) (l .loop .left) (omega arith))
+    omega (arith, l .loop .inv .1, total-end (eachOf (a .pairs)) r (l .loop .s) (l .loop .left) (omega arith))
 
 pub energy-total-spec : {M : Type 1} → statement M
 energy-total-spec =

@@ -4,10 +4,10 @@ use Prim.Native.Nat.{_+_}
 use native.Mathlib.Omega.{arith}
 use lib.ListN.{length}
 use borrow.Author.Needs.{needs}
-use Rattle.mesh.specs.Levels.{per}
 use Rattle.rows.specs.Rows.{Rows, rowsOf}
 use Rattle.table.specs.Bytes.{bytesOf, packed, section}
 use Rattle.table.specs.File.{entryBytes}
+use Rattle.table.specs.Internal.{eachOf}
 use Rattle.writer.specs.Internal.{resolutions, entriesFor}
 use Rattle.writer.proofs.Puts.{puts}
 use Rattle.table.proofs.Lengths.{bytes-length}
@@ -22,9 +22,9 @@ returns c =
     let a = s .args in
     let r : Rows = rowsOf (a .kinds .now) (a .levels .now) (a .values .now) in
     let xs = resolutions r 0 (a .n) in
-    let len : length (entriesFor per 0 xs) ≡ a .n = entriesFor-length per 0 xs ∙ res-length r 0 (a .n) in
+    let len : length (entriesFor (eachOf (a .pairs)) 0 xs) ≡ a .n = entriesFor-length (eachOf (a .pairs)) 0 xs ∙ res-length r 0 (a .n) in
     rw (c .before .before .put-entries .ensures, c .before .before .before .before .before .before .put-u32 .ensures, len)
-    (puts (a .out .now) (a .at) (bytesOf 4 (a .n)) (packed entryBytes (entriesFor per 0 xs)) (a .at + 4) (omega (arith, bytes-length 4 (a .n))) (omega (arith, s .pre .0)))
+    (puts (a .out .now) (a .at) (bytesOf 4 (a .n)) (packed entryBytes (entriesFor (eachOf (a .pairs)) 0 xs)) (a .at + 4) (omega (arith, bytes-length 4 (a .n))) (omega (arith, s .pre .0)))
 
 pub put-rows-spec : {M : Type 1} → statement M
 put-rows-spec =

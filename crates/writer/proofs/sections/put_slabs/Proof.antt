@@ -1,13 +1,13 @@
 -- `put_slabs` meets its contract. Assumes nothing.
 use mathlib.Core.Path.{_≡_, ap, _∙_}
 use mathlib.Core.List.{map}
-use Prim.Native.Nat.{_+_, _*_, _≤_}
+use Prim.Native.Nat.{ℕ, _+_, _*_, _≤_}
 use native.Mathlib.Omega.{arith}
 use lib.ListN.{length, take, drop}
 use borrow.Author.Needs.{needs}
-use Rattle.mesh.specs.Levels.{per}
 use Rattle.rows.specs.Rows.{Rows, resolutionAt, narrowBits, rowsOf}
 use Rattle.table.specs.Bytes.{bytesOf, packed}
+use Rattle.table.specs.Internal.{eachOf}
 use Rattle.writer.specs.Internal.{heldBy, resolutions, total, energiesFor, Bounded}
 use Rattle.writer.proofs.Puts.{Left, begun, step, ended}
 use Rattle.writer.proofs.Filed.{res-length, Slab, slab-turn, energies-turn, energies-end, energies-bytes, taken-bytes}
@@ -15,23 +15,26 @@ use Rattle.writer.proofs.sections.put_slabs.Statement.{statement}
 use Rattle.writer.proofs.sections.put_slabs.Tie as tie
 
 abbrev Inv-loop : tie.InvT-loop
-Inv-loop out₀ at z store kinds levels values n s₀ left₀ to₀ p₀ out s left to p = (s + left ≡ n) × (to + total per (resolutions (rowsOf kinds levels values) s left) * 4 ≤ length out₀) × (p + left * z ≤ length store) × Bounded per z (resolutions (rowsOf kinds levels values) s left) × Left out₀ at (packed (bytesOf 4) (energiesFor per z store 0 (resolutions (rowsOf kinds levels values) 0 n))) out to (packed (bytesOf 4) (energiesFor per z store p (resolutions (rowsOf kinds levels values) s left)))
+Inv-loop out₀ at pairs z store kinds levels values n s₀ left₀ to₀ p₀ out s left to p = (s + left ≡ n) × (to + total (eachOf pairs) (resolutions (rowsOf kinds levels values) s left) * 4 ≤ length out₀) × (p + left * z ≤ length store) × Bounded (eachOf pairs) z (resolutions (rowsOf kinds levels values) s left) × Left out₀ at (packed (bytesOf 4) (energiesFor (eachOf pairs) z store 0 (resolutions (rowsOf kinds levels values) 0 n))) out to (packed (bytesOf 4) (energiesFor (eachOf pairs) z store p (resolutions (rowsOf kinds levels values) s left)))
 
 abbrev μ-loop : tie.MeasureT-loop
-μ-loop out₀ at z store kinds levels values n s₀ left₀ to₀ p₀ out s left to p = left
+μ-loop out₀ at pairs z store kinds levels values n s₀ left₀ to₀ p₀ out s left to p = left
 
 -- the rows that were lent, and the energies of the row at hand
 abbrev rows : tie.At-loop Inv-loop μ-loop → Rows
 rows l = let a = l .before .before .before .before .before .before .args in rowsOf (a .kinds .now) (a .levels .now) (a .values .now)
 
-taken : (c : tie.After-energy-count Inv-loop μ-loop) → let l = c .before .before .before in c .energy-count .result ≡ heldBy per (resolutionAt (rows l) (l .loop .s))
-taken c = c .energy-count .ensures ∙ ap (heldBy per) (c .before .resolution-at .ensures)
+abbrev each : tie.At-loop Inv-loop μ-loop → ℕ → ℕ
+each l = eachOf (l .before .before .before .before .before .before .args .pairs)
+
+taken : (c : tie.After-energy-count Inv-loop μ-loop) → let l = c .before .before .before in c .energy-count .result ≡ heldBy (each l) (resolutionAt (rows l) (l .loop .s))
+taken c = c .energy-count .ensures ∙ ap (heldBy (each (c .before .before .before))) (c .before .resolution-at .ensures)
 
 turn : (c : tie.After-energy-count Inv-loop μ-loop) → let l = c .before .before .before in let a = l .before .before .before .before .before .before .args in
-    Slab per (rows l) (a .z) (l .loop .s) (l .loop .left) (l .loop .to) (l .loop .p) (c .energy-count .result) (length (a .out .now)) (length (a .store .now))
+    Slab (each l) (rows l) (a .z) (l .loop .s) (l .loop .left) (l .loop .to) (l .loop .p) (c .energy-count .result) (length (a .out .now)) (length (a .store .now))
 turn c =
     let l = c .before .before .before in
-    slab-turn per (rows l) _ _ _ _ _ _ _ _ (omega arith) (taken c) (l .loop .inv .1) (l .loop .inv .2) (l .loop .inv .3)
+    slab-turn (each l) (rows l) _ _ _ _ _ _ _ _ (omega arith) (taken c) (l .loop .inv .1) (l .loop .inv .2) (l .loop .inv .3)
 
 loop-holds : tie.Need-loop-holds Inv-loop μ-loop
 loop-holds c =
@@ -42,7 +45,7 @@ loop-holds c =
       s .pre .0,
       omega (arith, s .pre .1),
       s .pre .2,
-      begun (a .out .now) (a .at) _ (omega (arith, s .pre .0, energies-bytes per (a .z) (a .store .now) 0 (resolutions r 0 (a .n)) (s .pre .2) (rw (res-length r 0 (a .n)) (omega (arith, s .pre .1))))),
+      begun (a .out .now) (a .at) _ (omega (arith, s .pre .0, energies-bytes (eachOf (a .pairs)) (a .z) (a .store .now) 0 (resolutions r 0 (a .n)) (s .pre .2) (rw (res-length r 0 (a .n)) (omega (arith, s .pre .1))))),
     )
 
 put-energies-requires : tie.Need-put-energies-requires Inv-loop μ-loop
@@ -78,7 +81,7 @@ loop-again c =
       t .next,
       t .bounded,
       step (l .loop .inv .4) (packed (bytesOf 4) (map narrowBits (take k (drop (l .loop .p) (a .store .now))))) _ _ _
-          (energies-turn per (rows l) (a .z) (a .store .now) (l .loop .p) (l .loop .s) (l .loop .left) (omega arith) ∙ rw (← e))
+          (energies-turn (eachOf (a .pairs)) (rows l) (a .z) (a .store .now) (l .loop .p) (l .loop .s) (l .loop .left) (omega arith) ∙ rw (← e))
           (c .before .before .put-energies .ensures)
           (omega (arith, taken-bytes narrowBits (a .store .now) (l .loop .p) k (t .inside))),
     )
@@ -90,7 +93,7 @@ returns : tie.Need-returns Inv-loop μ-loop
 returns c =
     let l = c .before in
     let a = l .before .before .before .before .before .before .args in
-    ended (l .loop .inv .4) (energies-end per (rowsOf (a .kinds .now) (a .levels .now) (a .values .now)) (a .z) (a .store .now) (l .loop .p) (l .loop .s) (l .loop .left) (omega arith))
+    ended (l .loop .inv .4) (energies-end (eachOf (a .pairs)) (rowsOf (a .kinds .now) (a .levels .now) (a .values .now)) (a .z) (a .store .now) (l .loop .p) (l .loop .s) (l .loop .left) (omega arith))
 
 pub put-slabs-spec : {M : Type 1} → statement M
 put-slabs-spec =

@@ -4,9 +4,9 @@ use Prim.Native.Nat.{_+_}
 use native.Mathlib.Omega.{arith}
 use lib.ListN.{length}
 use borrow.Author.Needs.{needs}
-use Rattle.mesh.specs.Levels.{per}
 use Rattle.rows.specs.Rows.{Rows, rowsOf}
 use Rattle.table.specs.Bytes.{bytesOf, packed, section}
+use Rattle.table.specs.Internal.{eachOf}
 use Rattle.writer.specs.Internal.{resolutions, energiesFor}
 use Rattle.writer.proofs.Puts.{puts}
 use Rattle.table.proofs.Lengths.{bytes-length}
@@ -21,10 +21,10 @@ returns c =
     let a = s .args in
     let r : Rows = rowsOf (a .kinds .now) (a .levels .now) (a .values .now) in
     let xs = resolutions r 0 (a .n) in
-    let len : length (energiesFor per (a .z) (a .store .now) 0 xs) ≡ a .e =
-    energies-length per (a .z) (a .store .now) 0 xs (s .pre .4) (rw (res-length r 0 (a .n)) (omega (arith, s .pre .3))) ∙ sym (s .pre .2) in
+    let len : length (energiesFor (eachOf (a .pairs)) (a .z) (a .store .now) 0 xs) ≡ a .e =
+    energies-length (eachOf (a .pairs)) (a .z) (a .store .now) 0 xs (s .pre .4) (rw (res-length r 0 (a .n)) (omega (arith, s .pre .3))) ∙ sym (s .pre .2) in
     rw (c .before .before .put-slabs .ensures, c .before .before .before .before .before .before .put-u32 .ensures, len)
-    (puts (a .out .now) (a .at) (bytesOf 4 (a .e)) (packed (bytesOf 4) (energiesFor per (a .z) (a .store .now) 0 xs)) (a .at + 4) (omega (arith, bytes-length 4 (a .e))) (omega (arith, s .pre .0)))
+    (puts (a .out .now) (a .at) (bytesOf 4 (a .e)) (packed (bytesOf 4) (energiesFor (eachOf (a .pairs)) (a .z) (a .store .now) 0 xs)) (a .at + 4) (omega (arith, bytes-length 4 (a .e))) (omega (arith, s .pre .0)))
 
 pub put-tail-spec : {M : Type 1} → statement M
 put-tail-spec =

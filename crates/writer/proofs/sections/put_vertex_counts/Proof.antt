@@ -2,6 +2,7 @@
 use mathlib.Core.Path.{_≡_, _∙_}
 use mathlib.Core.List.{map}
 use Prim.Native.Nat.{_+_, _-_, _*_, _≤_}
+use native.Mathlib.Nat.{add-zero}
 use native.Mathlib.Omega.{arith}
 use borrow.Author.Needs.{needs}
 use Rattle.mesh.specs.Levels.{vertexCount}
@@ -15,14 +16,14 @@ use Rattle.writer.proofs.sections.put_vertex_counts.Statement.{statemen
 use Rattle.writer.proofs.sections.put_vertex_counts.Tie as tie
 
 abbrev Inv-loop : tie.InvT-loop
-Inv-loop out₀ levels m₀ out m = (m ≤ levels) × Written out₀ 44 (packed (bytesOf 4) (map vertexCount (below m))) out (44 + 4 * m)
+Inv-loop out₀ at levels m₀ out m = (m ≤ levels) × Written out₀ at (packed (bytesOf 4) (map vertexCount (below m))) out (at + 4 * m)
 
 abbrev μ-loop : tie.MeasureT-loop
-μ-loop out₀ levels m₀ out m = levels - m
+μ-loop out₀ at levels m₀ out m = levels - m
 
 loop-holds : tie.Need-loop-holds Inv-loop μ-loop
 unfolding below packed
-loop-holds c = (omega arith, nothing (omega arith))
+loop-holds c = (omega arith, rw add-zero (nothing (omega arith)))
 
 mul-put-u32 : tie.Need-mul-put-u32 Inv-loop μ-loop
 mul-put-u32 c = omega arith

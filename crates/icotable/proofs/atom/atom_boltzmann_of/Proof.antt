@@ -1,0 +1,11 @@
+-- `atom_boltzmann_of` meets its contract. Assumes nothing.
+use borrow.Author.Needs.{needs}
+use Rattle.icotable.proofs.atom.atom_boltzmann_of.Statement.{statement}
+use Rattle.icotable.proofs.atom.atom_boltzmann_of.Tie as tie
+
+returns : tie.Need-returns
+returns c = rw (← c .before .before .atom-table-from .ensures, ← c .before .atom-lookup-boltzmann .ensures .1) (c .energy-answer .ensures)
+
+pub atom-boltzmann-of-spec : {M : Type 1} → statement M
+atom-boltzmann-of-spec = tie.close
+    (tie.spec (λ c κs. search needs) (λ c κs. search needs) (λ c κs. search needs) returns)

@@ -1,0 +1,126 @@
+//! Tables of one molecule against an atom: a slab is one distance bin, with an energy for each vertex.
+use crate::environment::FloatEnvironment;
+use crate::error::Error;
+use crate::lists::{bins, passed, Lists};
+use crate::refusal::{answer, Refusal};
+use crate::row::Row;
+use crate::sys::{self, AtomGrid};
+use crate::Mesh;
+use std::sync::Arc;
+
+// Energies of a slab.
+fn per(level: u64) -> usize {
+    sys::vertices(level) as usize
+}
+
+/// A table of one molecule against an atom that is being built: owns its lists, as [`Builder`](crate::Builder) does.
+#[derive(Clone, Debug, PartialEq)]
+pub struct AtomBuilder {
+    held: sys::AtomBuilder,
+    mesh: Arc<Mesh>,
+    lists: Lists,
+}
+
+impl AtomBuilder {
+    /// A builder with no slab set, at the mesh's top level.
+    pub fn new(settings: AtomGrid, mesh: Arc<Mesh>) -> Result<AtomBuilder, Error> {
+        FloatEnvironment::ask()?;
+        passed(sys::atom_fresh(settings, mesh.top(), &mut Lists::default().lent(), mesh.lent()).number)?;
+        let mut lists = Lists::of(bins(settings.rmax - settings.rmin, settings.dr), per(mesh.top()));
+        let built = sys::atom_fresh(settings, mesh.top(), &mut lists.lent(), mesh.lent());
+        Ok(answer(built.number, AtomBuilder { held: built.builder, mesh, lists })?)
+    }
+
+    /// Gives the slab of a distance bin its energies, one for each vertex of the current level.
+    pub fn set(&mut self, ri: u64, energies: &[f64]) -> Result<(), Refusal> {
+        let built = sys::atom_set(self.held, &mut self.lists.lent(), ri, energies);
+        self.held = built.builder;
+        answer(built.number, ())
+    }
+
+    /// Settles the slab of a distance bin, and answers its gradient; 0 where it holds no energies or is made Repulsive. The level
+    /// may drop.
+    pub fn settle(&mut self, ri: u64) -> Result<f64, Refusal> {
+        let settled = sys::atom_settle(self.held, &mut self.lists.lent(), self.mesh.lent(), ri);
+        self.held = settled.builder;
+        answer(settled.number, settled.gradient)
+    }
+
+    /// The table file.
+    pub fn write(&self) -> Result<Vec<u8>, Refusal> {
+        let mut output = vec![0; self.lists.file_length(40, self.mesh.top(), per)];
+        let written = sys::atom_write(self.held, self.lists.held(), self.mesh.lent(), &mut output);
+        output.truncate(written.length as usize);
+        answer(written.number, output)
+    }
+
+    /// The settings with the bin count that they give.
+    pub fn grid(&self) -> AtomGrid {
+        self.held.grid
+    }
+
+    /// The current level, at which slabs are set.
+    pub fn level(&self) -> u64 {
+        self.held.level
+    }
+
+    pub fn mesh(&self) -> &Arc<Mesh> {
+        &self.mesh
+    }
+
+    /// The directions of the current level's vertices, in their order.
+    pub fn directions(&self) -> Vec<[f64; 3]> {
+        self.mesh.directions(self.level()).collect()
+    }
+}
+
+/// A file of a table of one molecule against an atom: owns the file and shares the meshes, as [`Table`](crate::Table) does.
+#[derive(Clone, Debug)]
+pub struct AtomTable {
+    file: Vec<u8>,
+    held: sys::AtomTable,
+    mesh: Arc<Mesh>,
+}
+
+impl AtomTable {
+    /// Looks over a file, all of it. The mesh has to be the one that the table was built over, with at least its levels: a
+    /// file does not hold it. A file of two molecules is refused.
+    pub fn read(file: Vec<u8>, mesh: Arc<Mesh>) -> Result<AtomTable, Error> {
+        FloatEnvironment::ask()?;
+        let held = sys::atom_read(&file);
+        Ok(answer(held.number, AtomTable { file, held, mesh })?)
+    }
+
+    /// The energy at a distance and a direction of any length: infinity inside a repulsive wall, 0 outside the table's distances.
+    pub fn lookup(&self, r: f64, direction: [f64; 3]) -> Result<f64, Refusal> {
+        let value = sys::atom_reading(&self.held, self.mesh.lent_with(&self.file), r, direction);
+        answer(value.number, value.energy)
+    }
+
+    /// The same, weighted by temperature: where a row is interpolated, the three energies are averaged by their weights and by
+    /// exp(-beta·energy), each taken from the least of the three. Where that one's weight is 0 and the others' exponentials are,
+    /// too, the answer is infinity. Rows of other kinds answer as in `lookup`; beta is as in
+    /// [`Table::lookup_boltzmann`](crate::Table::lookup_boltzmann).
+    pub fn lookup_boltzmann(&self, r: f64, direction: [f64; 3], beta: f64) -> Result<f64, Refusal> {
+        let value = sys::atom_boltzmann(&self.held, self.mesh.lent_with(&self.file), r, direction, beta);
+        answer(value.number, value.energy)
+    }
+
+    /// The grid; rmax is the table's own, threshold and beta are 0.
+    pub fn grid(&self) -> AtomGrid {
+        self.held.grid
+    }
+
+    pub fn levels(&self) -> u64 {
+        self.held.levels
+    }
+
+    pub fn file(&self) -> &[u8] {
+        &self.file
+    }
+
+    /// The row of a distance bin; none beyond the table's.
+    pub fn row(&self, ri: u64) -> Option<Row> {
+        (ri < self.grid().n_r).then(|| Row::of(&self.file, &self.held.start, ri, per))
+    }
+}
