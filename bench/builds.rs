@@ -1,4 +1,4 @@
-// Set, settle, write and read beside the Rust: set and settle as the Rust's builder has them, with document 01's exponential and the lent angles; write and read, which the Rust has for another
+// Set, settle, write and read beside the Rust: set and settle as the Rust's builder has them, with the exponential of documents 01 and 02 and the lent angles; write and read, which the Rust has for another
 // format, beside a plain writer and checker of the same file in Rust (tests/compare/plain.rs). What the sides answer is compared first, and lists are in the same state.
 use crate::builder::{exponential, MeshLevel, SlabResolution};
 use crate::meshes::{angle, icosphere, vertex_count, Lent, Random};

@@ -42,7 +42,7 @@ mod shape;
 
 use caller::{Answer, Call, Caller, Rule, Sink, What, PRIME};
 use lines::{bits, Fixed};
-use lists::{accident, descent, lend, lengths, list, odd_numbers, refused, repulsive_rows};
+use lists::{accident, descent, far_weights, lend, lengths, list, odd_numbers, refused, repulsive_rows};
 use meshes::{icosphere, Mesh, Random};
 use refusals::{vertices_below, Held, Lists};
 use shape::PAIR;
@@ -239,7 +239,8 @@ fn main() {
     descent(&mut caller);
     refused(&mut caller, &mut random);
     lengths(&mut caller, &mut random);
-    for k in 0..24 {
+    // an atom's lists are short, and more of them are needed for every case
+    for k in 0..if PAIR { 24 } else { 60 } {
         list(&mut caller, &mut random, [0, 1, 2, 1, 2, 2][k % 6]);
     }
     let odd = [0.0, -0.0, 5e-324, 1e-12, 1.0000000000000002e-12, 1e-11, 3.0, 1e308];
@@ -250,6 +251,7 @@ fn main() {
     // no pair counts, and every slab that is not repulsive becomes a scalar
     lend(&mut caller, &spheres, |_| odd[other.below(4)]);
     odd_numbers(&mut caller);
+    far_weights(&mut caller);
     for k in 0..6 {
         list(&mut caller, &mut random, [0, 1][k % 2]);
     }

@@ -262,6 +262,21 @@ fn widen(count: u64, all: bool, random: &mut Random) -> u64 {
     leaf.done()
 }
 
+// From -708 to 709 E has the bits that document 01 gave it by one product, p * 2^k: at the middle and both ends of every k, beside them and at random numbers between.
+fn as_before(each: u64, random: &mut Random, ours: impl Fn(f64) -> u64) -> u64 {
+    let mut leaf = Leaf::new("E as before");
+    for k in -1021..=1023 {
+        let at = |part: f64, steps: i64| step((k as f64 + part) * std::f64::consts::LN_2, steps);
+        let beside = [-0.5, 0.0, 0.5].into_iter().flat_map(|part| (-3..=3).map(move |steps| (part, steps)));
+        let inside: Vec<f64> = beside.map(|(part, steps)| at(part, steps)).chain((0..each).map(|_| at(random.unit() / 2.0, 0))).collect();
+        for y in inside.into_iter().chain([-708.0, 709.0]).filter(|y| (-708.0..=709.0).contains(y)) {
+            let (p, k) = builder::steps(y);
+            leaf.judge([y.to_bits(), 0, 0], ours(y), bits(p * builder::power(k)));
+        }
+    }
+    leaf.done()
+}
+
 fn main() {
     let (mut random, length) = arguments();
     // inputs of each operation
@@ -290,6 +305,7 @@ fn main() {
         wrong += unary("is_finite", n, r, some, |x| float_is_finite(x) as u64, |x| x.is_finite() as u64);
         wrong += unary("rem_tau", n, r, near_multiple, |x| bits(float_rem_tau(x)), |x| bits(rem_tau(x)));
         wrong += unary("E", n, r, samples::exponent, |x| bits(float_exp(x)), |x| bits(builder::exponential(x)));
+        wrong += as_before(n / 2000, r, |x| bits(float_exp(x)));
         wrong += unary("ln", n, r, samples::logarithm, |x| bits(float_ln(x)), |x| bits(average::logarithm(x)));
     }
     println!("leaves: {wrong} differences");

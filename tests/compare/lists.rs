@@ -49,7 +49,11 @@ pub fn rule(caller: &Caller, random: &mut Random, calm: bool) -> Rule {
         10 | 11 => r.step = 3.0 / (beta * modulus as f64),
         12 => (r.base, r.step) = (f64::INFINITY, 1.0),
         13 => (r.base, r.step) = (f64::NEG_INFINITY, 1.0),
-        14 => (r.base, r.step) = (-709.5 / beta, 1417.0 / (beta * modulus as f64)),
+        // over both cuts of E, or up to its last finite values and a little beyond
+        14 => {
+            let (base, range) = [(-710.5, 1457.0), (-709.8, 1.5)][random.below(2)];
+            (r.base, r.step) = (base / beta, range / (beta * modulus as f64));
+        }
         15 => r.base = 1e-310 * random.unit(),
         16 => r.base = [1e-46, -1e-46, 1e-40, -1e-45][random.below(4)],
         17 => (r.base, r.step) = (-1.7e308, 1e305),
@@ -418,6 +422,22 @@ pub fn odd_numbers(caller: &mut Caller) {
         assert_eq!(caller.fresh(Settings { threshold, ..s }, 0, [0, 0], all), 0);
         caller.set(0, 0, with([(of_vertex_0, 20.0), (NOWHERE, 0.0)]), all);
         caller.settle(0, all);
+    }
+    caller.entries(6, 0, &[before]);
+}
+
+// Weights at both ends of E, where one pair of vertices counts: the last finite ones, infinite ones, subnormal ones, and 0. A place that the pair does not meet keeps the slab from being Repulsive.
+pub fn far_weights(caller: &mut Caller) {
+    let all = caller.lists.lengths();
+    let s = Settings { rmin: 0.0, rmax: 1.0, dr: 1.0, omega_step: 6.0, threshold: 1e-318, beta: 1.0 };
+    let before = caller.lists.word(6, 0);
+    let unmet = if shape::PAIR { 67 } else { 11 };
+    caller.entries(6, 0, &[bits(1.0)]);
+    for (base, apart, kind) in [(-709.78, NOWHERE, 3), (-720.0, NOWHERE, 0), (720.0, unmet, 3), (746.0, unmet, 0)] {
+        let r = Rule { count: per(0), modulus: 100, seed: 1, base, step: 0.005, places: [(apart, 0.0), (NOWHERE, 0.0)] };
+        assert_eq!(caller.fresh(s, 0, [0, 0], all), 0);
+        assert_eq!([caller.set(0, 0, r, all), caller.settle(0, all)], [0, 0]);
+        assert_eq!(caller.lists.kinds[0], kind);
     }
     caller.entries(6, 0, &[before]);
 }

@@ -3,7 +3,7 @@ use crate::meshes::Random;
 use std::f64::consts::TAU;
 
 // Where something changes, for f64, for f32, for whole numbers and for E; each is taken with both signs.
-const PATTERNS: [u64; 48] = [
+const PATTERNS: [u64; 54] = [
     0, 1, 2, 0x000FFFFFFFFFFFFF, 0x0010000000000000, 0x0010000000000001, 0x001FFFFFFFFFFFFF, 0x3CA0000000000000, 0x3CB0000000000000,
     0x3FDFFFFFFFFFFFFF, 0x3FE0000000000000, 0x3FE0000000000001, 0x3FEFFFFFFFFFFFFF, 0x3FF0000000000000, 0x3FF0000000000001,
     0x3FF8000000000000, 0x4004000000000000, 0x4330000000000000, 0x433FFFFFFFFFFFFF, 0x4340000000000000, 0x43DFFFFFFFFFFFFF,
@@ -11,7 +11,8 @@ const PATTERNS: [u64; 48] = [
     0x7FF0000000000001, 0x7FF8000000000000, 0x7FFFFFFFFFFFFFFF, 0x368FFFFFFFFFFFFF, 0x3690000000000000, 0x3690000000000001,
     0x36A0000000000000, 0x380FFFFFDFFFFFFF, 0x380FFFFFE0000000, 0x3810000000000000, 0x3FF0000010000000, 0x3FF0000030000000,
     0x47EFFFFFEFFFFFFF, 0x47EFFFFFF0000000, 0x40861FFFFFFFFFFF, 0x4086200000000000, 0x4086200000000001, 0x408627FFFFFFFFFF,
-    0x4086280000000000, 0x4086280000000001, 0x401921FB54442D18,
+    0x4086280000000000, 0x4086280000000001, 0x401921FB54442D18, 0x4087499999999999, 0x408749999999999A, 0x408749999999999B,
+    0x40862E51EB851EB7, 0x40862E51EB851EB8, 0x40862E51EB851EB9,
 ];
 pub const EDGES: usize = 2 * PATTERNS.len();
 
@@ -122,11 +123,11 @@ pub fn near_multiple(random: &mut Random) -> f64 {
 
 // E's range, and where its k changes.
 pub fn exponent(random: &mut Random) -> f64 {
-    let halves = between(random, -1023, 1024) as f64 + 0.5;
+    let halves = between(random, -1077, 1024) as f64 + 0.5;
     match random.below(4) {
         0 => sample(random),
         1 => step(halves * std::f64::consts::LN_2, few(random)),
-        2 => random.unit() * 720.0,
+        2 => random.unit() * 750.0,
         _ => {
             let field = between(random, 990, 1032);
             with_field(random, field)

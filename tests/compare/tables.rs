@@ -361,7 +361,7 @@ fn signatures(random: &mut Random) {
     for _ in 0..1000 {
         let [a, b, c] = samples::cancelling(random);
         assert_eq!(bits(icotable::root(a)), bits(a.sqrt()));
-        assert_eq!(bits(icotable::exp(a)), bits(builder::exponential(a)));
+        assert_eq!(bits(icotable::exp(a)), bits(average::exponential(a)));
         assert_eq!(bits(icotable::ln(a)), bits(average::logarithm(a)));
         assert_eq!(bits(icotable::mul_add(a, b, c)), bits(a.mul_add(b, c)));
         assert_eq!(bits(icotable::narrow(a) as f64), bits(a as f32 as f64));

@@ -9,6 +9,8 @@ from math import isqrt
 
 TOP, INFINITE, NAN = 1 << 63, 0x7FF << 52, 0x7FF8 << 48
 TAU, ROOT2 = 0x401921FB54442D18, 0x3FF6A09E667F3BCD
+# the nearest to -745.2 and to 709.79
+EXP_LEAST, EXP_MOST = 0xC08749999999999A, 0x40862E51EB851EB8
 LOG2E, LN2_HIGH, LN2_LOW = 0x3FF71547652B82FE, 0x3FE62E42FEE00000, 0x3DEA39EF35793C76
 # 1/j! for j from 0 to 13
 COEFFICIENTS = [int(word, 16) for word in """3FF0000000000000 3FF0000000000000 3FE0000000000000 3FC5555555555555
@@ -105,15 +107,16 @@ def exp(b):
     if is_infinite(b):
         return 0 if b & TOP else INFINITE
     y = value(b)
-    if y < -708 or y > 709:
+    if y < value(EXP_LEAST) or y > value(EXP_MOST):
         return 0 if y < 0 else INFINITE
-
     k = step(step(y * value(LOG2E)) + Fraction(1, 2)).__floor__()
     r = step(step(y - step(k * value(LN2_HIGH))) - step(k * value(LN2_LOW)))
     p = value(COEFFICIENTS[13])
     for j in range(12, -1, -1):
         p = step(step(p * r) + value(COEFFICIENTS[j]))
-    return rounded(p * Fraction(2) ** k)
+    # p is above 1/2 and below 2, so the first product is a normal number for every k here; the second may be anything
+    h = k // 2
+    return rounded(step(p * Fraction(2) ** h) * Fraction(2) ** (k - h))
 
 
 def ln(b):
@@ -185,21 +188,35 @@ class Random:
         return self.bits() & (TOP | (1 << 52) - 1) | field << 52
 
 
+def beside(b):
+    return [b - 1, b, b + 1]
+
+
 def exp_operands():
-    """Edges of the range, the points where the whole part k changes, and random numbers."""
+    """Edges of the range, every whole part k and the points where it changes, the last results before 0 and infinity, and random numbers."""
     random = Random(0x2545F4914F6CDD1D)
     near = [0, 1, 2, 1 << 51, (1 << 52) - 1, 1 << 52, INFINITE - 1, INFINITE, INFINITE + 1, NAN, TOP - 1]
     for whole in (708, 709, 1, 2, 710, 745, 746, 1000):
-        b = rounded(Fraction(whole))
-        near += [b - 1, b, b + 1]
+        near += beside(rounded(Fraction(whole)))
+    near += beside(EXP_LEAST & ~TOP) + beside(EXP_MOST)
     for e in range(-60, 12):
         near.append((e + 1023) << 52)
     for k in range(0, 1023, 4):
-        b = rounded((k + Fraction(1, 2)) / value(LOG2E))
-        near += [b - 1, b, b + 1]
+        near += beside(rounded((k + Fraction(1, 2)) / value(LOG2E)))
     for b in near:
         yield b
         yield b | TOP
+    for k in range(-1075, 1025):
+        yield rounded(k / value(LOG2E))
+        yield rounded((k - Fraction(1, 2)) / value(LOG2E))
+    # where the result is n times the smallest number, and for some n where it becomes one more
+    for n in range(1, 1001):
+        yield ln(n)
+    for n in range(100):
+        yield from beside(rounded(value(ln(2 * n + 1)) - value(LN2_HIGH) - value(LN2_LOW)))
+    # the smallest normal number, and the largest number of all
+    for b in (1 << 52, INFINITE - 1):
+        yield from (ln(b) + turn for turn in range(-4, 5))
     for turn in range(1500):
         yield [random.bits(), random.float(-3, 4), random.float(0, 10), random.float(-30, 0)][turn % 4]
     yield rounded(Fraction(-7, 4))

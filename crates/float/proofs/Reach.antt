@@ -1,4 +1,4 @@
--- How far y * L + 0.5 reaches for a y from -708 to 709. Assumes nothing.
+-- How far y * L + 0.5 reaches for a y from -745.2 to 709.79. Assumes nothing.
 use mathlib.Core.Path.{_≡_, refl, sym, ap, _∙_, subst}
 use Prim.Native.Nat.{ℕ, _+_, _-_, _*_, _^_, _≤_, _<_}
 use native.Mathlib.Nat.{le-trans, le-of-eq, lt-of-lt-of-le, lt-of-le-of-lt, one-mul, mul-comm, mul-assoc, mul-right-comm, add-mul, mul-pos, mul-one, mul-le-mul-right, mul-lt-mul-of-pos-right, lt-of-mul-lt-mul-right}
@@ -49,24 +49,24 @@ rounded-some f a d D h =
     let least = round f false (2 ^ 0) (2 ^ low f) in
     above-of-le least (round f false a d) (positive-of-value least (2 ^ 0) (2 ^ low f) (power-value f 0 (omega arith)) (pow-pos 0)) (round-mono f (2 ^ 0) (2 ^ low f) a d (pow-pos (low f)) D (le-trans (le-of-eq (one-mul d)) h))
 
--- ---- a fraction from -1021.5 to 1023.5, rounded
-small-above : (a d : ℕ) → 0 < d → a * 2 ≤ 2047 * d → Small (round binary64 false a d)
-small-above a d D h = go (round binary64 false a d) (rounded-upto binary64 a d 2047 2 D (pow-pos 1) h most)
+-- ---- a fraction from -1076.5 to 1025.5, rounded
+small-above : (a d : ℕ) → 0 < d → a * 2 ≤ 2051 * d → Small (round binary64 false a d)
+small-above a d D h = go (round binary64 false a d) (rounded-upto binary64 a d 2051 2 D (pow-pos 1) h most)
   where
-    most : HasValue (round binary64 false 2047 2) false 2047 2
+    most : HasValue (round binary64 false 2051 2) false 2051 2
     most = unfold round in (refl, refl)
 
-    go : (x : Float) → Upto 2047 2 x → Small x
+    go : (x : Float) → Upto 2051 2 x → Small x
     go (fin false m e) h = h
 
-small-below : (a d : ℕ) → 0 < d → a * 2 ≤ 2043 * d → d ≤ a * 2 ^ 1074 → Small (round binary64 true a d)
+small-below : (a d : ℕ) → 0 < d → a * 2 ≤ 2153 * d → d ≤ a * 2 ^ 1074 → Small (round binary64 true a d)
 unfolding neg
-small-below a d D h g = subst Small (sym (round-neg binary64 a d)) (go (round binary64 false a d) (rounded-upto binary64 a d 2043 2 D (pow-pos 1) h least) (rounded-some binary64 a d D g))
+small-below a d D h g = subst Small (sym (round-neg binary64 a d)) (go (round binary64 false a d) (rounded-upto binary64 a d 2153 2 D (pow-pos 1) h least) (rounded-some binary64 a d D g))
   where
-    least : HasValue (round binary64 false 2043 2) false 2043 2
+    least : HasValue (round binary64 false 2153 2) false 2153 2
     least = unfold round in (refl, refl)
 
-    go : (x : Float) → Upto 2043 2 x → T (above x) → Small (neg x)
+    go : (x : Float) → Upto 2153 2 x → T (above x) → Small (neg x)
     go (fin false m e) h p = (mul-pos (ltb→lt 0 m p) (up-pos e), h)
 
 -- a value of q units, above 1 / 2, less 1 / 2 is a unit or more
@@ -80,14 +80,14 @@ unit-left a d q h H v l =
     le-trans (omega arith) (le-of-eq (sym (sub-mul (a * 2) (1 * d) (2 * h) ∙ ap (λ (z : ℕ). z - 1 * d * (2 * h)) x ∙ ap (λ (z : ℕ). q * d * 2 - z) y)))
 
 -- ---- with a half added
-half-added : (s : Bool) (m : ℕ) (e : ℤ) → T (fits binary64 (fin s m e)) → m * up e ≤ cond s 1022 1023 * down e → Small (add binary64 (fin s m e) (fin false 1 (negsuc 0)))
+half-added : (s : Bool) (m : ℕ) (e : ℤ) → T (fits binary64 (fin s m e)) → m * up e ≤ cond s 1077 1025 * down e → Small (add binary64 (fin s m e) (fin false 1 (negsuc 0)))
 unfolding add
 half-added s m e k h = go s k h (le-or-lt (m * up e * 2) (1 * down e)) (le-or-lt (1 * down e) (m * up e * 2))
   where
     D : 0 < down e * 2
     D = mul-pos (down-pos e) (pow-pos 1)
 
-    go : (s : Bool) → T (fits binary64 (fin s m e)) → m * up e ≤ cond s 1022 1023 * down e → (m * up e * 2 ≤ 1 * down e) ⊎ (1 * down e < m * up e * 2) → (1 * down e ≤ m * up e * 2) ⊎ (m * up e * 2 < 1 * down e)
+    go : (s : Bool) → T (fits binary64 (fin s m e)) → m * up e ≤ cond s 1077 1025 * down e → (m * up e * 2 ≤ 1 * down e) ⊎ (1 * down e < m * up e * 2) → (1 * down e ≤ m * up e * 2) ⊎ (m * up e * 2 < 1 * down e)
         → Small (sum binary64 s (m * up e * 2) false (1 * down e) (down e * 2))
     go false k h y z = subst Small (sym (sum-like binary64 false false (m * up e * 2) (1 * down e) (down e * 2) refl)) (small-above (m * up e * 2 + 1 * down e) (down e * 2) D (omega arith))
     go true k h (inr g) z =
@@ -99,35 +99,41 @@ half-added s m e k h = go s k h (le-or-lt (m * up e * 2) (1 * down e)) (le-or-lt
     go true k h (inl g) (inr l) = subst Small (sym (sum-less binary64 true false (m * up e * 2) (1 * down e) (down e * 2) refl l)) (small-above (1 * down e - m * up e * 2) (down e * 2) D (omega arith))
 
 -- ---- y * L, and y * L + 0.5
-rounded-half : (s : Bool) (a d : ℕ) → 0 < d → a ≤ cond s 1022 1023 * d → Small (add binary64 (round binary64 s a d) (fin false 1 (negsuc 0)))
+rounded-half : (s : Bool) (a d : ℕ) → 0 < d → a ≤ cond s 1077 1025 * d → Small (add binary64 (round binary64 s a d) (fin false 1 (negsuc 0)))
 unfolding neg
 rounded-half s a d D h =
     go s (round binary64 s a d) (round binary64 false a d) (sign s) (round-fits binary64 s a d)
-    (rounded-upto binary64 a d (cond s 1022 1023) 1 D (pow-pos 0) (le-trans (le-of-eq (mul-one a)) h) (round-whole binary64 false (cond s 1022 1023) (bound s)))
+    (rounded-upto binary64 a d (cond s 1077 1025) 1 D (pow-pos 0) (le-trans (le-of-eq (mul-one a)) h) (round-whole binary64 false (cond s 1077 1025) (bound s)))
   where
     sign : (s : Bool) → round binary64 s a d ≡ cond s (neg (round binary64 false a d)) (round binary64 false a d)
     sign true = round-neg binary64 a d
     sign false = refl
 
-    bound : (s : Bool) → cond s 1022 1023 ≤ 2 ^ 53
+    bound : (s : Bool) → cond s 1077 1025 ≤ 2 ^ 53
     bound true = lit≤ tt
     bound false = lit≤ tt
 
-    go : (s : Bool) (z x : Float) → z ≡ cond s (neg x) x → T (fits binary64 z) → Upto (cond s 1022 1023) 1 x → Small (add binary64 z (fin false 1 (negsuc 0)))
+    go : (s : Bool) (z x : Float) → z ≡ cond s (neg x) x → T (fits binary64 z) → Upto (cond s 1077 1025) 1 x → Small (add binary64 z (fin false 1 (negsuc 0)))
     go true z (fin false m e) q k u = subst (λ (y : Float). Small (add binary64 y (fin false 1 (negsuc 0)))) (sym q) (half-added true m e (subst (λ (y : Float). T (fits binary64 y)) q k) (omega arith))
     go false z (fin false m e) q k u = subst (λ (y : Float). Small (add binary64 y (fin false 1 (negsuc 0)))) (sym q) (half-added false m e (subst (λ (y : Float). T (fits binary64 y)) q k) (omega arith))
 
 abbrev pub argument : Float → Float
 argument y = add binary64 (mul binary64 y (fin false 3248660424278399 (negsuc 50))) (fin false 1 (negsuc 0))
 
-pub reach : (y : Float) → isNan y ≡ false → lt y (fin true 177 (pos 2)) ≡ false → lt (fin false 709 (pos 0)) y ≡ false → Small (argument y)
+product-below : (a d : ℕ) → a ≤ 746 * d → a * (3248660424278399 * 1) ≤ 1077 * (d * 2 ^ 51)
+product-below a d h = omega arith
+
+product-above : (a d : ℕ) → a ≤ 710 * d → a * (3248660424278399 * 1) ≤ 1025 * (d * 2 ^ 51)
+product-above a d h = omega arith
+
+pub reach : (y : Float) → isNan y ≡ false → lt y (fin true 3277424260074701 (negsuc 41)) ≡ false → lt (fin false 780422358279127 (negsuc 39)) y ≡ false → Small (argument y)
 unfolding isNan lt mul
 reach nan n l h = absurd (true≢false n)
 reach (inf true) n l h = absurd (true≢false l)
 reach (inf false) n l h = absurd (true≢false h)
 reach (fin true m e) n l h =
-    let g = ltb-false (177 * 2 ^ 2 * down e) (m * up e * 1) l in
-    rounded-half true (m * up e * (3248660424278399 * 1)) (down e * 2 ^ 51) (mul-pos (down-pos e) (pow-pos 51)) (omega arith)
+    let g = ltb-false (3277424260074701 * 1 * down e) (m * up e * 2 ^ 42) l in
+    rounded-half true (m * up e * (3248660424278399 * 1)) (down e * 2 ^ 51) (mul-pos (down-pos e) (pow-pos 51)) (product-below (m * up e) (down e) (omega arith))
 reach (fin false m e) n l h =
-    let g = ltb-false (709 * 1 * down e) (m * up e * 1) h in
-    rounded-half false (m * up e * (3248660424278399 * 1)) (down e * 2 ^ 51) (mul-pos (down-pos e) (pow-pos 51)) (omega arith)
+    let g = ltb-false (780422358279127 * 1 * down e) (m * up e * 2 ^ 40) h in
+    rounded-half false (m * up e * (3248660424278399 * 1)) (down e * 2 ^ 51) (mul-pos (down-pos e) (pow-pos 51)) (product-above (m * up e) (down e) (omega arith))

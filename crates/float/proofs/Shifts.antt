@@ -1,12 +1,12 @@
 -- What a sum with 1.5 * 2 ^ 52 rounds to: a whole number, of which the floor and a power of two are read off. Assumes nothing.
 use mathlib.Core.Path.{_≡_, refl, sym, ap, _∙_, subst}
-use Prim.Native.Nat.{ℕ, suc, _+_, _-_, _*_, _/_, _%_, _^_, _≤_, _<_, compare, zero-le}
+use Prim.Native.Nat.{ℕ, zero, suc, _+_, _-_, _*_, _/_, _%_, _^_, _≤_, _<_, compare, zero-le}
 use native.Mathlib.Nat.{zero-add, le-trans, le-of-eq, lt-of-lt-of-le, lt-of-le-of-lt, lt-irrefl, eq-zero-or-pos, mul-pos, mul-one, mul-comm, mul-assoc, mul-right-comm, add-comm, add-mul, mul-le-mul-right, mul-lt-mul-of-pos-right, mul-add-div-right, mul-div-cancel, div-eq-of-lt, div-add-mod', div-mul-le-self, div-lt-iff-lt-mul, le-div-iff-mul-le, mod-lt}
 use native.Mathlib.Omega.{arith}
 use mathlib.Core.Bool.{Bool, true, false, not, cond, true≢false}
 use mathlib.Core.Logic.{_⊎_, inl, inr}
 use lib.Dec.{T, lit<, ltb, eqb, le→leb, lt→ltb}
-use lib.IntN.{ℤ, pos, negsuc}
+use lib.IntN.{ℤ, pos, negsuc, subℕ, _-ℤ_}
 use lib.Pow.{pow-add, pow-pos, pow-lt}
 use lib.Ieee.{Float, nan, inf, fin, Format, binary32, binary64, prec, emax, low, hid, up, down, size, units, round, add, sum, lt, toBits, ofBits, ofInt, inFloat, toSigned, nanBits}
 use lib.Ieee.Digits.{size-le}
@@ -18,7 +18,7 @@ use borrow.Author.Tests.{ltb-true, ltb-false, ne-eqb}
 use Rattle.ieee.proofs.Pack.{le-or-lt, size-gt, exactly, value-bits}
 use Rattle.ieee.proofs.Sums.{sum-less}
 use Rattle.float.specs.Whole.{floored, integral, steps}
-use Rattle.float.specs.Exp.{twoTo}
+use Rattle.float.specs.Exp.{twoTo, halved}
 use Rattle.float.proofs.Order.{from-b}
 use Rattle.float.proofs.Values.{other-scale}
 use Rattle.float.proofs.Powers.{high-power, power-no-nan, up-power, down-power}
@@ -160,12 +160,12 @@ module _ (s : Bool) (m : ℕ) (e : ℤ) (n : ℕ) (h : Apart s (m * up e) n (bas
       go false l (inl q) = near-is ∙ ap above-base q ∙ sym floored-is
       go false l (inr q) = absurd (more (n / down e) (le-div-iff-mul-le (down-pos e) .1 (le-trans (le-of-eq (ap (λ (w : ℕ). w * down e) (sym q))) (ltb-false n (closest n (down e) * down e) l))))
 
--- ---- numbers from -1021.5 to 1023.5 without -0
+-- ---- numbers from -1076.5 to 1025.5 without -0
 abbrev pub Small : Float → Type 0
 Small nan = ⊥
 Small (inf s) = ⊥
-Small (fin true m e) = (0 < m * up e) × (m * up e * 2 ≤ 2043 * down e)
-Small (fin false m e) = m * up e * 2 ≤ 2047 * down e
+Small (fin true m e) = (0 < m * up e) × (m * up e * 2 ≤ 2153 * down e)
+Small (fin false m e) = m * up e * 2 ≤ 2051 * down e
 
 pub small-floor : (x : Float) → Small x → (t : Bool) → let y = add binary64 (add binary64 x (fin false 3 (pos 51))) (fin true 3 (pos 51)) in lt x y ≡ t → cond t (add binary64 y (fin true 1 (pos 0))) y ≡ floored x
 small-floor nan h = absurd h
@@ -173,14 +173,14 @@ small-floor (inf s) h = absurd h
 small-floor (fin true m e) h = floor-by true m e (base * down e - m * up e) (omega (arith, down-pos e)) (omega (arith, down-pos e)) (λ _. h .0)
 small-floor (fin false m e) h = floor-by false m e (m * up e + base * down e) refl (omega (arith, down-pos e)) (λ y. absurd (true≢false (sym y)))
 
--- the floor is a whole number whose power of two is a normal number
+-- the floor is a whole number that two normal powers of two make up
 pub record Exponent (k : Float) : Type 0 where
   pub place : ℕ
   pub is : k ≡ above-base place
-  pub least : base ≤ place + 1022
-  pub most : place ≤ base + 1023
+  pub least : base ≤ place + 1077
+  pub most : place ≤ base + 1025
 
-within : (n d : ℕ) → 0 < d → 6755399441054722 * d ≤ n → n < 6755399441056768 * d → (base ≤ n / d + 1022) × (n / d ≤ base + 1023)
+within : (n d : ℕ) → 0 < d → 6755399441054667 * d ≤ n → n < 6755399441056770 * d → (base ≤ n / d + 1077) × (n / d ≤ base + 1025)
 within n d D lo hi =
     let l = le-div-iff-mul-le D .1 lo in
     let h = div-lt-iff-lt-mul D .1 hi in
@@ -202,65 +202,104 @@ small-exponent (fin false m e) h =
     let w = within n d r (omega arith) (omega arith) in
     record { place = n / d; is = floored-is false m e n refl (omega (arith, r)) (λ y. absurd (true≢false (sym y))); least = w .0; most = w .1 }
 
--- ---- the power of two: the exponent's field is the last digits of k + base + 1023
-module _ (k : Float) (x : Exponent k) where
-  abbrev pub raised : Float
-  raised = add binary64 k (fin false 6755399441056767 (pos 0))
+-- ---- the powers of two by their exponents' fields
+-- the field of 2 ^ z
+abbrev Field : ℤ → ℕ → Type 0
+Field (pos n) a = a ≡ n + 1023
+Field (negsuc n) a = a + suc n ≡ 1023
 
-  pub raised-value : HasValue raised false (x .place + 1023) 1
-  raised-value =
+field-of-difference : (a b c : ℕ) → c + b ≡ a + 1023 → Field (subℕ a b) c
+field-of-difference a b c h = go (ltb a b) refl
+  where
+    go : (t : Bool) → ltb a b ≡ t → Field (cond t (negsuc (b - suc a)) (pos (a - b))) c
+    go true l = omega (arith, ltb-true a b l)
+    go false l = omega (arith, ltb-false a b l)
+
+field-of-rest : (a b c : ℕ) → c + b ≡ a + 1023 → Field (pos a -ℤ pos b) c
+field-of-rest a zero c h = omega (arith, h)
+field-of-rest a (suc b) c h = field-of-difference a (suc b) c h
+
+-- a field from 1 to 2046
+abbrev Normal : ℕ → Type 0
+Normal a = (1 ≤ a) × (a ≤ 2046)
+
+field-power : (a : ℕ) → Normal a → ofBits binary64 (a * 2 ^ 52) ≡ round binary64 false (2 ^ (a + 51)) (2 ^ 1074)
+field-power a h =
+    let e : a ≡ a + 51 - 51 = omega arith in
+    ap (λ (z : ℕ). ofBits binary64 (z * 2 ^ 52)) e ∙ high-power binary64 (a + 51) (omega (arith, h .1)) (omega (arith, h .0))
+
+field-pattern : (a : ℕ) → Normal a → T (not (nanBits binary64 (a * 2 ^ 52)))
+field-pattern a h = power-no-nan binary64 (a * 2 ^ 52) (a + 51) (omega (arith, h .1)) (field-power a h)
+
+field-is : (z : ℤ) (a : ℕ) → Normal a → Field z a → ofBits binary64 (a * 2 ^ 52) ≡ twoTo z
+unfolding twoTo
+field-is (pos n) a h f =
+    let e : a + 51 ≡ n + 1074 = omega (arith, f) in
+    field-power a h ∙ ap (λ (z : ℕ). round binary64 false (2 ^ z) (2 ^ 1074)) e ∙ up-power binary64 n
+field-is (negsuc n) a h f = field-power a h ∙ down-power binary64 (a + 51) (suc n) (omega (arith, f))
+
+-- ---- both powers: their fields together are the last digits of k + base + 2046
+module _ (k : Float) (x : Exponent k) where
+  abbrev pub shifted : Float
+  shifted = add binary64 k (fin false 3377699720528895 (pos 1))
+
+  pub shifted-value : HasValue shifted false (x .place + 2046) 1
+  shifted-value =
       let j = x .place in
       let a = x .least in
       let b = x .most in
-      let e : j + 6755399441056767 ≡ j + 1023 + base = omega arith in
-      let o : j + 1023 - 0 ≡ j + 1023 = omega arith in
-      let l : j + 1023 ≤ 2 ^ 53 = omega arith in
+      let e : j + 6755399441057790 ≡ j + 2046 + base = omega arith in
+      let o : j + 2046 - 0 ≡ j + 2046 = omega arith in
+      let l : j + 2046 ≤ 2 ^ 53 = omega arith in
       let stands : Stands k j base 1 = subst (λ (y : Float). Stands y j base 1) (sym (x .is)) (whole-stands binary64 j base (omega arith) (omega arith)) in
-      subst (λ (y : Float). HasValue y false (j + 1023) 1)
-      (sym (add-up binary64 k (fin false 6755399441056767 (pos 0)) j base 6755399441056767 1 (pow-pos 0) stands (refl, refl) ∙ ap (λ (z : ℕ). sum binary64 false z true base 1) e ∙ sum-shift binary64 (j + 1023) 0 base 1 ∙ from-b binary64 (j + 1023) 0 1 zero-le ∙ ap (λ (z : ℕ). round binary64 false z 1) o))
-      (round-whole binary64 false (j + 1023) l)
+      subst (λ (y : Float). HasValue y false (j + 2046) 1)
+      (sym (add-up binary64 k (fin false 3377699720528895 (pos 1)) j base 6755399441057790 1 (pow-pos 0) stands (refl, refl) ∙ ap (λ (z : ℕ). sum binary64 false z true base 1) e ∙ sum-shift binary64 (j + 2046) 0 base 1 ∙ from-b binary64 (j + 2046) 0 1 zero-le ∙ ap (λ (z : ℕ). round binary64 false z 1) o))
+      (round-whole binary64 false (j + 2046) l)
 
-  room : x .place + 1023 - base + 51 < 2098
-  room = omega (arith, x .most)
+  abbrev pub fields : ℕ
+  fields = toBits binary64 shifted % 4096
 
-  field-is : toBits binary64 raised % 2048 ≡ x .place + 1023 - base
-  field-is =
-      let q = x .place + 1023 in
+  fields-are : fields ≡ x .place + 2046 - base
+  fields-are =
+      let q = x .place + 2046 in
       let a = x .least in
       let b = x .most in
       let lo : 2 ^ 52 ≤ q = omega arith in
       let hi : q ≤ 2 ^ 53 = omega arith in
-      let bits : toBits binary64 raised ≡ 1074 * 2 ^ 52 + q = value-bits binary64 raised false q 1074 (other-scale raised false q 1 (q * 2 ^ 1074) (2 ^ 1074) (pow-pos 0) (sym (mul-one (q * 2 ^ 1074))) raised-value) hi (λ _. lo) ∙ zero-add (1074 * 2 ^ 52 + q) in
-      ap (λ (z : ℕ). z % 2048) bits ∙ omega arith
+      let bits : toBits binary64 shifted ≡ 1074 * 2 ^ 52 + q = value-bits binary64 shifted false q 1074 (other-scale shifted false q 1 (q * 2 ^ 1074) (2 ^ 1074) (pow-pos 0) (sym (mul-one (q * 2 ^ 1074))) shifted-value) hi (λ _. lo) ∙ zero-add (1074 * 2 ^ 52 + q) in
+      ap (λ (z : ℕ). z % 4096) bits ∙ omega arith
 
-  power : round binary64 false (2 ^ (x .place + 1023 - base + 51)) (2 ^ 1074) ≡ twoTo (toSigned 63 k)
-  unfolding twoTo ofInt inFloat
-  power = go (le-or-lt base (x .place))
-    where
-      go : (base ≤ x .place) ⊎ (x .place < base) → round binary64 false (2 ^ (x .place + 1023 - base + 51)) (2 ^ 1074) ≡ twoTo (toSigned 63 k)
-      go (inl l) =
-          let n = x .place - base in
-          let b = x .most in
-          let e : x .place + 1023 - base + 51 ≡ n + 1074 = omega arith in
-          let s : toSigned 63 k ≡ pos n = ap (toSigned 63) (x .is ∙ from-b binary64 (x .place) base 1 l) ∙ positive-back binary64 63 n (le→leb n (2 ^ 53) (omega arith)) (omega arith) .1 in
-          ap (λ (z : ℕ). round binary64 false (2 ^ z) (2 ^ 1074)) e ∙ up-power binary64 n ∙ sym (ap twoTo s)
-      go (inr l) =
-          let n = base - x .place - 1 in
-          let b = x .least in
-          let e : x .place + 1023 - base + 51 + suc n ≡ 1074 = omega arith in
-          let o : base - x .place ≡ suc n = omega arith in
-          let s : toSigned 63 k ≡ negsuc n = ap (toSigned 63) (x .is ∙ sum-less binary64 false true (x .place) base 1 refl l ∙ ap (λ (z : ℕ). round binary64 true z 1) o) ∙ negative-back binary64 63 n (lt→ltb n (2 ^ 53) (omega arith)) (omega arith) .1 in
-          down-power binary64 (x .place + 1023 - base + 51) (suc n) e ∙ sym (ap twoTo s)
+  first-normal : Normal (fields / 2)
+  first-normal = (omega (arith, fields-are, x .least), omega (arith, fields-are, x .most))
 
-  -- the pattern of that power
-  pattern : ofBits binary64 (toBits binary64 raised % 2048 * 2 ^ 52) ≡ round binary64 false (2 ^ (x .place + 1023 - base + 51)) (2 ^ 1074)
-  pattern =
-      let j = x .place + 1023 - base + 51 in
-      let e : toBits binary64 raised % 2048 ≡ j - 51 = field-is ∙ omega arith in
-      ap (λ (z : ℕ). ofBits binary64 (z * 2 ^ 52)) e ∙ high-power binary64 j room (omega (arith, x .least))
+  second-normal : Normal (fields - fields / 2)
+  second-normal = (omega (arith, fields-are, x .least), omega (arith, fields-are, x .most))
 
-  pub power-is : ofBits binary64 (toBits binary64 raised % 2048 * 2 ^ 52) ≡ twoTo (toSigned 63 k)
-  power-is = pattern ∙ power
+  -- k as a whole number
+  by-sign : (base ≤ x .place) ⊎ (x .place < base) → (Field (halved (toSigned 63 k)) (fields / 2)) × (Field (toSigned 63 k -ℤ halved (toSigned 63 k)) (fields - fields / 2))
+  unfolding halved ofInt inFloat
+  by-sign (inl l) =
+      let n = x .place - base in
+      let b = x .most in
+      let s : toSigned 63 k ≡ pos n = ap (toSigned 63) (x .is ∙ from-b binary64 (x .place) base 1 l) ∙ positive-back binary64 63 n (le→leb n (2 ^ 53) (omega arith)) (omega arith) .1 in
+      let e : fields ≡ n + 2046 = fields-are ∙ omega arith in
+      rw (s, e) (omega arith, field-of-rest n (n / 2) (n + 2046 - (n + 2046) / 2) (omega arith))
+  by-sign (inr l) =
+      let n = base - x .place - 1 in
+      let b = x .least in
+      let o : base - x .place ≡ suc n = omega arith in
+      let s : toSigned 63 k ≡ negsuc n = ap (toSigned 63) (x .is ∙ sum-less binary64 false true (x .place) base 1 refl l ∙ ap (λ (z : ℕ). round binary64 true z 1) o) ∙ negative-back binary64 63 n (lt→ltb n (2 ^ 53) (omega arith)) (omega arith) .1 in
+      let e : fields ≡ 2045 - n = fields-are ∙ omega arith in
+      rw (s, e) (omega arith, field-of-difference (suc (n / 2)) (suc n) (2045 - n - (2045 - n) / 2) (omega arith))
 
-  pub power-pattern : T (not (nanBits binary64 (toBits binary64 raised % 2048 * 2 ^ 52)))
-  power-pattern = power-no-nan binary64 (toBits binary64 raised % 2048 * 2 ^ 52) (x .place + 1023 - base + 51) room pattern
+  pub first-is : ofBits binary64 (fields / 2 * 2 ^ 52) ≡ twoTo (halved (toSigned 63 k))
+  first-is = field-is _ (fields / 2) first-normal (by-sign (le-or-lt base (x .place)) .0)
+
+  pub second-is : ofBits binary64 ((fields - fields / 2) * 2 ^ 52) ≡ twoTo (toSigned 63 k -ℤ halved (toSigned 63 k))
+  second-is = field-is _ (fields - fields / 2) second-normal (by-sign (le-or-lt base (x .place)) .1)
+
+  pub first-pattern : T (not (nanBits binary64 (fields / 2 * 2 ^ 52)))
+  first-pattern = field-pattern (fields / 2) first-normal
+
+  pub second-pattern : T (not (nanBits binary64 ((fields - fields / 2) * 2 ^ 52)))
+  second-pattern = field-pattern (fields - fields / 2) second-normal

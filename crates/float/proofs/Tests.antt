@@ -22,8 +22,8 @@ pub angle-by : (x r : Float) (t : Bool) → r ≡ rem binary64 x tau → lt r (o
 unfolding angle
 angle-by x r t e h = ap (λ (u : Bool). cond u (add binary64 r tau) r) (sym h) ∙ ap (λ (y : Float). cond (lt y (ofBits binary64 0)) (add binary64 y tau) y) e
 
--- ---- where E is worked out: y is a number from -708 to 709
-pub bounded-by : (y : Float) (t : Bool) → let a = ofBits binary64 0xC086_2000_0000_0000 in let b = ofBits binary64 0x4086_2800_0000_0000 in let z = ofBits binary64 0 in
+-- ---- where E is worked out: y is a number from -745.2 to 709.79
+pub bounded-by : (y : Float) (t : Bool) → let a = ofBits binary64 0xC087_4999_9999_999A in let b = ofBits binary64 0x4086_2E51_EB85_1EB8 in let z = ofBits binary64 0 in
     ((ne y y || lt y a) || lt b y) ≡ t → cond t z y ≡ cond (isNan y) z (cond (lt y a) z (cond (lt b y) z y))
 bounded-by y t h = go (isNan y) _ _ (rw (nan-test y) at h)
   where
@@ -34,16 +34,16 @@ bounded-by y t h = go (isNan y) _ _ (rw (nan-test y) at h)
 
 pub record Inside (y : Float) : Type 0 where
   pub number : isNan y ≡ false
-  pub least : lt y (ofBits binary64 0xC086_2000_0000_0000) ≡ false
-  pub most : lt (ofBits binary64 0x4086_2800_0000_0000) y ≡ false
+  pub least : lt y (ofBits binary64 0xC087_4999_9999_999A) ≡ false
+  pub most : lt (ofBits binary64 0x4086_2E51_EB85_1EB8) y ≡ false
 
-pub inside : (y : Float) → let z = ofBits binary64 0 in Inside (cond (isNan y) z (cond (lt y (ofBits binary64 0xC086_2000_0000_0000)) z (cond (lt (ofBits binary64 0x4086_2800_0000_0000) y) z y)))
-inside y = go (isNan y) (lt y (ofBits binary64 0xC086_2000_0000_0000)) (lt (ofBits binary64 0x4086_2800_0000_0000) y) refl refl refl
+pub inside : (y : Float) → let z = ofBits binary64 0 in Inside (cond (isNan y) z (cond (lt y (ofBits binary64 0xC087_4999_9999_999A)) z (cond (lt (ofBits binary64 0x4086_2E51_EB85_1EB8) y) z y)))
+inside y = go (isNan y) (lt y (ofBits binary64 0xC087_4999_9999_999A)) (lt (ofBits binary64 0x4086_2E51_EB85_1EB8) y) refl refl refl
   where
     none : Inside (ofBits binary64 0)
     none = unfold isNan lt ofBits in record { number = refl; least = refl; most = refl }
 
-    go : (p q r : Bool) → isNan y ≡ p → lt y (ofBits binary64 0xC086_2000_0000_0000) ≡ q → lt (ofBits binary64 0x4086_2800_0000_0000) y ≡ r → let z = ofBits binary64 0 in Inside (cond p z (cond q z (cond r z y)))
+    go : (p q r : Bool) → isNan y ≡ p → lt y (ofBits binary64 0xC087_4999_9999_999A) ≡ q → lt (ofBits binary64 0x4086_2E51_EB85_1EB8) y ≡ r → let z = ofBits binary64 0 in Inside (cond p z (cond q z (cond r z y)))
     go true q r a b c = none
     go false true r a b c = none
     go false false true a b c = none

@@ -1,8 +1,8 @@
 -- The exponential E(y), by the document's own steps, each rounded once. The numbers in hexadecimal are bit patterns.
-use Prim.Native.Nat.{ℕ}
+use Prim.Native.Nat.{ℕ, _/_}
 use mathlib.Core.Bool.{false, cond}
 use mathlib.Core.List.{List, [], _∷_}
-use lib.IntN.{ℤ}
+use lib.IntN.{ℤ, pos, negsuc, _-ℤ_}
 use lib.Ieee.{Float, nan, inf, binary64, up, down, round, add, sub, mul, lt, isNan, ofBits, toSigned}
 use Rattle.float.specs.Whole.{floored}
 
@@ -42,13 +42,22 @@ unfoldable pub residue : Float → Float → Float
 residue y k =
     sub binary64 (sub binary64 y (mul binary64 k (bits H))) (mul binary64 k (bits W))
 
--- p * 2 ^ k, with p = 1/13! and then the steps down to 1/0!
-unfoldable pub scaled : Float → Float → Float
-scaled y k = mul binary64 (horner (residue y k) (bits 0x3DE6_1246_13A8_6D09) inverseFactorials) (twoTo (toSigned 63 k))
+-- floor(k / 2), where negsuc n is -(n + 1) (S2.13)
+unfoldable pub halved : ℤ → ℤ
+halved (pos n) = pos (n / 2)
+halved (negsuc n) = negsuc (n / 2)
 
--- E(y): NaN for a NaN, 0 for y below -708, infinity above 709 (S2.13)
+-- p is multiplied by 2 ^ h and then by 2 ^ (k - h), with h = floor(k / 2) (S2.13)
+unfoldable pub raised : Float → ℤ → Float
+raised p k = let h = halved k in mul binary64 (mul binary64 p (twoTo h)) (twoTo (k -ℤ h))
+
+-- p = 1/13! and then the steps down to 1/0!, raised by k
+unfoldable pub scaled : Float → Float → Float
+scaled y k = raised (horner (residue y k) (bits 0x3DE6_1246_13A8_6D09) inverseFactorials) (toSigned 63 k)
+
+-- E(y): NaN for a NaN, 0 for y below -745.2, infinity above 709.79 (S2.13)
 unfoldable pub exponential : Float → Float
 exponential y =
     cond (isNan y) nan
-    (cond (lt y (bits 0xC086_2000_0000_0000)) (bits 0)
-    (cond (lt (bits 0x4086_2800_0000_0000) y) (inf false) (scaled y (doublings y))))
+    (cond (lt y (bits 0xC087_4999_9999_999A)) (bits 0)
+    (cond (lt (bits 0x4086_2E51_EB85_1EB8) y) (inf false) (scaled y (doublings y))))

@@ -189,7 +189,7 @@ fn series(r: f64) -> f64
 
 // The floor of y * L + 0.5. Adding 1.5 * 2 ^ 52 rounds to a whole number, and taking it off again is exact; so there is no jump.
 fn doublings(y: f64) -> f64
-    requires { ⌜ (isNan y ≡ false) × (lt y (bits 0xC086_2000_0000_0000) ≡ false) × (lt (bits 0x4086_2800_0000_0000) y ≡ false) ⌝ }
+    requires { ⌜ (isNan y ≡ false) × (lt y (bits 0xC087_4999_9999_999A) ≡ false) × (lt (bits 0x4086_2E51_EB85_1EB8) y ≡ false) ⌝ }
     ensures { λ r. ⌜ r ≡ doublings y ⌝ }
 {
     let x = y * 1.4426950408889634 + 0.5;
@@ -197,22 +197,25 @@ fn doublings(y: f64) -> f64
     if x < near { near - 1.0 } else { near }
 }
 
-// E from -708 to 709: y is k * ln 2 + r with a small r, so the answer is the series at r, times 2 ^ k. The last digits of k + 1023 + 1.5 * 2 ^ 52 are the exponent's field of 2 ^ k.
+// E from -745.2 to 709.79: y is k * ln 2 + r with a small r, so the answer is the series at r, times 2 ^ k by two products. The last digits of k + 2046 + 1.5 * 2 ^ 52 are the exponents' fields of both
+// powers together, and half of them, rounded down, is that of 2 ^ h.
 fn exp_within(y: f64) -> f64
-    requires { ⌜ (isNan y ≡ false) × (lt y (bits 0xC086_2000_0000_0000) ≡ false) × (lt (bits 0x4086_2800_0000_0000) y ≡ false) ⌝ }
+    requires { ⌜ (isNan y ≡ false) × (lt y (bits 0xC087_4999_9999_999A) ≡ false) × (lt (bits 0x4086_2E51_EB85_1EB8) y ≡ false) ⌝ }
     ensures { λ r. ⌜ r ≡ scaled y (doublings y) ⌝ }
 {
     let k = doublings(y);
     let r = (y - k * 0.6931471803691238) - k * 1.9082149292705877e-10;
-    let b = f64::to_bits(k + 6755399441056767.0);
-    series(r) * f64::from_bits(b % 2048 * 0x10_0000_0000_0000)
+    let fields = f64::to_bits(k + 6755399441057790.0) % 4096;
+    let first = fields / 2;
+    let p = series(r) * f64::from_bits(first * 0x10_0000_0000_0000);
+    p * f64::from_bits((fields - first) * 0x10_0000_0000_0000)
 }
 
 // y where E is worked out, and 0 where it is not.
 fn bounded(y: f64) -> f64
-    ensures { λ r. ⌜ r ≡ cond (isNan y) (bits 0) (cond (lt y (bits 0xC086_2000_0000_0000)) (bits 0) (cond (lt (bits 0x4086_2800_0000_0000) y) (bits 0) y)) ⌝ }
+    ensures { λ r. ⌜ r ≡ cond (isNan y) (bits 0) (cond (lt y (bits 0xC087_4999_9999_999A)) (bits 0) (cond (lt (bits 0x4086_2E51_EB85_1EB8) y) (bits 0) y)) ⌝ }
 {
-    if (y != y) | (y < -708.0) | (y > 709.0) {
+    if (y != y) | (y < -745.2) | (y > 709.79) {
         0.0
     } else {
         y
@@ -227,10 +230,10 @@ pub fn exp(y: f64) -> f64
     if y != y {
         return y;
     }
-    if y < -708.0 {
+    if y < -745.2 {
         return 0.0;
     }
-    if y > 709.0 {
+    if y > 709.79 {
         return 1.0 / 0.0;
     }
     e

@@ -8,7 +8,7 @@ use Rattle.ieee.specs.Fused.{fused}
 use Rattle.ieee.specs.Narrow.{narrowed}
 use Rattle.float.specs.Order.{magnitude, farther, rank, angle}
 use Rattle.float.specs.Whole.{integral}
-use Rattle.float.specs.Exp.{twoTo, doublings, residue, scaled, exponential}
+use Rattle.float.specs.Exp.{twoTo, doublings, residue, halved, raised, scaled, exponential}
 use Rattle.lists.specs.Questions.{ask, first}
 use Rattle.lists.specs.Lists.{allUpTo, anyUpTo, forEach, sum, below, every, filter, joined, starts, put}
 use Rattle.mesh.specs.Levels.{vertexCount, per, gridSize, cellCount, verticesBelow, cellOffsetsBelow}
@@ -79,7 +79,7 @@ history₂ cs = record { grid = settings 0x4008_0000_0000_0000 0x4018_0000_0000_
 -- ---- the definitions opened, layer by layer; each of these is its argument
 
 unfoldable numbers : {A : Type 0} → A → A
-unfolding ofBits toBits ofInt toSigned toUnsigned nanBits isNan lt le neg add sub mul div rem root fused narrowed magnitude farther rank angle integral twoTo doublings residue scaled exponential
+unfolding ofBits toBits ofInt toSigned toUnsigned nanBits isNan lt le neg add sub mul div rem root fused narrowed magnitude farther rank angle integral twoTo doublings residue halved raised scaled exponential
 numbers x = x
 
 unfoldable meshes : {A : Type 0} → A → A

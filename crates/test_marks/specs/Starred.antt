@@ -1,4 +1,4 @@
--- The marks that document 01 stars in "Worked marks", as one table over the definitions that the contracts cite: `starred` proves all of its rows at once, by computation.
+-- The marks that document 01 stars in "Worked marks", but for E(-709) = 0, which document 02 withdraws, as one table over the definitions that the contracts cite: `starred` proves all of its rows at once, by computation.
 -- Numbers in hexadecimal are bit patterns.
 use mathlib.Core.Path.{_≡_, refl}
 use mathlib.Core.Bool.{true}
@@ -48,8 +48,6 @@ pub record Starred : Type 0 where
   pub narrows-up : toBits binary32 (narrowed (f64 0x4170_0000_3000_0000)) ≡ 0x4B80_0002
   -- E(0) = 1
   pub exp-of-zero : toBits binary64 (exponential (f64 0)) ≡ 0x3FF0_0000_0000_0000
-  -- E(-709) = 0
-  pub exp-below : toBits binary64 (exponential (f64 0xC086_2800_0000_0000)) ≡ 0
   -- (1,1,1) projects to face 0 at (1,1)
   pub projects : computed (cubeProject (record { x = f64 0x3FF0_0000_0000_0000; y = f64 0x3FF0_0000_0000_0000; z = f64 0x3FF0_0000_0000_0000 })) ≡ record { face = 0; u = computed (f64 0x3FF0_0000_0000_0000); w = computed (f64 0x3FF0_0000_0000_0000) }
   -- the 66 bytes: fresh's settings and top level with a lent mesh that keeps the rule, fresh accepted, write accepted with 66, and the file
@@ -73,7 +71,6 @@ starred = record {
   narrows-down = refl;
   narrows-up = refl;
   exp-of-zero = refl;
-  exp-below = refl;
   projects = refl;
   mesh-kept = refl;
   fresh-accepted = refl;

@@ -5,7 +5,7 @@ use Prim.Native.Nat.{ℕ}
 use lib.ListN.{replicate}
 use lib.Ieee.{Float, binary64, toBits}
 use Rattle.float.specs.Order.{farther}
-use Rattle.float.specs.Exp.{exponential, scaled, doublings, residue, twoTo}
+use Rattle.float.specs.Exp.{exponential, scaled, raised, halved, doublings, residue, twoTo}
 use Rattle.float.specs.Log.{logarithm}
 use Rattle.float.specs.Log as log
 use Rattle.search.specs.declared.Weights.{Weights}
@@ -26,15 +26,15 @@ average a b es = toBits binary64 (boltzmannAverage one a b es)
 
 -- corners of weight 0 are dropped, whatever their energies: the first one, 1.0, alone, beside eight of minus infinity
 pub dropped : computed (average first-alone first-alone (0x3F80_0000 ∷ replicate 8 0xFF80_0000)) ≡ 0x3FF0_0000_0000_0000
-unfolding computed boltzmannAverage overCorners farther exponential scaled doublings residue twoTo logarithm log.combined log.ratio log.places log.over
+unfolding computed boltzmannAverage overCorners farther exponential scaled raised halved doublings residue twoTo logarithm log.combined log.ratio log.places log.over
 dropped = refl
 
 -- an infinite minimum, minus infinity too, answers infinity
 pub lowest : computed (average halves first-alone (0xFF80_0000 ∷ replicate 8 0)) ≡ 0x7FF0_0000_0000_0000
-unfolding computed boltzmannAverage overCorners farther exponential scaled doublings residue twoTo logarithm log.combined log.ratio log.places log.over
+unfolding computed boltzmannAverage overCorners farther exponential scaled raised halved doublings residue twoTo logarithm log.combined log.ratio log.places log.over
 lowest = refl
 
 -- two energies of one value, 0.5 each: that value
 pub even : computed (average halves first-alone (replicate 9 0x4000_0000)) ≡ 0x4000_0000_0000_0000
-unfolding computed boltzmannAverage overCorners farther exponential scaled doublings residue twoTo logarithm log.combined log.ratio log.places log.over
+unfolding computed boltzmannAverage overCorners farther exponential scaled raised halved doublings residue twoTo logarithm log.combined log.ratio log.places log.over
 even = refl

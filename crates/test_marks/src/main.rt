@@ -42,11 +42,6 @@ fn numbers() {
         bits::bits64(16777220.0),
     );
     mark(b"E(0)", bits::bits64(float::exp(0.0)), bits::bits64(1.0));
-    mark(
-        b"E(-709)",
-        bits::bits64(float::exp(-709.0)),
-        bits::bits64(0.0),
-    );
 }
 
 fn bins() {
