@@ -1,32 +1,30 @@
 -- Demand 3 for tables against an atom. Assumes nothing.
 use mathlib.Core.Path.{_≡_, refl, sym, ap, _∙_}
-use Rattle.lists.proofs.Asking.{ask-yes, first-yes}
-use mathlib.Core.Bool.{Bool, true, false, and-eq-true-iff}
-use mathlib.Core.List.{List, [], _∷_}
-use Prim.Native.Nat.{ℕ, suc, _+_, _≤_}
+use Rattle.lists.proofs.Asking.{first-yes}
+use mathlib.Core.Bool.{Bool, true, false}
+use mathlib.Core.List.{List}
+use Prim.Native.Nat.{ℕ, suc, _+_}
 use native.Mathlib.Omega.{arith}
 use lib.ListN.{length, getD, take, drop, length-map}
 use lib.Seq.{take-all, take-at, ext-getD}
-use lib.Dec.{eqb, lit<}
+use lib.Dec.{eqb}
 use lib.Ieee.{binary64, toBits}
 use borrow.Author.Tests.{eqb-true, eqb-false}
 use Rattle.lists.specs.Lists.{put}
 use Rattle.mesh.specs.Levels.{vertexCount}
 use Rattle.mesh.specs.Mesh.{Mesh}
-use Rattle.grid.specs.Settings.{levelsValid}
-use Rattle.grid.specs.Atom.{atomQuestion, atomCounted}
+use Rattle.grid.specs.Atom.{atomCounted}
 use Rattle.grid.specs.declared.AtomGrid.{AtomGrid}
-use Rattle.grid.proofs.Laws.{top-le}
 use Rattle.grid.proofs.Tables.{atom-table-valid, atom-some-bins}
 use Rattle.rows.specs.Rows.{Row, repulsive, compared}
 use Rattle.builder.specs.BuilderLists.{BuilderLists}
 use Rattle.builder.specs.Calls.{filledSlabs}
-use Rattle.builder.specs.Atom.{atomBuiltValues, noAtomBuilder, atomRoom, atomListsLong, atomMeshedRefusal, atomFreshBuilder, atomFreshOut}
+use Rattle.builder.specs.Atom.{atomBuiltValues, noAtomBuilder, atomMeshedRefusal, atomFreshBuilder, atomFreshOut}
 use Rattle.builder.specs.declared.AtomBuilder.{AtomBuilder}
 use Rattle.builder.specs.declared.AtomBuilt.the-variants.{Accepted as Builds}
-use Rattle.builder.proofs.Laws.{Roomy, slab-roomy}
+use Rattle.builder.proofs.Laws.{AtomMeshed, atom-meshed}
 use Rattle.search.specs.Search.{Locator}
-use Rattle.locator.specs.Several.{Roomy as LocatorRoomy}
+use Rattle.locator.specs.Several.{Roomy}
 use Rattle.locator.proofs.Laid.{made-yes}
 use Rattle.table.specs.Atom.{atomFileOf}
 use Rattle.table.proofs.OfRows.{fine-rows}
@@ -65,25 +63,6 @@ unfolding atomWriteOut put
 written-is b m l out true d e = rw d (take-at (atomFileFrom b l) (drop (0 + length (atomFileFrom b l)) out) (length (atomFileFrom b l)) refl)
 written-is b m l out false d e = absurd (eqb-false _ 0 d (rw d at e))
 
--- 1 to 7 answered yes
-pub record AtomMeshed (g : AtomGrid) (top : ℕ) (m : Mesh) (l : BuilderLists) : Type 0 where
-  pub basis : AtomBasis g top m
-  pub low : top ≤ 15
-  pub room : Roomy (g .«n_r») (vertexCount top) (length (l .store)) (length (l .rows .kinds)) (length (l .rows .levels)) (length (l .rows .values))
-
-meshed : (g : AtomGrid) (top : ℕ) (m : Mesh) (l : BuilderLists) → atomMeshedRefusal (atomBuilderAt g top top) m l ≡ 0 → AtomMeshed g top m l
-unfolding atomMeshedRefusal atomRoom atomQuestion
-meshed g top m l e =
-    let f = first-yes e in
-    let q6 = ask-yes (lit< tt) (f .1) in
-    let r = and-eq-true-iff (atomListsLong (atomBuilderAt g top top) l) _ .0 (q6 .0) in
-    let q2 = ask-yes {q = levelsValid top top} (lit< tt) (ask-yes (lit< tt) (f .0) .1) in
-    record {
-      basis = record { asked = f .0; held = r .1; kept = ask-yes (lit< tt) (q6 .1) .0 };
-      low = top-le top top (q2 .0);
-      room = slab-roomy (g .«n_r») (vertexCount top) (length (l .store)) (length (l .rows .kinds)) (length (l .rows .levels)) (length (l .rows .values)) (r .0);
-    }
-
 -- ---- one list of calls
 
 module _ (h : AtomHistory) (ok : AtomAccepted h) where
@@ -96,16 +75,20 @@ module _ (h : AtomHistory) (ok : AtomAccepted h) where
   none : atomMeshedRefusal (atomFreshBuilder (h .grid) (h .top)) (h .meshes) (h .lists) ≡ 0
   none = fresh-number (h .grid) (h .top) (h .meshes) (h .lists) _ refl (ok .fresh)
 
-  yes-all : AtomMeshed g (h .top) (h .meshes) (h .lists)
-  unfolding atomFreshBuilder
-  yes-all = meshed g (h .top) (h .meshes) (h .lists) none
+  yes-all : AtomMeshed (atomBuilderAt g (h .top) (h .top)) (h .meshes) (length (h .lists .store)) (length (h .lists .rows .kinds)) (length (h .lists .rows .levels)) (length (h .lists .rows .values))
+  unfolding atomMeshedRefusal atomFreshBuilder
+  yes-all = atom-meshed (atomBuilderAt g (h .top) (h .top)) (h .meshes) (length (h .lists .store)) (length (h .lists .rows .kinds)) (length (h .lists .rows .levels)) (length (h .lists .rows .values)) none
+
+  basis : AtomBasis g (h .top) (h .meshes)
+  unfolding atomMeshedRefusal atomFreshBuilder
+  basis = record { asked = first-yes none .0; held = yes-all .held; kept = yes-all .kept }
 
   -- the builder ends as the ledger does
   agree : AtomAgree g (h .top) (atomEnded h) last
   unfolding atomEnded
   agree =
       rw (fresh-is (h .grid) (h .top) (h .meshes) (h .lists) none)
-      (atom-follows g (h .top) (h .meshes) (yes-all .basis) _ (atomOpened g (h .top)) (h .calls) (atom-starts g (h .top) (h .lists) (yes-all .room)))
+      (atom-follows g (h .top) (h .meshes) basis _ (atomOpened g (h .top)) (h .calls) (atom-starts g (h .top) (h .lists) (yes-all .room)))
 
   many : length (atomRows h) ≡ g .«n_r»
   unfolding atomRows
@@ -129,21 +112,21 @@ module _ (h : AtomHistory) (ok : AtomAccepted h) where
       record {
         rmin = ok .rmin;
         dr = ok .dr;
-        held = atom-table-valid g (h .top) (h .top) (yes-all .basis .asked);
+        held = atom-table-valid g (h .top) (h .top) (basis .asked);
         many = many;
         fine = fine-rows vertexCount (h .top) (last .rows) (agree .fit .good);
       }
 
-  reads-rows : (l : Locator) → LocatorRoomy (h .top) l → (way : Way) (q : AtomQuery) → atomReadingOf h l way q ≡ atomRuledBy g (atomRows h) (h .meshes) way q
+  reads-rows : (l : Locator) → Roomy (h .top) l → (way : Way) (q : AtomQuery) → atomReadingOf h l way q ≡ atomRuledBy g (atomRows h) (h .meshes) way q
   reads-rows l r way q =
       rw (file-is, atom-file-accepted g (suc (h .top)) (atomRows h) filable)
-      (atom-reads (h .top) (h .meshes) l (yes-all .low) (yes-all .basis .held) (yes-all .basis .kept) r way q g (atomRows h) filable)
+      (atom-reads (h .top) (h .meshes) l (yes-all .asked .top-le) (basis .held) (basis .kept) r way q g (atomRows h) filable)
 
   kept : AtomKept h
   kept =
       record {
         read = rw (file-is, atom-file-accepted g (suc (h .top)) (atomRows h) filable) refl;
-        locator-calls = λ l r. made-yes (h .top) (h .meshes) l (yes-all .low) (yes-all .basis .held) (yes-all .basis .kept) r;
+        locator-calls = λ l r. made-yes (h .top) (h .meshes) l (yes-all .asked .top-le) (basis .held) (basis .kept) r;
         readings = reads-rows;
         answers = λ l r way q. rw (reads-rows l r way q) (atom-rule-answered way g (atomRows h) (h .meshes) q (atom-some-bins g (suc (h .top)) (filable .held)));
       }
