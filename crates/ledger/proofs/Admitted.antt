@@ -53,7 +53,7 @@ locate-searched : (m : Mesh) (n g : ℕ) (p : Vector3) → Searched (locate m n 
 unfolding locate bestFace
 locate-searched m n g p =
     let v = nearestOf m n g p in
-    chosen (λ (r : Located). Searched (r .number)) (eqb (v .number) 0) (bestFace (m .vertices) p (facesOf m n (v .vertex))) (notLocated (v .number)) (λ e. inl refl) (nearest-searched m n g p)
+    chosen (λ (r : Located). Searched (r .number)) (eqb (v .number) 0) (bestFace (m .vertices) p v (facesOf m n (v .vertex))) (notLocated (v .number)) (λ e. inl refl) (nearest-searched m n g p)
 
 joint-searched : (a b : ℕ) → Searched a → Searched b → Searched (joint a b)
 unfolding joint
