@@ -134,6 +134,11 @@ pub fn lookup_boltzmann(t: &RustTable, q: &Query, beta: f64) -> f64 {
     t.lookup_boltzmann(q.r, &Vector3::from(q.a), beta)
 }
 
+// Shown of tables of two molecules alone.
+pub fn rust_distances(_: &RustTable, _: &Query) -> [f64; 2] {
+    [0.0; 2]
+}
+
 // ---- the interpolated readings of documents 01 and 02
 
 pub fn plain_sum(weights: &[[f64; 3]], v: &[f64]) -> f64 {
