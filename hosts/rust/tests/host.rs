@@ -218,8 +218,8 @@ fn a_nearest_reading_shows_how_far_its_vertices_lie() {
     b.set(0, 0, &smooth(1)).unwrap();
     b.set(1, 0, &smooth(1)).unwrap();
     let mut file = b.write().unwrap();
-    let row = 60; // the first of the rows: interpolated as it is set
-    let (x, y) = ([1.0, 2.0, 3.0], [-3.0, 1.0, 2.0]);
+    let row = 56; // the first of the rows: interpolated as it is set
+    let (x, y) = ([1.0, 2.0, 3.0], [-3.0, 1.0, 0.25]);
     let read = |file: &[u8]| Table::read(file.to_vec(), b.mesh().clone()).unwrap();
     let shown = |t: &Table, r| t.reading(r, 0.0, x, y).map(|v| [v.distance_a, v.distance_b]);
     assert_eq!(file[row], 3);
@@ -230,7 +230,7 @@ fn a_nearest_reading_shows_how_far_its_vertices_lie() {
     let far = |d: [f64; 3]| {
         let l = (d[0] * d[0] + d[1] * d[1] + d[2] * d[2]).sqrt();
         let to = |v: &[f64; 3]| (0..3).map(|k| (d[k] / l - v[k]).powi(2)).sum::<f64>();
-        b.mesh().directions(1).iter().map(to).fold(f64::INFINITY, f64::min)
+        b.mesh().directions(1).map(|v| to(&v)).fold(f64::INFINITY, f64::min)
     };
     let got = t.reading(0.0, 0.0, x, y).unwrap();
     assert!((got.distance_a - far(x)).abs() < 1e-15 && (got.distance_b - far(y)).abs() < 1e-15, "{got:?}");
