@@ -78,6 +78,10 @@ pub fn directions(q: &Query) -> Vec<[f64; 3]> {
     vec![q.a]
 }
 
+pub fn distances(_: &Value) -> [f64; 2] {
+    [0.0; 2]
+}
+
 pub fn boltzmann(table: &Table, l: Lent, q: &Query, beta: f64) -> Value {
     icotable::atom_boltzmann(table, l, q.r, q.a, beta)
 }

@@ -24,7 +24,3 @@ pub fn builder(grid: Grid, b: &Held) -> Builder {
 pub fn packed(_: &Builder) -> u64 {
     0
 }
-
-pub fn distances(_: &Value) -> [f64; 2] {
-    [0.0; 2]
-}

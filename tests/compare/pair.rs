@@ -79,6 +79,10 @@ pub fn directions(q: &Query) -> Vec<[f64; 3]> {
     vec![q.a, q.b]
 }
 
+pub fn distances(v: &Value) -> [f64; 2] {
+    [v.distance_a, v.distance_b]
+}
+
 // ---- the Rust
 
 pub fn rust_builder(levels: Vec<builder::MeshLevel>, top: usize, [rmin, rmax, dr, omega_step, threshold, beta]: [f64; 6]) -> RustBuilder {

@@ -13,7 +13,3 @@ pub fn builder(grid: Grid, b: &Held) -> Builder {
 pub fn packed(b: &Builder) -> u64 {
     b.packed
 }
-
-pub fn distances(v: &Value) -> [f64; 2] {
-    [v.distance_a, v.distance_b]
-}

@@ -171,7 +171,7 @@ fn energy_answer(a: Reading) -> EnergyAnswer
     ensures { λ r. ⌜ energyIn r ≡ energyAlone (readingValues a) ⌝ }
 {
     match a {
-        Reading::Energy(energy, _, _) => EnergyAnswer { number: 0, energy },
+        Reading::Energy(_, energy, _) => EnergyAnswer { number: 0, energy },
         Reading::Refused(number) => EnergyAnswer {
             number,
             energy: 0.0,

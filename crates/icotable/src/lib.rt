@@ -199,7 +199,7 @@ fn value_answer(a: Reading) -> ValueAnswer
     ensures { λ r. ⌜ valueIn r ≡ readingValues a ⌝ }
 {
     match a {
-        Reading::Energy(energy, distance_a, distance_b) => ValueAnswer {
+        Reading::Energy(distance_a, energy, distance_b) => ValueAnswer {
             number: 0,
             energy,
             distance_a,

@@ -24,11 +24,11 @@ use Rattle.reading.specs.declared.Reading.{Reading}
 use Rattle.reading.specs.declared.Reading.the-variants.{Energy, Refused}
 
 abbrev Plain : Reading → Type 0
-Plain (Energy e x y) = (x ≡ noDistance) × (y ≡ noDistance)
+Plain (Energy x e y) = (x ≡ noDistance) × (y ≡ noDistance)
 Plain (Refused n) = Unit {0}
 
 plain-alone : (z : Reading) → Plain z → readingValues z ≡ energyAlone (readingValues z)
-plain-alone (Energy e x y) h = rw (h .0, h .1)
+plain-alone (Energy x e y) h = rw (h .0, h .1)
 plain-alone (Refused n) h = refl
 
 abbrev PlainPicks : Picks → Type 0

@@ -68,7 +68,7 @@ module _ (file : List ℕ) (t : Table) (held : ℕ) (H : held ≡ itemsInside (t
     nearest-out h = rw (e, energy-held (o + (x .vertex * n + y .vertex)), le-ltb (o + (x .vertex * n + y .vertex)) held h)
 
     pub nearest-in : o + (x .vertex * n + y .vertex) < held
-        → Energy (widened (numberAt 4 file (t .«energies_start» + (o + (x .vertex * n + y .vertex)) * 4))) (x .distance) (y .distance) ≡ readPicks file t linear false o (nearestPick n x y)
+        → Energy (x .distance) (widened (numberAt 4 file (t .«energies_start» + (o + (x .vertex * n + y .vertex)) * 4))) (y .distance) ≡ readPicks file t linear false o (nearestPick n x y)
     unfolding nearestPick every combined energyAt
     nearest-in h = rw (e, energy-held (o + (x .vertex * n + y .vertex)), lt-ltb (o + (x .vertex * n + y .vertex)) held h)
 

@@ -44,7 +44,7 @@ searchIn vertices l q v interpolate =
 abbrev pub picksBy : List ℕ → Table → Combination → ℕ → Picks → Reading
 picksBy file t f o (unpicked n) = Refused n
 picksBy file t f o (picked ks a b x y) =
-    cond (every (λ k. energyInside file t (o + k)) ks) (Energy (f a b (map (λ k. energyAt file t (o + k)) ks)) x y) (Refused 19)
+    cond (every (λ k. energyInside file t (o + k)) ks) (Energy x (f a b (map (λ k. energyAt file t (o + k)) ks)) y) (Refused 19)
 
 abbrev pub readPicks : List ℕ → Table → Way → Bool → ℕ → Picks → Reading
 readPicks file t way interpolate o x = picksBy file t (combined way interpolate) o x

@@ -35,16 +35,16 @@ abbrev pub noDistance : Float
 noDistance = ofBits binary64 0
 
 abbrev pub readingValues : Reading → ReadingValues
-readingValues (Energy x a b) = record { number = 0; energy = x; distanceA = a; distanceB = b }
+readingValues (Energy a x b) = record { number = 0; energy = x; distanceA = a; distanceB = b }
 readingValues (Refused n) = record { number = n; energy = ofBits binary64 0; distanceA = noDistance; distanceB = noDistance }
 
 -- an energy without distances
 abbrev pub plain : Float → Reading
-plain x = Energy x noDistance noDistance
+plain x = Energy noDistance x noDistance
 
 -- a refusal has a number: 0 is acceptance alone
 abbrev pub readingNumbered : Reading → Bool
-readingNumbered (Energy x a b) = true
+readingNumbered (Energy a x b) = true
 readingNumbered (Refused n) = not (eqb n 0)
 
 -- what is asked for: a distance, a dihedral angle and two directions

@@ -26,7 +26,7 @@ search ms q v interpolate =
 
 abbrev pub rulePicksBy : Combination → List ℕ → Picks → Reading
 rulePicksBy f es (unpicked n) = Refused n
-rulePicksBy f es (picked ks a b x y) = Energy (f a b (map (λ k. getD es k 0) ks)) x y
+rulePicksBy f es (picked ks a b x y) = Energy x (f a b (map (λ k. getD es k 0) ks)) y
 
 abbrev pub rulePicks : Way → Bool → List ℕ → Picks → Reading
 rulePicks way interpolate es x = rulePicksBy (combined way interpolate) es x

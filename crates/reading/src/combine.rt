@@ -57,7 +57,7 @@ pub(crate) fn nearest(t: Table, file: &[u8], offset: u64, n: u64, x: Nearest, y:
     if held <= k {
         return Reading::Refused(19);
     }
-    Reading::Energy(energy(file, start, k), da, db)
+    Reading::Energy(da, energy(file, start, k), db)
 }
 
 // The energies of a vertex, whose places begin at k, against those of a face are among the first ones held.
@@ -289,10 +289,10 @@ pub(crate) fn interpolated(
     }
     if 0.0 < beta {
         return Reading::Energy(
-            face_average(file, start, offset, n, f, g, p, q, beta),
             0.0,
+            face_average(file, start, offset, n, f, g, p, q, beta),
             0.0,
         );
     }
-    Reading::Energy(face_terms(file, start, offset, n, f, g, p, q), 0.0, 0.0)
+    Reading::Energy(0.0, face_terms(file, start, offset, n, f, g, p, q), 0.0)
 }
