@@ -48,7 +48,7 @@
 /* The version, raised where a struct, a function or the table file changes (CHANGELOG.md). The pkg-config file and the
  * tool take it from here; a test compares it with hosts/rust. */
 #define ICOTABLE_VERSION_MAJOR 0
-#define ICOTABLE_VERSION_MINOR 10
+#define ICOTABLE_VERSION_MINOR 11
 #define ICOTABLE_VERSION_PATCH 0
 
 #define ICOTABLE_STRING_(x) #x
@@ -110,10 +110,14 @@ typedef struct icotable_grid {
     uint64_t n_r, n_omega;
 } icotable_grid;
 
-/* The settings, the top level and the current one. */
+/* The settings, the top level, the current one, and the number of packed energies: the sum over the Mesh rows of their
+ * level's n*n, as long as builder and rows come from fresh by set and settle. So at any time the file is
+ * 52 + 4*(top+1) + 10*n_r*n_omega + 4*packed bytes long. No call looks at it; set and settle move it by the difference
+ * that the rows make which they replace, modulo 2^64. */
 typedef struct icotable_builder {
     icotable_grid grid;
     uint64_t top, level;
+    uint64_t packed;
 } icotable_builder;
 
 typedef struct icotable_built {
@@ -161,7 +165,8 @@ icotable_built icotable_fresh(
     const uint16_t *neighbours, size_t neighbours_count,
     const double *angles, size_t angles_count);
 
-/* Gives slab (ri, oi) its energies, n*n of the current level. Questions 1 to 6, 8, 9, 10. */
+/* Gives slab (ri, oi) its energies, n*n of the current level. Questions 1 to 6, 8, 9, 10, and 15 of the row that it
+ * replaces. */
 icotable_built icotable_set(
     icotable_builder builder,
     double *store, size_t store_count,

@@ -108,9 +108,14 @@ static void show_slice(const work *w, uint64_t ri) {
         putchar(letter(w->kinds[s], w->levels[s]));
 }
 
+/* The length of the file that write would give now: the builder counts, so no row is walked. */
+static uint64_t file_length(const icotable_builder *b) {
+    return 52 + 4 * (b->top + 1) + 10 * b->grid.n_r * b->grid.n_omega + 4 * b->packed;
+}
+
 /* Every slice, from contact outwards: its slabs are set, then it is settled, which may lower the level. */
 static void build(work *w) {
-    puts("\nslice  distance  level  largest gradient  slabs (# wall, . one number, digit: mesh of that level)");
+    puts("\nslice  distance  level  largest gradient  done  file bytes  slabs (# wall, . one number, digit: mesh of that level)");
     for (uint64_t ri = 0; ri < N_R; ri++) {
         uint64_t level = w->builder.level;
         for (uint64_t oi = 0; oi < N_OMEGA; oi++)
@@ -119,7 +124,8 @@ static void build(work *w) {
         if (s.number != 0)
             stop("settle", s.number);
         w->builder = s.builder;
-        printf("%5llu  %8g  %5llu  %16.4g  ", (unsigned long long)ri, settings.rmin + (double)ri * settings.dr, (unsigned long long)level, s.gradient);
+        printf("%5llu  %8g  %5llu  %16.4g  %3llu%%  %10llu  ", (unsigned long long)ri, settings.rmin + (double)ri * settings.dr, (unsigned long long)level,
+               s.gradient, (unsigned long long)(100 * (ri + 1) / N_R), (unsigned long long)file_length(&w->builder));
         show_slice(w, ri);
         puts(s.builder.level < level ? "  the level drops" : "");
         fflush(stdout);
@@ -133,6 +139,10 @@ static uint8_t *written(work *w, size_t *length) {
     icotable_written f = icotable_write(w->builder, w->store, w->store_count, ROWS(w), ICOTABLE_MESHES(&w->meshes), file, room);
     if (f.number != 0)
         stop("write", f.number);
+    if (f.length != file_length(&w->builder)) {
+        fprintf(stderr, "demo: the file is %llu bytes long, and the builder said %llu\n", (unsigned long long)f.length, (unsigned long long)file_length(&w->builder));
+        exit(1);
+    }
     *length = f.length;
     return file;
 }

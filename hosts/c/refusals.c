@@ -133,7 +133,9 @@ static uint64_t file_grid(void) {
 }
 
 static uint64_t unknown_kind(void) {
-    return read_with(56, 4);
+    icotable_builder b = begun();
+    kinds[0] = 4;
+    return set(b, 0, 0, PER).number != ICOTABLE_ROW ? 100 : read_with(56, 4);
 }
 
 static uint64_t wrong_offset(void) {
@@ -370,7 +372,7 @@ static const example examples[] = {
     {short_output, "write to 1000 bytes, where the file has 7156", 0},
     {cut_off, "read of a file without its last byte", 0},
     {file_grid, "read of a file that says 3 dihedral bins, where its step gives 2", 0},
-    {unknown_kind, "read of a file whose first row has kind 4", 0},
+    {unknown_kind, "read of a file whose first row has kind 4; set of a slab whose row the host gave kind 4", 0},
     {wrong_offset, "read of a file whose first Mesh row has offset 1", 0},
     {file_nan, "read of a file whose first energy has the bits FFFFFFFF", 0},
     {no_direction, "a reading with the direction 0, 0, 0", 0},

@@ -132,23 +132,36 @@ static void one_slab(void) {
     icotable_built s = icotable_set(b, store, PER, kinds, 1, levels, 1, values, 1, 0, 1, energies, PER);
     expect("set of a bin beyond the last", s.number, 8);
     expect("the builder's bins after it", s.builder.grid.n_r, 1);
+    expect("its packed energies", s.builder.packed, 0);
     s = icotable_set(b, store, PER, kinds, 1, levels, 1, values, 1, 0, 0, energies, PER);
     expect("set", s.number, 0);
     expect("kind", kinds[0], 3);
+    expect("packed energies", s.builder.packed, PER);
     icotable_written w = written(s.builder, output, sizeof output);
     expect("bytes", w.length, 642);
     icotable_settled a = settle(s.builder, 0);
     expect("settle", a.number, 0);
+    expect("packed energies", a.builder.packed, PER);
     expect("gradient is 1 over the angle", a.gradient == 1 / angles[0], 1);
     a = settle(s.builder, 1);
     expect("settle of a bin beyond the last", a.number, 8);
     expect("its gradient is 0", a.gradient == 0, 1);
     expect("the builder's bins after it", a.builder.grid.n_r, 1);
+    expect("its packed energies", a.builder.packed, PER);
     for (int i = 0; i < PER; i++)
         energies[i] = 10;
-    expect("set of tens", icotable_set(b, store, PER, kinds, 1, levels, 1, values, 1, 0, 0, energies, PER).number, 0);
-    expect("settle", settle(b, 0).number, 0);
+    s = icotable_set(s.builder, store, PER, kinds, 1, levels, 1, values, 1, 0, 0, energies, PER);
+    expect("set of tens", s.number, 0);
+    expect("packed energies of a slab set twice", s.builder.packed, PER);
+    a = settle(b, 0);
+    expect("settle", a.number, 0);
     expect("kind", kinds[0], 1);
+    expect("packed energies less than none", a.builder.packed, (uint64_t)0 - PER);
+    kinds[0] = 4;
+    s = icotable_set(s.builder, store, PER, kinds, 1, levels, 1, values, 1, 0, 0, energies, PER);
+    expect("set over a row of kind 4", s.number, 15);
+    expect("packed energies after it", s.builder.packed, PER);
+    kinds[0] = 0;
 }
 
 static void refused(void) {

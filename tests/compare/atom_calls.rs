@@ -1,4 +1,5 @@
 // The library's calls on a table of one molecule against an atom, by the declarations that the page above has; pair_calls.rs has those on a table of two molecules, under the same names.
+use crate::refusals::Held;
 use super::icotable::{atom_reading, atom_set, AtomBuilt, Lent, Lists, Query};
 pub use super::icotable::{
     atom_fresh as fresh, atom_read as read, atom_settle as settle, atom_write as write, AtomBuilder as Builder, AtomGrid as Grid, AtomTable as Table, Energy as Value,
@@ -14,4 +15,12 @@ pub fn set(b: Builder, l: &mut Lists, ri: u64, _: u64, energies: &[f64]) -> Atom
 
 pub fn reading(table: &Table, l: Lent, q: &Query) -> Value {
     atom_reading(table, l, q.r, q.a)
+}
+
+pub fn builder(grid: Grid, b: &Held) -> Builder {
+    Builder { grid, top: b.top, level: b.level }
+}
+
+pub fn packed(_: &Builder) -> u64 {
+    0
 }

@@ -85,7 +85,7 @@ impl<'a> Caller<'a> {
         Caller {
             sink,
             lists,
-            held: Held { settings, n_r: 0, n_omega: 0, top: 0, level: 0 },
+            held: Held { settings, n_r: 0, n_omega: 0, top: 0, level: 0, packed: 0 },
             rust: None,
             altered: false,
             cases: BTreeMap::new(),
@@ -102,6 +102,13 @@ impl<'a> Caller<'a> {
             self.lists.put(list, start + i, n);
         }
         self.sink.entries(list, start, words);
+    }
+
+    // Document 02's number of packed energies moves by what the sum over the rows moves, wrapping; the atom's builder has none.
+    fn count(&mut self, before: u64) {
+        if shape::PAIR {
+            self.held.packed = self.held.packed.wrapping_add(refusals::packed(&self.lists)).wrapping_sub(before);
+        }
     }
 
     pub fn hold(&mut self, b: Held) {
@@ -180,15 +187,18 @@ impl<'a> Caller<'a> {
 
     pub fn set(&mut self, ri: u64, oi: u64, rule: Rule, lent: [usize; 8]) -> u64 {
         let energies = rule.energies();
-        let number = refusals::set(&self.held, &lent, ri, oi, &energies);
+        let number = refusals::set(&self.held, &lent, &self.lists, ri, oi, &energies);
+        let before = self.held;
         if number == 0 {
             assert!(!self.altered);
+            let packed = refusals::packed(&self.lists);
             let s = (ri * self.held.n_omega + oi) as usize;
             shape::set_slab(self.rust.as_mut().unwrap(), ri as usize, oi as usize, &energies);
             self.lists.store[s * per(self.held.top)..][..energies.len()].copy_from_slice(&energies);
             self.take_row(s);
+            self.count(packed);
         }
-        self.finish(What::Set(ri, oi, &rule, &energies), self.held, lent, number, 0.0);
+        self.finish(What::Set(ri, oi, &rule, &energies), before, lent, number, 0.0);
         number
     }
 
@@ -201,12 +211,14 @@ impl<'a> Caller<'a> {
             self.gradients += 1;
             let slice = (ri * self.held.n_omega) as usize..((ri + 1) * self.held.n_omega) as usize;
             let kinds = self.lists.kinds[slice.clone()].to_vec();
+            let packed = refusals::packed(&self.lists);
             let rust = self.rust.as_mut().unwrap();
             gradient = rust.finish_r_slice(ri as usize);
             let level = rust.current_level as u64;
             slice.clone().for_each(|s| self.take_row(s));
             self.settled(&kinds, slice, level, gradient);
             self.held.level = level;
+            self.count(packed);
         }
         if number == 11 && !self.altered {
             if let Some(words) = shape::settled_elsewhere(self.rust.as_ref().unwrap(), ri as usize) {

@@ -199,7 +199,7 @@ fn r12(found: &mut Found) {
     let per = 2562u32 * 2562;
     let over = (0..655).try_fold(0u32, |offset, _| offset.checked_add(per));
     let fresh = |slabs: f64| {
-        let grid = library::builder_of(&refusals::Held { settings: Settings { rmax: slabs, ..PLAIN }, n_r: 0, n_omega: 0, top: 15, level: 15 }).grid;
+        let grid = library::builder_of(&refusals::Held { settings: Settings { rmax: slabs, ..PLAIN }, n_r: 0, n_omega: 0, top: 15, level: 15, packed: 0 }).grid;
         let mut none = icotable::Lists { store: &mut [], kinds: &mut [], levels: &mut [], values: &mut [] };
         icotable::fresh(grid, 15, &mut none, icotable::Meshes { vertices: &[], counts: &[], neighbours: &[], angles: &[] }).number
     };

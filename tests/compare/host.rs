@@ -51,7 +51,7 @@ impl Host {
     }
 
     pub fn fresh(&mut self, settings: Settings) -> u64 {
-        let grid = builder_of(&Held { settings, n_r: 0, n_omega: 0, top: 0, level: 0 }).grid;
+        let grid = builder_of(&Held { settings, n_r: 0, n_omega: 0, top: 0, level: 0, packed: 0 }).grid;
         let lent = self.lists.lengths();
         let (mut l, m) = lists_of(&mut self.lists, &lent);
         let a = icotable::fresh(grid, self.top, &mut l, m);

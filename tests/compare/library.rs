@@ -10,8 +10,8 @@ use crate::refusals::{Held, Lists};
 use crate::report::{self, differ};
 use crate::shape::{self, grid_words, Builder, Table, Value};
 
-fn builder_words(b: &Builder) -> (Vec<u64>, u64, u64) {
-    (grid_words(&b.grid), b.top, b.level)
+fn builder_words(b: &Builder) -> (Vec<u64>, u64, u64, u64) {
+    (grid_words(&b.grid), b.top, b.level, shape::packed(b))
 }
 
 pub fn table_words(t: &Table) -> (Vec<u64>, [u64; 9]) {
@@ -20,7 +20,7 @@ pub fn table_words(t: &Table) -> (Vec<u64>, [u64; 9]) {
 }
 
 pub fn builder_of(b: &Held) -> Builder {
-    Builder { grid: shape::grid(b.settings.list(), [b.n_r, b.n_omega]), top: b.top, level: b.level }
+    shape::builder(shape::grid(b.settings.list(), [b.n_r, b.n_omega]), b)
 }
 
 pub fn lists_of<'a>(l: &'a mut Lists, lent: &[usize; 8]) -> (icotable::Lists<'a>, Meshes<'a>) {

@@ -211,7 +211,7 @@ impl Odd {
                 }
             }
             1 | 2 => {
-                if !caller.altered || refusals::set(&caller.held, &lent, ri, oi, &rule.energies()) != 0 {
+                if !caller.altered || refusals::set(&caller.held, &lent, &caller.lists, ri, oi, &rule.energies()) != 0 {
                     let accepted = caller.set(ri, oi, rule, lent) == 0;
                     // what was altered of this slab's row is gone
                     self.undo.retain(|u| !(accepted && u.0 < 3 && u.1 as u64 == ri * good.n_omega + oi));
@@ -246,6 +246,10 @@ fn odd_call(caller: &mut Caller, random: &mut Random) {
     if caller.altered {
         caller.hold(good);
         caller.altered = false;
+    }
+    // a builder by hand: whatever its number of packed energies is, the calls go on from it
+    if shape::PAIR && random.below(8) == 0 {
+        caller.hold(Held { packed: [0, u64::MAX, random.below(1 << 30) as u64][random.below(3)], ..caller.held });
     }
 }
 

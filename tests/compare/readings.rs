@@ -36,6 +36,8 @@ mod reader;
 #[allow(dead_code)]
 mod reading;
 #[allow(dead_code)]
+mod refusals;
+#[allow(dead_code)]
 mod report;
 mod search;
 #[allow(dead_code, unused_imports)]

@@ -1,6 +1,6 @@
 // The questions that document 01 puts before fresh, set, settle and write, read from its text and from nothing else: each function gives the number of the first question that is answered no, or 0.
 use crate::lines::bits;
-use crate::shape::{per, HEADS};
+use crate::shape::{per, HEADS, PAIR};
 use std::f64::consts::TAU;
 
 #[derive(Clone, Copy, Debug)]
@@ -26,6 +26,8 @@ pub struct Held {
     pub n_omega: u64,
     pub top: u64,
     pub level: u64,
+    // of a table of two molecules
+    pub packed: u64,
 }
 
 #[derive(Clone, Default)]
@@ -175,11 +177,11 @@ fn with_meshes(b: &Held, lent: &[usize; 8], lists: &Lists) -> u64 {
 pub fn fresh(settings: Settings, top: u64, lent: &[usize; 8], lists: &Lists) -> (Held, u64) {
     let n_r = distance_count(settings.rmin, settings.rmax, settings.dr);
     let n_omega = dihedral_count(settings.omega_step);
-    let b = Held { settings, n_r, n_omega, top, level: top };
+    let b = Held { settings, n_r, n_omega, top, level: top, packed: 0 };
     (b, with_meshes(&b, lent, lists))
 }
 
-pub fn set(b: &Held, lent: &[usize; 8], ri: u64, oi: u64, energies: &[f64]) -> u64 {
+pub fn set(b: &Held, lent: &[usize; 8], lists: &Lists, ri: u64, oi: u64, energies: &[f64]) -> u64 {
     let number = one_to_five(b);
     if number != 0 {
         return number;
@@ -195,6 +197,10 @@ pub fn set(b: &Held, lent: &[usize; 8], ri: u64, oi: u64, energies: &[f64]) -> u
     }
     if energies.iter().any(|e| e.is_nan()) {
         return 10;
+    }
+    // document 02: "Set now puts the kind and level part of 15, after 10, to the row it replaces"
+    if PAIR && !row_held(b, lists, (ri * b.n_omega + oi) as usize) {
+        return 15;
     }
     0
 }
@@ -226,6 +232,11 @@ pub fn settle(b: &Held, lent: &[usize; 8], lists: &Lists, ri: u64) -> u64 {
         return 11;
     }
     0
+}
+
+// "the sum over Mesh rows of their level's n·n", of all rows that are lent
+pub fn packed(lists: &Lists) -> u64 {
+    (0..lists.kinds.len().min(lists.levels.len())).filter(|&s| is_mesh(lists, s)).map(|s| per(lists.levels[s] as u64) as u64).sum()
 }
 
 // The file's length by its sections: a count each, then 8 bytes a float, 4 a bin count, 4 a level, 10 a row, 4 an energy.

@@ -53,6 +53,7 @@ static icotable_builder read_builder(replay *r) {
     b.grid = read_grid(r);
     b.top = word(r, 16);
     b.level = word(r, 16);
+    b.packed = 0;
     if (r->atom)
         b.grid.omega_step = 0, b.grid.n_omega = 0;
     return b;
@@ -65,7 +66,7 @@ static icotable_atom_builder to_atom(const icotable_builder *b) {
 
 static icotable_builder of_atom(const icotable_atom_builder *b) {
     const icotable_atom_grid *g = &b->grid;
-    return (icotable_builder){{g->rmin, g->rmax, g->dr, 0, g->threshold, g->beta, g->n_r, 0}, b->top, b->level};
+    return (icotable_builder){{g->rmin, g->rmax, g->dr, 0, g->threshold, g->beta, g->n_r, 0}, b->top, b->level, 0};
 }
 
 static bool same_settings(const icotable_grid *g, const icotable_grid *h) {
@@ -127,10 +128,10 @@ static outcome fresh(
     static const icotable_builder zeros;
     outcome a = call_fresh(r, l, n, settings);
     if (a.number == 0)
-        *right = holds(r, FRESH, same_settings(&a.builder.grid, &settings.grid) && a.builder.top == settings.top,
-            "the builder has other settings");
+        *right = holds(r, FRESH, same_settings(&a.builder.grid, &settings.grid) && a.builder.top == settings.top && a.builder.packed == 0,
+            "the builder has other settings, or packed energies");
     else
-        *right = holds(r, FRESH + 1, same_table(&a.builder, &zeros) && a.builder.level == 0,
+        *right = holds(r, FRESH + 1, same_table(&a.builder, &zeros) && a.builder.level == 0 && a.builder.packed == 0,
             "a refused fresh does not answer zeros");
     return (outcome){.number = a.number, .builder = a.number == 0 ? a.builder : held};
 }
@@ -184,6 +185,17 @@ static void judge(replay *r, int kind, bool right, const outcome *o, const lists
     }
 }
 
+/* n*n of the level of every Mesh row, also of those beyond the ones that the table needs. */
+static uint64_t packed(const lists *l) {
+    uint64_t sum = 0;
+    for (size_t i = 0; i < SLABS; i++) {
+        uint64_t m = (uint64_t)l->levels[i] + 1, n = 10 * m * m + 2;
+        if (l->kinds[i] == 2 || l->kinds[i] == 3)
+            sum += n * n;
+    }
+    return sum;
+}
+
 /* A call: 1 fresh, 2 set, 3 settle. Its stored answer stands before its arguments. */
 static void replay_call(replay *r, uint64_t what, lists *l, icotable_builder *held) {
     size_t answer = r->at;
@@ -196,10 +208,13 @@ static void replay_call(replay *r, uint64_t what, lists *l, icotable_builder *he
     if (what == 1) {
         o = fresh(r, l, &n, given, *held, &right);
     } else {
+        uint64_t before = packed(l);
         right = holds(r, kind, same_table(&given, held) && given.level == held->level,
             "the builder that is held is not the stored one");
         o = what == 2 ? set(r, l, &n, *held) : settle(r, l, &n, *held);
         right &= holds(r, kind, same_table(&o.builder, held), "the builder comes back with other settings");
+        right &= holds(r, kind, r->atom || o.builder.packed == held->packed + packed(l) - before,
+            "the packed energies move by another number than the rows'");
     }
     size_t end = r->at;
     r->at = answer;

@@ -3,7 +3,7 @@ use mathlib.Core.Path.{_≡_, refl, ap, _∙_}
 use Rattle.lists.proofs.Asking.{ask-yes, first-yes}
 use mathlib.Core.Bool.{true, cond}
 use mathlib.Core.List.{List, [], _∷_, map}
-use Prim.Native.Nat.{ℕ, suc, _≤_}
+use Prim.Native.Nat.{ℕ, suc, _^_, _≤_, _<_}
 use native.Mathlib.Nat.{mul-le-mul}
 use native.Mathlib.Omega.{arith}
 use lib.Dec.{lit<}
@@ -34,7 +34,7 @@ use Rattle.builder.proofs.Laws.{meshed, atom-meshed}
 use Rattle.builder.specs.Refusals.{meshedRefusal, settleRefusal}
 use Rattle.settling.proofs.Slopes.{gradient-links, atom-links}
 use Rattle.builder.proofs.Turns.{row-energies}
-use Rattle.builder.proofs.Changes.{tally-gradient, tally-settled, tally-clear}
+use Rattle.builder.proofs.Changes.{tally-gradient, tally-settled, tally-clear, tally-packed}
 
 -- ---- what an accepted settle may count on
 
@@ -85,17 +85,18 @@ map-same : {A B : Type 0} (f g : A → B) (l : List A) → ((x : A) → f x ≡ 
 map-same f g [] h = refl
 map-same f g (x ∷ l) h = rw (h x, map-same f g l h)
 
-pub settle-is : (b : Builder) (ms : Mesh) (l : BuilderLists) (ri : ℕ) (t : Tally) (rows : Rows)
+pub settle-is : (b : Builder) (ms : Mesh) (l : BuilderLists) (ri : ℕ) (t : Tally) (rows : Rows) → b .packed < 2 ^ 64
     → (let f = verdictOf (b .grid .threshold) (b .grid .beta) (partLinks (b .level) (linksOf ms)) (vertexCount (b .level)) in
-    (t ≡ tallyFrom f (b .level) start (sliceAt b l ri)) × (rows ≡ settledLists (b .level) (l .rows) (slab (b .grid) ri 0) (map f (sliceAt b l ri))))
+    (t ≡ tallyFrom f (b .level) (start (b .packed)) (sliceAt b l ri)) × (rows ≡ settledLists (b .level) (l .rows) (slab (b .grid) ri 0) (map f (sliceAt b l ri))))
     → _≡_ {A = SettleOut} (record { answer = settledValues b (Settles (droppedBy b t) (t .gradient)); lists = record { store = l .store; rows = rows } }) (settleAccepted b ms l ri)
 unfolding settleAccepted settledSlice droppedBy dropsBy drops verdicts
-settle-is b ms l ri t rows h =
+settle-is b ms l ri t rows few h =
     let c = b .level in
     let rs = sliceAt b l ri in
     let f = verdictOf (b .grid .threshold) (b .grid .beta) (partLinks c (linksOf ms)) (vertexCount c) in
     let same = map-same f (verdictOf (b .grid .threshold) (b .grid .beta) (levelPart c ms) (vertexCount c)) rs (verdict-links (b .grid .threshold) (b .grid .beta) c ms) in
-    rw (h .0, h .1, tally-gradient f c start rs, tally-settled f c start rs, tally-clear f c start rs, same) refl
+    let z = start (b .packed) in
+    rw (h .0, h .1, tally-gradient f c z rs, tally-settled f c z rs, tally-clear f c z rs, tally-packed f c z rs few, same) refl
 
 -- ---- the same of a table against an atom
 

@@ -2,15 +2,16 @@
 use mathlib.Core.Path.{_≡_, refl, sym, _∙_}
 use mathlib.Core.Bool.{true, _&&_, _||_, and-true, or-false, and-assoc, or-assoc, and-eq-true-iff}
 use mathlib.Core.List.{List, [], _∷_, map}
-use Prim.Native.Nat.{ℕ, _<_}
+use Prim.Native.Nat.{ℕ, _^_, _<_}
 use lib.Dec.{ltb}
 use lib.Ieee.{Float, lt}
 use borrow.Author.Tests.{ltb-true}
 use Rattle.lists.specs.Lists.{every}
 use Rattle.rows.specs.Rows.{Row}
-use Rattle.settling.specs.Settling.{newRow, inPlaceOf, settles, someSettle, largestFrom, settledRows, notRepulsive}
+use Rattle.settling.specs.Settling.{newRow, inPlaceOf, settles, someSettle, largestFrom, settledRows, notRepulsive, packedRow, packedRows, packedAfter}
 use Rattle.settling.specs.Internal.{tallied}
 use Rattle.builder.specs.Internal.{tallyFrom, dropsBy}
+use Rattle.settling.proofs.Packed.{after-few, after-same, after-both}
 use Rattle.settling.specs.declared.Tally.{Tally}
 use Rattle.settling.specs.declared.Verdict.{Verdict}
 
@@ -29,6 +30,15 @@ module _ (f : Row Float → Verdict) (c : ℕ) where
   unfolding tallyFrom tallied every settledRows
   tally-clear t [] = sym (and-true (t .clear))
   tally-clear t (r ∷ rs) = tally-clear (tallied c t r (f r)) rs ∙ and-assoc (t .clear) (notRepulsive (inPlaceOf r (newRow c (f r)))) (every notRepulsive (settledRows c rs (map f rs)))
+
+  pub tally-packed : (t : Tally) (rs : List (Row Float)) → t .packed < 2 ^ 64
+      → tallyFrom f c t rs .packed ≡ packedAfter (t .packed) (packedRows rs) (packedRows (settledRows c rs (map f rs)))
+  unfolding tallyFrom tallied packedRows settledRows
+  tally-packed t [] h = sym (after-same (t .packed) 0 h)
+  tally-packed t (r ∷ rs) h =
+      let left = inPlaceOf r (newRow c (f r)) in
+      tally-packed (tallied c t r (f r)) rs (after-few (t .packed) (packedRow r) (packedRow left))
+      ∙ after-both (t .packed) (packedRow r) (packedRow left) (packedRows rs) (packedRows (settledRows c rs (map f rs)))
 
 -- the level drops only where it is above 0
 pub drops-above : (t : Tally) (threshold : Float) (level : ℕ) → dropsBy t threshold level ≡ true → 0 < level

@@ -9,7 +9,7 @@ use native.Mathlib.Omega.{arith}
 use lib.Dec.{leb, ltb, lit<}
 use lib.Ieee.{Float}
 use lib.ListN.{length}
-use borrow.Author.Tests.{leb-true, ltb-true, eqb-true}
+use borrow.Author.Tests.{leb-true, ltb-true, eqb-true, ne-eqb}
 use Rattle.lists.specs.Questions.{ask, first}
 use Rattle.mesh.specs.Levels.{per, vertexCount, verticesBelow}
 use Rattle.mesh.specs.Mesh.{Mesh, meshLong, meshesKeep}
@@ -84,14 +84,14 @@ pub record Set (b : Builder) (ri oi : ℕ) (e : List Float) (store kinds levels 
   pub row : slab (b .grid) ri oi < slabs (b .grid)
   pub energies : storePlace (b .top) (slab (b .grid) ri oi) + length e ≤ store
 
-pub accepted : (b : Builder) (ri oi : ℕ) (e : List Float) (store kinds levels values : ℕ)
-    → first (builderQuestion b) (ask (listRoom (b .grid) (b .top) store kinds levels values) 6 (setQuestion (b .grid) (b .level) ri oi e)) ≡ 0
+pub accepted : (b : Builder) (ri oi : ℕ) (e : List Float) (store kinds levels values known : ℕ)
+    → first (builderQuestion b) (ask (listRoom (b .grid) (b .top) store kinds levels values) 6 (first (setQuestion (b .grid) (b .level) ri oi e) known)) ≡ 0
     → Set b ri oi e store kinds levels values
 unfolding setQuestion
-accepted b ri oi e store kinds levels values p =
+accepted b ri oi e store kinds levels values known p =
     let f = first-yes p in
     let q6 = ask-yes (lit< tt) (f .1) in
-    let q8 = ask-yes (lit< tt) (q6 .1) in
+    let q8 = ask-yes (lit< tt) (first-yes (q6 .1) .0) in
     let q9 = ask-yes (lit< tt) (q8 .1) in
     let g = b .grid in
     let a = asked g (b .top) (b .level) (f .0) in
@@ -107,6 +107,17 @@ accepted b ri oi e store kinds levels values p =
       row = row;
       energies = omega (arith, r .store-le, place (slab g ri oi) (slabs g) (length e) (per (b .top)) row fits);
     }
+
+-- a chain in two parts, of which the code asked the second after it had the answer to the first
+pub chain-no : (p : ℕ) (room : Bool) (q rest r : ℕ) → p ≡ 0 → r ≡ ask room 6 q → (r ≡ 0 → ⊥) → r ≡ first p (ask room 6 (first q rest))
+unfolding ask first
+chain-no p true q rest r z e n = rw (z, ← e, ne-eqb r 0 n)
+chain-no p false q rest r z e n = rw z e
+
+pub chain-yes : (p : ℕ) (room : Bool) (q rest r : ℕ) → p ≡ 0 → r ≡ ask room 6 q → r ≡ 0 → first p (ask room 6 (first q rest)) ≡ rest
+unfolding ask first
+chain-yes p true q rest r z e n = rw (z, ← e, n)
+chain-yes p false q rest r z e n = absurd (omega (arith, e, n))
 
 -- what an accepted call may count on that the meshes are lent to
 pub record Meshed (b : Builder) (m : Mesh) (store kinds levels values : ℕ) : Type 0 where

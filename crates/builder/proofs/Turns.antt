@@ -1,7 +1,7 @@
 -- A turn of the loop over a slice. Assumes nothing.
 use mathlib.Core.Path.{_≡_, refl, sym, _∙_}
 use mathlib.Core.Bool.{Bool, true, false, cond, and-eq-true-iff}
-use mathlib.Core.List.{List, _∷_, map}
+use mathlib.Core.List.{List, [], _∷_, map}
 use mathlib.Core.Option.{Option, none, some}
 use Prim.Native.Nat.{ℕ, zero, suc, _+_, _*_, _-_, _≤_, _<_}
 use native.Mathlib.Omega.{arith}
@@ -17,7 +17,9 @@ use Rattle.rows.specs.declared.SlabResolution.the-variants.{Scalar, Mesh, Repul
 use Rattle.rows.specs.Rows.{Rows, kindOf, levelOf, valueOf, resolutionOf, resolutionAt, replaced, Row, rowWith}
 use Rattle.settling.specs.Settling.{newRow, fromLevel, replacedBy}
 use Rattle.builder.specs.BuilderLists.{BuilderLists, rowIn, rowAt, rowsIn, rowsFrom}
-use Rattle.builder.specs.Calls.{settledLists}
+use Rattle.builder.specs.Calls.{setBuilder, settledLists}
+use Rattle.builder.specs.declared.Builder.{Builder}
+use Rattle.settling.proofs.Changes.{same-packed}
 use Rattle.settling.specs.Internal.{tallied}
 use Rattle.builder.specs.Internal.{tallyFrom}
 use Rattle.settling.specs.declared.Tally.{Tally}
@@ -39,6 +41,13 @@ unfolding rowIn resolutionAt resolutionOf
 row-energies each top l s c h =
     level-by (eqb (getD (l .rows .kinds) s 0) 0) (eqb (getD (l .rows .kinds) s 0) 1) (ofBits binary32 (getD (l .rows .values) s 0)) (getD (l .rows .levels) s 0) c
     (eqb (getD (l .rows .kinds) s 0) 3) (λ v. take (each v) (drop (s * each top) (l .store))) h
+
+-- what a set counts of the row that it replaces
+pub set-builder-is : (b : Builder) (l : BuilderLists) (s : ℕ) → setBuilder b (rowWith (resolutionAt (l .rows) s) []) ≡ setBuilder b (rowAt (b .top) l s)
+unfolding setBuilder rowIn
+set-builder-is b l s =
+    let x = resolutionAt (l .rows) s in
+    rw (← same-packed x [], ← same-packed x (take (per (getD (l .rows .levels) s 0)) (drop (s * per (b .top)) (l .store)))) refl
 
 -- ---- rows that stay
 

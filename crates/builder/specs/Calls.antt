@@ -11,11 +11,11 @@ use Rattle.mesh.specs.Mesh.{Mesh}
 use Rattle.grid.specs.Settings.{counted}
 use Rattle.grid.specs.declared.Grid.{Grid}
 use Rattle.rows.specs.declared.SlabResolution.the-variants.{Mesh as toMesh}
-use Rattle.rows.specs.Rows.{Rows, replaced, rowsOf}
+use Rattle.rows.specs.Rows.{Rows, Row, replaced, rowsOf}
 use Rattle.settling.specs.Gradient.{zero}
-use Rattle.settling.specs.Settling.{newRow, replacedBy, verdicts, settledSlice}
+use Rattle.settling.specs.Settling.{newRow, replacedBy, verdicts, settledSlice, packedRow, packedRows, packedAfter}
 use Rattle.settling.specs.declared.Verdict.{Verdict}
-use Rattle.builder.specs.BuilderLists.{BuilderLists, slabs, slab, sliceAt}
+use Rattle.builder.specs.BuilderLists.{BuilderLists, slabs, slab, rowAt, sliceAt}
 use Rattle.builder.specs.Refusals.{meshedRefusal, setRefusal, settleRefusal}
 use Rattle.builder.specs.declared.Builder.{Builder}
 use Rattle.builder.specs.declared.Built.{Built}
@@ -55,13 +55,13 @@ settledNumbered (NotSettled n) = not (eqb n 0)
 -- what stands for a builder where fresh is refused
 abbrev pub noBuilder : Builder
 noBuilder =
-    record { grid = record { rmin = zero; rmax = zero; dr = zero; «omega_step» = zero; threshold = zero; beta = zero; «n_r» = 0; «n_omega» = 0 }; top = 0; level = 0 }
+    record { grid = record { rmin = zero; rmax = zero; dr = zero; «omega_step» = zero; threshold = zero; beta = zero; «n_r» = 0; «n_omega» = 0 }; top = 0; level = 0; packed = 0 }
 
 -- ---- fresh
 
--- the builder of accepted settings: the counts that they give, whatever was handed in, and the top level
+-- the builder of accepted settings: the counts that they give, whatever was handed in, the top level, and no packed energies ("Fresh starts it at 0")
 unfoldable pub freshBuilder : Grid → ℕ → Builder
-freshBuilder g top = record { grid = counted g; top = top; level = top }
+freshBuilder g top = record { grid = counted g; top = top; level = top; packed = 0 }
 
 -- "fresh fills rows with Scalar 0.0 and the store with 0.0": n slabs of z energies each (S6.2)
 unfoldable pub filledSlabs : ℕ → ℕ → BuilderLists → BuilderLists
@@ -95,10 +95,17 @@ slabSet z level l s e = record { store = put (l .store) (s * z) e; rows = replac
 abbrev pub setLists : Builder → BuilderLists → ℕ → List Float → BuilderLists
 setLists b l s e = slabSet (per (b .top)) (b .level) l s e
 
+-- the builder after it: its packed energies are those of its level more, less those of the row r that is replaced
+unfoldable pub setBuilder : Builder → Row Float → Builder
+setBuilder b r = record { grid = b .grid; top = b .top; level = b .level; packed = packedAfter (b .packed) (packedRow r) (per (b .level)) }
+
 unfoldable pub setOut : Builder → BuilderLists → ℕ → ℕ → List Float → BuiltOut
 setOut b l ri oi e =
     let r = setRefusal b l ri oi e in
-    cond (eqb r 0) (record { answer = builtValues b (Builds b); lists = setLists b l (slab (b .grid) ri oi) e }) (record { answer = builtValues b (NotBuilt r); lists = l })
+    let s = slab (b .grid) ri oi in
+    cond (eqb r 0)
+    (record { answer = builtValues b (Builds (setBuilder b (rowAt (b .top) l s))); lists = setLists b l s e })
+    (record { answer = builtValues b (NotBuilt r); lists = l })
 
 -- ---- settle
 
@@ -118,7 +125,8 @@ settleAccepted b m l ri =
     let vs = verdicts (b .grid) m (b .level) rs in
     let s = settledSlice (b .grid) (b .level) rs vs in
     record {
-      answer = settledValues b (Settles (record { grid = b .grid; top = b .top; level = s .level }) (s .gradient));
+      answer = settledValues b
+          (Settles (record { grid = b .grid; top = b .top; level = s .level; packed = packedAfter (b .packed) (packedRows rs) (packedRows (s .rows)) }) (s .gradient));
       lists = record { store = l .store; rows = settledLists (b .level) (l .rows) (slab (b .grid) ri 0) vs };
     }
 

@@ -73,14 +73,14 @@ pub record SettleReadyIn (b : Builder) (ms : Mesh) (l : BuilderLists) (ri : ℕ)
   pub linked : MeshesLinked (b .level) ms
 
 -- nothing so far
-abbrev pub start : Tally
-start = record { gradient = ofBits binary64 0; settled = false; clear = true }
+abbrev pub start : ℕ → Tally
+start packed = record { gradient = ofBits binary64 0; settled = false; clear = true; packed = packed }
 
 -- what settling a slice gives and leaves, over the mesh of the current level
 abbrev pub SliceSettled : Builder → Mesh → BuilderLists → ℕ → Tally → Rows → Type 0
 SliceSettled b m l ri t rows =
     let f = verdictOf (b .grid .threshold) (b .grid .beta) m (vertexCount (b .level)) in
-    (t ≡ tallyFrom f (b .level) start (sliceAt b l ri)) × (rows ≡ settledLists (b .level) (l .rows) (slab (b .grid) ri 0) (map f (sliceAt b l ri)))
+    (t ≡ tallyFrom f (b .level) (start (b .packed)) (sliceAt b l ri)) × (rows ≡ settledLists (b .level) (l .rows) (slab (b .grid) ri 0) (map f (sliceAt b l ri)))
 
 -- the level drops after a slice
 unfoldable pub dropsBy : Tally → Float → ℕ → Bool
@@ -88,7 +88,8 @@ dropsBy t threshold level = t .settled && (t .clear && (lt (t .gradient) thresho
 
 -- the builder after it
 unfoldable pub droppedBy : Builder → Tally → Builder
-droppedBy b t = record { grid = b .grid; top = b .top; level = cond (dropsBy t (b .grid .threshold) (b .level)) (b .level - 1) (b .level) }
+droppedBy b t =
+    record { grid = b .grid; top = b .top; level = cond (dropsBy t (b .grid .threshold) (b .level)) (b .level - 1) (b .level); packed = t .packed }
 
 -- ---- against an atom
 

@@ -11,6 +11,7 @@ use Rattle.mesh.specs.Levels.{per}
 use Rattle.mesh.specs.Mesh.{Mesh, meshesKeep}
 use Rattle.grid.specs.Settings.{question}
 use Rattle.grid.specs.declared.Grid.{Grid}
+use Rattle.rows.specs.Rows.{rowKnown}
 use Rattle.settling.specs.Settling.{fromLevel}
 use Rattle.builder.specs.BuilderLists.{BuilderLists, slab, sliceAt, listsLong, meshesLong, rowsKnown}
 use Rattle.builder.specs.declared.Builder.{Builder}
@@ -30,9 +31,13 @@ setQuestion g level ri oi e =
     (ask (eqb (length e) (per level)) 9
     (ask (every (λ x. not (isNan x)) e) 10 0))
 
--- S5.22
+-- document 02: "Set now puts the kind and level part of 15, after 10, to the row it replaces." (S5.22)
 unfoldable pub setRefusal : Builder → BuilderLists → ℕ → ℕ → List Float → ℕ
-setRefusal b l ri oi e = first (builderQuestion b) (ask (listsLong b l) 6 (setQuestion (b .grid) (b .level) ri oi e))
+setRefusal b l ri oi e =
+    first (builderQuestion b)
+    (ask (listsLong b l) 6
+    (first (setQuestion (b .grid) (b .level) ri oi e)
+    (ask (rowKnown (b .top) (l .rows) (slab (b .grid) ri oi)) 15 0)))
 
 -- "8 for the distance bin"; "Settle after 8 .. put the kind and level part of 15 to each row touched"; "Do all slabs of the slice that hold energies hold them from the current level? 11."
 unfoldable pub settleRefusal : Builder → Mesh → BuilderLists → ℕ → ℕ

@@ -1,11 +1,15 @@
 // The builder of a table, by value; its store, rows and meshes are lent.
 ghost use mathlib.Core.Path.{_≡_};
 ghost use mathlib.Core.Bool.{true};
+ghost use mathlib.Core.List.{[]};
+ghost use Prim.Native.Nat.{_≤_};
 ghost use Rattle.mesh.specs.Mesh.{meshOf};
+ghost use Rattle.rows.specs.Rows.{rowWith};
 ghost use Rattle.builder.specs.BuilderLists.{listsOf};
-ghost use Rattle.builder.specs.Calls.{BuiltOut, SettleOut, builtValues, builtNumbered, settledValues, settledNumbered, noBuilder, freshBuilder, freshOut, setOut, settleOut};
+ghost use Rattle.builder.specs.Calls.{BuiltOut, SettleOut, builtValues, builtNumbered, settledValues, settledNumbered, noBuilder, freshBuilder, freshOut, setBuilder, setOut, settleOut};
 use grid::AtomGrid;
 use grid::Grid;
+use rows::SlabResolution;
 
 mod atom;
 mod copies;
@@ -18,12 +22,13 @@ pub use atom::atom_set;
 pub use atom::atom_settle;
 pub use questions::meshed_refusal;
 
-// The settings, the top level and the current one.
+// The settings, the top level, the current one, and the number of packed energies: n·n of the level of each Mesh row.
 #[repr(C)]
 pub struct Builder {
     pub grid: Grid,
     pub top: u64,
     pub level: u64,
+    pub packed: u64,
 }
 
 // The same of a table against an atom.
@@ -64,6 +69,7 @@ fn fresh_builder(g: Grid, top: u64) -> Builder
         grid: grid::counted(g),
         top,
         level: top,
+        packed: 0,
     }
 }
 
@@ -114,6 +120,25 @@ pub fn fresh(
     Built::Accepted(made)
 }
 
+// The builder after a set that replaces this row.
+fn set_builder(b: Builder, row: SlabResolution) -> Builder
+    requires { ⌜ b .level ≤ 15 ⌝ }
+    ensures { λ r. ⌜ r ≡ setBuilder b (rowWith row []) ⌝ }
+{
+    let grid = b.grid;
+    let top = b.top;
+    let level = b.level;
+    let packed = b.packed;
+    let old = settling::packed_row(row);
+    let new = mesh::per_level(level as u8);
+    Builder {
+        grid,
+        top,
+        level,
+        packed: settling::packed_after(packed, old, new),
+    }
+}
+
 // Gives a slab its energies, which are those of the current level.
 pub fn set(
     b: Builder,
@@ -132,8 +157,8 @@ pub fn set(
     let no = questions::set_refusal(
         b,
         store.len() as u64,
-        kinds.len() as u64,
-        levels.len() as u64,
+        kinds,
+        levels,
         values.len() as u64,
         ri,
         oi,
@@ -145,6 +170,8 @@ pub fn set(
     let n_omega = b.grid.n_omega;
     let top = b.top;
     let level = b.level;
+    let s = ri * n_omega + oi;
+    let after = set_builder(b, rows::resolution_at(kinds, levels, values, s));
     copies::set_slab(
         mesh::per_level(top as u8),
         level as u8,
@@ -152,10 +179,10 @@ pub fn set(
         kinds,
         levels,
         values,
-        ri * n_omega + oi,
+        s,
         energies,
     );
-    Built::Accepted(b)
+    Built::Accepted(after)
 }
 
 // Settles a slice: each of its slabs that holds energies, and then the level.

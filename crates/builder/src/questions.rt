@@ -10,9 +10,9 @@ ghost use Rattle.lists.specs.Questions.{ask, first};
 ghost use Rattle.lists.specs.Lists.{every};
 ghost use Rattle.mesh.specs.Levels.{verticesBelow};
 ghost use Rattle.mesh.specs.Mesh.{meshLong, meshesKeep, meshOf};
-ghost use Rattle.rows.specs.Rows.{rowWith, rowsOf};
+ghost use Rattle.rows.specs.Rows.{rowWith, rowsOf, rowKnown};
 ghost use Rattle.settling.specs.Settling.{fromLevel};
-ghost use Rattle.builder.specs.BuilderLists.{slabRoom, listRoom, rowsKnown, listsOf};
+ghost use Rattle.builder.specs.BuilderLists.{slab, slabRoom, listRoom, rowsKnown, listsOf};
 ghost use Rattle.builder.specs.Internal.{rowsFromLevel, settleQuestion};
 ghost use Rattle.builder.specs.Refusals.{builderQuestion, setQuestion, settleRefusal};
 use crate::Builder;
@@ -75,18 +75,21 @@ pub(crate) fn set_question(
     0
 }
 
-// Questions 1 to 6 and 8 to 10, of set.
+// Questions 1 to 6, 8 to 10 and 15, of set.
 pub(crate) fn set_refusal(
     b: Builder,
     store: u64,
-    kinds: u64,
-    levels: u64,
+    kinds: &[u8],
+    levels: &[u8],
     values: u64,
     ri: u64,
     oi: u64,
     energies: &[f64],
 ) -> u64
-    ensures { λ r. ⌜ r ≡ first (builderQuestion b) (ask (listRoom (b .grid) (b .top) store kinds levels values) 6 (setQuestion (b .grid) (b .level) ri oi (now (energies .entry)))) ⌝ }
+    ensures { λ r. ⌜ r ≡ first (builderQuestion b)
+        (ask (listRoom (b .grid) (b .top) store (length (now (kinds .entry))) (length (now (levels .entry))) values) 6
+        (first (setQuestion (b .grid) (b .level) ri oi (now (energies .entry)))
+        (ask (rowKnown (b .top) (rowsOf (now (kinds .entry)) (now (levels .entry)) []) (slab (b .grid) ri oi)) 15 0))) ⌝ }
 {
     let g = b.grid;
     let top = b.top;
@@ -97,17 +100,24 @@ pub(crate) fn set_refusal(
     }
     let n_r = g.n_r;
     let n_omega = g.n_omega;
-    set_question(
+    let no = set_question(
         n_r * n_omega,
         mesh::per_level(top as u8),
         store,
-        kinds,
-        levels,
+        kinds.len() as u64,
+        levels.len() as u64,
         values,
         (ri < n_r) & (oi < n_omega),
         mesh::per_level(level as u8),
         energies,
-    )
+    );
+    if no != 0 {
+        return no;
+    }
+    if !rows::row_known(top, kinds, levels, ri * n_omega + oi) {
+        return 15;
+    }
+    0
 }
 
 // Questions 6 and 7, of n slabs of z energies each and of the meshes.

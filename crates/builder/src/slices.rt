@@ -69,6 +69,7 @@ pub(crate) fn settle_rows(
 {
     let threshold = b.grid.threshold;
     let beta = b.grid.beta;
+    let packed = b.packed;
     let n = b.grid.n_omega;
     let level = b.level as u8;
     let top = b.top as u8;
@@ -78,6 +79,7 @@ pub(crate) fn settle_rows(
         gradient: 0.0,
         settled: false,
         clear: true,
+        packed,
     };
     let mut i: u64 = 0;
     while i < n {
@@ -156,12 +158,19 @@ pub(crate) fn dropped(b: Builder, t: Tally) -> Builder
     let threshold = grid.threshold;
     let top = b.top;
     let level = b.level;
+    let packed = t.packed;
     if drops(t, threshold, level) {
         return Builder {
             grid,
             top,
             level: level - 1,
+            packed,
         };
     }
-    b
+    Builder {
+        grid,
+        top,
+        level,
+        packed,
+    }
 }

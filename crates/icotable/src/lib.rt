@@ -88,6 +88,7 @@ fn no_builder() -> Builder
         grid: no_grid(),
         top: 0,
         level: 0,
+        packed: 0,
     }
 }
 

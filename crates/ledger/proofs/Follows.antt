@@ -28,7 +28,7 @@ use Rattle.locator.proofs.Entries.{getD-put}
 use Rattle.settling.specs.Gradient.{zero as nought}
 use Rattle.settling.specs.Settling.{verdictOf, verdicts, settledRows, settledSlice, drops}
 use Rattle.builder.specs.BuilderLists.{BuilderLists, slabs, slab, sliceAt, listRoom, listsLong}
-use Rattle.builder.specs.Calls.{settledLists, filledSlabs, filled, slabSet, setOut, settleAccepted, settleOut}
+use Rattle.builder.specs.Calls.{settledLists, filledSlabs, filled, slabSet, setBuilder, setOut, settleAccepted, settleOut}
 use Rattle.builder.specs.Refusals.{meshedRefusal, setQuestion, setRefusal, settleRefusal}
 use Rattle.builder.specs.declared.Builder.{Builder}
 use Rattle.settling.specs.declared.Verdict.{Verdict}
@@ -37,7 +37,7 @@ use Rattle.writer.specs.Write.{writeRefusal, writeOut}
 use Rattle.table.proofs.OfRows.{Good}
 use Rattle.ledger.specs.Ledger.{Call, set-call, settle-call, write-call, State, called, run, Ledger, opened, ledgerSlice, ledgerQuestion, setEntered, settleEntered, entered, ledger}
 use Rattle.ledger.proofs.Store.{put-sets}
-use Rattle.ledger.proofs.Invariant.{Fit, rows-are, rows-known, room-held, slab-set-fit, filled-fit, settled-fit, verdict-fits}
+use Rattle.ledger.proofs.Invariant.{Fit, rows-are, row-known, rows-known, room-held, slab-set-fit, filled-fit, settled-fit, verdict-fits}
 
 -- ---- what an accepted fresh leaves answered yes
 
@@ -46,8 +46,8 @@ pub record Basis (g : Grid) (top : ℕ) (m : Mesh) : Type 0 where
   pub held : meshLong (verticesBelow (suc top)) m ≡ true
   pub kept : meshesKeep top m ≡ true
 
-abbrev pub builderAt : Grid → ℕ → ℕ → Builder
-builderAt g top v = record { grid = g; top = top; level = v }
+abbrev pub builderAt : Grid → ℕ → ℕ → ℕ → Builder
+builderAt g top v p = record { grid = g; top = top; level = v; packed = p }
 
 -- 1 to 5, at a lower level
 lower-asked : (g : Grid) (top v : ℕ) → question g top top ≡ 0 → v ≤ top → question g top v ≡ 0
@@ -63,7 +63,7 @@ lower-asked g top v e h =
 -- ---- the calls
 
 pub record Agree (g : Grid) (top : ℕ) (st : State) (b : Ledger) : Type 0 where
-  pub same : st .builder ≡ builderAt g top (b .level)
+  pub same : st .builder ≡ builderAt g top (b .level) (st .builder .packed)
   pub low : b .level ≤ top
   pub fit : Fit per (slabs g) top (st .lists .store) (st .lists .rows) (b .rows)
 
@@ -76,9 +76,9 @@ unfolding settledRows
 settled-many c f [] = refl
 settled-many c f (r ∷ rs) = ap suc (settled-many c f rs)
 
-module _ (g : Grid) (top : ℕ) (m : Mesh) (base : Basis g top m) (v : ℕ) (low : v ≤ top) (store : List Float) (l : Rows) (rows : List (Row Float)) (a : Fit per (slabs g) top store l rows) where
+module _ (g : Grid) (top : ℕ) (m : Mesh) (base : Basis g top m) (v p : ℕ) (low : v ≤ top) (store : List Float) (l : Rows) (rows : List (Row Float)) (a : Fit per (slabs g) top store l rows) where
   abbrev b : Builder
-  b = builderAt g top v
+  b = builderAt g top v p
 
   abbrev ls : BuilderLists
   ls = record { store = store; rows = l }
@@ -105,9 +105,19 @@ module _ (g : Grid) (top : ℕ) (m : Mesh) (base : Basis g top m) (v : ℕ) (low
 
   -- set
 
-  set-number : (ri oi : ℕ) (e : List Float) → setRefusal b ls ri oi e ≡ setQuestion g v ri oi e
+  in-rows : (ri oi : ℕ) (e : List Float) → setQuestion g v ri oi e ≡ 0 → slab g ri oi < slabs g
+  unfolding setQuestion
+  in-rows ri oi e q =
+      let bins = and-eq-true-iff (ltb ri (g .«n_r»)) (ltb oi (g .«n_omega»)) .0 (ask-yes (lit< tt) q .0) in
+      omega (arith, place ri (g .«n_r») (oi + 1) (g .«n_omega») (ltb-true ri (g .«n_r») (bins .0)) (omega (arith, ltb-true oi (g .«n_omega») (bins .1))))
+
+  -- every row that the ledger has is known
+  set-number : (ri oi : ℕ) (e : List Float) (x : Bool) → eqb (setQuestion g v ri oi e) 0 ≡ x → setRefusal b ls ri oi e ≡ setQuestion g v ri oi e
   unfolding setRefusal first ask
-  set-number ri oi e = rw (asked, roomy)
+  set-number ri oi e true d =
+      let q = eqb-true (setQuestion g v ri oi e) 0 d in
+      rw (asked, roomy, d, row-known per (slabs g) top store l rows a (slab g ri oi) (in-rows ri oi e q)) (sym q)
+  set-number ri oi e false d = rw (asked, roomy, d) refl
 
   set-fit : (ri oi : ℕ) (e : List Float) → setQuestion g v ri oi e ≡ 0
       → Fit per (slabs g) top (put store (slab g ri oi * per top) e) (replaced l (slab g ri oi) (OnMesh v true)) (set rows (slab g ri oi) (mesh v true e))
@@ -116,15 +126,12 @@ module _ (g : Grid) (top : ℕ) (m : Mesh) (base : Basis g top m) (v : ℕ) (low
       let q8 = ask-yes (lit< tt) p in
       let q9 = ask-yes (lit< tt) (q8 .1) in
       let q10 = ask-yes (lit< tt) (q9 .1) in
-      let bins = and-eq-true-iff (ltb ri (g .«n_r»)) (ltb oi (g .«n_omega»)) .0 (q8 .0) in
-      let row : slab g ri oi < slabs g =
-      omega (arith, place ri (g .«n_r») (oi + 1) (g .«n_omega») (ltb-true ri (g .«n_r») (bins .0)) (omega (arith, ltb-true oi (g .«n_omega») (bins .1)))) in
-      slab-set-fit per per-mono (slabs g) top v low store l rows a (slab g ri oi) row e (eqb-true (length e) (per v) (q9 .0)) (q10 .0)
+      slab-set-fit per per-mono (slabs g) top v low store l rows a (slab g ri oi) (in-rows ri oi e p) e (eqb-true (length e) (per v) (q9 .0)) (q10 .0)
 
   set-step : (ri oi : ℕ) (e : List Float) (x : Bool) → eqb (setQuestion g v ri oi e) 0 ≡ x → Agree g top (called m st (set-call ri oi e)) (entered g m bk (set-call ri oi e))
-  unfolding called entered setOut slabSet setEntered
-  set-step ri oi e true d = rw (set-number ri oi e, d) (record { same = refl; low = low; fit = set-fit ri oi e (eqb-true _ _ d) })
-  set-step ri oi e false d = rw (set-number ri oi e, d) unchanged
+  unfolding called entered setOut setBuilder slabSet setEntered
+  set-step ri oi e true d = rw (set-number ri oi e true d, d) (record { same = refl; low = low; fit = set-fit ri oi e (eqb-true _ _ d) })
+  set-step ri oi e false d = rw (set-number ri oi e false d, d) unchanged
 
   -- settle
 
@@ -177,17 +184,19 @@ module _ (g : Grid) (top : ℕ) (m : Mesh) (base : Basis g top m) (v : ℕ) (low
   step (settle-call ri) = settle-step ri _ refl
   step (write-call out) = write-step out _ refl
 
+pub step-agrees : (g : Grid) (top : ℕ) (m : Mesh) → Basis g top m → (st : State) (b : Ledger) (c : Call) → Agree g top st b → Agree g top (called m st c) (entered g m b c)
+step-agrees g top m base st b c a =
+    subst (λ (x : Builder). Agree g top (called m (record { builder = x; lists = st .lists }) c) (entered g m b c)) (sym (a .same))
+    (step g top m base (b .level) (st .builder .packed) (a .low) (st .lists .store) (st .lists .rows) (b .rows) (a .fit) c)
+
 pub follows : (g : Grid) (top : ℕ) (m : Mesh) → Basis g top m → (st : State) (b : Ledger) (cs : List Call) → Agree g top st b → Agree g top (run m st cs) (ledger g m b cs)
 unfolding run ledger
 follows g top m base st b [] a = a
-follows g top m base st b (c ∷ cs) a =
-    follows g top m base (called m st c) (entered g m b c) cs
-    (subst (λ (x : Builder). Agree g top (called m (record { builder = x; lists = st .lists }) c) (entered g m b c)) (sym (a .same))
-    (step g top m base (b .level) (a .low) (st .lists .store) (st .lists .rows) (b .rows) (a .fit) c))
+follows g top m base st b (c ∷ cs) a = follows g top m base (called m st c) (entered g m b c) cs (step-agrees g top m base st b c a)
 
 -- ---- fresh
 
 pub starts : (g : Grid) (top : ℕ) (l : BuilderLists) → Roomy (slabs g) (per top) (length (l .store)) (length (l .rows .kinds)) (length (l .rows .levels)) (length (l .rows .values))
-    → Agree g top (record { builder = builderAt g top top; lists = filled (builderAt g top top) l }) (opened g top)
+    → Agree g top (record { builder = builderAt g top top 0; lists = filled (builderAt g top top 0) l }) (opened g top)
 unfolding opened
 starts g top l r = record { same = refl; low = omega arith; fit = filled-fit per (slabs g) top l r }

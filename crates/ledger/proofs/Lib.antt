@@ -1,7 +1,10 @@
--- Laws of lists of calls, and the theorems: `promise` (Theorem), `atom-promise` (AtomTheorem), `any-order` and `later` (Order), `within-runs` (Runs).
+-- Laws of lists of calls, and the theorems: `promise` (Theorem), `atom-promise` (AtomTheorem), `any-order` and `later` (Order), `within-runs` (Runs), `packed-moves` (Packed), `file-length` (Ends).
 pub mod Store
 pub mod Invariant
 pub mod Follows
+pub mod PackedRows
+pub mod Packed
+pub mod Ends
 pub mod Readings
 pub mod Admitted
 pub mod Theorem

@@ -34,23 +34,11 @@ use Rattle.table.proofs.OfRows.{fine-rows}
 use Rattle.table.proofs.OfFile.{Filable, file-accepted, file-holds}
 use Rattle.ledger.specs.Ledger.{Ledger, opened, ledger}
 use Rattle.ledger.specs.Promise.{History, fresh, ended, file, Accepted, rows, Same, readingOf, Kept, Promise}
-use Rattle.ledger.proofs.Invariant.{rows-are}
-use Rattle.ledger.proofs.Follows.{Basis, builderAt, Agree, follows, starts}
+use Rattle.ledger.proofs.Ends.{yes-all, basis, agree, many, rows-written}
 use Rattle.ledger.proofs.Admitted.{rule-answered}
 use Rattle.ledger.proofs.Readings.{reads}
 
 -- ---- what accepted calls are
-
-fresh-number : (g : Grid) (top : ℕ) (m : Mesh) (l : BuilderLists) (x : Bool) → eqb (meshedRefusal (freshBuilder g top) m l) 0 ≡ x → freshOut g top m l .answer .number ≡ 0
-    → meshedRefusal (freshBuilder g top) m l ≡ 0
-unfolding freshOut
-fresh-number g top m l true d e = eqb-true _ 0 d
-fresh-number g top m l false d e = rw d at e
-
-fresh-is : (g : Grid) (top : ℕ) (m : Mesh) (l : BuilderLists) → meshedRefusal (freshBuilder g top) m l ≡ 0
-    → freshOut g top m l ≡ record { answer = builtValues noBuilder (Builds (builderAt (counted g) top top)); lists = filled (builderAt (counted g) top top) l }
-unfolding freshOut freshBuilder
-fresh-is g top m l e = rw e
 
 -- the bytes of an accepted write
 written-is : (b : Builder) (m : Mesh) (l : BuilderLists) (out : List ℕ) (x : Bool) → eqb (writeRefusal b m l (length out)) 0 ≡ x → writeOut b m l out .answer .number ≡ 0
@@ -68,39 +56,14 @@ module _ (h : History) (ok : Accepted h) where
   abbrev last : Ledger
   last = ledger g (h .meshes) (opened g (h .top)) (h .calls)
 
-  none : meshedRefusal (freshBuilder (h .grid) (h .top)) (h .meshes) (h .lists) ≡ 0
-  none = fresh-number (h .grid) (h .top) (h .meshes) (h .lists) _ refl (ok .fresh)
-
-  yes-all : Meshed (builderAt g (h .top) (h .top)) (h .meshes) (length (h .lists .store)) (length (h .lists .rows .kinds)) (length (h .lists .rows .levels)) (length (h .lists .rows .values))
-  unfolding meshedRefusal freshBuilder
-  yes-all = meshed (builderAt g (h .top) (h .top)) (h .meshes) (length (h .lists .store)) (length (h .lists .rows .kinds)) (length (h .lists .rows .levels)) (length (h .lists .rows .values)) none
-
-  basis : Basis g (h .top) (h .meshes)
-  unfolding meshedRefusal freshBuilder
-  basis = record { asked = first-yes none .0; held = yes-all .held; kept = yes-all .kept }
-
-  -- the builder ends as the ledger does
-  agree : Agree g (h .top) (ended h) last
-  unfolding ended
-  agree =
-      rw (fresh-is (h .grid) (h .top) (h .meshes) (h .lists) none)
-      (follows g (h .top) (h .meshes) basis _ (opened g (h .top)) (h .calls) (starts g (h .top) (h .lists) (yes-all .room)))
-
-  many : length (rows h) ≡ slabs g
-  unfolding rows
-  many = length-map (last .rows) compared ∙ agree .fit .many
-
-  rows-written : fileFrom (builderAt g (h .top) (last .level)) (ended h .lists) ≡ fileOf g (suc (h .top)) (rows h)
-  unfolding fileFrom rows
-  rows-written =
-      let l = ended h .lists in
-      rw (rows-are per (slabs g) (h .top) (l .store) (l .rows) (last .rows) (agree .fit) (slabs g) 0 (omega arith), take-all (slabs g) (last .rows) (omega (arith, agree .fit .many)))
+  abbrev begins : fresh h .answer .number ≡ 0
+  begins = ok .fresh
 
   file-is : file h ≡ fileOf g (suc (h .top)) (rows h)
   unfolding file
   file-is =
       written-is (ended h .builder) (h .meshes) (ended h .lists) (h .output) _ refl (ok .write)
-      ∙ ap (λ (b : Builder). fileFrom b (ended h .lists)) (agree .same) ∙ rows-written
+      ∙ ap (λ (b : Builder). fileFrom b (ended h .lists)) (agree h begins .same) ∙ rows-written h begins
 
   filable : Filable g (suc (h .top)) (rows h)
   unfolding counted rows
@@ -109,21 +72,21 @@ module _ (h : History) (ok : Accepted h) where
         rmin = ok .rmin;
         dr = ok .dr;
         step = ok .step;
-        held = table-valid g (h .top) (h .top) (basis .asked);
-        many = many;
-        fine = fine-rows per (h .top) (last .rows) (agree .fit .good);
+        held = table-valid g (h .top) (h .top) (basis h begins .asked);
+        many = many h begins;
+        fine = fine-rows per (h .top) (last .rows) (agree h begins .fit .good);
       }
 
   reads-rows : (l : Locator) → Roomy (h .top) l → (way : Way) (q : Query) → readingOf h l way q ≡ ruledBy g (rows h) (h .meshes) way q
   reads-rows l r way q =
       rw (file-is, file-accepted g (suc (h .top)) (rows h) filable)
-      (reads (h .top) (h .meshes) l (yes-all .asked .top-le) (basis .held) (basis .kept) r way q g (rows h) filable)
+      (reads (h .top) (h .meshes) l (yes-all h begins .asked .top-le) (basis h begins .held) (basis h begins .kept) r way q g (rows h) filable)
 
   kept : Kept h
   kept =
       record {
         read = rw (file-is, file-accepted g (suc (h .top)) (rows h) filable) refl;
-        locator-calls = λ l r. made-yes (h .top) (h .meshes) l (yes-all .asked .top-le) (basis .held) (basis .kept) r;
+        locator-calls = λ l r. made-yes (h .top) (h .meshes) l (yes-all h begins .asked .top-le) (basis h begins .held) (basis h begins .kept) r;
         readings = reads-rows;
         answers = λ l r way q. let some = some-bins g (suc (h .top)) (filable .held) in rw (reads-rows l r way q) (rule-answered way g (rows h) (h .meshes) q (some .0) (some .1));
       }
@@ -152,8 +115,8 @@ file-same g h m n a b r d s k o l e = rw (r, d, s, k, o, l, e)
 equal : (a b : History) → Accepted a → Accepted b → Same a b → file a ≡ file b
 unfolding counted
 equal a b p q h =
-    let n : length (rows a) ≡ length (rows b) = many a p ∙ rw (h .«n_r», h .«n_omega») (sym (many b q)) in
-    let r : rows a ≡ rows b = ext-getD repulsive (rows a) (rows b) n (λ s i. h .rows s (omega (arith, many a p))) in
+    let n : length (rows a) ≡ length (rows b) = many a (p .fresh) ∙ rw (h .«n_r», h .«n_omega») (sym (many b (q .fresh))) in
+    let r : rows a ≡ rows b = ext-getD repulsive (rows a) (rows b) n (λ s i. h .rows s (omega (arith, many a (p .fresh)))) in
     file-is a p
     ∙ file-same (counted (a .grid)) (counted (b .grid)) (suc (a .top)) (suc (b .top)) (rows a) (rows b) (h .rmin) (h .dr) (h .step) (h .«n_r») (h .«n_omega») (h .levels) r
     ∙ sym (file-is b q)

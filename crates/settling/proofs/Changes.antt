@@ -7,8 +7,8 @@ use lib.Ieee.{Float}
 use Rattle.rows.specs.declared.SlabResolution.{SlabResolution}
 use Rattle.rows.specs.declared.SlabResolution.the-variants.{Scalar, Mesh, Repulsive}
 use Rattle.rows.specs.Rows.{Rows, replaced, rowWith}
-use Rattle.settling.specs.Settling.{newRow, inPlaceOf, notRepulsive, replacedBy}
-use Rattle.settling.specs.Internal.{stays, becomes, leftRow, isClear}
+use Rattle.settling.specs.Settling.{newRow, inPlaceOf, notRepulsive, replacedBy, packedRow}
+use Rattle.settling.specs.Internal.{stays, becomes, leftRow, isClear, packedIn}
 use Rattle.settling.specs.declared.Verdict.{Verdict}
 use Rattle.settling.specs.declared.Verdict.the-variants.{Empty, Blocked, Isotropic, Smooth, Rough}
 
@@ -45,3 +45,16 @@ row-clear (Scalar z) e c (Smooth y) = refl
 row-clear (Mesh v b) e c (Smooth y) = refl
 row-clear Repulsive e c (Smooth y) = refl
 row-clear x e c (Rough y) = same-clear x e
+
+pub same-packed : (x : SlabResolution) (e : List Float) → packedIn x ≡ packedRow (rowWith x e)
+same-packed (Scalar y) e = refl
+same-packed (Mesh v b) e = refl
+same-packed Repulsive e = refl
+
+pub row-packed : (x : SlabResolution) (e : List Float) (c : ℕ) (v : Verdict) → packedIn (leftRow c x v) ≡ packedRow (inPlaceOf (rowWith x e) (newRow c v))
+unfolding leftRow
+row-packed x e c Empty = same-packed x e
+row-packed x e c Blocked = refl
+row-packed x e c (Isotropic y) = refl
+row-packed x e c (Smooth y) = refl
+row-packed x e c (Rough y) = same-packed x e

@@ -6,3 +6,4 @@ pub mod Largest
 pub mod Numbers
 pub mod Slopes
 pub mod Changes
+pub mod Packed

@@ -5,6 +5,7 @@ use Prim.Native.Nat.{ℕ, zero, suc, _+_, _*_}
 use lib.ListN.{getD}
 use lib.Ieee.{Float, nan, binary64, mul, neg}
 use Rattle.lists.specs.Lists.{forEach}
+use Rattle.mesh.specs.Levels.{per}
 use Rattle.mesh.specs.Mesh.{Mesh}
 use Rattle.rows.specs.Rows.{Row}
 use Rattle.rows.specs.declared.SlabResolution.{SlabResolution}
@@ -12,7 +13,7 @@ use Rattle.rows.specs.declared.SlabResolution.the-variants.{Scalar as toScalar,
 use Rattle.settling.specs.Gradient as Gradient
 use Rattle.settling.specs.Gradient.{weight}
 unfoldable pub use Rattle.settling.specs.Gradient.{lineGradient}
-use Rattle.settling.specs.Settling.{newRow, inPlaceOf, steeperOf, settles, notRepulsive}
+use Rattle.settling.specs.Settling.{newRow, inPlaceOf, steeperOf, settles, notRepulsive, packedRow, packedAfter}
 use Rattle.settling.specs.declared.Tally.{Tally}
 use Rattle.settling.specs.declared.Verdict.{Verdict}
 use Rattle.settling.specs.declared.Verdict.the-variants.{Empty, Blocked, Isotropic, Smooth, Rough}
@@ -72,7 +73,19 @@ isClear (toScalar x) = true
 isClear (toMesh v b) = true
 isClear toRepulsive = false
 
+-- the packed energies of a row
+abbrev pub packedIn : SlabResolution → ℕ
+packedIn (toScalar x) = 0
+packedIn (toMesh v b) = per v
+packedIn toRepulsive = 0
+
 -- what a slice adds up to so far, and with one slab more
 unfoldable pub tallied : ℕ → Tally → Row Float → Verdict → Tally
 tallied c t r v =
-    record { gradient = steeperOf (t .gradient) v; settled = t .settled || settles v; clear = t .clear && notRepulsive (inPlaceOf r (newRow c v)) }
+    let left = inPlaceOf r (newRow c v) in
+    record {
+      gradient = steeperOf (t .gradient) v;
+      settled = t .settled || settles v;
+      clear = t .clear && notRepulsive left;
+      packed = packedAfter (t .packed) (packedRow r) (packedRow left);
+    }

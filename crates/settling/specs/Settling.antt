@@ -2,12 +2,12 @@
 use mathlib.Core.Bool.{Bool, true, false, cond, _&&_, _||_}
 use mathlib.Core.List.{List, [], _∷_, map}
 use mathlib.Core.Option.{Option, none, some}
-use Prim.Native.Nat.{ℕ, _-_}
+use Prim.Native.Nat.{ℕ, _+_, _-_, _%_, _^_}
 use lib.Dec.{ltb, eqb}
 use lib.Ieee.{Float, binary64, ofBits, div, lt}
 use Rattle.float.specs.Order.{larger}
 use Rattle.lists.specs.Lists.{every}
-use Rattle.mesh.specs.Levels.{vertexCount}
+use Rattle.mesh.specs.Levels.{vertexCount, per}
 use Rattle.mesh.specs.Mesh.{Mesh, levelPart}
 use Rattle.grid.specs.declared.Grid.{Grid}
 use Rattle.rows.specs.declared.SlabResolution.{SlabResolution}
@@ -114,6 +114,22 @@ abbrev pub fromLevel : ℕ → Row Float → Bool
 fromLevel c (scalar x) = true
 fromLevel c repulsive = true
 fromLevel c (mesh v b e) = eqb v c
+
+-- ---- "the number of packed energies", which a builder carries
+
+-- "the sum over Mesh rows of their level's n·n"
+abbrev pub packedRow : {A : Type 0} → Row A → ℕ
+packedRow (scalar x) = 0
+packedRow repulsive = 0
+packedRow (mesh v b e) = per v
+
+unfoldable pub packedRows : {A : Type 0} → List (Row A) → ℕ
+packedRows [] = 0
+packedRows (r ∷ rs) = packedRow r + packedRows rs
+
+-- the number after rows with `old` packed energies became rows with `new`: it moves by the difference, "wrapping at 64 bits" (S6.5)
+unfoldable pub packedAfter : ℕ → ℕ → ℕ → ℕ
+packedAfter packed old new = (packed + new + (2 ^ 64 - old % 2 ^ 64)) % 2 ^ 64
 
 -- ---- against an atom (`Adaptive3DBuilder::finish_r_slice`), where a slice is one slab
 

@@ -5,6 +5,8 @@ mod verdicts;
 
 pub use atom::atom_level;
 pub use atom::atom_verdict_of;
+pub use verdicts::packed_after;
+pub use verdicts::packed_row;
 pub use verdicts::replace_by;
 pub use verdicts::tallied;
 pub use verdicts::verdict_of;
@@ -24,9 +26,11 @@ pub struct AtomVerdict {
     pub gradient: f64,
 }
 
-// What a slice adds up to: the largest gradient of slabs left as Mesh, whether some slab was settled, and whether no row is Repulsive.
+// What a slice adds up to: the largest gradient of slabs left as Mesh, whether some slab was settled, whether no row is Repulsive, and the
+// builder's number of packed energies.
 pub struct Tally {
     pub gradient: f64,
     pub settled: bool,
     pub clear: bool,
+    pub packed: u64,
 }

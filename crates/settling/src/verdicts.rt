@@ -8,9 +8,9 @@ ghost use Rattle.mesh.specs.Mesh.{meshOf};
 ghost use Rattle.mesh.specs.Levels.{vertexCount};
 ghost use Rattle.rows.specs.Rows.{Rows, rowWith, rowsOf};
 ghost use Rattle.settling.specs.Gradient.{repulsive, allRepulsive, sumFrom, meanNarrowed};
-ghost use Rattle.settling.specs.Settling.{byGradient, verdict, verdictOf, newRow, replacedBy, steeperOf, settles};
+ghost use Rattle.settling.specs.Settling.{byGradient, verdict, verdictOf, newRow, replacedBy, steeperOf, settles, packedAfter};
 ghost use Rattle.settling.specs.declared.Verdict.the-variants.{Empty};
-ghost use Rattle.settling.specs.Internal.{stays, becomes, leftRow, isClear};
+ghost use Rattle.settling.specs.Internal.{stays, becomes, leftRow, isClear, packedIn};
 use crate::Tally;
 use crate::Verdict;
 use crate::gradient;
@@ -186,17 +186,44 @@ fn is_clear(row: SlabResolution) -> bool
     }
 }
 
+// The packed energies of a row: n·n of its level if it is Mesh.
+pub fn packed_row(row: SlabResolution) -> u64
+    ensures { λ r. ⌜ r ≡ packedIn row ⌝ }
+{
+    match row {
+        SlabResolution::Scalar(_) => 0,
+        SlabResolution::Mesh(level, _) => mesh::per_level(level),
+        SlabResolution::Repulsive => 0,
+    }
+}
+
+// The number of packed energies after rows with `old` of them became rows with `new`, wrapping.
+pub fn packed_after(packed: u64, old: u64, new: u64) -> u64
+    ensures { λ r. ⌜ r ≡ packedAfter packed old new ⌝ }
+{
+    let without = std::num::wrapping_sub_u64(packed, old);
+    std::num::wrapping_add_u64(without, new)
+}
+
 // The slice with one slab more.
 pub fn tallied(level: u8, t: Tally, row: SlabResolution, v: Verdict) -> Tally
-    ensures { λ r. ⌜ r ≡ record { gradient = steeperOf (t .gradient) v; settled = t .settled || settles v; clear = t .clear && isClear (leftRow level row v) } ⌝ }
+    ensures { λ r. ⌜ r ≡ record {
+      gradient = steeperOf (t .gradient) v;
+      settled = t .settled || settles v;
+      clear = t .clear && isClear (leftRow level row v);
+      packed = packedAfter (t .packed) (packedIn row) (packedIn (leftRow level row v));
+    } ⌝ }
 {
     let gradient = t.gradient;
     let settled = t.settled;
     let clear = t.clear;
+    let packed = t.packed;
+    let left = left_row(level, row, v);
     Tally {
         gradient: steeper_of(gradient, v),
         settled: settled | settles(v),
-        clear: clear & is_clear(left_row(level, row, v)),
+        clear: clear & is_clear(left),
+        packed: packed_after(packed, packed_row(row), packed_row(left)),
     }
 }
 

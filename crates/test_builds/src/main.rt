@@ -50,6 +50,7 @@ fn none() -> Builder {
         grid: settings(1.0, 6.0),
         top: 99,
         level: 99,
+        packed: 0,
     }
 }
 

@@ -194,6 +194,7 @@ fn accepted(a: Built) -> Builder {
             grid: settings(),
             top: 99,
             level: 99,
+            packed: 0,
         },
     }
 }

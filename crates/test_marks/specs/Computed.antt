@@ -24,9 +24,9 @@ use Rattle.grid.specs.Settings.{above, question, inRange, levelsValid, countsVa
 use Rattle.grid.specs.declared.Grid.{Grid}
 use Rattle.rows.specs.Rows.{resolutionOf, resolutionAt, replaced, known, rowRoom}
 use Rattle.settling.specs.Gradient.{weight, repulsive, allRepulsive, steeper, alongNeighbours, pairWeight, gradientOf, gradient, sumFrom, meanNarrowed}
-use Rattle.settling.specs.Settling.{byGradient, verdict, verdicts, settledRows, largestFrom, someSettle, drops, settledSlice}
+use Rattle.settling.specs.Settling.{byGradient, verdict, verdicts, settledRows, largestFrom, someSettle, drops, settledSlice, packedRows, packedAfter}
 use Rattle.builder.specs.BuilderLists.{BuilderLists, rowIn, rowsIn, listRoom, rowsKnown, listsOf}
-use Rattle.builder.specs.Calls.{settledLists, freshBuilder, filledSlabs, freshOut, slabSet, setOut, settleAccepted, settleOut}
+use Rattle.builder.specs.Calls.{settledLists, setBuilder, freshBuilder, filledSlabs, freshOut, slabSet, setOut, settleAccepted, settleOut}
 use Rattle.builder.specs.Refusals.{meshedRefusal, setQuestion, setRefusal, settleRefusal}
 use Rattle.table.specs.Bytes.{bytesOf, numberOf, numberAt, packed, section, items}
 use Rattle.table.specs.File.{entryBytes, entryOf, entries, packedEnergies, fileOf}
@@ -91,7 +91,7 @@ unfolding dot norm unit difference vertexAt cubeFaceProject cubeFace cubeProject
 searches x = x
 
 unfoldable calls : {A : Type 0} → A → A
-unfolding distanceBin dihedralBin above question counted inRange levelsValid countsValid ownCount slabsFit resolutionOf resolutionAt replaced known rowRoom rowIn rowsIn settledLists listRoom rowsKnown meshedRefusal freshBuilder filledSlabs freshOut setQuestion setRefusal slabSet setOut settleRefusal settleAccepted settleOut
+unfolding distanceBin dihedralBin above question counted inRange levelsValid countsValid ownCount slabsFit resolutionOf resolutionAt replaced known rowRoom rowIn rowsIn settledLists listRoom rowsKnown meshedRefusal freshBuilder packedRows packedAfter setBuilder filledSlabs freshOut setQuestion setRefusal slabSet setOut settleRefusal settleAccepted settleOut
 calls x = x
 
 unfoldable settling : {A : Type 0} → A → A

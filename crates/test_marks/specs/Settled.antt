@@ -8,7 +8,7 @@ use Rattle.rows.specs.Rows.{rowsOf}
 use Rattle.mesh.specs.Mesh.{Mesh, meshOf}
 use Rattle.grid.specs.Settings.{counted}
 use Rattle.builder.specs.BuilderLists.{BuilderLists, listsOf}
-use Rattle.builder.specs.Calls.{freshOut, setOut, settleOut}
+use Rattle.builder.specs.Calls.{BuiltValues, freshOut, setOut, settleOut}
 use Rattle.builder.specs.declared.Builder.{Builder}
 use Rattle.writer.specs.Write.{writeOut}
 use Rattle.ledger.specs.Ledger.{Call, set-call, settle-call, State, run}
@@ -37,10 +37,10 @@ nearly = set (zeros 1764) 100 (f64 0x3FA9_9999_9999_999A)
 abbrev pub lowered : List Call
 lowered = set-call 1 0 nearly ∷ set-call 0 0 nearly ∷ settle-call 0 ∷ []
 
--- what these calls leave: a nearest row of level 1, an interpolated one, one without energies; and level 0
+-- what these calls leave: a nearest row of level 1, an interpolated one, one without energies; level 0, and 42·42 packed energies of each of the two
 abbrev pub after : State
 after = record {
-  builder = record { grid = counted (history₂ [] .grid); top = 1; level = 0 };
+  builder = record { grid = counted (history₂ [] .grid); top = 1; level = 0; packed = 3528 };
   lists = record {
     store = nearly ++ (nearly ++ (zeros 1764 ++ (f64 0x4000_0000_0000_0000 ∷ [])));
     rows = rowsOf (2 ∷ 3 ∷ 0 ∷ 9 ∷ []) (1 ∷ 1 ∷ 0 ∷ 9 ∷ []) (0 ∷ 0 ∷ 0 ∷ 9 ∷ []);
@@ -53,7 +53,7 @@ then cs ri = let st = run twoLevels after cs in settleOut (st .builder) twoLevel
 
 -- a builder of two levels at the lower one, two dihedral bins (step 3), and rows made by hand
 abbrev by-hand : Builder
-by-hand = record { grid = counted (settings 0x3FF0_0000_0000_0000 0x4008_0000_0000_0000); top = 1; level = 0 }
+by-hand = record { grid = counted (settings 0x3FF0_0000_0000_0000 0x4008_0000_0000_0000); top = 1; level = 0; packed = 0 }
 
 abbrev made : List ℕ → List ℕ → BuilderLists
 made kinds levels = listsOf (zeros 3528) kinds levels (0 ∷ 0 ∷ [])
@@ -158,6 +158,39 @@ set-nan = refl
 pub set-infinite : computed (wasSet (history []) 0 0 (set tens 143 (f64 0x7FF0_0000_0000_0000))) ≡ 0
 unfolding computed
 set-infinite = refl
+
+-- 10 before 15, of the row that a set replaces; its other row may be anything
+abbrev setByHand : List ℕ → List ℕ → List Float → BuiltValues
+setByHand kinds levels e = setOut by-hand (made kinds levels) 0 0 e .answer
+
+pub set-nan-first : computed (setByHand (9 ∷ 0 ∷ []) (0 ∷ 0 ∷ []) (set tens 143 nan) .number) ≡ 10
+unfolding computed
+set-nan-first = refl
+
+pub set-kind : computed (setByHand (4 ∷ 0 ∷ []) (0 ∷ 0 ∷ []) tens .number) ≡ 15
+unfolding computed
+set-kind = refl
+
+pub set-level : computed (setByHand (3 ∷ 0 ∷ []) (2 ∷ 0 ∷ []) tens .number) ≡ 15
+unfolding computed
+set-level = refl
+
+pub set-kept : computed (setByHand (4 ∷ 0 ∷ []) (0 ∷ 0 ∷ []) tens .builder .packed) ≡ 0
+unfolding computed
+set-kept = refl
+
+pub set-other : computed (setByHand (1 ∷ 9 ∷ []) (200 ∷ 200 ∷ []) tens .builder .packed) ≡ 144
+unfolding computed
+set-other = refl
+
+-- packed energies that were never counted: 42·42 less and 12·12 more, and 12·12 less, wrapping
+pub set-over : computed (setByHand (2 ∷ 0 ∷ []) (1 ∷ 0 ∷ []) tens .builder .packed) ≡ 18446744073709549996
+unfolding computed
+set-over = refl
+
+pub settled-off : computed (settleOut by-hand twoLevels (made (3 ∷ 1 ∷ []) (0 ∷ 0 ∷ [])) 0 .answer .builder .packed) ≡ 18446744073709551472
+unfolding computed
+settled-off = refl
 
 -- write: 15 before 12
 pub write-kind : computed (writeOut by-hand twoLevels (made (3 ∷ 9 ∷ []) (1 ∷ 0 ∷ [])) [] .answer .number) ≡ 15

@@ -20,6 +20,11 @@ pub(crate) fn per(level: u64) -> usize {
     (sys::vertices(level) as usize).pow(2)
 }
 
+// Bytes of a file of so many slabs and packed energies.
+fn file_length(top: u64, slabs: u64, packed: u64) -> u64 {
+    52 + 4 * (top + 1) + 10 * slabs + 4 * packed
+}
+
 impl Builder {
     /// A builder with no slab set, at the mesh's top level.
     pub fn new(settings: Grid, mesh: Arc<Mesh>) -> Result<Builder, Error> {
@@ -47,10 +52,25 @@ impl Builder {
 
     /// The table file.
     pub fn write(&self) -> Result<Vec<u8>, Refusal> {
-        let mut output = vec![0; self.lists.file_length(52, self.mesh.top(), per)];
+        let mut output = vec![0; self.file_length() as usize];
         let written = sys::write(self.held, self.lists.held(), self.mesh.lent(), &mut output);
         output.truncate(written.length as usize);
         answer(written.number, output)
+    }
+
+    /// The length of the file that [`write`](Builder::write) would give now, in bytes. The builder counts as it is built, so this costs nothing.
+    pub fn file_length(&self) -> u64 {
+        file_length(self.held.top, self.slabs(), self.held.packed)
+    }
+
+    /// That length as a share of the longest file: the one whose slabs all hold energies of the top level.
+    pub fn share(&self) -> f64 {
+        let most = self.slabs() * per(self.held.top) as u64;
+        self.file_length() as f64 / file_length(self.held.top, self.slabs(), most) as f64
+    }
+
+    fn slabs(&self) -> u64 {
+        self.held.grid.n_r * self.held.grid.n_omega
     }
 
     /// The settings with the bin counts that they give.

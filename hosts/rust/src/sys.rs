@@ -22,6 +22,7 @@ pub struct Builder {
     pub grid: Grid,
     pub top: u64,
     pub level: u64,
+    pub packed: u64,
 }
 
 #[repr(C)]

@@ -254,3 +254,27 @@ fn readings_run_in_threads() {
         }
     });
 }
+
+// What the builder says while it is built is the length of the file that it then writes.
+#[test]
+fn the_length_of_the_file_is_known_while_building() {
+    let mut b = builder(1);
+    let told = |b: &Builder| assert_eq!(b.file_length(), b.write().unwrap().len() as u64);
+    assert_eq!(b.file_length(), 52 + 4 * 2 + 10 * 4);
+    b.set(0, 0, &smooth(1)).unwrap();
+    assert_eq!(b.file_length(), 100 + 4 * 1764);
+    b.set(0, 0, &smooth(1)).unwrap();
+    told(&b);
+    assert_eq!(b.set(0, 2, &smooth(1)), Err(Refusal::Bin));
+    told(&b);
+    b.settle(0).unwrap();
+    told(&b);
+    assert_eq!(b.level(), 0);
+    b.set(0, 0, &smooth(0)).unwrap();
+    assert_eq!(b.file_length(), 100 + 4 * 144);
+    b.set(1, 1, &vec![10.0; 144]).unwrap();
+    assert_eq!(b.share(), (100 + 4 * 288) as f64 / (100 + 4 * 4 * 1764) as f64);
+    b.settle(1).unwrap();
+    told(&b);
+    assert_eq!(b.file_length(), 100 + 4 * 144);
+}

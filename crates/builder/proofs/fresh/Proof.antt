@@ -1,5 +1,6 @@
 -- `fresh` meets its contract. Assumes nothing.
 use mathlib.Core.Path.{refl, sym, _∙_}
+use native.Mathlib.Nat.{mul-le-mul}
 use native.Mathlib.Omega.{arith}
 use lib.ListN.{length}
 use borrow.Author.Needs.{needs}
@@ -22,7 +23,7 @@ unfolding freshOut meshedRefusal
 returns c = (rw (ne-eqb _ _ (c .if1 .taken)), rw (← c .before .before .fresh-builder .ensures, ← c .before .meshed-refusal .ensures, ne-eqb _ _ (c .if1 .taken)))
 
 mul-clear-slabs : tie.Need-mul-clear-slabs
-mul-clear-slabs c = let f = facts c in omega (arith, f .room .kinds-le)
+mul-clear-slabs c = let f = facts c in omega (arith, mul-le-mul (f .asked .rs) (f .asked .omegas))
 
 cast-per-level : tie.Need-cast-per-level
 cast-per-level c = let f = facts c in omega (arith, f .asked .top-le)

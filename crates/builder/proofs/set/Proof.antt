@@ -1,46 +1,65 @@
 -- `set` meets its contract. Assumes nothing.
-use mathlib.Core.Path.{refl, sym, _∙_}
+use mathlib.Core.Path.{_≡_, refl, sym, _∙_}
+use Prim.Native.Nat.{_+_, _*_}
+use native.Mathlib.Nat.{mul-le-mul}
 use native.Mathlib.Omega.{arith}
 use lib.ListN.{length}
 use borrow.Author.Tests.{eq-eqb, ne-eqb}
-use Rattle.builder.specs.Calls.{setOut, slabSet}
+use Rattle.builder.specs.BuilderLists.{BuilderLists, listsOf, slab, rowAt}
+use Rattle.builder.specs.Calls.{setBuilder, setOut, slabSet}
 use Rattle.builder.specs.Refusals.{setRefusal}
 use Rattle.builder.proofs.Laws.{Set, accepted}
+use Rattle.builder.proofs.Turns.{set-builder-is}
 use borrow.Author.Needs.{needs}
 use Rattle.builder.proofs.set.Statement.{statement}
 use Rattle.builder.proofs.set.Tie as tie
 
 -- where no question was answered no
-facts : (c : tie.Else1) → let a = c .before .before .before .before .before .before .before .args in
+facts : (c : tie.Else1) → let a = c .before .before .before .before .before .before .before .before .before .args in
     Set (a .b) (a .ri) (a .oi) (a .energies .now) (length (a .store .now)) (length (a .kinds .now)) (length (a .levels .now)) (length (a .values .now))
-facts c = accepted _ _ _ _ _ _ _ _ (sym (c .before .set-refusal .ensures) ∙ c .if1 .left)
+facts c = accepted _ _ _ _ _ _ _ _ _ (sym (c .before .set-refusal .ensures) ∙ c .if1 .left)
 
 returns : tie.Need-returns
 unfolding setOut setRefusal
 returns c = (rw (ne-eqb _ _ (c .if1 .taken)), rw (← c .before .set-refusal .ensures, ne-eqb _ _ (c .if1 .taken)))
 
+mul-s : tie.Need-mul-s
+mul-s c = let f = facts c in omega (arith, f .row, mul-le-mul (f .asked .rs) (f .asked .omegas))
+
+add-s : tie.Need-add-s
+add-s c = let f = facts c in omega (arith, f .row, mul-le-mul (f .asked .rs) (f .asked .omegas))
+
+set-builder-requires : tie.Need-set-builder-requires
+set-builder-requires c κs = let f = facts (c .before .before .before .before) in omega (arith, f .asked .top-le, f .asked .level-le)
+
 cast-per-level : tie.Need-cast-per-level
-cast-per-level c = let f = facts c in omega (arith, f .asked .top-le)
+cast-per-level c = let f = facts (c .before .before .before .before .before) in omega (arith, f .asked .top-le)
 
 cast-set-slab : tie.Need-cast-set-slab
-cast-set-slab c = let f = facts (c .before) in omega (arith, f .asked .top-le, f .asked .level-le)
-
-mul-set-slab : tie.Need-mul-set-slab
-mul-set-slab c = let f = facts (c .before .before .before .before .before) in omega (arith, f .row, f .room .kinds-le)
-
-add-set-slab : tie.Need-add-set-slab
-add-set-slab c = let f = facts (c .before .before .before .before .before) in omega (arith, f .row, f .room .kinds-le)
+cast-set-slab c = let f = facts (c .before .before .before .before .before .before) in omega (arith, f .asked .top-le, f .asked .level-le)
 
 set-slab-requires : tie.Need-set-slab-requires
-set-slab-requires c κs = let f = facts (c .before .before .before .before .before) in rw (c .before .before .before .before .per-level .ensures) (f .energies)
+set-slab-requires c κs =
+    let p = c .before .before .before .before in
+    let f = facts (p .before .before .before .before .before .before) in
+    rw (p .per-level .ensures) (f .energies)
 
 returns-2 : tie.Need-returns-2
 unfolding setOut setRefusal
 returns-2 c =
-    let e = c .before .before .before .before .before .before .before .before .before .before .before .before .before .before in
-    (refl, rw (← e .before .set-refusal .ensures, eq-eqb _ _ (e .if1 .left), ← c .before .before .before .before .before .before .before .before .before .before .before .before .before .per-level .ensures, c .before .before .before .before .before .before .before .before .set-slab .ensures))
+    let w = c .before .before .before .before .before .before .before .before in
+    let p = w .before .before .before .before .before in
+    let s = p .before in
+    let r = s .before in
+    let e = r .before .before .before .before in
+    let a = e .before .before .before .before .before .before .before .before .before .args in
+    let l : BuilderLists = listsOf (a .store .now) (a .kinds .now) (a .levels .now) (a .values .now) in
+    let at = slab (a .b .grid) (a .ri) (a .oi) in
+    let after : s .set-builder .result ≡ setBuilder (a .b) (rowAt (a .b .top) l at) =
+    s .set-builder .ensures ∙ rw (r .resolution-at .ensures) (set-builder-is (a .b) l at) in
+    (refl, rw (← e .before .set-refusal .ensures, eq-eqb _ _ (e .if1 .left), ← p .per-level .ensures, w .set-slab .ensures, after))
 
 pub set-spec : {M : Type 1} → statement M
 set-spec =
     tie.close
-    (tie.spec (λ c κs. search needs) returns cast-per-level (λ c κs. search needs) cast-set-slab mul-set-slab add-set-slab set-slab-requires (λ c. search needs) (λ c. search needs) (λ c. search needs) (λ c. search needs) returns-2)
+    (tie.spec (λ c κs. search needs) (λ c. search needs) (λ c. search needs) returns mul-s add-s (λ c κs. search needs) set-builder-requires cast-per-level (λ c κs. search needs) cast-set-slab set-slab-requires (λ c. search needs) (λ c. search needs) (λ c. search needs) (λ c. search needs) returns-2)

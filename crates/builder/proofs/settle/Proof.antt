@@ -1,5 +1,6 @@
 -- `settle` meets its contract. Assumes nothing.
 use mathlib.Core.Path.{refl, sym, _∙_}
+use Prim.Native.Nat.{_^_, _<_}
 use borrow.Author.Tests.{eq-eqb, ne-eqb}
 use Rattle.mesh.specs.Mesh.{Mesh, meshOf}
 use Rattle.builder.specs.BuilderLists.{BuilderLists, listsOf}
@@ -8,6 +9,9 @@ use Rattle.builder.proofs.Accepted.{ready, settle-is}
 use borrow.Author.Needs.{needs}
 use Rattle.builder.proofs.settle.Statement.{statement}
 use Rattle.builder.proofs.settle.Tie as tie
+
+few : (c : tie.Start) → c .args .b .packed < 2 ^ 64
+few c = search needs
 
 returns : tie.Need-returns
 unfolding settleOut
@@ -24,12 +28,13 @@ settle-slice-requires c κs =
 returns-2 : tie.Need-returns-2
 unfolding settleOut
 returns-2 c =
-    let a = c .before .before .before .before .before .before .before .before .before .before .before .before .before .before .before .before .before .before .before .before .before .before .before .before .args in
+    let start = c .before .before .before .before .before .before .before .before .before .before .before .before .before .before .before .before .before .before .before .before .before .before .before .before in
+    let a = start .args in
     let m : Mesh = meshOf (a .vertices .now) (a .counts .now) (a .neighbours .now) (a .angles .now) in
     let l : BuilderLists = listsOf (a .store .now) (a .kinds .now) (a .levels .now) (a .values .now) in
     let e = c .before .before .before .before .before .before .before .before .before .before .before in
     let told = c .before .before .before .before .before .before .before .settle-slice .ensures in
-    (refl, rw (← e .before .settle-refusal .ensures, eq-eqb _ _ (e .if1 .left), c .dropped .ensures) (settle-is (a .b) m l (a .ri) _ _ told))
+    (refl, rw (← e .before .settle-refusal .ensures, eq-eqb _ _ (e .if1 .left), c .dropped .ensures) (settle-is (a .b) m l (a .ri) _ _ (few start) told))
 
 pub settle-spec : {M : Type 1} → statement M
 settle-spec =

@@ -22,7 +22,8 @@ fn build(builder: &mut Builder) -> Result<(), Refusal> {
             builder.set(ri, oi, &energies)?;
         }
         let gradient = builder.settle(ri)?;
-        println!("slice {ri}: gradient {gradient:.4}, level {}", builder.level());
+        let done = 100 * (ri + 1) / grid.n_r;
+        println!("slice {ri}: gradient {gradient:.4}, level {}; {done}% done, a file of {} bytes", builder.level(), builder.file_length());
     }
     Ok(())
 }

@@ -26,12 +26,12 @@ found threshold beta counts neighbours angles level =
     verdictOf threshold beta (meshOf [] counts neighbours angles) (vertexCount level)
 
 abbrev Inv-loop : tie.InvT-loop
-Inv-loop ri store counts neighbours angles kinds₀ levels₀ values₀ threshold beta n level top apart base t₀ i₀ kinds levels values t i =
-    After (found threshold beta counts neighbours angles level) level top base n (listsOf store kinds₀ levels₀ values₀) start i t
+Inv-loop ri store counts neighbours angles kinds₀ levels₀ values₀ threshold beta packed n level top apart base t₀ i₀ kinds levels values t i =
+    After (found threshold beta counts neighbours angles level) level top base n (listsOf store kinds₀ levels₀ values₀) (start packed) i t
     (rowsOf kinds levels values)
 
 abbrev μ-loop : tie.MeasureT-loop
-μ-loop ri store counts neighbours angles kinds₀ levels₀ values₀ threshold beta n level top apart base t₀ i₀ kinds levels values t i =
+μ-loop ri store counts neighbours angles kinds₀ levels₀ values₀ threshold beta packed n level top apart base t₀ i₀ kinds levels values t i =
     n - i
 
 -- a slab of the slice lies in the store
@@ -90,7 +90,7 @@ loop-again c =
     row-passes (fromLevel (a .b .level)) (a .b .top) lent base n i (c .before .before .before .before .before .before .before .before .before .before .loop-test .taken) (rw z at (s .pre .same-level)) in
     let row = read-row (a .b .top) (a .b .level) (base + i) _ lent now (l .before .per-level .ensures) (l .loop .inv .same (base + i) (omega arith)) held in
     let e = c .before .before .before .before .before .before .settle-slab .ensures in
-    again f (a .b .level) (a .b .top) base n lent start i (l .loop .t) _ now _ (l .loop .inv) (c .before .before .before .before .before .before .before .before .before .before .loop-test .taken) (rw row at (e .0)) (rw row at (e .1))
+    again f (a .b .level) (a .b .top) base n lent (start (a .b .packed)) i (l .loop .t) _ now _ (l .loop .inv) (c .before .before .before .before .before .before .before .before .before .before .loop-test .taken) (rw row at (e .0)) (rw row at (e .1))
 
 same-length : tie.Need-same-length Inv-loop μ-loop
 same-length c = c .before .loop .inv .kinds-size

@@ -14,7 +14,7 @@ use Rattle.settling.specs.Settling.{verdictOf}
 use Rattle.settling.specs.Internal.{tallied}
 use Rattle.mesh.proofs.Laws.{count-le}
 use Rattle.lists.proofs.Loops.{part-is}
-use Rattle.settling.proofs.Changes.{row-clear}
+use Rattle.settling.proofs.Changes.{row-clear, same-packed, row-packed}
 use borrow.Author.Needs.{needs}
 use Rattle.builder.proofs.slices.settle_slab.Statement.{statement}
 use Rattle.builder.proofs.slices.settle_slab.Tie as tie
@@ -46,7 +46,7 @@ returns c =
     let found : c .before .before .before .before .before .before .before .before .before .before .before .verdict-of .result ≡ v =
     rw (c .before .before .before .before .before .before .before .before .before .before .before .before .before .vertex-count .ensures, part-is (a .store .now) (a .at) (n * n), c .before .before .before .before .before .before .before .before .before .before .before .before .before .before .resolution-at .ensures) at (c .before .before .before .before .before .before .before .before .before .before .before .verdict-of .ensures)
     ∙ rw (le-leb (a .level) 15 (pre .0)) in
-    (c .tallied .ensures ∙ rw (c .before .before .before .before .before .before .before .before .before .before .before .before .before .before .resolution-at .ensures, found, row-clear x e (a .level) v), c .before .before .before .before .before .before .before .replace-by .ensures ∙ rw found)
+    (c .tallied .ensures ∙ rw (c .before .before .before .before .before .before .before .before .before .before .before .before .before .before .resolution-at .ensures, found, row-clear x e (a .level) v, same-packed x e, row-packed x e (a .level) v), c .before .before .before .before .before .before .before .replace-by .ensures ∙ rw found)
 
 pub settle-slab-spec : {M : Type 1} → statement M
 settle-slab-spec =
