@@ -1,5 +1,5 @@
 -- The neighbour comparisons that settle reports. Assumes nothing.
-use mathlib.Core.Path.{_≡_, refl, ap, _∙_}
+use mathlib.Core.Path.{_≡_, refl, _∙_}
 use mathlib.Core.Bool.{Bool, true, false, not, cond}
 use mathlib.Core.List.{List, [], _∷_, map}
 use Prim.Native.Nat.{ℕ, _+_, _*_}
@@ -74,6 +74,10 @@ accepted-reports b m l ri =
     let vs = map (verdictOf (b .grid .threshold) (b .grid .beta) p (vertexCount c)) rs in
     in-times (comparisons p (vertexCount c)) vs ∙ rw (counted (b .grid .threshold) (b .grid .beta) p (vertexCount c) rs, part-comparisons m c)
 
+-- beside a number that refuses
+none : (number k : ℕ) → eqb number 0 ≡ false → 0 ≡ unlessRefused number k
+none number k d = rw d refl
+
 -- "For each slab that reaches the gradient these are 2·n times the total of neighbours"
 pub reports : Reports
 unfolding settleOut settleAccepted
@@ -82,7 +86,7 @@ reports b m l ri = by (eqb (settleRefusal b m l ri) 0) refl
     by : (q : Bool) → eqb (settleRefusal b m l ri) 0 ≡ q → let a = settleOut b m l ri .answer in
         a .comparisons ≡ unlessRefused (a .number) (reaching (b .grid .beta) (sliceAt b l ri) * (2 * vertexCount (b .level) * neighbourTotal (m .counts) (b .level)))
     by true d = rw d (accepted-reports b m l ri)
-    by false d = rw d refl
+    by false d = rw d (none (settleRefusal b m l ri) (reaching (b .grid .beta) (sliceAt b l ri) * (2 * vertexCount (b .level) * neighbourTotal (m .counts) (b .level))) d)
 
 once : (q : Bool) (x : ℕ) → cond q x 0 ≡ (cond q 1 0 + 0) * x
 once true x = omega arith
@@ -104,4 +108,4 @@ atom-reports b m l ri = by (eqb (atomSettleRefusal b m l ri) 0) refl
     by : (q : Bool) → eqb (atomSettleRefusal b m l ri) 0 ≡ q → let a = atomSettleOut b m l ri .answer in
         a .comparisons ≡ unlessRefused (a .number) (reaching (b .grid .beta) (atomRow (b .top) l ri ∷ []) * neighbourTotal (m .counts) (b .level))
     by true d = rw d (atom-accepted-reports b m l ri)
-    by false d = rw d refl
+    by false d = rw d (none (atomSettleRefusal b m l ri) (reaching (b .grid .beta) (atomRow (b .top) l ri ∷ []) * neighbourTotal (m .counts) (b .level)) d)
