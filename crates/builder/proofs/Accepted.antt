@@ -162,9 +162,11 @@ atom-verdict-links threshold beta c ms (mesh v b e) = rw (atom-links (levelPart 
 pub atom-settle-is : (b : AtomBuilder) (ms : Mesh) (l : BuilderLists) (ri : ℕ) (v : AtomVerdict) (rows : Rows) → fromLevel (b .level) (atomRow (b .top) l ri) ≡ true
     → atomSettledSlab b (partLinks (b .level) (linksOf ms)) (l .store) ri (l .rows) v rows
     → _≡_ {A = AtomSettleOut}
-    (record { answer = atomSettledValues b
-        (AtomSettles (record { grid = b .grid; top = b .top; level = atomLevel (b .grid .threshold) (b .level) v }) (v .gradient) (comparisonsFor (neighbourTotal (ms .counts) (b .level)) (v .verdict)));
-      lists = record { store = l .store; rows = rows } })
+    (record {
+      answer = atomSettledValues b
+          (AtomSettles (record { grid = b .grid; top = b .top; level = atomLevel (b .grid .threshold) (b .level) v }) (v .gradient) (comparisonsFor (neighbourTotal (ms .counts) (b .level)) (v .verdict)));
+      lists = record { store = l .store; rows = rows };
+    })
     (atomSettleAccepted b ms l ri)
 unfolding atomSettleAccepted
 atom-settle-is b ms l ri v rows h t =

@@ -162,14 +162,7 @@ fn settle_late(b: Builder, ri: u64, store: &[f64; 21168], before: Rows) {
 
 // A table of slices 0 to `late`, of n_omega slabs each and twelve in all, every one of them set at level 1. The first slice is settled and the level drops; then the last slice is settled,
 // which is the same one where there is one alone.
-fn settle_both(
-    what: &[u8],
-    rmax: f64,
-    omega_step: f64,
-    late: u64,
-    n_omega: u64,
-    comparisons: u64,
-) {
+fn settle_both(what: &[u8], rmax: f64, omega_step: f64, late: u64, n_omega: u64, comparisons: u64) {
     let mut store = [1.0; 21168];
     let mut kinds: [u8; 12] = [9; 12];
     let mut levels: [u8; 12] = [9; 12];
