@@ -125,10 +125,13 @@ typedef struct icotable_built {
     icotable_builder builder;
 } icotable_built;
 
-/* gradient: the largest one of the slabs that still hold energies. */
+/* gradient: the largest one of the slabs that still hold energies.
+ * comparisons: the neighbour comparisons made, 2*n times the total of neighbour counts of the current level for each
+ * slab whose gradient was worked out: one that holds energies and does not become Repulsive. */
 typedef struct icotable_settled {
     uint64_t number;
     double gradient;
+    uint64_t comparisons;
     icotable_builder builder;
 } icotable_settled;
 
@@ -276,10 +279,12 @@ typedef struct icotable_atom_built {
     icotable_atom_builder builder;
 } icotable_atom_built;
 
-/* gradient: that of the slab, also where it becomes Scalar; 0 where it holds no energies or becomes Repulsive. */
+/* gradient: that of the slab, also where it becomes Scalar; 0 where it holds no energies or becomes Repulsive.
+ * comparisons: the neighbour comparisons made, the total of neighbour counts of the current level; 0 likewise. */
 typedef struct icotable_atom_settled {
     uint64_t number;
     double gradient;
+    uint64_t comparisons;
     icotable_atom_builder builder;
 } icotable_atom_settled;
 

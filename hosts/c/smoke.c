@@ -143,9 +143,11 @@ static void one_slab(void) {
     expect("settle", a.number, 0);
     expect("packed energies", a.builder.packed, PER);
     expect("gradient is 1 over the angle", a.gradient == 1 / angles[0], 1);
+    expect("comparisons, 2 * 12 times 12 vertices' five neighbours", a.comparisons, 1440);
     a = settle(s.builder, 1);
     expect("settle of a bin beyond the last", a.number, 8);
     expect("its gradient is 0", a.gradient == 0, 1);
+    expect("its comparisons", a.comparisons, 0);
     expect("the builder's bins after it", a.builder.grid.n_r, 1);
     expect("its packed energies", a.builder.packed, PER);
     for (int i = 0; i < PER; i++)
@@ -156,6 +158,7 @@ static void one_slab(void) {
     a = settle(b, 0);
     expect("settle", a.number, 0);
     expect("kind", kinds[0], 1);
+    expect("comparisons of a slab that becomes Repulsive", a.comparisons, 0);
     expect("packed energies less than none", a.builder.packed, (uint64_t)0 - PER);
     kinds[0] = 4;
     s = icotable_set(s.builder, store, PER, kinds, 1, levels, 1, values, 1, 0, 0, energies, PER);
@@ -380,18 +383,21 @@ static void atom_slab(void) {
     double energies[N] = {1000};
     icotable_atom_builder b = atom_fresh(atom_settings, 0).builder;
     expect("settle of an empty distance", atom_settle(b, 0).number, 0);
+    expect("its comparisons", atom_settle(b, 0).comparisons, 0);
     icotable_atom_built s = atom_set(b, 0, energies, N);
     expect("set", s.number, 0);
     expect("kind", kinds[0], 3);
     icotable_atom_settled a = atom_settle(s.builder, 0);
     expect("settle", a.number, 0);
     expect("gradient is 1 over the angle", a.gradient == 1 / angles[0], 1);
+    expect("comparisons", a.comparisons, 60);
     expect("kind", kinds[0], 3);
     energies[0] = 0.001;
     expect("set of nearly equal energies", atom_set(b, 0, energies, N).number, 0);
     a = atom_settle(b, 0);
     expect("settle", a.number, 0);
     expect("the gradient of a slab that becomes Scalar is not 0", a.gradient > 0 && a.gradient < 0.01, 1);
+    expect("and its comparisons are counted", a.comparisons, 60);
     expect("kind", kinds[0], 0);
     for (int i = 0; i < N; i++)
         energies[i] = 10;
@@ -399,6 +405,7 @@ static void atom_slab(void) {
     a = atom_settle(b, 0);
     expect("settle", a.number, 0);
     expect("its gradient is 0", a.gradient == 0, 1);
+    expect("its comparisons", a.comparisons, 0);
     expect("kind", kinds[0], 1);
 }
 

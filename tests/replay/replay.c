@@ -173,6 +173,7 @@ static kind_count calls[] = {
     {.words = "settle, accepted"},
     {.words = "settle, refused"},
     {.words = "gradients"},
+    {.words = "comparisons"},
     {.words = "levels"},
     {.words = "rows"},
     {.words = "stores"},

@@ -33,6 +33,7 @@ pub struct AtomBuildAnswer {
 pub struct AtomSettleAnswer {
     pub number: u64,
     pub gradient: f64,
+    pub comparisons: u64,
     pub builder: AtomBuilder,
 }
 
@@ -92,14 +93,16 @@ fn atom_settle_answer(kept: AtomBuilder, a: AtomSettled) -> AtomSettleAnswer
     ensures { λ r. ⌜ atomSettledIn r ≡ atomSettledValues kept a ⌝ }
 {
     match a {
-        AtomSettled::Accepted(builder, gradient) => AtomSettleAnswer {
+        AtomSettled::Accepted(builder, gradient, comparisons) => AtomSettleAnswer {
             number: 0,
             gradient,
+            comparisons,
             builder,
         },
         AtomSettled::Refused(number) => AtomSettleAnswer {
             number,
             gradient: 0.0,
+            comparisons: 0,
             builder: kept,
         },
     }

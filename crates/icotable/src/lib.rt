@@ -40,6 +40,7 @@ pub struct BuildAnswer {
 pub struct SettleAnswer {
     pub number: u64,
     pub gradient: f64,
+    pub comparisons: u64,
     pub builder: Builder,
 }
 
@@ -111,14 +112,16 @@ fn settle_answer(kept: Builder, a: Settled) -> SettleAnswer
     ensures { λ r. ⌜ settledIn r ≡ settledValues kept a ⌝ }
 {
     match a {
-        Settled::Accepted(builder, gradient) => SettleAnswer {
+        Settled::Accepted(builder, gradient, comparisons) => SettleAnswer {
             number: 0,
             gradient,
+            comparisons,
             builder,
         },
         Settled::Refused(number) => SettleAnswer {
             number,
             gradient: 0.0,
+            comparisons: 0,
             builder: kept,
         },
     }

@@ -1,9 +1,11 @@
--- Laws of lists of calls, and the theorems: `promise` (Theorem), `atom-promise` (AtomTheorem), `any-order` and `later` (Order), `within-runs` (Runs), `packed-moves` (Packed), `file-length` (Ends).
+-- Laws of lists of calls, and the theorems: `promise` (Theorem), `atom-promise` (AtomTheorem), `any-order` and `later` (Order), `within-runs` (Runs), `packed-moves` (Packed), `file-length` (Ends),
+-- `reports` and `atom-reports` (Comparisons).
 pub mod Store
 pub mod Invariant
 pub mod Follows
 pub mod PackedRows
 pub mod Packed
+pub mod Comparisons
 pub mod Ends
 pub mod Readings
 pub mod Admitted

@@ -16,6 +16,7 @@ pub use rule::mesh_room;
 pub use rule::neighbour;
 pub use several::meshes_keep;
 pub use several::meshes_room;
+pub use several::neighbour_total;
 
 // The vertices of a face, ascending.
 #[repr(C)]

@@ -1,4 +1,5 @@
 //! Tables of one molecule against an atom: a slab is one distance bin, with an energy for each vertex.
+use crate::builder::Settled;
 use crate::environment::FloatEnvironment;
 use crate::error::Error;
 use crate::lists::{bins, passed, Lists};
@@ -38,12 +39,12 @@ impl AtomBuilder {
         answer(built.number, ())
     }
 
-    /// Settles the slab of a distance bin, and answers its gradient; 0 where it holds no energies or is made Repulsive. The level
-    /// may drop.
-    pub fn settle(&mut self, ri: u64) -> Result<f64, Refusal> {
+    /// Settles the slab of a distance bin; gradient and comparisons are 0 where it holds no energies or is made Repulsive. The
+    /// level may drop.
+    pub fn settle(&mut self, ri: u64) -> Result<Settled, Refusal> {
         let settled = sys::atom_settle(self.held, &mut self.lists.lent(), self.mesh.lent(), ri);
         self.held = settled.builder;
-        answer(settled.number, settled.gradient)
+        answer(settled.number, Settled { gradient: settled.gradient, comparisons: settled.comparisons })
     }
 
     /// The table file.

@@ -15,6 +15,16 @@ pub struct Builder {
     lists: Lists,
 }
 
+/// What a settle tells of its slice, or of its slab against an atom.
+#[derive(Clone, Copy, Debug, PartialEq)]
+pub struct Settled {
+    /// The largest gradient of the slabs that still hold energies; against an atom the slab's own, also where it becomes Scalar.
+    pub gradient: f64,
+    /// The neighbour comparisons made: for each slab whose gradient was worked out 2·n times the total of the current level's
+    /// neighbour counts, against an atom the total once.
+    pub comparisons: u64,
+}
+
 // Energies of a slab.
 pub(crate) fn per(level: u64) -> usize {
     (sys::vertices(level) as usize).pow(2)
@@ -43,11 +53,11 @@ impl Builder {
         answer(built.number, ())
     }
 
-    /// Settles the slabs of a distance bin, and answers the largest gradient. The level may drop.
-    pub fn settle(&mut self, ri: u64) -> Result<f64, Refusal> {
+    /// Settles the slabs of a distance bin. The level may drop.
+    pub fn settle(&mut self, ri: u64) -> Result<Settled, Refusal> {
         let settled = sys::settle(self.held, &mut self.lists.lent(), self.mesh.lent(), ri);
         self.held = settled.builder;
-        answer(settled.number, settled.gradient)
+        answer(settled.number, Settled { gradient: settled.gradient, comparisons: settled.comparisons })
     }
 
     /// The table file.

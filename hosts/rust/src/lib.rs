@@ -22,7 +22,7 @@ mod sys;
 mod table;
 
 pub use atom::{AtomBuilder, AtomTable};
-pub use builder::Builder;
+pub use builder::{Builder, Settled};
 pub use environment::FloatEnvironment;
 pub use error::Error;
 pub use mesh::{Level, Mesh};

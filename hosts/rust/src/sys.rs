@@ -37,6 +37,7 @@ pub struct Built {
 pub struct Settled {
     pub number: u64,
     pub gradient: f64,
+    pub comparisons: u64,
     pub builder: Builder,
 }
 
@@ -99,6 +100,7 @@ pub struct AtomBuilt {
 pub struct AtomSettled {
     pub number: u64,
     pub gradient: f64,
+    pub comparisons: u64,
     pub builder: AtomBuilder,
 }
 

@@ -155,7 +155,8 @@ fn a_slice_is_not_settled_again_once_its_level_has_gone() {
     let mut b = builder(1);
     b.set(0, 0, &smooth(1)).unwrap();
     b.set(0, 1, &smooth(1)).unwrap();
-    b.settle(0).unwrap();
+    // two slabs of 42 vertices with 240 neighbours in all
+    assert_eq!(b.settle(0).unwrap().comparisons, 2 * (2 * 42 * 240));
     assert_eq!(b.level(), 0);
     let file = b.write().unwrap();
     assert_eq!(b.settle(0), Err(Refusal::OtherLevel));
