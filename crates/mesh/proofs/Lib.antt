@@ -3,3 +3,4 @@ pub mod Laws
 pub mod Sizes
 pub mod Tables
 pub mod Kept
+pub mod Parts
