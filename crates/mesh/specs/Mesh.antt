@@ -7,7 +7,7 @@ use lib.Seq.{slice}
 use lib.Dec.{leb, ltb, eqb}
 use lib.Ieee.{Float, nan, binary64, ofBits, lt}
 use lib.Ieee.Scale.{finite}
-use Rattle.lists.specs.Lists.{allUpTo, anyUpTo}
+use Rattle.lists.specs.Lists.{allUpTo, anyUpTo, sum}
 use Rattle.mesh.specs.Levels.{vertexCount, verticesBelow}
 
 -- "Lent: 3n f64, n neighbour counts (u8), 6n u16 and 6n angles, six places a vertex": of one level, or of several one after another (S3.3)
@@ -107,6 +107,10 @@ meshLong n m = meshRoom n (length (m .vertices)) (length (m .counts)) (length (m
 -- 7: "Does every lent mesh keep the mesh rule?", of the levels from 0 to the top (S5.7)
 unfoldable pub meshesKeep : ℕ → Mesh → Bool
 meshesKeep top l = allUpTo (suc top) (λ m. keepsRule (vertexCount m) (levelPart m l))
+
+-- document 02, paper 8: "the total of neighbours" of level m: its vertices' entries of the neighbour counts that are lent, added up (S3.9)
+unfoldable pub neighbourTotal : List ℕ → ℕ → ℕ
+neighbourTotal counts m = sum (vertexCount m) (λ v. getD counts (verticesBelow m + v) 0)
 
 -- document 02, paper 8, "6 and 7 to the neighbour counts and lists alone": the lengths that n vertices need, and the levels from 0 to the top (S5.6, S5.7)
 unfoldable pub linksRoom : ℕ → ℕ → ℕ → Bool

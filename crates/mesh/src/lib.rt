@@ -19,6 +19,7 @@ pub use several::links_room;
 pub use several::meshes_keep;
 pub use several::meshes_linked;
 pub use several::meshes_room;
+pub use several::neighbour_total;
 
 // The vertices of a face, ascending.
 #[repr(C)]

@@ -5,9 +5,10 @@ ghost use mathlib.Core.List.{[]};
 ghost use Prim.Native.Nat.{suc, _+_, _*_, _≤_};
 ghost use lib.ListN.{length};
 ghost use Rattle.mesh.specs.Levels.{vertexCount, verticesBelow};
-ghost use Rattle.mesh.specs.Mesh.{keepsRule, levelPart, meshRoom, meshLong, meshesKeep, linksKept, linksRoom, meshesLinked, meshOf};
+ghost use Rattle.mesh.specs.Mesh.{keepsRule, levelPart, meshRoom, meshLong, meshesKeep, meshOf, neighbourTotal, linksKept, linksRoom, meshesLinked};
 use crate::levels::vertex_count;
 use crate::levels::vertices_below;
+use crate::rule::degree;
 use crate::rule::keeps_rule;
 use crate::rule::links_kept;
 use crate::rule::mesh_room;
@@ -83,6 +84,21 @@ pub fn meshes_keep(
         m += 1;
     }
     true
+}
+
+// The neighbour counts of a level's vertices, added up; where no count was lent there is none.
+pub fn neighbour_total(level: u8, counts: &[u8]) -> u64
+    ensures { λ r. ⌜ r ≡ neighbourTotal (now (counts .entry)) level ⌝ }
+{
+    let a = vertices_below(level) as u32;
+    let n = vertex_count(level) as u32;
+    let mut total: u64 = 0;
+    let mut v: u32 = 0;
+    while v < n {
+        total += degree(counts, a + v) as u64;
+        v += 1;
+    }
+    total
 }
 
 // The links of one level's part. The lists hold the levels up to it.
