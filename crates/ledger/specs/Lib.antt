@@ -1,4 +1,4 @@
--- A reader has to believe `Ledger`, `Promise`, `Replies`, `Order`, `Packed` and, of tables against an atom, `AtomLedger` and `AtomPromise`.
+-- A reader has to believe `Ledger`, `Promise`, `Replies`, `Order`, `Packed`, `Longest` and, of tables against an atom, `AtomLedger` and `AtomPromise`.
 pub mod Ledger
 pub mod Promise
 pub mod Replies
@@ -6,3 +6,4 @@ pub mod Order
 pub mod Packed
 pub mod AtomLedger
 pub mod AtomPromise
+pub mod Longest
