@@ -11,7 +11,7 @@ use borrow.Author.Tests.{eqb-true, eqb-false, eq-eqb, lt-ltb}
 use Rattle.lists.specs.Questions.{ask, first}
 use Rattle.lists.proofs.Asking.{first-yes}
 use Rattle.mesh.specs.Levels.{vertexCount}
-use Rattle.mesh.specs.Mesh.{Mesh}
+use Rattle.mesh.specs.Mesh.{Mesh, neighbourTotal}
 use Rattle.grid.specs.Atom.{atomCounted, atomQuestion}
 use Rattle.grid.specs.declared.AtomGrid.{AtomGrid}
 use Rattle.builder.specs.BuilderLists.{BuilderLists}
@@ -59,7 +59,7 @@ module _ (h : AtomHistory) (begins : atomFresh h .answer .number ≡ 0) where
   abbrev g : AtomGrid
   g = atomCounted (h .grid)
 
-  size-is : atomSizeOf h ≡ sized 40 (g .«n_r») (vertexCount (h .top)) (h .top) _
+  size-is : atomSizeOf h ≡ sized 40 (g .«n_r») (vertexCount (h .top)) (h .top) (neighbourTotal (h .meshes .counts))
   unfolding atomSizingOut
   size-is = let a = basis h begins in rw (none-asked (atomQuestion g (h .top) (h .top)) (h .top) (h .meshes) (a .asked) (a .held) (a .kept)) refl
 

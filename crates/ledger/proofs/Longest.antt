@@ -5,7 +5,7 @@ use mathlib.Core.List.{List, [], _∷_, _++_, map, map-append}
 use Prim.Native.Nat.{ℕ, zero, suc, _+_, _*_, _/_, _%_, _≤_, _<_}
 use native.Mathlib.Nat.{suc-mul, zero-mul, mul-zero, mod-lt, div-add-mod', div-lt-iff-lt-mul}
 use native.Mathlib.Omega.{arith}
-use lib.ListN.{length, getD, set, take, length-set, length-replicate}
+use lib.ListN.{length, getD, set, take, drop, length-set, length-replicate}
 use lib.Seq.{take-all, take-suc-set}
 use lib.Dec.{leb, eqb}
 use lib.Ieee.{Float, isNan}
@@ -14,7 +14,7 @@ use Rattle.lists.specs.Questions.{ask, first}
 use Rattle.lists.proofs.Asking.{first-yes}
 use Rattle.lists.specs.Lists.{below, every, forEach}
 use Rattle.mesh.specs.Levels.{per, vertexCount, gridSize, cellCount, verticesBelow}
-use Rattle.mesh.specs.Mesh.{Mesh, meshOf, meshLong, meshesKeep, linksRoom, meshesLinked}
+use Rattle.mesh.specs.Mesh.{Mesh, meshOf, meshLong, meshesKeep, linksRoom, meshesLinked, neighbourTotal}
 use Rattle.mesh.proofs.Kept.{held}
 use Rattle.mesh.proofs.Parts.{meshes-linked}
 use Rattle.grid.specs.Settings.{counted, question, freshQuestion}
@@ -67,7 +67,7 @@ module _ (each : ℕ → ℕ) where
   total-held : (top : ℕ) (l : BuilderLists) (s n : ℕ) → total each (resolutions (l .rows) s n) ≡ heldIn (rowsIn each top l s n)
   unfolding total resolutions rowsIn rowIn heldIn
   total-held top l s zero = refl
-  total-held top l s (suc n) = rw (held-by (resolutionAt (l .rows) s) _, total-held top l (suc s) n)
+  total-held top l s (suc n) = rw (held-by (resolutionAt (l .rows) s) (take (each (getD (l .rows .levels) s 0)) (drop (s * each top) (l .store))), total-held top l (suc s) n)
 
   -- a Mesh row of a level with z energies
   abbrev pub Full : ℕ → Row Float → Type 0
@@ -172,10 +172,10 @@ fits head n z top f h =
             at-level (λ v. 27 * vertexCount v) (suc top) m k w,
             at-level (λ v. vertexCount v + 1) (suc top) m k w,
             at-level (λ v. 45 * vertexCount v) (suc top) m k w,
-            le-leb (cellCount (gridSize (vertexCount m)) + 1) _ (omega arith),
-            le-leb (27 * vertexCount m) _ (omega arith),
-            le-leb (vertexCount m + 1) _ (omega arith),
-            le-leb (45 * vertexCount m) _ (omega arith),
+            le-leb (cellCount (gridSize (vertexCount m)) + 1) (cellCount (gridSize (vertexCount m)) + 1) (omega arith),
+            le-leb (27 * vertexCount m) (27 * vertexCount m) (omega arith),
+            le-leb (vertexCount m + 1) (vertexCount m + 1) (omega arith),
+            le-leb (45 * vertexCount m) (45 * vertexCount m) (omega arith),
           );
     }
 
@@ -211,7 +211,7 @@ module _ (h : History) (begins : fresh h .answer .number ≡ 0) where
   abbrev g : Grid
   g = counted (h .grid)
 
-  size-is : sizeOf h ≡ sized 52 (slabs g) (per (h .top)) (h .top) _
+  size-is : sizeOf h ≡ sized 52 (slabs g) (per (h .top)) (h .top) (λ m. g .«n_omega» * (2 * (vertexCount m * neighbourTotal (h .meshes .counts) m)))
   unfolding sizingOut freshQuestion
   size-is = let a = basis h begins in rw (none-asked (question g (h .top) (h .top)) (h .top) (h .meshes) (a .asked) (a .held) (a .kept)) refl
 

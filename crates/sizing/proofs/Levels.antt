@@ -30,11 +30,11 @@ module _ (f : ℕ → ℕ) where
   unfolding byLevel
   one-more n out e h =
       let k : 0 + length (first n) ≡ n = omega (arith, many n) in
-      rw (e, joined-more n (λ m. f m ∷ [])) (rw k at (put-push (replicate 16 0) 0 (first n) (f n) (omega (arith, k, length-replicate 16 0))))
+      rw (e, joined-more n (λ m. f m ∷ [])) (rw k at (put-push (replicate 16 0) 0 (first n) (f n) (omega (arith, k, length-replicate {A = ℕ} 16 0))))
 
   pub sixteen : (n : ℕ) → n ≤ 16 → length (byLevel n f) ≡ 16
   unfolding byLevel
-  sixteen n h = length-put (replicate 16 0) 0 (first n) (omega (arith, many n, length-replicate 16 0)) ∙ length-replicate 16 0
+  sixteen n h = length-put (replicate 16 0) 0 (first n) (omega (arith, many n, length-replicate {A = ℕ} 16 0)) ∙ length-replicate {A = ℕ} 16 0
 
   -- the number of a level
   pub at-level : (n m : ℕ) → m < n → n ≤ 16 → getD (byLevel n f) m 0 ≡ f m

@@ -15,7 +15,7 @@ use Rattle.grid.specs.declared.AtomGrid.{AtomGrid}
 use Rattle.builder.specs.BuilderLists.{slabs}
 use Rattle.sizing.specs.declared.Size.{Size}
 
--- "Questions 1 to 7 apply, 6 and 7 to the neighbour counts and lists alone": 1 to 5 were put before, as fresh puts them, and gave `asked` (S5.22)
+-- "Questions 1 to 7 apply, 6 and 7 to the neighbour counts and lists alone": 1 to 5 were put before, as fresh puts them, and gave `asked` (S19.2)
 unfoldable pub sizingRefusal : ℕ → ℕ → List ℕ → List ℕ → ℕ
 sizingRefusal asked top counts neighbours =
     first asked
@@ -56,14 +56,14 @@ sized head n z top compared =
       comparisons = byLevel levels compared;
     }
 
--- "with every slab filled and none Repulsive": a slice has n_omega slabs, and of each these are "2·n times the total of neighbours" (S19.2)
+-- "with every slab filled and none Repulsive": a slice has n_omega slabs, and of each these are "2·n times the total of neighbours" (S19.3)
 unfoldable pub sizingOut : Grid → ℕ → List ℕ → List ℕ → Size
 sizingOut g top counts neighbours =
     let c = counted g in
     let r = sizingRefusal (freshQuestion g top) top counts neighbours in
     cond (eqb r 0) (sized 52 (slabs c) (per top) top (λ m. c .«n_omega» * (2 * (vertexCount m * neighbourTotal counts m)))) (noSize r)
 
--- "in a table against an atom the total once" (S19.3)
+-- "in a table against an atom the total once" (S19.7)
 unfoldable pub atomSizingOut : AtomGrid → ℕ → List ℕ → List ℕ → Size
 atomSizingOut g top counts neighbours =
     let c = atomCounted g in
