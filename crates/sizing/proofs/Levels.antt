@@ -13,7 +13,7 @@ use Rattle.lists.proofs.Sums.{sum-le, sum-const}
 use Rattle.lists.proofs.Written.{put-push, put-nil, length-put, length-joined, joined-more}
 use Rattle.mesh.specs.Levels.{vertexCount, verticesBelow}
 use Rattle.mesh.specs.Mesh.{neighbourTotal}
-use Rattle.sizing.specs.Sizing.{byLevel}
+use Rattle.sizing.specs.Sizing.{byLevel, sized}
 
 module _ (f : ℕ → ℕ) where
   abbrev first : ℕ → List ℕ
@@ -50,6 +50,9 @@ module _ (f : ℕ → ℕ) where
 -- it goes by the numbers alone
 pub same-levels : (f g : ℕ → ℕ) → ((m : ℕ) → f m ≡ g m) → (n : ℕ) → byLevel n f ≡ byLevel n g
 same-levels f g h n = ap (λ (k : ℕ → ℕ). byLevel n k) (fun-ext h)
+
+pub same-size : (f g : ℕ → ℕ) → ((m : ℕ) → f m ≡ g m) → (head n z top : ℕ) → sized head n z top f ≡ sized head n z top g
+same-size f g h head n z top = ap (λ (k : ℕ → ℕ). sized head n z top k) (fun-ext h)
 
 -- a total of neighbour counts that are below 256
 pub total-le : (counts : List ℕ) → ((i : ℕ) → getD counts i 0 < 256) → (m : ℕ) → neighbourTotal counts m ≤ vertexCount m * 255

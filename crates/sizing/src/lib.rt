@@ -23,7 +23,7 @@ pub struct Size {
 
 // Questions 6 and 7 of the neighbour lists, after those that gave `asked`.
 fn refusal(asked: u64, top: u64, counts: &[u8], neighbours: &[u16]) -> u64
-    requires { ⌜ asked ≡ 0 → top ≤ 15 ⌝ }
+    requires { ⌜ (asked ≡ 0 → top ≤ 15) ⌝ }
     ensures { λ r. ⌜ r ≡ sizingRefusal asked top (now (counts .entry)) (now (neighbours .entry)) ⌝ }
 {
     if asked != 0 {
