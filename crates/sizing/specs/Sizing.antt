@@ -61,7 +61,7 @@ unfoldable pub sizingOut : Grid → ℕ → List ℕ → List ℕ → Size
 sizingOut g top counts neighbours =
     let c = counted g in
     let r = sizingRefusal (freshQuestion g top) top counts neighbours in
-    cond (eqb r 0) (sized 52 (slabs c) (per top) top (λ m. c .«n_omega» * (2 * (vertexCount m * neighbourTotal counts m)))) (noSize r)
+    cond (eqb r 0) (sized 52 (slabs c) (per top) top (λ m. c .«n_omega» * (2 * vertexCount m * neighbourTotal counts m))) (noSize r)
 
 -- "in a table against an atom the total once" (S19.7)
 unfoldable pub atomSizingOut : AtomGrid → ℕ → List ℕ → List ℕ → Size

@@ -53,7 +53,7 @@ returns-2 c =
     let a = r .before .before .before .before .args in
     let o = counted (a .g) .«n_omega» in
     rw (c .sized .ensures, c .before .per-level .ensures, c .before .before .counted .ensures, ← r .before .fresh-question .ensures, ← r .refusal .ensures, eq-eqb _ _ (d .if1 .left))
-    (same-size (λ m. (2 * o * vertexCount m + 0) * neighbourTotal (a .counts .now) m) (λ m. o * (2 * (vertexCount m * neighbourTotal (a .counts .now) m))) (λ m. omega arith) _ _ _ _)
+    (same-size (λ m. (2 * o * vertexCount m + 0) * neighbourTotal (a .counts .now) m) (λ m. o * (2 * vertexCount m * neighbourTotal (a .counts .now) m)) (λ m. omega arith) _ _ _ _)
 
 pub sizing-spec : {M : Type 1} → statement M
 sizing-spec =
