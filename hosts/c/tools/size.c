@@ -92,12 +92,12 @@ static void print_bytes(const char *what, uint64_t bytes) {
 static void print_words(const build *b) {
     printf("%s, levels 0 to %llu: %llu distances, %llu slabs\n", table_words(b->atom), (unsigned long long)b->top, (unsigned long long)b->distances,
            (unsigned long long)b->slabs);
-    print_bytes("memory", memory_of(b));
+    print_bytes("to build", memory_of(b));
     print_bytes("  store", b->store);
     print_bytes("  rows", b->rows);
     print_bytes("  meshes", b->meshes);
     print_bytes("  output", b->size.file);
-    print_bytes("locators", b->locators);
+    print_bytes("locators", b->locators); /* for readings */
     print_bytes("file at most", b->size.file);
     puts("comparisons of one settle, every slab filled and none Repulsive:");
     for (uint64_t m = 0; m <= b->top; m++) {
