@@ -120,7 +120,7 @@ static const operation operations[] = {
     {"read", nothing, read_table, 2},
     {"locator", nothing, locator, 10},
     {"reading, boltzmann", nothing, reading, 3},
-    {"sizing", nothing, sizing, 6},
+    {"sizing", nothing, sizing, 4},
     {"root, exp, ln, mul_add, narrow, narrow_case, vertices, cells", nothing, numbers, 2},
 };
 
