@@ -10,7 +10,7 @@ use Rattle.sizing.specs.declared.Size.{Size}
 use Rattle.test_marks.specs.Icospheres.{icosahedron}
 use Rattle.test_marks.specs.Computed.{plain, computed}
 
-unfoldable sizes : {A : Type 0} → A → A
+unfoldable pub sizes : {A : Type 0} → A → A
 unfolding neighbourLinked vertexLinked linksKept neighbourTotal linksRoom meshesLinked freshQuestion sizingRefusal byLevel noSize sized sizingOut
 sizes x = x
 
