@@ -1,6 +1,6 @@
 /* A host in C: an empty table of level 0 from its settings, written, printed and read back; a slab set and settled; calls
  * that are refused; the locator of the icosahedron; readings, also weighted and with locator lists that were altered;
- * the same of a table against an atom; sizes and numbers. Every answer is compared with what documents 01 and 02 say, and the status is 1 where one differs. */
+ * the same of a table against an atom; the sizing of a build; sizes and numbers. Every answer is compared with what documents 01 and 02 say, and the status is 1 where one differs. */
 #include "icotable.h"
 
 #include <math.h>
@@ -165,6 +165,29 @@ static void one_slab(void) {
     expect("set over a row of kind 4", s.number, 15);
     expect("packed energies after it", s.builder.packed, PER);
     kinds[0] = 0;
+}
+
+/* The same slab, before it is built: 52 + 4 + 10 + 4 * 144 bytes, and 60 neighbours against 2 * 12 lines. */
+static void sizing(void) {
+    icotable_size s = icotable_sizing(settings, 0, neighbour_counts, N, neighbours, 6 * N);
+    expect("sizing", s.number, 0);
+    expect("its store", s.store, PER);
+    expect("its file", s.file, 642);
+    expect("its cell offsets", s.cell_offsets[0], 25);
+    expect("its cell vertices", s.cell_vertices[0], 27 * N);
+    expect("its face offsets", s.face_offsets[0], N + 1);
+    expect("its faces", s.faces[0], 45 * N);
+    expect("its comparisons", s.comparisons[0], 2 * N * 60);
+    expect("its comparisons of a level above the top", s.comparisons[1], 0);
+    s = icotable_sizing(settings, 0, neighbour_counts, N, neighbours, 6 * N - 1);
+    expect("sizing with a neighbour less", s.number, 6);
+    expect("its store", s.store, 0);
+    icotable_atom_grid ion = {.rmin = 0, .rmax = 1, .dr = 1, .threshold = 0.1, .beta = 1};
+    s = icotable_atom_sizing(ion, 0, neighbour_counts, N, neighbours, 6 * N);
+    expect("sizing against an atom", s.number, 0);
+    expect("its store", s.store, N);
+    expect("its file", s.file, 40 + 4 + 10 + 4 * N);
+    expect("its comparisons", s.comparisons[0], 60);
 }
 
 static void refused(void) {
@@ -559,6 +582,7 @@ int main(void) {
     mesh();
     empty_table();
     one_slab();
+    sizing();
     refused();
     locator();
     readings();

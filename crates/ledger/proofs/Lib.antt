@@ -1,5 +1,6 @@
 -- Laws of lists of calls, and the theorems: `promise` (Theorem), `atom-promise` (AtomTheorem), `any-order` and `later` (Order), `within-runs` (Runs), `packed-moves` (Packed), `file-length` (Ends),
--- `reports` and `atom-reports` (Comparisons).
+-- `reports` and `atom-reports` (Comparisons),
+-- `longest`, `reached` and `fitting` (Longest) with those of an atom (AtomLongest).
 pub mod Store
 pub mod Invariant
 pub mod Follows
@@ -12,7 +13,10 @@ pub mod Admitted
 pub mod Theorem
 pub mod AtomFollows
 pub mod AtomReadings
+pub mod AtomEnds
 pub mod AtomTheorem
 pub mod Sets
 pub mod Runs
 pub mod Order
+pub mod Longest
+pub mod AtomLongest

@@ -1,4 +1,4 @@
--- A reader has to believe `Ledger`, `Promise`, `Replies`, `Order`, `Packed`, `Comparisons` and, of tables against an atom, `AtomLedger` and `AtomPromise`.
+-- A reader has to believe `Ledger`, `Promise`, `Replies`, `Order`, `Packed`, `Comparisons`, `Longest` and, of tables against an atom, `AtomLedger` and `AtomPromise`.
 pub mod Ledger
 pub mod Promise
 pub mod Replies
@@ -7,3 +7,4 @@ pub mod Packed
 pub mod Comparisons
 pub mod AtomLedger
 pub mod AtomPromise
+pub mod Longest

@@ -4,3 +4,4 @@ pub mod Sizes
 pub mod Tables
 pub mod Kept
 pub mod Totals
+pub mod Parts

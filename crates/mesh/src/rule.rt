@@ -6,7 +6,7 @@ ghost use Prim.Native.Nat.{_+_, _*_};
 ghost use lib.ListN.{getD};
 ghost use lib.Ieee.{nan};
 ghost use Rattle.mesh.specs.Levels.{vertexCount};
-ghost use Rattle.mesh.specs.Mesh.{within, lists, angleKept, neighbourKept, vertexKept, verticesFinite, keepsRule, meshRoom, meshLong, meshOf};
+ghost use Rattle.mesh.specs.Mesh.{within, lists, angleKept, neighbourLinked, vertexLinked, linksKept, anglesOf, anglesKept, verticesFinite, keepsRule, meshRoom, meshLong, meshOf};
 ghost use Rattle.mesh.specs.Internal.{links};
 use crate::levels::vertex_count;
 
@@ -63,15 +63,9 @@ pub fn lists(counts: &[u8], neighbours: &[u16], v: u32, w: u32) -> bool
     within(neighbours, v, degree(counts, v), w)
 }
 
-fn angle_kept(x: f64) -> bool
-    ensures { λ r. ⌜ r ≡ angleKept x ⌝ }
-{
-    ieee::is_finite(x) & !(x < 0.0)
-}
-
-// The neighbour at place k of v keeps the rule.
-fn neighbour_kept(n: u32, counts: &[u8], neighbours: &[u16], angles: &[f64], v: u32, k: u32) -> bool
-    ensures { λ r. ⌜ r ≡ neighbourKept n (meshOf [] (now (counts .entry)) (now (neighbours .entry)) (now (angles .entry))) v k ⌝ }
+// The neighbour at place k of v keeps the rule, but for its angle.
+fn neighbour_linked(n: u32, counts: &[u8], neighbours: &[u16], v: u32, k: u32) -> bool
+    ensures { λ r. ⌜ r ≡ neighbourLinked n (links (now (counts .entry)) (now (neighbours .entry))) v k ⌝ }
 {
     let w = neighbour(neighbours, v, k);
     if n <= w {
@@ -83,14 +77,11 @@ fn neighbour_kept(n: u32, counts: &[u8], neighbours: &[u16], angles: &[f64], v: 
     if within(neighbours, v, k, w) {
         return false;
     }
-    if !lists(counts, neighbours, w, v) {
-        return false;
-    }
-    angle_kept(entry(angles, 6 * v as usize + k as usize))
+    lists(counts, neighbours, w, v)
 }
 
-fn vertex_kept(n: u32, counts: &[u8], neighbours: &[u16], angles: &[f64], v: u32) -> bool
-    ensures { λ r. ⌜ r ≡ vertexKept n (meshOf [] (now (counts .entry)) (now (neighbours .entry)) (now (angles .entry))) v ⌝ }
+fn vertex_linked(n: u32, counts: &[u8], neighbours: &[u16], v: u32) -> bool
+    ensures { λ r. ⌜ r ≡ vertexLinked n (links (now (counts .entry)) (now (neighbours .entry))) v ⌝ }
 {
     let d = degree(counts, v);
     if d < 5 {
@@ -101,10 +92,57 @@ fn vertex_kept(n: u32, counts: &[u8], neighbours: &[u16], angles: &[f64], v: u32
     }
     let mut k: u32 = 0;
     while k < d {
-        if !neighbour_kept(n, counts, neighbours, angles, v, k) {
+        if !neighbour_linked(n, counts, neighbours, v, k) {
             return false;
         }
         k += 1;
+    }
+    true
+}
+
+// The part of the mesh rule that neighbour counts and neighbours decide.
+pub fn links_kept(n: u32, counts: &[u8], neighbours: &[u16]) -> bool
+    ensures { λ r. ⌜ r ≡ linksKept n (links (now (counts .entry)) (now (neighbours .entry))) ⌝ }
+{
+    let mut v: u32 = 0;
+    while v < n {
+        if !vertex_linked(n, counts, neighbours, v) {
+            return false;
+        }
+        v += 1;
+    }
+    true
+}
+
+fn angle_kept(x: f64) -> bool
+    ensures { λ r. ⌜ r ≡ angleKept x ⌝ }
+{
+    ieee::is_finite(x) & !(x < 0.0)
+}
+
+fn angles_of(counts: &[u8], angles: &[f64], v: u32) -> bool
+    ensures { λ r. ⌜ r ≡ anglesOf (meshOf [] (now (counts .entry)) [] (now (angles .entry))) v ⌝ }
+{
+    let d = degree(counts, v);
+    let mut k: u32 = 0;
+    while k < d {
+        if !angle_kept(entry(angles, 6 * v as usize + k as usize)) {
+            return false;
+        }
+        k += 1;
+    }
+    true
+}
+
+fn angles_kept(n: u32, counts: &[u8], angles: &[f64]) -> bool
+    ensures { λ r. ⌜ r ≡ anglesKept n (meshOf [] (now (counts .entry)) [] (now (angles .entry))) ⌝ }
+{
+    let mut v: u32 = 0;
+    while v < n {
+        if !angles_of(counts, angles, v) {
+            return false;
+        }
+        v += 1;
     }
     true
 }
@@ -123,7 +161,7 @@ fn vertices_finite(n: u32, vertices: &[f64]) -> bool
     true
 }
 
-// The mesh rule, of one level's lists.
+// The mesh rule, of one level's lists, part by part.
 pub(crate) fn keeps_rule(
     n: u32,
     vertices: &[f64],
@@ -136,14 +174,10 @@ pub(crate) fn keeps_rule(
     if !vertices_finite(n, vertices) {
         return false;
     }
-    let mut v: u32 = 0;
-    while v < n {
-        if !vertex_kept(n, counts, neighbours, angles, v) {
-            return false;
-        }
-        v += 1;
+    if !links_kept(n, counts, neighbours) {
+        return false;
     }
-    true
+    angles_kept(n, counts, angles)
 }
 
 // The lengths that n vertices need.

@@ -2,9 +2,10 @@
 use crate::builder::Settled;
 use crate::environment::FloatEnvironment;
 use crate::error::Error;
-use crate::lists::{bins, passed, Lists};
+use crate::lists::Lists;
 use crate::refusal::{answer, Refusal};
 use crate::row::Row;
+use crate::sizing::atom_sizing;
 use crate::sys::{self, AtomGrid};
 use crate::Mesh;
 use std::sync::Arc;
@@ -26,8 +27,7 @@ impl AtomBuilder {
     /// A builder with no slab set, at the mesh's top level.
     pub fn new(settings: AtomGrid, mesh: Arc<Mesh>) -> Result<AtomBuilder, Error> {
         FloatEnvironment::ask()?;
-        passed(sys::atom_fresh(settings, mesh.top(), &mut Lists::default().lent(), mesh.lent()).number)?;
-        let mut lists = Lists::of(bins(settings.rmax - settings.rmin, settings.dr), per(mesh.top()));
+        let mut lists = Lists::of(&atom_sizing(settings, &mesh)?);
         let built = sys::atom_fresh(settings, mesh.top(), &mut lists.lent(), mesh.lent());
         Ok(answer(built.number, AtomBuilder { held: built.builder, mesh, lists })?)
     }

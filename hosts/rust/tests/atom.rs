@@ -1,5 +1,7 @@
 //! The wrapper's tables of one molecule against an atom, used as a host does.
-use icotable::{atom_settings, settings, vertex_count, AtomBuilder, AtomGrid, AtomTable, Builder, Error, Kind, Mesh, Refusal, Settled, Table};
+use icotable::{
+    atom_settings, atom_sizing, settings, vertex_count, AtomBuilder, AtomGrid, AtomTable, Builder, Error, Kind, Mesh, Refusal, Settled, Table,
+};
 use std::sync::Arc;
 
 fn mesh(top: u64) -> Arc<Mesh> {
@@ -164,4 +166,16 @@ fn a_mesh_with_too_few_levels_is_refused_where_it_is_touched() {
     let t = AtomTable::read(b.write().unwrap(), mesh(0)).unwrap();
     assert_eq!(t.lookup(0.0, [1.0, 0.0, 0.0]), Err(Refusal::NotLent));
     assert_eq!(t.lookup(1.0, [1.0, 0.0, 0.0]), Ok(0.0));
+}
+
+#[test]
+fn a_build_is_sized_before_it_is_made() {
+    let size = atom_sizing(small(), &mesh(2)).expect("sizing");
+    let mut b = builder(2);
+    assert_eq!((size.slabs, size.store), (b.grid().n_r, b.grid().n_r * 92));
+    assert_eq!(size.levels.iter().map(|l| l.comparisons).collect::<Vec<u64>>(), [60, 240, 540]);
+    for ri in 0..size.slabs {
+        b.set(ri, &[1.0; 92]).expect("set");
+    }
+    assert_eq!(b.write().expect("write").len() as u64, size.file);
 }
