@@ -59,7 +59,7 @@ module _ (h : AtomHistory) (begins : atomFresh h .answer .number ≡ 0) where
   abbrev g : AtomGrid
   g = atomCounted (h .grid)
 
-  size-is : atomSizeOf h ≡ sized 40 (g .«n_r») (vertexCount (h .top)) (h .top) (neighbourTotal (h .meshes .counts))
+  pub size-is : atomSizeOf h ≡ sized 40 (g .«n_r») (vertexCount (h .top)) (h .top) (neighbourTotal (h .meshes .counts))
   unfolding atomSizingOut
   size-is = let a = basis h begins in rw (none-asked (atomQuestion g (h .top) (h .top)) (h .top) (h .meshes) (a .asked) (a .held) (a .kept)) refl
 

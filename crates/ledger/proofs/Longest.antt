@@ -211,7 +211,7 @@ module _ (h : History) (begins : fresh h .answer .number ≡ 0) where
   abbrev g : Grid
   g = counted (h .grid)
 
-  size-is : sizeOf h ≡ sized 52 (slabs g) (per (h .top)) (h .top) (λ m. g .«n_omega» * (2 * vertexCount m * neighbourTotal (h .meshes .counts) m))
+  pub size-is : sizeOf h ≡ sized 52 (slabs g) (per (h .top)) (h .top) (λ m. g .«n_omega» * (2 * vertexCount m * neighbourTotal (h .meshes .counts) m))
   unfolding sizingOut freshQuestion
   size-is = let a = basis h begins in rw (none-asked (question g (h .top) (h .top)) (h .top) (h .meshes) (a .asked) (a .held) (a .kept)) refl
 

@@ -2,9 +2,11 @@
 ghost use mathlib.Core.Path.{_≡_};
 ghost use mathlib.Core.Bool.{_&&_};
 ghost use mathlib.Core.List.{[]};
-ghost use Prim.Native.Nat.{_+_, _*_};
-ghost use lib.ListN.{getD};
+ghost use Prim.Native.Nat.{_+_, _*_, _≤_};
+ghost use lib.ListN.{length, getD};
+ghost use lib.Dec.{eqb};
 ghost use lib.Ieee.{nan};
+ghost use Rattle.lists.specs.Lists.{anyUpTo};
 ghost use Rattle.mesh.specs.Levels.{vertexCount};
 ghost use Rattle.mesh.specs.Mesh.{within, lists, angleKept, neighbourLinked, vertexLinked, linksKept, anglesOf, anglesKept, verticesFinite, keepsRule, meshRoom, meshLong, meshOf};
 ghost use Rattle.mesh.specs.Internal.{links};
@@ -42,10 +44,30 @@ pub fn entry(list: &[f64], i: usize) -> f64
     0.0 / 0.0
 }
 
-// w is among the first k neighbours of v.
+// w is among the k entries from a place on, all of which are there.
+fn among(neighbours: &[u16], at: usize, k: u32, w: u32) -> bool
+    requires { ⌜ at + k ≤ length (now neighbours) ⌝ }
+    ensures { λ r. ⌜ r ≡ anyUpTo k (λ j. eqb (getD (now (neighbours .entry)) (at + j) 0) w) ⌝ }
+{
+    let mut j: u32 = 0;
+    while j < k {
+        let i = at + j as usize;
+        if neighbours[i] as u32 == w {
+            return true;
+        }
+        j += 1;
+    }
+    false
+}
+
+// w is among the first k neighbours of v. Where all of these are there, as in every mesh that is asked about, none is asked for singly.
 fn within(neighbours: &[u16], v: u32, k: u32, w: u32) -> bool
     ensures { λ r. ⌜ r ≡ within (links [] (now (neighbours .entry))) v k w ⌝ }
 {
+    let at = 6 * v as usize;
+    if at + k as usize <= neighbours.len() {
+        return among(neighbours, at, k, w);
+    }
     let mut j: u32 = 0;
     while j < k {
         if neighbour(neighbours, v, j) == w {
