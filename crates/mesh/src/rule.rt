@@ -152,11 +152,11 @@ fn angles_of(counts: &[u8], angles: &[f64], v: u32) -> bool
         return d == 0;
     }
     let mut all = true;
-    let mut k: u32 = 0;
-    while k < d {
-        let i = at + k as usize;
+    let mut j: u32 = 0;
+    while j < d {
+        let i = at + j as usize;
         all = all & angle_kept(angles[i]);
-        k += 1;
+        j += 1;
     }
     all
 }

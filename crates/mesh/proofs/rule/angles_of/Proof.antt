@@ -18,10 +18,10 @@ use Rattle.mesh.proofs.rule.angles_of.Statement.{statement}
 use Rattle.mesh.proofs.rule.angles_of.Tie as tie
 
 abbrev Inv-loop : tie.InvT-loop
-Inv-loop counts angles v d at all₀ k₀ all k = (k ≤ d) × (all ≡ allUpTo k (λ j. angleKept (getD angles (6 * v + j) nan)))
+Inv-loop counts angles v d at all₀ j₀ all j = (j ≤ d) × (all ≡ allUpTo j (λ i. angleKept (getD angles (6 * v + i) nan)))
 
 abbrev μ-loop : tie.MeasureT-loop
-μ-loop counts angles v d at all₀ k₀ all k = d - k
+μ-loop counts angles v d at all₀ j₀ all j = d - j
 
 -- an angle that is wanted is not there
 missing : (l : List Float) (at d : ℕ) → length l < at + d → eqb d 0 ≡ allUpTo d (λ j. angleKept (getD l (at + j) nan))
@@ -48,7 +48,7 @@ loop-again c = let l = c .before .before .before in
 returns-2 : tie.Need-returns-2 Inv-loop μ-loop
 unfolding anglesOf
 returns-2 c = let l = c .before in
-    let full : l .loop .k ≡ l .before .before .degree .result = omega arith in
+    let full : l .loop .j ≡ l .before .before .degree .result = omega arith in
     rw (← l .before .before .degree .ensures) (rw full at (l .loop .inv .1))
 
 pub angles-of-spec : {M : Type 1} → statement M
