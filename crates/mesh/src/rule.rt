@@ -142,18 +142,23 @@ fn angle_kept(x: f64) -> bool
     ieee::is_finite(x) & !(x < 0.0)
 }
 
+// An angle that is not lent is a NaN, and keeps no rule.
 fn angles_of(counts: &[u8], angles: &[f64], v: u32) -> bool
     ensures { λ r. ⌜ r ≡ anglesOf (meshOf [] (now (counts .entry)) [] (now (angles .entry))) v ⌝ }
 {
     let d = degree(counts, v);
-    let mut k: u32 = 0;
-    while k < d {
-        if !angle_kept(entry(angles, 6 * v as usize + k as usize)) {
-            return false;
-        }
-        k += 1;
+    let at = 6 * v as usize;
+    if angles.len() < at + d as usize {
+        return d == 0;
     }
-    true
+    let mut all = true;
+    let mut j: u32 = 0;
+    while j < d {
+        let i = at + j as usize;
+        all = all & angle_kept(angles[i]);
+        j += 1;
+    }
+    all
 }
 
 fn angles_kept(n: u32, counts: &[u8], angles: &[f64]) -> bool
@@ -173,14 +178,16 @@ fn vertices_finite(n: u32, vertices: &[f64]) -> bool
     ensures { λ r. ⌜ r ≡ verticesFinite n (now (vertices .entry)) ⌝ }
 {
     let end = 3 * n as usize;
+    if vertices.len() < end {
+        return false;
+    }
+    let mut all = true;
     let mut i: usize = 0;
     while i < end {
-        if !ieee::is_finite(entry(vertices, i)) {
-            return false;
-        }
+        all = all & ieee::is_finite(vertices[i]);
         i += 1;
     }
-    true
+    all
 }
 
 // The mesh rule, of one level's lists, part by part.
