@@ -9,7 +9,7 @@ use lib.Ieee.{Float, binary64, ofBits, div, lt}
 use Rattle.mesh.specs.Levels.{vertexCount}
 use Rattle.mesh.specs.Mesh.{Mesh, levelPart, neighbourTotal}
 use Rattle.rows.specs.Rows.{Row, scalar, repulsive, mesh}
-use Rattle.settling.specs.Gradient.{zero, allRepulsive, gradient, atomGradient, meanNarrowed, comparisons, lineComparisons}
+use Rattle.settling.specs.Gradient.{zero, allRepulsive, gradient, atomGradient, meanNarrowed, comparisons}
 use Rattle.settling.specs.Settling.{byGradient, verdict, verdictOf, verdicts, settles, comparisonsFor, comparisonsIn, atomVerdict, atomVerdictOf}
 use Rattle.settling.specs.declared.Verdict.{Verdict}
 use Rattle.settling.specs.declared.Verdict.the-variants.{Blocked, Isotropic, Smooth, Rough}

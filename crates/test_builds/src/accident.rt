@@ -194,7 +194,7 @@ pub(crate) fn settled_twice() {
         0.5235987755982988,
         0,
         12,
-        241920,
+        211680,
     );
     settle_both(
         b"twelve slabs of level 1 in two slices",
@@ -202,6 +202,6 @@ pub(crate) fn settled_twice() {
         1.0471975511965976,
         1,
         6,
-        120960,
+        105840,
     );
 }
