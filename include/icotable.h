@@ -48,7 +48,7 @@
 /* The version, raised where a struct, a function or the table file changes (CHANGELOG.md). The pkg-config file and the
  * tool take it from here; a test compares it with hosts/rust. */
 #define ICOTABLE_VERSION_MAJOR 0
-#define ICOTABLE_VERSION_MINOR 11
+#define ICOTABLE_VERSION_MINOR 12
 #define ICOTABLE_VERSION_PATCH 0
 
 #define ICOTABLE_STRING_(x) #x
@@ -146,10 +146,13 @@ typedef struct icotable_table {
     uint64_t start[5];
 } icotable_table;
 
-/* energy: what a reading gives; infinity inside a repulsive wall, 0 outside the table's distances. */
+/* energy: what a reading gives; infinity inside a repulsive wall, 0 outside the table's distances. distance_a and
+ * distance_b: where the row is read at the nearest vertices, the square of the distance from each direction, divided by
+ * its length, to the vertex that stands for it; 0 for both of any other reading. docs/GUIDE.md has how far a level's
+ * vertices can lie. */
 typedef struct icotable_value {
     uint64_t number;
-    double energy;
+    double energy, distance_a, distance_b;
 } icotable_value;
 
 /* A builder with no slab set. Fills the store with 0.0 and every row with the scalar 0.0. Questions 1 to 7. */
@@ -239,8 +242,8 @@ icotable_value icotable_reading(
 /* The same, weighted by temperature, with a beta of its own: one over the unit of energies, and never the table's.
  * Where a Mesh row is interpolated it is -ln(the sum of w*exp(-beta*e))/beta over the nine energies e and their weights
  * w, in place of the sum of w*e; a weight not above 0 drops its energy. Rows read at the nearest vertices, Scalar and
- * Repulsive ones answer as icotable_reading does. Question 18; then 21, where beta is not finite and above 0, whatever
- * the row is; then 0 for a distance outside the table; then 19, 20. */
+ * Repulsive ones answer as icotable_reading does, the distances included. Question 18; then 21, where beta is not
+ * finite and above 0, whatever the row is; then 0 for a distance outside the table; then 19, 20. */
 icotable_value icotable_boltzmann(
     const icotable_table *table,
     const uint8_t *file, size_t file_count,
@@ -287,7 +290,7 @@ typedef struct icotable_atom_table {
     uint64_t start[5];
 } icotable_atom_table;
 
-/* energy: as in icotable_value. */
+/* energy: as in icotable_value; a reading against an atom shows no distance. */
 typedef struct icotable_energy {
     uint64_t number;
     double energy;

@@ -278,6 +278,35 @@ static void weighted_readings(void) {
     expect("the same with beta 0", weighted(0.5, a, b, 0).number, 21);
 }
 
+static int no_distance(icotable_value v) {
+    return v.distance_a == 0 && v.distance_b == 0 && !signbit(v.distance_a) && !signbit(v.distance_b);
+}
+
+/* Half way between two neighbours of the icosahedron a vertex lies as far as its squared distance says: 2 - 2 cos of half
+ * their angle; at a vertex nothing. The length of a direction is of no matter. Any other reading shows 0 twice. */
+static void distances(void) {
+    static const double none[3] = {0, 0, 0};
+    const double *a = vertices, *b = vertices + 3 * neighbours[0];
+    double middle[3] = {7 * (a[0] + b[0]), 7 * (a[1] + b[1]), 7 * (a[2] + b[2])};
+    small_table();
+    expect("an interpolated reading shows no distances", no_distance(reading(0.5, middle, a)), 1);
+    expect("nor does a weighted one", no_distance(weighted(0.5, middle, a, 1)), 1);
+    file[ROW] = 2;
+    double wanted = 2 - 2 * cos(angles[0] / 2);
+    icotable_value v = reading(0.5, middle, a), w = reading(0.5, a, middle);
+    expect("reading at the nearest vertices", v.number + w.number, 0);
+    expect("the distance half way to a neighbour", fabs(v.distance_a - wanted) < 1e-12 && v.distance_b < 1e-30, 1);
+    expect("the same of the second direction", w.distance_b == v.distance_a && w.distance_a == v.distance_b, 1);
+    w = weighted(0.5, middle, a, 1);
+    expect("the same of a weighted reading", w.distance_a == v.distance_a && w.distance_b == v.distance_b, 1);
+    expect("a reading beyond rmax shows none", no_distance(reading(1.5, middle, a)), 1);
+    expect("nor does a refused one", no_distance(reading(0.5, middle, none)), 1);
+    file[ROW] = 0;
+    expect("nor does a Scalar row's", no_distance(reading(0.5, middle, a)), 1);
+    file[ROW] = 1;
+    expect("nor does a Repulsive row's", no_distance(reading(0.5, middle, a)), 1);
+}
+
 /* A span whose start is its end touches no entry, wherever its end lies: an empty cell is 20, an empty span of faces
  * leaves face 0 0 0 with weights 0. */
 static void empty_spans(void) {
@@ -527,6 +556,7 @@ int main(void) {
     locator();
     readings();
     weighted_readings();
+    distances();
     empty_spans();
     empty_atom_table();
     atom_slab();

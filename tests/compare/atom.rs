@@ -78,6 +78,10 @@ pub fn directions(q: &Query) -> Vec<[f64; 3]> {
     vec![q.a]
 }
 
+pub fn distances(_: &Value) -> [f64; 2] {
+    [0.0; 2]
+}
+
 pub fn boltzmann(table: &Table, l: Lent, q: &Query, beta: f64) -> Value {
     icotable::atom_boltzmann(table, l, q.r, q.a, beta)
 }
@@ -132,6 +136,11 @@ pub fn lookup(t: &RustTable, q: &Query) -> f64 {
 
 pub fn lookup_boltzmann(t: &RustTable, q: &Query, beta: f64) -> f64 {
     t.lookup_boltzmann(q.r, &Vector3::from(q.a), beta)
+}
+
+// Shown of tables of two molecules alone.
+pub fn rust_distances(_: &RustTable, _: &Query) -> [f64; 2] {
+    [0.0; 2]
 }
 
 // ---- the interpolated readings of documents 01 and 02

@@ -170,23 +170,25 @@ pub fn add_level(mesh: &Mesh, grid: &FaceGrid, more: usize, entry: impl FnMut() 
     entries
 }
 
-fn same_value(name: &str, got: Value, table: &Table, lent: icotable::Lent, asked: impl Fn() -> String, number: u64, energy: f64) {
+fn same_value(name: &str, got: Value, table: &Table, lent: icotable::Lent, asked: impl Fn() -> String, a: &reading::Answer) {
     report::input();
-    if (got.number, bits(got.energy)) != (number, bits(energy)) {
+    let far = shape::distances(&got);
+    if (got.number, bits(got.energy), far.map(bits)) != (a.number, bits(a.energy), a.distances.map(bits)) {
         let lengths = [lent.file.len(), lent.vertices.len(), lent.cell_offsets.len(), lent.cell_vertices.len(), lent.face_offsets.len(), lent.faces.len()];
         let input = format!("{} of {table:?}, lent {lengths:?}", asked());
-        differ(name, input, format!("{}, {:e}", got.number, got.energy), format!("{number}, {energy:e}"));
+        let shown = |number: u64, energy: f64, far: [f64; 2]| format!("{number}, {energy:e}, distances {far:?}");
+        differ(name, input, shown(got.number, got.energy, far), shown(a.number, a.energy, a.distances));
     }
 }
 
 // A reading, and the file that it is of.
-pub fn same_reading(table: &Table, lent: icotable::Lent, q: &Query, number: u64, energy: f64) {
-    same_value("reading", shape::reading(table, lent, q), table, lent, || format!("{q:?}"), number, energy);
+pub fn same_reading(table: &Table, lent: icotable::Lent, q: &Query, a: &reading::Answer) {
+    same_value("reading", shape::reading(table, lent, q), table, lent, || format!("{q:?}"), a);
 }
 
 // The same, weighted.
-pub fn same_weighted(table: &Table, lent: icotable::Lent, q: &Query, beta: f64, number: u64, energy: f64) {
-    same_value("weighted reading", shape::boltzmann(table, lent, q, beta), table, lent, || format!("{q:?}, beta {beta:e}"), number, energy);
+pub fn same_weighted(table: &Table, lent: icotable::Lent, q: &Query, beta: f64, a: &reading::Answer) {
+    same_value("weighted reading", shape::boltzmann(table, lent, q, beta), table, lent, || format!("{q:?}, beta {beta:e}"), a);
 }
 
 // A file in words: the first bytes of it, where it is long.
@@ -230,16 +232,16 @@ impl reader::Sink for Readings {
     fn hold(&mut self, _: &Table, _: &Table) {}
 
     fn reading(&mut self, table: &Table, lists: &reader::Lists, lent: &[usize; 6], q: &Query, a: &reading::Answer, _: usize) {
-        same_reading(table, lists.lent(lent), q, a.number, a.energy);
+        same_reading(table, lists.lent(lent), q, a);
         *if a.number == 0 { &mut self.answered } else { &mut self.refused } += 1;
         let beta = reader::beta(&mut self.random);
         let w = reading::weighted(table, lists.lent(lent), q, beta);
-        same_weighted(table, lists.lent(lent), q, beta, w.number, w.energy);
+        same_weighted(table, lists.lent(lent), q, beta, &w);
         self.weighted += 1;
     }
 
     fn weighted(&mut self, table: &Table, lists: &reader::Lists, lent: &[usize; 6], q: &Query, beta: f64, a: &reading::Answer) {
-        same_weighted(table, lists.lent(lent), q, beta, a.number, a.energy);
+        same_weighted(table, lists.lent(lent), q, beta, a);
         self.weighted += 1;
     }
 }

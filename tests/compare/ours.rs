@@ -13,6 +13,8 @@ pub struct Nearest {
 #[derive(Clone, Copy)]
 pub struct Located {
     pub number: u64,
+    pub vertex: u64,
+    pub distance: f64,
     pub face: [u64; 3],
     pub weights: [f64; 3],
 }

@@ -79,6 +79,10 @@ pub fn directions(q: &Query) -> Vec<[f64; 3]> {
     vec![q.a, q.b]
 }
 
+pub fn distances(v: &Value) -> [f64; 2] {
+    [v.distance_a, v.distance_b]
+}
+
 // ---- the Rust
 
 pub fn rust_builder(levels: Vec<builder::MeshLevel>, top: usize, [rmin, rmax, dr, omega_step, threshold, beta]: [f64; 6]) -> RustBuilder {
@@ -113,6 +117,20 @@ pub fn lookup(t: &RustTable, q: &Query) -> f64 {
 
 pub fn lookup_boltzmann(t: &RustTable, q: &Query, beta: f64) -> f64 {
     t.lookup_boltzmann(q.r, q.omega, &Vector3::from(q.a), &Vector3::from(q.b), beta)
+}
+
+// The squared distances of both directions to the vertices that a nearest row takes, by the Rust's own search; 0.0 for any other row.
+pub fn rust_distances(t: &RustTable, q: &Query) -> [f64; 2] {
+    let row = t.resolve_slab_idx(q.r, q.omega).map(|s| t.slab_res[s].clone());
+    let Some(rust::SlabResolution::Mesh { level, interpolate: false }) = row else {
+        return [0.0; 2];
+    };
+    let grid = &t.levels[level as usize].grid;
+    [q.a, q.b].map(|d| {
+        let d = Vector3::from(d);
+        let e = &d.normalize() - &Vector3::from(grid.vertices[grid.find_nearest_vertex(&d)]);
+        e.dot(&e)
+    })
 }
 
 // ---- the interpolated readings of documents 01 and 02

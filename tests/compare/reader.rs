@@ -6,7 +6,7 @@ use crate::meshes::{Mesh, Random};
 use crate::oracle::FaceGrid;
 use crate::reading::{cell_offsets_below, reading, vertices_below, weighted, Answer};
 use crate::report::differ;
-use crate::shape::{lookup, lookup_boltzmann, RustTable, Table};
+use crate::shape::{lookup, lookup_boltzmann, rust_distances, RustTable, Table};
 use std::collections::BTreeMap;
 
 pub const FILE: usize = 16384;
@@ -101,20 +101,26 @@ pub struct Reader<'a> {
     random: Random,
 }
 
-// Where 01 admits a reading of the file as it was written, the Rust has to answer the same.
-pub fn same_as_rust(rust: &RustTable, t: &Table, q: &Query, energy: f64) {
-    let theirs = lookup(rust, q);
-    if bits(theirs) != bits(energy) {
-        differ("the Rust's lookup and document 01's text", format!("{q:?} of {t:?}"), format!("{energy:e}"), format!("{theirs:e}"));
+// An energy of the Rust's and the distances that its own search works out, beside those of the documents' text.
+fn alike(what: &str, asked: impl Fn() -> String, rust: &RustTable, q: &Query, theirs: f64, a: &Answer) {
+    if bits(theirs) != bits(a.energy) {
+        differ(what, asked(), format!("{:e}", a.energy), format!("{theirs:e}"));
+    }
+    let far = rust_distances(rust, q);
+    if far.map(bits) != a.distances.map(bits) {
+        differ("the Rust's search and document 02's distances", asked(), format!("{:?}", a.distances), format!("{far:?}"));
     }
 }
 
+// Where 01 admits a reading of the file as it was written, the Rust has to answer the same.
+pub fn same_as_rust(rust: &RustTable, t: &Table, q: &Query, a: &Answer) {
+    alike("the Rust's lookup and document 01's text", || format!("{q:?} of {t:?}"), rust, q, lookup(rust, q), a);
+}
+
 // The same of a weighted reading.
-pub fn weighted_as_rust(rust: &RustTable, t: &Table, q: &Query, beta: f64, energy: f64) {
-    let theirs = lookup_boltzmann(rust, q, beta);
-    if bits(theirs) != bits(energy) {
-        differ("the Rust's lookup_boltzmann and document 02's text", format!("{q:?}, beta {beta:e}, of {t:?}"), format!("{energy:e}"), format!("{theirs:e}"));
-    }
+pub fn weighted_as_rust(rust: &RustTable, t: &Table, q: &Query, beta: f64, a: &Answer) {
+    let what = "the Rust's lookup_boltzmann and document 02's text";
+    alike(what, || format!("{q:?}, beta {beta:e}, of {t:?}"), rust, q, lookup_boltzmann(rust, q, beta), a);
 }
 
 // The beta of a weighted reading: subnormal, tiny, usual, huge; one in eight is refused.
@@ -279,7 +285,7 @@ impl<'a> Reader<'a> {
         let d = self.undamaged();
         let a = self.answer(&d, q);
         if a.number == 0 {
-            same_as_rust(self.rust.as_ref().unwrap(), &d.table, q, a.energy);
+            same_as_rust(self.rust.as_ref().unwrap(), &d.table, q, &a);
         }
         self.hold(d.table);
         self.hand(&d.lent, q, &a, true);
@@ -291,7 +297,7 @@ impl<'a> Reader<'a> {
         let beta = beta(&mut self.random);
         let a = weighted(&d.table, self.lists.lent(&d.lent), q, beta);
         if a.number == 0 {
-            weighted_as_rust(self.rust.as_ref().unwrap(), &d.table, q, beta, a.energy);
+            weighted_as_rust(self.rust.as_ref().unwrap(), &d.table, q, beta, &a);
         }
         self.sink.weighted(&d.table, &self.lists, &d.lent, q, beta, &a);
         self.count(COUNTED[if a.number == 0 { 11 } else { 12 }]);

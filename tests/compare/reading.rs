@@ -1,5 +1,5 @@
-// The reading of a table file, from document 01's text and from nothing else, and the weighted one, from document 02's: the number of the first question that is answered no, or 0 and the energy; and
-// which case it is. What a host hands in may be any number, so places are whole numbers of 128 bits.
+// The reading of a table file, from document 01's text and from nothing else, and the weighted one, from document 02's: the number of the first question that is answered no, or 0, the energy and the squared
+// distances that a nearest reading shows; and which case it is. What a host hands in may be any number, so places are whole numbers of 128 bits.
 use crate::icotable::{Lent, Query};
 use crate::search::{self, cell_of, cells_along, length, vertices_of, Refusal, Search};
 use crate::shape::{self, Table, LENGTHS};
@@ -9,8 +9,15 @@ use std::f64::consts::TAU;
 pub struct Answer {
     pub number: u64,
     pub energy: f64,
+    pub distances: [f64; 2],
     pub words: &'static str,
 }
+
+// An energy and its distances, and which case it is.
+type Shown = (f64, [f64; 2], &'static str);
+
+// "any other reading 0.0 for both"
+const NONE: [f64; 2] = [0.0; 2];
 
 pub fn vertices_below(level: u64) -> u128 {
     (0..level).map(vertices_of).sum()
@@ -58,16 +65,22 @@ pub fn search_in<'a>(lent: &Lent<'a>, level: u64, d: [f64; 3]) -> Search<'a> {
     Search::new(lists, level, d)
 }
 
-// The vertices of a direction, one or three, and the weights of three.
-fn found(lent: &Lent, level: u64, d: [f64; 3], interpolate: bool) -> Result<(Vec<u16>, [f64; 3]), Refusal> {
-    let search = search_in(lent, level, d);
-    if interpolate {
-        return search.face().map(|(face, weights)| (face.to_vec(), weights));
-    }
-    search.nearest().map(|(v, _)| (vec![v], [0.0; 3]))
+// What is found of a direction: one vertex and its squared distance, or three and their weights.
+struct Side {
+    vertices: Vec<u16>,
+    weights: [f64; 3],
+    distance: f64,
 }
 
-fn mesh_row(t: &Table, lent: Lent, q: &Query, beta: Option<f64>, level: u64, offset: u32, interpolate: bool) -> Result<(f64, &'static str), Refusal> {
+fn found(lent: &Lent, level: u64, d: [f64; 3], interpolate: bool) -> Result<Side, Refusal> {
+    let search = search_in(lent, level, d);
+    if interpolate {
+        return search.face().map(|(face, weights)| Side { vertices: face.to_vec(), weights, distance: 0.0 });
+    }
+    search.nearest().map(|(v, distance)| Side { vertices: vec![v], weights: [0.0; 3], distance })
+}
+
+fn mesh_row(t: &Table, lent: Lent, q: &Query, beta: Option<f64>, level: u64, offset: u32, interpolate: bool) -> Result<Shown, Refusal> {
     let sides: Vec<_> = shape::directions(q).into_iter().map(|d| found(&lent, level, d, interpolate)).collect();
     // 19 of either direction before 20 of either
     for number in [19, 20] {
@@ -78,10 +91,10 @@ fn mesh_row(t: &Table, lent: Lent, q: &Query, beta: Option<f64>, level: u64, off
             }
         }
     }
-    let (vertices, weights): (Vec<_>, Vec<_>) = sides.into_iter().collect::<Result<Vec<_>, _>>()?.into_iter().unzip();
+    let sides = sides.into_iter().collect::<Result<Vec<_>, _>>()?;
     let n = vertices_of(level);
     // that of vertices i and j is at i * n + j, that of one vertex at its number
-    let places = vertices.iter().fold(vec![0], |places, side: &Vec<u16>| places.iter().flat_map(|p| side.iter().map(move |&v| p * n + v as u128)).collect());
+    let places = sides.iter().fold(vec![0], |places, side| places.iter().flat_map(|p| side.vertices.iter().map(move |&v| p * n + v as u128)).collect());
     let words = ["an energy beyond the count", "an energy beyond the file"];
     let mut energies = Vec::new();
     for place in places {
@@ -89,15 +102,19 @@ fn mesh_row(t: &Table, lent: Lent, q: &Query, beta: Option<f64>, level: u64, off
         energies.push(f32::from_bits(u32_of(bytes)) as f64);
     }
     if !interpolate {
-        return Ok((energies[0], "nearest"));
+        // an atom's reading shows none
+        let distances = if shape::PAIR { [0, 1].map(|k| sides[k].distance) } else { NONE };
+        return Ok((energies[0], distances, "nearest"));
     }
+    let weights: Vec<_> = sides.iter().map(|side| side.weights).collect();
     if let Some(beta) = beta {
-        return Ok(shape::weighted_average(&weights, &energies, beta));
+        let (energy, words) = shape::weighted_average(&weights, &energies, beta);
+        return Ok((energy, NONE, words));
     }
-    Ok((shape::plain_sum(&weights, &energies), "interpolated"))
+    Ok((shape::plain_sum(&weights, &energies), NONE, "interpolated"))
 }
 
-fn row(t: &Table, lent: Lent, q: &Query, beta: Option<f64>) -> Result<(f64, &'static str), Refusal> {
+fn row(t: &Table, lent: Lent, q: &Query, beta: Option<f64>) -> Result<Shown, Refusal> {
     if q.r.is_nan() {
         return Err((18, "r is a NaN"));
     }
@@ -114,7 +131,7 @@ fn row(t: &Table, lent: Lent, q: &Query, beta: Option<f64>) -> Result<(f64, &'st
         return Err((21, "beta"));
     }
     if q.r < t.grid.rmin || q.r > (t.grid.n_r as f64).mul_add(t.grid.dr, t.grid.rmin) {
-        return Ok((0.0, if q.r < t.grid.rmin { "below rmin" } else { "above rmax" }));
+        return Ok((0.0, NONE, if q.r < t.grid.rmin { "below rmin" } else { "above rmax" }));
     }
     let (omega_step, n_omega) = shape::dihedral(&t.grid);
     if t.grid.n_r == 0 || n_omega == 0 {
@@ -129,8 +146,8 @@ fn row(t: &Table, lent: Lent, q: &Query, beta: Option<f64>) -> Result<(f64, &'st
     let level = bytes[1] as u64;
     let interpolate = bytes[0] == 3;
     match bytes[0] {
-        0 => Ok((f32::from_bits(u32_of(&bytes[6..])) as f64, "Scalar")),
-        1 => Ok((f64::INFINITY, "Repulsive")),
+        0 => Ok((f32::from_bits(u32_of(&bytes[6..])) as f64, NONE, "Scalar")),
+        1 => Ok((f64::INFINITY, NONE, "Repulsive")),
         2 | 3 if level >= t.levels => Err((19, "a level that is not held")),
         2 | 3 => mesh_row(t, lent, q, beta, level, u32_of(&bytes[2..6]), interpolate),
         _ => Err((19, "an unknown kind")),
@@ -147,7 +164,7 @@ pub fn weighted(t: &Table, lent: Lent, q: &Query, beta: f64) -> Answer {
 
 fn answer(t: &Table, lent: Lent, q: &Query, beta: Option<f64>) -> Answer {
     match row(t, lent, q, beta) {
-        Ok((energy, words)) => Answer { number: 0, energy, words },
-        Err((number, words)) => Answer { number, energy: 0.0, words },
+        Ok((energy, distances, words)) => Answer { number: 0, energy, distances, words },
+        Err((number, words)) => Answer { number, energy: 0.0, distances: NONE, words },
     }
 }

@@ -62,6 +62,7 @@ const HEAD: &[&str] = &[
     "04 read: the number answered, and behind it how much of the file is lent. Its answer is held, until one of a host takes its place:",
     "05 rmin, rmax, dr, omega step, threshold, beta, both bin counts; 06 the counts of levels, rows and energies, and the starts of the five sections.",
     "07 beta: the reading behind it, which says 06, is weighted by it; its energy is the Rust's.",
+    "08 the squared distances of both directions to their vertices, which the reading behind it shows; one without such a line shows 0.0 for both.",
 ];
 
 const AGAINST_AN_ATOM: &str = "Against an atom: omega, the second direction, the omega step and the second bin count are not handed in.";
@@ -72,7 +73,7 @@ const MESHES: usize = 24 * LINE;
 type Line = Fixed<LINE>;
 
 impl Fixed<LINE> {
-    fn words(&mut self, words: [u64; 8]) {
+    fn words<const N: usize>(&mut self, words: [u64; N]) {
         for (k, n) in words.into_iter().enumerate() {
             self.put(56 + 17 * k, 16, n);
         }
@@ -146,6 +147,30 @@ impl Sink for Written {
     }
 
     fn reading(&mut self, _: &Table, _: &Lists, lent: &[usize; 6], q: &Query, a: &Answer, kind: usize) {
+        self.distances(a);
+        self.answered(lent, q, a, kind);
+    }
+
+    fn weighted(&mut self, _: &Table, _: &Lists, lent: &[usize; 6], q: &Query, beta: f64, a: &Answer) {
+        self.distances(a);
+        let mut line = Line::new(7);
+        line.put(56, 16, bits(beta));
+        self.out.extend(line.0);
+        self.answered(lent, q, a, 6);
+    }
+}
+
+impl Written {
+    // The line before a reading that shows distances.
+    fn distances(&mut self, a: &Answer) {
+        if PAIR && a.words == "nearest" {
+            let mut line = Line::new(8);
+            line.words(a.distances.map(bits));
+            self.out.extend(line.0);
+        }
+    }
+
+    fn answered(&mut self, lent: &[usize; 6], q: &Query, a: &Answer, kind: usize) {
         let mut line = Line::new(1);
         line.put(3, 2, kind as u64);
         line.put(6, 2, a.number);
@@ -155,13 +180,6 @@ impl Sink for Written {
         }
         line.words([q.r, q.omega, q.a[0], q.a[1], q.a[2], q.b[0], q.b[1], q.b[2]].map(bits));
         self.out.extend(line.0);
-    }
-
-    fn weighted(&mut self, table: &Table, lists: &Lists, lent: &[usize; 6], q: &Query, beta: f64, a: &Answer) {
-        let mut line = Line::new(7);
-        line.put(56, 16, bits(beta));
-        self.out.extend(line.0);
-        self.reading(table, lists, lent, q, a, 6);
     }
 }
 

@@ -73,7 +73,16 @@ fn nearest_words(a: &Nearest) -> String {
 }
 
 fn located_words(a: &Located) -> String {
-    format!("number {}, face {:?}, weights {}", a.number, a.face, words(&a.weights))
+    format!("number {}, vertex {}, distance {}, face {:?}, weights {}", a.number, a.vertex, words(&[a.distance]), a.face, words(&a.weights))
+}
+
+// What face location answers beside the nearest vertex, which it passes on; and where it is refused.
+fn located_at(near: &Nearest, (face, weights): ([u64; 3], [f64; 3])) -> Located {
+    Located { number: 0, vertex: near.vertex, distance: near.distance, face, weights }
+}
+
+fn not_located(number: u64) -> Located {
+    Located { number, vertex: 0, distance: 0.0, face: [0; 3], weights: [0.0; 3] }
 }
 
 fn differ(mesh: &Mesh, what: &str, input: &str, ours: &str, wanted: &str) -> ! {
@@ -146,7 +155,8 @@ fn same(mesh: &Mesh, vertices: &[f64], lists: &Lists, d: [f64; 3], nearest: Near
         differ(mesh, "find_nearest_vertex", &input(), &nearest_words(&got), &nearest_words(&nearest));
     }
     let got = ours::locate(mesh.level, lists, vertices, d);
-    if (got.number, got.face, got.weights.map(bits)) != (located.number, located.face, located.weights.map(bits)) {
+    let compared = |a: &Located| (a.number, a.vertex, bits(a.distance), a.face, a.weights.map(bits));
+    if compared(&got) != compared(&located) {
         differ(mesh, "locate", &input(), &located_words(&got), &located_words(&located));
     }
 }
@@ -163,12 +173,12 @@ fn search(mesh: &Mesh, lent: &Lent, lists: &Lists, grid: &FaceGrid, kind: &'stat
         e.x * e.x + e.y * e.y + e.z * e.z
     };
     let mut nearest = Nearest { number: 20, vertex: 0, distance: 0.0 };
-    let mut located = Located { number: 20, face: [0; 3], weights: [0.0; 3] };
+    let mut located = not_located(20);
     if !listed.is_empty() {
         let v = grid.find_nearest_vertex(&dir);
         nearest = Nearest { number: 0, vertex: v as u64, distance: distance(v) };
         let (face, weights) = grid.locate(&dir);
-        located = Located { number: 0, face: face.map(|v| v as u64), weights };
+        located = located_at(&nearest, (face.map(|v| v as u64), weights));
         let tied = listed.iter().filter(|&&w| bits(distance(w as usize)) == bits(nearest.distance)).count() > 1;
         tally.tied += tied as usize;
         tally.unfit += (face == [0; 3]) as usize;
@@ -300,8 +310,8 @@ fn search_damaged(mesh: &Mesh, vertices: &[f64], lists: &Lists, d: [f64; 3], tal
         Err((number, _)) => Nearest { number, vertex: 0, distance: 0.0 },
     };
     let located = match face {
-        Ok((face, weights)) => Located { number: 0, face: face.map(|v| v as u64), weights },
-        Err((number, _)) => Located { number, face: [0; 3], weights: [0.0; 3] },
+        Ok((face, weights)) => located_at(&nearest, (face.map(|v| v as u64), weights)),
+        Err((number, _)) => not_located(number),
     };
     same(mesh, vertices, lists, d, nearest, located);
 }

@@ -296,16 +296,16 @@ fn readings(world: &World, t: &Table, table: &RustTable, file: &[u8], many: usiz
     for q in queries {
         let a = reading::reading(t, lent, &q);
         if a.number == 0 {
-            same_as_rust(table, t, &q, a.energy);
+            same_as_rust(table, t, &q, &a);
         }
-        same_reading(t, lent, &q, a.number, a.energy);
+        same_reading(t, lent, &q, &a);
         found[a.number as usize] += 1;
         let beta = reader::beta(random);
         let w = reading::weighted(t, lent, &q, beta);
         if w.number == 0 {
-            weighted_as_rust(table, t, &q, beta, w.energy);
+            weighted_as_rust(table, t, &q, beta, &w);
         }
-        same_weighted(t, lent, &q, beta, w.number, w.energy);
+        same_weighted(t, lent, &q, beta, &w);
         tally.add("weighted reading, as written", 1);
     }
     for (number, &n) in found.iter().enumerate().filter(|f| *f.1 > 0) {

@@ -77,9 +77,9 @@ pub fn weighted(count: usize, random: &mut Random, add: &mut dyn FnMut(&str, u64
         let beta = beta(random);
         let a = reading::weighted(&t, lent, &q, beta);
         if a.number == 0 {
-            weighted_as_rust(&table, &t, &q, beta, a.energy);
+            weighted_as_rust(&table, &t, &q, beta, &a);
         }
-        same_weighted(&t, lent, &q, beta, a.number, a.energy);
+        same_weighted(&t, lent, &q, beta, &a);
         add(&format!("weighted reading, answered {}: {}", a.number, a.words), 1);
     }
     world.take_back(table);

@@ -32,10 +32,15 @@ static int read_query(double *query, int count) {
     return 1;
 }
 
-static void print_answer(uint64_t number, double energy) {
-    uint64_t bits;
-    memcpy(&bits, &energy, sizeof bits);
-    printf("%d %016" PRIX64 "\n", (int)number, bits);
+/* The number, and numbers by their bits. */
+static void print_answer(uint64_t number, const double *shown, int count) {
+    printf("%d", (int)number);
+    for (int k = 0; k < count; k++) {
+        uint64_t bits;
+        memcpy(&bits, &shown[k], sizeof bits);
+        printf(" %016" PRIX64, bits);
+    }
+    putchar('\n');
 }
 
 int main(int count, char **names) {
@@ -53,10 +58,11 @@ int main(int count, char **names) {
     while (read_query(q, t.number == 0 ? 8 : 4)) {
         if (t.number == 0) {
             icotable_value v = icotable_reading(&t, file, length, ICOTABLE_LOCATORS(&m), q[0], q[1], q[2], q[3], q[4], q[5], q[6], q[7]);
-            print_answer(v.number, v.energy);
+            double shown[3] = {v.energy, v.distance_a, v.distance_b};
+            print_answer(v.number, shown, 3);
         } else {
             icotable_energy v = icotable_atom_reading(&u, file, length, ICOTABLE_LOCATORS(&m), q[0], q[1], q[2], q[3]);
-            print_answer(v.number, v.energy);
+            print_answer(v.number, &v.energy, 1);
         }
     }
     icotable_free_meshes(&m);

@@ -214,25 +214,27 @@ class Table:
         return struct.unpack_from("<f", self.data, self.energies + 4 * place)[0]
 
     def reading(self, meshes, r, omega, a, b):
+        """The energy, and the squared distances that it shows."""
         ri = self.distance_bin(r)
         if ri is None:
-            return 0.0
+            return 0.0, 0.0, 0.0
         t = math.fmod(omega, TAU)
         t = t + TAU if t < 0 else t
         oi = math.trunc(t / self.step + 0.5) % self.n_omega
         kind, level, offset, scalar = self.row(ri * self.n_omega + oi)
         if kind < 2:
-            return math.inf if kind == 1 else scalar
+            return math.inf if kind == 1 else scalar, 0.0, 0.0
         mesh, p, q = meshes[level], unit(a), unit(b)
         energy = lambda v, w: self.energy(offset + v * mesh.n + w)
         if kind == 2:
-            return energy(nearest(mesh, p), nearest(mesh, q))
+            v, w = nearest(mesh, p), nearest(mesh, q)
+            return energy(v, w), squared(p, mesh.vertices[v]), squared(q, mesh.vertices[w])
         (fa, wa), (fb, wb) = face_and_weights(mesh, p), face_and_weights(mesh, q)
         total = 0.0
         for i in range(3):
             for j in range(3):
                 total = total + (wa[i] * energy(fa[i], fb[j])) * wb[j]
-        return total
+        return total, 0.0, 0.0
 
 
 class AtomTable(Table):
@@ -245,16 +247,16 @@ class AtomTable(Table):
     def reading(self, meshes, r, direction):
         ri = self.distance_bin(r)
         if ri is None:
-            return 0.0
+            return (0.0,)
         kind, level, offset, scalar = self.row(ri)
         if kind < 2:
-            return math.inf if kind == 1 else scalar
+            return (math.inf if kind == 1 else scalar,)
         mesh, p = meshes[level], unit(direction)
         if kind == 2:
-            return self.energy(offset + nearest(mesh, p))
+            return (self.energy(offset + nearest(mesh, p)),)
         face, w = face_and_weights(mesh, p)
         t = [w[i] * self.energy(offset + face[i]) for i in range(3)]
-        return (t[0] + t[1]) + t[2]
+        return ((t[0] + t[1]) + t[2],)
 
 
 # ---- the comparison
@@ -341,7 +343,7 @@ def compare_readings(ask, name, table, queries, meshes):
     answers = subprocess.run([ask, name], input=lines, capture_output=True, text=True, check=True).stdout.split("\n")
     differing = 0
     for query, answer in zip(queries, answers, strict=False):
-        wanted = f"0 {bits(table.reading(meshes, *query))}"
+        wanted = " ".join(["0"] + [bits(x) for x in table.reading(meshes, *query)])
         if answer != wanted:
             print(f"the library answers {answer}, the page's rule {wanted}: {query}")
             differing += 1

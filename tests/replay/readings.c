@@ -1,5 +1,5 @@
-/* Readings of tables (tests/compare/readings.rs writes them). A line is one of these: a reading with its stored answer;
- * entries of a lent list; meshes, whose letters are behind the line; a file that is read; the grid, or the counts and
+/* Readings of tables (tests/compare/readings.rs writes them). A line is one of these: a reading with its stored answer,
+ * before it the distances that it shows; entries of a lent list; meshes, whose letters are behind the line; a file that is read; the grid, or the counts and
  * starts, of a table that a host made. The answer is the Rust's, or document 01's where a file, a mesh or a locator is
  * damaged or a host made the table. Lines of readings against an atom are alike; their omega, second direction, omega
  * step and dihedral count are not handed in. */
@@ -47,7 +47,7 @@ static icotable_value of_atom(
     memcpy(a.start, t->start, sizeof a.start);
     icotable_energy e = beta ? icotable_atom_boltzmann(&a, LENT, q[0], q[2], q[3], q[4], *beta)
                              : icotable_atom_reading(&a, LENT, q[0], q[2], q[3], q[4]);
-    return (icotable_value){e.number, e.energy};
+    return (icotable_value){e.number, e.energy, 0.0, 0.0};
 }
 
 /* Weighted where there is a beta. */
@@ -78,17 +78,34 @@ static int kind_of(replay *r) {
     return whose >= 1 && whose <= 5 ? OUTSIDE + (int)whose - 1 : DAMAGED;
 }
 
+/* The table that is held, and the place of the distances that the next reading shows, or 0: then they are +0.0. */
+typedef struct state {
+    icotable_table held;
+    size_t far;
+} state;
+
+static bool same_distances(replay *r, int kind, size_t far, const icotable_value *a) {
+    if (far == 0)
+        return holds(r, kind, (bits(a->distance_a) | bits(a->distance_b)) == 0, "a distance is shown");
+    r->at = far;
+    bool agrees = same(r, kind, 16, bits(a->distance_a));
+    agrees &= same(r, kind, 16, bits(a->distance_b));
+    return agrees;
+}
+
 /* Whose answer it is, the number and the energy stand before what is asked; the energy of a refused reading is 0. */
-static void replay_reading(replay *r, const icotable_table *t, const lists *l, const double *beta) {
+static void replay_reading(replay *r, state *s, const lists *l, const double *beta) {
     size_t answer = r->at + 3;
     int kind = kind_of(r);
     r->at = answer + 3 + 17;
-    icotable_value a = reading(r, t, l, beta);
+    icotable_value a = reading(r, &s->held, l, beta);
     size_t end = r->at;
     r->at = answer;
     bool agrees = same(r, kind, 2, a.number);
     agrees &= same(r, kind, 16, bits(a.energy));
+    agrees &= same_distances(r, kind, s->far, &a);
     counted(r, kind, agrees);
+    s->far = 0;
     r->at = end;
 }
 
@@ -158,37 +175,39 @@ static void read_sections(replay *r, icotable_table *t) {
 }
 
 /* A beta, and the reading that is weighted by it in the line behind. */
-static void replay_weighted(replay *r, size_t start, const icotable_table *held, const lists *l) {
+static void replay_weighted(replay *r, size_t start, state *s, const lists *l) {
     r->at = start + 56;
     double beta = number(r);
     end_line(r);
     if (word(r, 2) != 1)
         bad_data(r, "a reading should stand behind a beta");
-    replay_reading(r, held, l, &beta);
+    replay_reading(r, s, l, &beta);
 }
 
 /* A line: 1 a reading, 2 entries, 3 meshes, 4 a file, 5 and 6 parts of a table that a host made,
- * 7 a weighted reading. */
-static void replay_line(replay *r, lists *l, icotable_table *held) {
+ * 7 a weighted reading, 8 the distances of the reading behind it. */
+static void replay_line(replay *r, lists *l, state *s) {
     enum { MADE = 56 };
+    icotable_table *held = &s->held;
     size_t start = r->at;
     switch (word(r, 2)) {
-    case 1: replay_reading(r, held, l, NULL); break;
+    case 1: replay_reading(r, s, l, NULL); break;
     case 2: read_entries(r, l, put); break;
     case 3: replay_meshes(r, l); break;
     case 4: replay_file(r, start, l, held); break;
     case 5: r->at = start + MADE, held->grid = read_grid(r); break;
     case 6: r->at = start + MADE, read_sections(r, held); break;
-    case 7: replay_weighted(r, start, held, l); break;
+    case 7: replay_weighted(r, start, s, l); break;
+    case 8: s->far = start + MADE, r->at = s->far + 2 * 17; break;
     default: bad_data(r, "there is no such line");
     }
 }
 
 void replay_readings(replay *r) {
     static lists l;
-    icotable_table held = {0};
+    state s = {0};
     while (next_line(r)) {
-        replay_line(r, &l, &held);
+        replay_line(r, &l, &s);
         end_line(r);
     }
 }

@@ -30,7 +30,9 @@ typedef struct nearest {
 } nearest;
 
 typedef struct located {
-    uint64_t number, face[3];
+    uint64_t number, vertex;
+    double distance;
+    uint64_t face[3];
     double weights[3];
 } located;
 
@@ -115,6 +117,10 @@ static void judge_direction(replay *r, uint8_t level, const mesh *m, const locat
         agrees &= same(r, LOCATED, 16, b.face[k]);
     for (int k = 0; k < 3; k++)
         agrees &= same(r, LOCATED, 16, bits(b.weights[k]));
+    /* the vertex and the distance that it passes on; where it is refused, 0 for both */
+    nearest passed = b.number == 0 ? a : (nearest){0};
+    bool on = b.vertex == passed.vertex && bits(b.distance) == bits(passed.distance);
+    agrees &= holds(r, LOCATED, on, "the nearest vertex is not passed on");
     counted(r, LOCATED, agrees);
 }
 

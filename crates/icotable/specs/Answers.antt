@@ -26,7 +26,7 @@ unfoldable pub writtenIn : WriteAnswer → WrittenValues
 writtenIn a = record { number = a .number; length = a .length }
 
 unfoldable pub valueIn : ValueAnswer → ReadingValues
-valueIn a = record { number = a .number; energy = a .energy }
+valueIn a = record { number = a .number; energy = a .energy; distanceA = a .«distance_a»; distanceB = a .«distance_b» }
 
 -- ---- read
 

@@ -5,7 +5,7 @@ use lib.ListN.{getD}
 use Rattle.builder.specs.Atom.{AtomBuiltValues, AtomSettledValues}
 use Rattle.table.specs.declared.AtomTable.{AtomTable}
 use Rattle.table.specs.Atom.{AtomReadValues}
-use Rattle.reading.specs.Resolve.{ReadingValues}
+use Rattle.reading.specs.Resolve.{ReadingValues, noDistance}
 use Rattle.icotable.specs.declared.atom.AtomBuildAnswer.{AtomBuildAnswer}
 use Rattle.icotable.specs.declared.atom.AtomSettleAnswer.{AtomSettleAnswer}
 use Rattle.icotable.specs.declared.atom.AtomTableAnswer.{AtomTableAnswer}
@@ -17,8 +17,9 @@ atomBuiltIn a = record { number = a .number; builder = a .builder }
 unfoldable pub atomSettledIn : AtomSettleAnswer → AtomSettledValues
 atomSettledIn a = record { number = a .number; gradient = a .gradient; builder = a .builder }
 
+-- a reading against an atom shows no distances
 unfoldable pub energyIn : EnergyAnswer → ReadingValues
-energyIn a = record { number = a .number; energy = a .energy }
+energyIn a = record { number = a .number; energy = a .energy; distanceA = noDistance; distanceB = noDistance }
 
 -- ---- read
 

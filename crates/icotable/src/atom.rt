@@ -8,6 +8,7 @@ ghost use Rattle.writer.specs.Atom.{AtomWriteOut, atomWriteOut};
 ghost use Rattle.table.specs.Atom.{atomReadValues, atomReadOut};
 ghost use Rattle.reading.specs.Resolve.{linear, boltzmann, readingValues};
 ghost use Rattle.reading.specs.Atom.{atomReadingBy};
+ghost use Rattle.reading.specs.Internal.{energyAlone};
 ghost use Rattle.icotable.specs.Answers.{writtenIn};
 ghost use Rattle.icotable.specs.AtomAnswers.{atomBuiltIn, atomSettledIn, energyIn, atomTableWith, atomTableAnswer, atomTableFrom};
 use crate::WriteAnswer;
@@ -167,10 +168,10 @@ fn atom_table_from(t: AtomTableAnswer) -> AtomTable
 }
 
 fn energy_answer(a: Reading) -> EnergyAnswer
-    ensures { λ r. ⌜ energyIn r ≡ readingValues a ⌝ }
+    ensures { λ r. ⌜ energyIn r ≡ energyAlone (readingValues a) ⌝ }
 {
     match a {
-        Reading::Energy(energy) => EnergyAnswer { number: 0, energy },
+        Reading::Energy(_, energy, _) => EnergyAnswer { number: 0, energy },
         Reading::Refused(number) => EnergyAnswer {
             number,
             energy: 0.0,

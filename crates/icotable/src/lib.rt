@@ -60,10 +60,13 @@ pub struct TableAnswer {
     pub start: [u64; 5],
 }
 
+// Of a reading; the distances are squared, and 0.0 but for a nearest reading.
 #[repr(C)]
 pub struct ValueAnswer {
     pub number: u64,
     pub energy: f64,
+    pub distance_a: f64,
+    pub distance_b: f64,
 }
 
 fn no_grid() -> Grid
@@ -196,10 +199,17 @@ fn value_answer(a: Reading) -> ValueAnswer
     ensures { λ r. ⌜ valueIn r ≡ readingValues a ⌝ }
 {
     match a {
-        Reading::Energy(energy) => ValueAnswer { number: 0, energy },
+        Reading::Energy(distance_a, energy, distance_b) => ValueAnswer {
+            number: 0,
+            energy,
+            distance_a,
+            distance_b,
+        },
         Reading::Refused(number) => ValueAnswer {
             number,
             energy: 0.0,
+            distance_a: 0.0,
+            distance_b: 0.0,
         },
     }
 }

@@ -53,7 +53,7 @@ locate-searched : (m : Mesh) (n g : ℕ) (p : Vector3) → Searched (locate m n 
 unfolding locate bestFace
 locate-searched m n g p =
     let v = nearestOf m n g p in
-    chosen (λ (r : Located). Searched (r .number)) (eqb (v .number) 0) (bestFace (m .vertices) p (facesOf m n (v .vertex))) (notLocated (v .number)) (λ e. inl refl) (nearest-searched m n g p)
+    chosen (λ (r : Located). Searched (r .number)) (eqb (v .number) 0) (bestFace (m .vertices) p v (facesOf m n (v .vertex))) (notLocated (v .number)) (λ e. inl refl) (nearest-searched m n g p)
 
 joint-searched : (a b : ℕ) → Searched a → Searched b → Searched (joint a b)
 unfolding joint
@@ -66,7 +66,7 @@ joint-searched a b (inr p) (inr q) = rw (p, q) (inr refl)
 
 abbrev PicksSearched : Picks → Type 0
 PicksSearched (unpicked n) = Searched n
-PicksSearched (picked ks a b) = Unit {0}
+PicksSearched (picked ks a b x y) = Unit {0}
 
 nearest-picks : (n : ℕ) (a b : Nearest) → Searched (a .number) → Searched (b .number) → PicksSearched (nearestPick n a b)
 unfolding nearestPick
@@ -98,7 +98,7 @@ atom-searched m d v b =
 module _ (way : Way) where
   picks-answered : (f : Combination) (es : List ℕ) (x : Picks) → PicksSearched x → Answered way (readingValues (rulePicksBy f es x) .number)
   picks-answered f es (unpicked n) h = of-search way h
-  picks-answered f es (picked ks x y) h = inl refl
+  picks-answered f es (picked ks a b x y) h = inl refl
 
   -- by any search that refuses with 20 alone
   module _ (f : Bool → Combination) (search : ℕ → Bool → Picks) (searched : (v : ℕ) (b : Bool) → PicksSearched (search v b)) (rows : List (Row ℕ)) where

@@ -66,7 +66,7 @@ resolve-below valid g q a b =
 
 abbrev pub PicksBelow : ℕ → Picks → Type 0
 PicksBelow n (unpicked k) = Unit {0}
-PicksBelow n (picked ks a b) = All (λ k. k < n) ks
+PicksBelow n (picked ks a b x y) = All (λ k. k < n) ks
 
 pair-below : (n a b : ℕ) → a < n → b < n → pairPlace n a b < n * n
 pair-below n a b h k = omega (arith, place a n (b + 1) n h (omega arith))
@@ -166,7 +166,7 @@ module _ (each : ℕ → ℕ) (top : ℕ) (rows : List (Row ℕ)) (fine : All (F
 
   picks-read : (o n : ℕ) (c : Combination) (e : List ℕ) → length e ≡ n → Found o e → (x : Picks) → PicksBelow n x → picksBy file t c o x ≡ rulePicksBy c e x
   picks-read o n c e z h (unpicked k) p = refl
-  picks-read o n c e z h (picked ks x y) p =
+  picks-read o n c e z h (picked ks a b x y) p =
       rw (
         every-yes (λ k. k < n) (λ k. energyInside file t (o + k)) (λ k i. h k (omega arith) .0) ks p,
         map-same (λ k. k < n) (λ k. energyAt file t (o + k)) (λ k. getD e k 0) (λ k i. h k (omega arith) .1) ks p,

@@ -281,9 +281,9 @@ module _ (n g : ℕ) (m : Mesh) (l : Locator)
   unfolding nearestOf nearestAmong
   nearest-below p = nearest-in-list (m .vertices) p n (notNearest 20) (cell (m .vertices) n g (cellIndex g p)) (vertices-in (m .vertices) (cellIndex g p) (omega arith)) (λ e. absurd (omega arith))
 
-  best-more : (p : Vector3) (v : ℕ) → bestFace vertices p (facesOf m n v) ≡ bestFace (m .vertices) p (facesOf m n v)
+  best-more : (p : Vector3) (v : Nearest) → bestFace vertices p v (facesOf m n (v .vertex)) ≡ bestFace (m .vertices) p v (facesOf m n (v .vertex))
   unfolding bestFace
-  best-more p v = rw (fit-more (m .vertices) after p n (facesOf m n v) (faces-in (m .vertices) v (omega arith)))
+  best-more p v = rw (fit-more (m .vertices) after p n (facesOf m n (v .vertex)) (faces-in (m .vertices) (v .vertex) (omega arith)))
 
   pub locate-in : (p : Vector3) → locateIn lists vertices n g p ≡ locate m n g p
   unfolding locateIn locate
@@ -292,11 +292,11 @@ module _ (n g : ℕ) (m : Mesh) (l : Locator)
       by : (t : Bool) → eqb (nearestOf m n g p .number) 0 ≡ t
           → cond t
           (cond (entriesInside vertices n 3 (lists .faceOffsets) (lists .faces) (nearestOf m n g p .vertex))
-          (bestFace vertices p (triples (entriesAt 3 (lists .faceOffsets) (lists .faces) (nearestOf m n g p .vertex))))
+          (bestFace vertices p (nearestOf m n g p) (triples (entriesAt 3 (lists .faceOffsets) (lists .faces) (nearestOf m n g p .vertex))))
           (notLocated 19))
           (notLocated (nearestOf m n g p .number))
-          ≡ cond t (bestFace (m .vertices) p (facesOf m n (nearestOf m n g p .vertex))) (notLocated (nearestOf m n g p .number))
+          ≡ cond t (bestFace (m .vertices) p (nearestOf m n g p) (facesOf m n (nearestOf m n g p .vertex))) (notLocated (nearestOf m n g p .number))
       by true e =
           let v = nearest-below p (eqb-true (nearestOf m n g p .number) 0 e) in
-          rw (face-inside (nearestOf m n g p .vertex) v, faces-are (nearestOf m n g p .vertex) v) (best-more p (nearestOf m n g p .vertex))
+          rw (face-inside (nearestOf m n g p .vertex) v, faces-are (nearestOf m n g p .vertex) v) (best-more p (nearestOf m n g p))
       by false e = refl

@@ -78,7 +78,7 @@ module _ (top : ℕ) (ms : Mesh) (l : Locator) (low : top ≤ 15) (held : meshLo
   pub located-face : FaceBelow n (locate m n g p .face)
   unfolding locate bestFace
   located-face =
-      chosen (λ (r : Located). FaceBelow n (r .face)) (eqb (nearestOf m n g p .number) 0) (bestFace (m .vertices) p (facesOf m n (nearestOf m n g p .vertex))) (notLocated (nearestOf m n g p .number))
+      chosen (λ (r : Located). FaceBelow n (r .face)) (eqb (nearestOf m n g p .number) 0) (bestFace (m .vertices) p (nearestOf m n g p) (facesOf m n (nearestOf m n g p .vertex))) (notLocated (nearestOf m n g p .number))
       (λ e. fit-below (m .vertices) p n (facesOf m n (nearestOf m n g p .vertex)) (some-vertices v)
       (faces-in n g m (locatorPart v l) (call-accepted top ms l low held kept roomy v h) [] (locatorPart v l) (m .vertices) (nearestOf m n g p .vertex) (omega arith)))
       (some-vertices v, some-vertices v, some-vertices v)

@@ -13,11 +13,11 @@ use Rattle.search.specs.declared.Nearest.{Nearest}
 use Rattle.search.specs.declared.Located.{Located}
 use Rattle.table.specs.Bytes.{numberAt}
 use Rattle.table.specs.declared.Table.{Table}
-use Rattle.reading.specs.Resolve.{Way, linear, boltzmann, Picks, unpicked, picked, Combination, widened}
+use Rattle.reading.specs.Resolve.{plain, Way, linear, boltzmann, Picks, unpicked, picked, Combination, widened}
 use Rattle.reading.specs.Reading.{energyInside, energyAt, picksBy}
 use Rattle.reading.specs.Atom.{atomNearestPick, atomFacePick, atomCombined, threeTerms, atomAverage}
 use Rattle.reading.specs.Internal.{itemsInside, placesBelow, PlaceInside}
-use Rattle.reading.specs.declared.Reading.the-variants.{Energy, Refused}
+use Rattle.reading.specs.declared.Reading.the-variants.{Refused}
 use Rattle.reading.proofs.Picked.{energy-held, every-same, row-fits}
 
 -- a search that did not answer
@@ -35,7 +35,7 @@ pub vertex-way : (file : List ℕ) (t : Table) (way : Way) (o : ℕ) (p : Picks)
 unfolding atomCombined
 vertex-way file t linear o p = refl
 vertex-way file t (boltzmann beta) o (unpicked n) = refl
-vertex-way file t (boltzmann beta) o (picked ks a b) = refl
+vertex-way file t (boltzmann beta) o (picked ks a b x y) = refl
 
 module _ (file : List ℕ) (t : Table) (held : ℕ) (H : held ≡ itemsInside (t .«energies_start») 4 (t .energies) (length file)) (o : ℕ) where
   module _ (x : Nearest) (e : x .number ≡ 0) where
@@ -43,7 +43,7 @@ module _ (file : List ℕ) (t : Table) (held : ℕ) (H : held ≡ itemsInside (t
     unfolding atomNearestPick every
     vertex-out h = rw (e, energy-held file t held H (o + x .vertex), le-ltb (o + x .vertex) held h)
 
-    pub vertex-in : o + x .vertex < held → Energy (widened (numberAt 4 file (t .«energies_start» + (o + x .vertex) * 4))) ≡ picksBy file t (atomCombined linear false) o (atomNearestPick x)
+    pub vertex-in : o + x .vertex < held → plain (widened (numberAt 4 file (t .«energies_start» + (o + x .vertex) * 4))) ≡ picksBy file t (atomCombined linear false) o (atomNearestPick x)
     unfolding atomNearestPick every atomCombined energyAt
     vertex-in h = rw (e, energy-held file t held H (o + x .vertex), lt-ltb (o + x .vertex) held h)
 
@@ -68,11 +68,11 @@ module _ (file : List ℕ) (t : Table) (held : ℕ) (H : held ≡ itemsInside (t
     corners-out f h = rw (e, corners-held, h)
 
     pub corners-in : placesBelow held o 0 (x .face) ≡ true
-        → Energy (threeTerms (x .weights) (at (x .face .a)) (at (x .face .b)) (at (x .face .c))) ≡ picksBy file t (atomCombined linear true) o (atomFacePick x)
+        → plain (threeTerms (x .weights) (at (x .face .a)) (at (x .face .b)) (at (x .face .c))) ≡ picksBy file t (atomCombined linear true) o (atomFacePick x)
     unfolding atomFacePick atomCombined energyAt
     corners-in h = rw (e, corners-held, h)
 
     pub corners-weighted : (beta : Float) → placesBelow held o 0 (x .face) ≡ true
-        → Energy (atomAverage beta (x .weights) (at (x .face .a)) (at (x .face .b)) (at (x .face .c))) ≡ picksBy file t (atomCombined (boltzmann beta) true) o (atomFacePick x)
+        → plain (atomAverage beta (x .weights) (at (x .face .a)) (at (x .face .b)) (at (x .face .c))) ≡ picksBy file t (atomCombined (boltzmann beta) true) o (atomFacePick x)
     unfolding atomFacePick atomCombined energyAt
     corners-weighted beta h = rw (e, corners-held, h)

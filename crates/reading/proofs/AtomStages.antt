@@ -22,18 +22,18 @@ use Rattle.table.specs.File.{Entry, entryOf}
 use Rattle.table.proofs.Items.{entryAt as rowAt, entry-at}
 use Rattle.table.specs.declared.Table.{Table}
 use Rattle.table.specs.declared.AtomTable.{AtomTable}
-use Rattle.reading.specs.Resolve.{Way, wayValid, Resolved, unresolved, beyond, slabAt, outside, readingValues, Combination, Picks, widened}
+use Rattle.reading.specs.Resolve.{plain, Way, wayValid, Resolved, unresolved, beyond, slabAt, outside, readingValues, Combination, Picks, widened}
 use Rattle.reading.specs.Reading.{picksBy, entryBy, slabBy}
 use Rattle.reading.specs.Atom.{AtomQuery, atomQueryValid, asGrid, asTable, atomResolve, atomNearestPick, atomFacePick, atomCombined, atomSearchIn, atomReadingBy}
 use Rattle.reading.specs.Internal.{itemsInside, rowsTable, atomRowPlace}
 use Rattle.reading.specs.declared.Reading.{Reading}
-use Rattle.reading.specs.declared.Reading.the-variants.{Energy, Refused}
+use Rattle.reading.specs.declared.Reading.the-variants.{Refused}
 use Rattle.reading.proofs.Inside.{Numbered, picksNumbered, found-numbered, stage-numbered, row-fits, no-row, row-at, answered-by, entry-numbered, scalar-entry, entry-table, kept}
 
 -- ---- the row, by its kind
 
 module _ (file : List ℕ) (t : Table) (f : Bool → Combination) (find : ℕ → Bool → Picks) (e : Entry) where
-  pub repulsive-entry : (e .kind ≡ 0 → ⊥) → e .kind ≡ 1 → Energy (inf false) ≡ entryBy file t f find e
+  pub repulsive-entry : (e .kind ≡ 0 → ⊥) → e .kind ≡ 1 → plain (inf false) ≡ entryBy file t f find e
   repulsive-entry n h = rw h
 
   module _ (n : e .kind ≡ 0 → ⊥) (m : e .kind ≡ 1 → ⊥) where
@@ -47,11 +47,11 @@ module _ (file : List ℕ) (t : Table) (f : Bool → Combination) (find : ℕ �
 
 vertex-numbered : (x : Nearest) → picksNumbered (atomNearestPick x) ≡ true
 unfolding atomNearestPick
-vertex-numbered x = found-numbered (eqb (x .number) 0) (x .number) _ _ _ refl
+vertex-numbered x = found-numbered (eqb (x .number) 0) (x .number) _ _ _ _ _ refl
 
 corners-numbered : (x : Located) → picksNumbered (atomFacePick x) ≡ true
 unfolding atomFacePick
-corners-numbered x = found-numbered (eqb (x .number) 0) (x .number) _ _ _ refl
+corners-numbered x = found-numbered (eqb (x .number) 0) (x .number) _ _ _ _ _ refl
 
 -- the search of the nearest vertex, by the two lists that it reads
 pub vertex-search : (vs : List Float) (l : Locator) (d : Vector3) (v : ℕ)
@@ -117,7 +117,7 @@ module _ (file : List ℕ) (t : AtomTable) (vs : List Float) (l : Locator) (way 
   refused-21 h v = answered (unresolved 21) _ (rw (h, v)) refl
 
   module _ (h : atomQueryValid q ≡ true) (v : wayValid way ≡ true) where
-    pub beyond-out : outside (asGrid (t .grid)) (q .r) ≡ true → Answers (Energy (ofBits binary64 0))
+    pub beyond-out : outside (asGrid (t .grid)) (q .r) ≡ true → Answers (plain (ofBits binary64 0))
     unfolding atomResolve
     beyond-out k = answered beyond _ (rw (h, v, k)) refl
 
@@ -146,7 +146,7 @@ module _ (file : List ℕ) (t : AtomTable) (vs : List Float) (l : Locator) (way 
           (le-or-lt (t .grid .«n_r») 0)
 
       -- the answers of a row that is inside: a Scalar row's at once, and by the three numbers of the table
-      pub scalar-row : p < length file → getD file p 0 ≡ 0 → Answers (Energy (widened (numberAt 4 file (p + 6))))
+      pub scalar-row : p < length file → getD file p 0 ≡ 0 → Answers (plain (widened (numberAt 4 file (p + 6))))
       scalar-row g z =
           entry-row g _ (scalar-entry file (asTable t) (atomCombined way) (atomSearchIn vs l (q .d)) (rowAt file p) z ∙ ap (λ (e : Entry). read e) (sym (entry-at file p)))
 

@@ -27,11 +27,11 @@ use Rattle.table.proofs.Items.{entryAt as rowAt, entry-at}
 use Rattle.grid.specs.Settings.{above}
 use Rattle.grid.specs.declared.Grid.{Grid}
 use Rattle.table.specs.declared.Table.{Table}
-use Rattle.reading.specs.Resolve.{readingValues, readingNumbered, Query, Way, wayValid, Resolved, unresolved, beyond, slabAt, queryValid, outside, resolve, Picks, unpicked, picked, Combination, joint, nearestPick, facePick, widened, combined, boltzmann}
+use Rattle.reading.specs.Resolve.{readingValues, readingNumbered, plain, Query, Way, wayValid, Resolved, unresolved, beyond, slabAt, queryValid, outside, resolve, Picks, unpicked, picked, Combination, joint, nearestPick, facePick, widened, combined, boltzmann}
 use Rattle.reading.specs.Reading.{rowInside, energyInside, energyAt, entryAt, picksBy, entryBy, slabBy, readEntry, readSlab, readingBy, searchIn, readPicks}
 use Rattle.reading.specs.Internal.{itemsInside, slabOf, rowsTable, wayOf, toward, readResolution}
 use Rattle.reading.specs.declared.Reading.{Reading}
-use Rattle.reading.specs.declared.Reading.the-variants.{Energy, Refused}
+use Rattle.reading.specs.declared.Reading.the-variants.{Refused}
 
 -- ---- the items of a section
 
@@ -87,20 +87,20 @@ module _ (file : List ℕ) (t : Table) where
 -- a search that picks nothing says why, by a number that is not 0
 pub picksNumbered : Picks → Bool
 picksNumbered (unpicked n) = not (eqb n 0)
-picksNumbered (picked ks u v) = true
+picksNumbered (picked ks u v x y) = true
 
-pub found-numbered : (x : Bool) (n : ℕ) (ks : List ℕ) (u v : Weights) → eqb n 0 ≡ x → picksNumbered (cond x (picked ks u v) (unpicked n)) ≡ true
+pub found-numbered : (t : Bool) (n : ℕ) (ks : List ℕ) (u v : Weights) (x y : Float) → eqb n 0 ≡ t → picksNumbered (cond t (picked ks u v x y) (unpicked n)) ≡ true
 unfolding picksNumbered
-found-numbered true n ks u v e = refl
-found-numbered false n ks u v e = rw e
+found-numbered true n ks u v x y e = refl
+found-numbered false n ks u v x y e = rw e
 
 vertices-numbered : (n : ℕ) (a b : Nearest) → picksNumbered (nearestPick n a b) ≡ true
 unfolding nearestPick
-vertices-numbered n a b = let r = joint (a .number) (b .number) in found-numbered (eqb r 0) r _ _ _ refl
+vertices-numbered n a b = let r = joint (a .number) (b .number) in found-numbered (eqb r 0) r _ _ _ _ _ refl
 
 faces-numbered : (n : ℕ) (a b : Located) → picksNumbered (facePick n a b) ≡ true
 unfolding facePick
-faces-numbered n a b = let r = joint (a .number) (b .number) in found-numbered (eqb r 0) r _ _ _ refl
+faces-numbered n a b = let r = joint (a .number) (b .number) in found-numbered (eqb r 0) r _ _ _ _ _ refl
 
 -- no refusal is numbered 0
 abbrev pub Numbered : Reading → Type 0
@@ -147,7 +147,7 @@ module _ (file : List ℕ) (t : Table) (f : Bool → Combination) (find : ℕ �
   picks-numbered : (i : Bool) (o : ℕ) (p : Picks) → picksNumbered p ≡ true → Numbered (picksBy file t (f i) o p)
   unfolding picksNumbered
   picks-numbered i o (unpicked n) e = e
-  picks-numbered i o (picked ks u v) e = chosen Numbered (every (λ k. energyInside file t (o + k)) ks) _ _ (λ h. refl) refl
+  picks-numbered i o (picked ks u v x y) e = chosen Numbered (every (λ k. energyInside file t (o + k)) ks) _ _ (λ h. refl) refl
 
   pub entry-numbered : ((v : ℕ) (i : Bool) → picksNumbered (find v i) ≡ true) → (e : Entry) → Numbered (entryBy file t f find e)
   entry-numbered n e =
@@ -156,14 +156,14 @@ module _ (file : List ℕ) (t : Table) (f : Bool → Combination) (find : ℕ �
       (chosen Numbered (leb (e .kind) 3 && ltb (e .level) (t .levels)) _ _ (λ h. picks-numbered (eqb (e .kind) 3) (e .offset) _ (n (e .level) (eqb (e .kind) 3))) refl))
 
   -- a Scalar row's short answer
-  pub scalar-entry : (e : Entry) → e .kind ≡ 0 → Energy (widened (e .scalar)) ≡ entryBy file t f find e
+  pub scalar-entry : (e : Entry) → e .kind ≡ 0 → plain (widened (e .scalar)) ≡ entryBy file t f find e
   scalar-entry e h = rw h
 
   -- picks, and so a row, ask a table for three numbers alone
   picks-table : (i : Bool) (o : ℕ) (p : Picks) → picksBy file (rowsTable (t .levels) (t .«energies_start») (t .energies)) (f i) o p ≡ picksBy file t (f i) o p
   unfolding energyInside energyAt
   picks-table i o (unpicked n) = refl
-  picks-table i o (picked ks u v) = refl
+  picks-table i o (picked ks u v x y) = refl
 
   pub entry-table : (e : Entry) → entryBy file (rowsTable (t .levels) (t .«energies_start») (t .energies)) f find e ≡ entryBy file t f find e
   entry-table e = rw (picks-table (eqb (e .kind) 3) (e .offset) (find (e .level) (eqb (e .kind) 3)))
@@ -184,13 +184,13 @@ module _ (file : List ℕ) (t : Table) (vs : List Float) (l : Locator) (way : Wa
   pub row-none : (s r held : ℕ) → held ≡ itemsInside (t .«rows_start») 10 (t .rows) (length file) → r ≡ min s held → held ≤ r → Refused 19 ≡ readSlab file t vs l way q (slabAt s)
   row-none s r held h e k = no-row file t (readEntry file t vs l way q) s r held h e k
 
-  scalar-read : (e : Entry) → e .kind ≡ 0 → Energy (widened (e .scalar)) ≡ readEntry file t vs l way q e
+  scalar-read : (e : Entry) → e .kind ≡ 0 → plain (widened (e .scalar)) ≡ readEntry file t vs l way q e
   unfolding readEntry
   scalar-read e h = scalar-entry file t (combined way) (searchIn vs l q) e h
 
   -- the answers of a row that is inside: a Scalar row's at once, and by the three numbers of the table and the two directions
   module _ (s r held : ℕ) (h : held ≡ itemsInside (t .«rows_start») 10 (t .rows) (length file)) (e : r ≡ min s held) (k : r < held) where
-    pub scalar-row : getD file (t .«rows_start» + r * 10) 0 ≡ 0 → Energy (widened (numberAt 4 file (t .«rows_start» + r * 10 + 6))) ≡ readSlab file t vs l way q (slabAt s)
+    pub scalar-row : getD file (t .«rows_start» + r * 10) 0 ≡ 0 → plain (widened (numberAt 4 file (t .«rows_start» + r * 10 + 6))) ≡ readSlab file t vs l way q (slabAt s)
     scalar-row z =
         scalar-read (rowAt file (t .«rows_start» + r * 10)) z
         ∙ rw (← entry-at file (t .«rows_start» + r * 10)) (row-at file t (readEntry file t vs l way q) s r held h e k)
@@ -208,8 +208,8 @@ module _ (file : List ℕ) (t : Table) (vs : List Float) (l : Locator) (way : Wa
     where
       by : (a b : Bool)
           → readResolution file t vs l way q (e .kind) (e .offset) (cond a (Scalar (ofBits binary32 (e .scalar))) (cond b Repulsive (Mesh (e .level) (eqb (e .kind) 3))))
-          ≡ cond a (Energy (widened (e .scalar)))
-          (cond b (Energy (inf false))
+          ≡ cond a (plain (widened (e .scalar)))
+          (cond b (plain (inf false))
           (cond (leb (e .kind) 3 && ltb (e .level) (t .levels)) (readPicks file t way (eqb (e .kind) 3) (e .offset) (searchIn vs l q (e .level) (eqb (e .kind) 3))) (Refused 19)))
       by true b = refl
       by false true = refl
@@ -277,10 +277,10 @@ kept k v n =
     (le-or-lt k 3)
 
 module _ (file : List ℕ) (t : Table) (vs : List Float) (l : Locator) (way : Way) (q : Query) (kind o : ℕ) (row : SlabResolution) where
-  pub row-scalar : (x : Float) → row ≡ Scalar x → Energy x ≡ readResolution file t vs l way q kind o row
+  pub row-scalar : (x : Float) → row ≡ Scalar x → plain x ≡ readResolution file t vs l way q kind o row
   row-scalar x e = rw e
 
-  pub row-repulsive : row ≡ Repulsive → Energy (inf false) ≡ readResolution file t vs l way q kind o row
+  pub row-repulsive : row ≡ Repulsive → plain (inf false) ≡ readResolution file t vs l way q kind o row
   row-repulsive e = rw e
 
   pub row-unknown : (v : ℕ) (b : Bool) → row ≡ Mesh v b → (ltb 3 kind || leb (t .levels) v) ≡ true → Refused 19 ≡ readResolution file t vs l way q kind o row

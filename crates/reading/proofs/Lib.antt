@@ -4,3 +4,4 @@ pub mod Picked
 pub mod Parts
 pub mod AtomPicked
 pub mod AtomStages
+pub mod AtomShown

@@ -16,7 +16,7 @@ use Rattle.search.specs.declared.Nearest.{Nearest}
 use Rattle.search.specs.declared.Located.{Located}
 use Rattle.table.specs.Bytes.{numberAt}
 use Rattle.table.specs.declared.Table.{Table}
-use Rattle.reading.specs.Resolve.{Way, linear, boltzmann, Picks, unpicked, picked, joint, nearestPick, facePick, combined, nineTerms, overCorners, boltzmannAverage, widened}
+use Rattle.reading.specs.Resolve.{plain, Way, linear, boltzmann, Picks, unpicked, picked, joint, nearestPick, facePick, combined, nineTerms, overCorners, boltzmannAverage, widened}
 use Rattle.reading.specs.Reading.{energyInside, energyAt, readPicks}
 use Rattle.reading.specs.Internal.{Small, itemsInside, placesBelow, facePlacesBelow, PlaceInside, RowInside, rowTerms, faceTerms, rowCorners, faceCorners, faceAverage}
 use Rattle.reading.specs.declared.Reading.the-variants.{Energy, Refused}
@@ -68,7 +68,7 @@ module _ (file : List ℕ) (t : Table) (held : ℕ) (H : held ≡ itemsInside (t
     nearest-out h = rw (e, energy-held (o + (x .vertex * n + y .vertex)), le-ltb (o + (x .vertex * n + y .vertex)) held h)
 
     pub nearest-in : o + (x .vertex * n + y .vertex) < held
-        → Energy (widened (numberAt 4 file (t .«energies_start» + (o + (x .vertex * n + y .vertex)) * 4))) ≡ readPicks file t linear false o (nearestPick n x y)
+        → Energy (x .distance) (widened (numberAt 4 file (t .«energies_start» + (o + (x .vertex * n + y .vertex)) * 4))) (y .distance) ≡ readPicks file t linear false o (nearestPick n x y)
     unfolding nearestPick every combined energyAt
     nearest-in h = rw (e, energy-held (o + (x .vertex * n + y .vertex)), lt-ltb (o + (x .vertex * n + y .vertex)) held h)
 
@@ -118,12 +118,12 @@ module _ (file : List ℕ) (t : Table) (held : ℕ) (H : held ≡ itemsInside (t
     face-out way h = rw (e, nine-held o n (x .face) (y .face), h)
 
     pub face-in : facePlacesBelow held o n (x .face) (y .face) ≡ true
-        → Energy (faceTerms file (t .«energies_start») o n (x .face) (y .face) (x .weights) (y .weights)) ≡ readPicks file t linear true o (facePick n x y)
+        → plain (faceTerms file (t .«energies_start») o n (x .face) (y .face) (x .weights) (y .weights)) ≡ readPicks file t linear true o (facePick n x y)
     unfolding facePick
     face-in h = rw (e, nine-held o n (x .face) (y .face), h, nine-sum o n (x .face) (y .face) (x .weights) (y .weights))
 
     pub face-weighted : (beta : Float) → facePlacesBelow held o n (x .face) (y .face) ≡ true
-        → Energy (faceAverage file (t .«energies_start») o n (x .face) (y .face) (x .weights) (y .weights) beta) ≡ readPicks file t (boltzmann beta) true o (facePick n x y)
+        → plain (faceAverage file (t .«energies_start») o n (x .face) (y .face) (x .weights) (y .weights) beta) ≡ readPicks file t (boltzmann beta) true o (facePick n x y)
     unfolding facePick
     face-weighted beta h = rw (e, nine-held o n (x .face) (y .face), h, nine-average o n (x .face) (y .face) beta (x .weights) (y .weights))
 
@@ -141,4 +141,4 @@ pub nearest-way : (file : List ℕ) (t : Table) (way : Way) (o : ℕ) (p : Picks
 unfolding combined
 nearest-way file t linear o p = refl
 nearest-way file t (boltzmann beta) o (unpicked n) = refl
-nearest-way file t (boltzmann beta) o (picked ks a b) = refl
+nearest-way file t (boltzmann beta) o (picked ks a b x y) = refl

@@ -23,7 +23,7 @@ use Rattle.search.specs.declared.Nearest.{Nearest}
 use Rattle.search.specs.declared.Located.{Located}
 use Rattle.table.specs.declared.AtomTable.{AtomTable}
 use Rattle.table.specs.declared.Table.{Table}
-use Rattle.reading.specs.Resolve.{ReadingValues, readingValues, Way, linear, boltzmann, wayValid, outside, Resolved, unresolved, beyond, slabAt, Picks, unpicked, picked, Combination, widened, infinite}
+use Rattle.reading.specs.Resolve.{ReadingValues, readingValues, noDistance, Way, linear, boltzmann, wayValid, outside, Resolved, unresolved, beyond, slabAt, Picks, unpicked, picked, Combination, widened, infinite}
 use Rattle.reading.specs.Reading.{entryBy, slabBy}
 use Rattle.reading.specs.Rule.{ruleRowBy, ruleSlabBy}
 
@@ -72,18 +72,18 @@ atomResolve valid g q =
     (unresolved 21))
     (unresolved 18)
 
--- ---- what a Mesh row is asked for: the place of a vertex is its number
+-- ---- what a Mesh row is asked for: the place of a vertex is its number. No distance is shown: what a later paper adds is for tables of two molecules alone
 
 abbrev noWeights : Weights
 noWeights = record { a = nan; b = nan; c = nan }
 
 unfoldable pub atomNearestPick : Nearest → Picks
-atomNearestPick x = cond (eqb (x .number) 0) (picked (x .vertex ∷ []) noWeights noWeights) (unpicked (x .number))
+atomNearestPick x = cond (eqb (x .number) 0) (picked (x .vertex ∷ []) noWeights noWeights noDistance noDistance) (unpicked (x .number))
 
 unfoldable pub atomFacePick : Located → Picks
 atomFacePick x =
     let f = x .face in
-    cond (eqb (x .number) 0) (picked (f .a ∷ f .b ∷ f .c ∷ []) (x .weights) noWeights) (unpicked (x .number))
+    cond (eqb (x .number) 0) (picked (f .a ∷ f .b ∷ f .c ∷ []) (x .weights) noWeights noDistance noDistance) (unpicked (x .number))
 
 -- ---- the energies, by their bits
 

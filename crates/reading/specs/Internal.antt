@@ -22,14 +22,18 @@ use Rattle.search.specs.declared.Located.{Located}
 use Rattle.table.specs.Bytes.{numberAt}
 use Rattle.table.specs.declared.Table.{Table}
 use Rattle.table.specs.declared.AtomTable.{AtomTable}
-use Rattle.reading.specs.Resolve.{Query, Way, linear, boltzmann, widened, infinite}
+use Rattle.reading.specs.Resolve.{ReadingValues, noDistance, plain, Query, Way, linear, boltzmann, widened, infinite}
 use Rattle.reading.specs.Reading.{searchIn, readPicks}
 use Rattle.reading.specs.declared.Reading.{Reading}
-use Rattle.reading.specs.declared.Reading.the-variants.{Energy, Refused}
+use Rattle.reading.specs.declared.Reading.the-variants.{Refused}
 
 -- how many of a section's items, w bytes each from byte start on, are below its count and inside a file of n bytes
 unfoldable pub itemsInside : ℕ → ℕ → ℕ → ℕ → ℕ
 itemsInside start w count n = min count ((n - start) / w)
+
+-- the number and the energy of an answer, without its distances
+abbrev pub energyAlone : ReadingValues → ReadingValues
+energyAlone v = record { number = v .number; energy = v .energy; distanceA = noDistance; distanceB = noDistance }
 
 -- ---- the row
 
@@ -69,8 +73,8 @@ toward a b = record { r = ofBits binary64 0; omega = ofBits binary64 0; a = a; b
 
 -- the row as the enum, of a kind and an offset
 abbrev pub readResolution : List ℕ → Table → List Float → Locator → Way → Query → ℕ → ℕ → SlabResolution → Reading
-readResolution file t vertices l way q kind o (Scalar x) = Energy x
-readResolution file t vertices l way q kind o Repulsive = Energy (inf false)
+readResolution file t vertices l way q kind o (Scalar x) = plain x
+readResolution file t vertices l way q kind o Repulsive = plain (inf false)
 readResolution file t vertices l way q kind o (Mesh v b) = cond (leb kind 3 && ltb v (t .levels)) (readPicks file t way b o (searchIn vertices l q v b)) (Refused 19)
 
 -- where a level's part of a list of n entries begins: at the list's end, where the list is shorter

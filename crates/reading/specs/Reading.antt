@@ -12,7 +12,7 @@ use Rattle.search.specs.Search.{Locator, locatorFrom, verticesFrom, nearestIn, 
 use Rattle.table.specs.Bytes.{numberAt}
 use Rattle.table.specs.File.{Entry, entryOf}
 use Rattle.table.specs.declared.Table.{Table}
-use Rattle.reading.specs.Resolve.{ReadingValues, readingValues, Query, Way, linear, wayValid, Resolved, unresolved, beyond, slabAt, resolve, Picks, unpicked, picked, Combination, nearestPick, facePick, widened, combined}
+use Rattle.reading.specs.Resolve.{ReadingValues, readingValues, plain, Query, Way, linear, wayValid, Resolved, unresolved, beyond, slabAt, resolve, Picks, unpicked, picked, Combination, nearestPick, facePick, widened, combined}
 use Rattle.reading.specs.declared.Reading.{Reading}
 use Rattle.reading.specs.declared.Reading.the-variants.{Energy, Refused}
 
@@ -43,8 +43,8 @@ searchIn vertices l q v interpolate =
 -- the energies picked, from a row's offset o on, made into one by f; the last of 19
 abbrev pub picksBy : List ℕ → Table → Combination → ℕ → Picks → Reading
 picksBy file t f o (unpicked n) = Refused n
-picksBy file t f o (picked ks a b) =
-    cond (every (λ k. energyInside file t (o + k)) ks) (Energy (f a b (map (λ k. energyAt file t (o + k)) ks))) (Refused 19)
+picksBy file t f o (picked ks a b x y) =
+    cond (every (λ k. energyInside file t (o + k)) ks) (Energy x (f a b (map (λ k. energyAt file t (o + k)) ks)) y) (Refused 19)
 
 abbrev pub readPicks : List ℕ → Table → Way → Bool → ℕ → Picks → Reading
 readPicks file t way interpolate o x = picksBy file t (combined way interpolate) o x
@@ -53,8 +53,8 @@ readPicks file t way interpolate o x = picksBy file t (combined way interpolate)
 -- makes one energy of those that it picks
 abbrev pub entryBy : List ℕ → Table → (Bool → Combination) → (ℕ → Bool → Picks) → Entry → Reading
 entryBy file t f search e =
-    cond (eqb (e .kind) 0) (Energy (widened (e .scalar)))
-    (cond (eqb (e .kind) 1) (Energy (inf false))
+    cond (eqb (e .kind) 0) (plain (widened (e .scalar)))
+    (cond (eqb (e .kind) 1) (plain (inf false))
     (cond (leb (e .kind) 3 && ltb (e .level) (t .levels))
     (picksBy file t (f (eqb (e .kind) 3)) (e .offset) (search (e .level) (eqb (e .kind) 3)))
     (Refused 19)))
@@ -65,7 +65,7 @@ readEntry file t vertices l way q e = entryBy file t (combined way) (searchIn ve
 -- the slab's row, by what reads a row
 abbrev pub slabBy : List ℕ → Table → (Entry → Reading) → Resolved → Reading
 slabBy file t read (unresolved n) = Refused n
-slabBy file t read beyond = Energy (ofBits binary64 0)
+slabBy file t read beyond = plain (ofBits binary64 0)
 slabBy file t read (slabAt s) = cond (rowInside file t s) (read (entryAt file t s)) (Refused 19)
 
 abbrev pub readSlab : List ℕ → Table → List Float → Locator → Way → Query → Resolved → Reading

@@ -22,18 +22,29 @@ use Rattle.search.specs.declared.Located.{Located}
 use Rattle.reading.specs.declared.Reading.{Reading}
 use Rattle.reading.specs.declared.Reading.the-variants.{Energy, Refused}
 
--- 01's number and value for each case of the answer: "reading returns the energy"; beside a number that refuses stands 0 (S12.10)
+-- 01's number and value for each case of the answer: "reading returns the energy"; beside a number that refuses stands 0 (S12.10). And 02's squared distances
+-- of both directions to their vertices: "a nearest reading .. shows both distances, any other reading 0.0 for both"; as fields of the answer they are part of what
+-- is equal: "two readings agree only if the distances do too" (S12.13)
 pub record ReadingValues : Type 0 where
   pub number : ℕ
   pub energy : Float
+  pub distanceA : Float
+  pub distanceB : Float
+
+abbrev pub noDistance : Float
+noDistance = ofBits binary64 0
 
 abbrev pub readingValues : Reading → ReadingValues
-readingValues (Energy x) = record { number = 0; energy = x }
-readingValues (Refused n) = record { number = n; energy = ofBits binary64 0 }
+readingValues (Energy a x b) = record { number = 0; energy = x; distanceA = a; distanceB = b }
+readingValues (Refused n) = record { number = n; energy = ofBits binary64 0; distanceA = noDistance; distanceB = noDistance }
+
+-- an energy without distances
+abbrev pub plain : Float → Reading
+plain x = Energy noDistance x noDistance
 
 -- a refusal has a number: 0 is acceptance alone
 abbrev pub readingNumbered : Reading → Bool
-readingNumbered (Energy x) = true
+readingNumbered (Energy a x b) = true
 readingNumbered (Refused n) = not (eqb n 0)
 
 -- what is asked for: a distance, a dihedral angle and two directions
@@ -80,10 +91,10 @@ resolve valid g q =
 
 -- ---- what a Mesh row is asked for
 
--- the places, in a slab's energies, of those that a reading wants, and the weights of both faces (which a nearest one does not use); or a number
+-- the places, in a slab's energies, of those that a reading wants, the weights of both faces (which a nearest one does not use) and the distances that it shows; or a number
 pub data Picks : Type 0 where
   unpicked : ℕ → Picks
-  picked : List ℕ → Weights → Weights → Picks
+  picked : List ℕ → Weights → Weights → Float → Float → Picks
 
 -- 19 for either direction before 20 for either
 unfoldable pub joint : ℕ → ℕ → ℕ
@@ -96,10 +107,11 @@ unusedWeights = record { a = nan; b = nan; c = nan }
 abbrev pub pairPlace : ℕ → ℕ → ℕ → ℕ
 pairPlace n va vb = va * n + vb
 
+-- the distances as the search worked them out (S12.13)
 unfoldable pub nearestPick : ℕ → Nearest → Nearest → Picks
 nearestPick n a b =
     let r = joint (a .number) (b .number) in
-    cond (eqb r 0) (picked (pairPlace n (a .vertex) (b .vertex) ∷ []) unusedWeights unusedWeights) (unpicked r)
+    cond (eqb r 0) (picked (pairPlace n (a .vertex) (b .vertex) ∷ []) unusedWeights unusedWeights (a .distance) (b .distance)) (unpicked r)
 
 -- nine places: `face_a[i]` against `face_b[j]`
 abbrev rowPlaces : ℕ → ℕ → Face → List ℕ
@@ -111,7 +123,7 @@ facePick n a b =
     let f = a .face in
     let g = b .face in
     cond (eqb r 0)
-    (picked (rowPlaces n (f .a) g ++ (rowPlaces n (f .b) g ++ rowPlaces n (f .c) g)) (a .weights) (b .weights))
+    (picked (rowPlaces n (f .a) g ++ (rowPlaces n (f .b) g ++ rowPlaces n (f .c) g)) (a .weights) (b .weights) noDistance noDistance)
     (unpicked r)
 
 -- ---- the energies, by their bits

@@ -83,10 +83,10 @@ fn read_atom_row(
     let level = file[i + 1];
     let offset = u32_inside(file, at + 2) as u64;
     if kind == 0 {
-        return Reading::Energy(bits::widened(u32_inside(file, at + 6)));
+        return Reading::Energy(0.0, bits::widened(u32_inside(file, at + 6)), 0.0);
     }
     if kind == 1 {
-        return Reading::Energy(1.0 / 0.0);
+        return Reading::Energy(0.0, 1.0 / 0.0, 0.0);
     }
     if (3 < kind) | (levels <= level as u64) {
         return Reading::Refused(19);
@@ -144,14 +144,14 @@ pub fn atom_lookup(
         return Reading::Refused(18);
     }
     if atom_outside(g, r) {
-        return Reading::Energy(0.0);
+        return Reading::Energy(0.0, 0.0, 0.0);
     }
     let at = atom_row_place(t, file.len() as u64, r);
     if file.len() as u64 <= at {
         return Reading::Refused(19);
     }
     if file[at as usize] == 0 {
-        return Reading::Energy(bits::widened(u32_inside(file, at + 6)));
+        return Reading::Energy(0.0, bits::widened(u32_inside(file, at + 6)), 0.0);
     }
     read_atom_row(
         t.levels,
@@ -196,14 +196,14 @@ pub fn atom_lookup_boltzmann(
         return Reading::Refused(21);
     }
     if atom_outside(g, r) {
-        return Reading::Energy(0.0);
+        return Reading::Energy(0.0, 0.0, 0.0);
     }
     let at = atom_row_place(t, file.len() as u64, r);
     if file.len() as u64 <= at {
         return Reading::Refused(19);
     }
     if file[at as usize] == 0 {
-        return Reading::Energy(bits::widened(u32_inside(file, at + 6)));
+        return Reading::Energy(0.0, bits::widened(u32_inside(file, at + 6)), 0.0);
     }
     read_atom_row(
         t.levels,

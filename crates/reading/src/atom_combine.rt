@@ -37,7 +37,7 @@ fn atom_nearest(t: Table, file: &[u8], offset: u64, x: Nearest) -> Reading
     if held <= offset + v {
         return Reading::Refused(19);
     }
-    Reading::Energy(energy(file, start, offset + v))
+    Reading::Energy(0.0, energy(file, start, offset + v), 0.0)
 }
 
 // The sum over a face, which begins at its first term.
@@ -86,9 +86,9 @@ fn atom_interpolated(t: Table, file: &[u8], offset: u64, x: Located, beta: f64) 
     let q = energy(file, start, offset + f.b);
     let s = energy(file, start, offset + f.c);
     if 0.0 < beta {
-        return Reading::Energy(three_average(beta, w, p, q, s));
+        return Reading::Energy(0.0, three_average(beta, w, p, q, s), 0.0);
     }
-    Reading::Energy(three_terms(w, p, q, s))
+    Reading::Energy(0.0, three_terms(w, p, q, s), 0.0)
 }
 
 pub(crate) fn read_atom_nearest(

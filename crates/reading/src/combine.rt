@@ -35,7 +35,7 @@ pub(crate) fn energy(file: &[u8], start: u64, k: u64) -> f64
     bits::widened(u32_inside(file, start + k * 4))
 }
 
-// The energy of a pair of vertices.
+// The energy of a pair of vertices, and how far they lie.
 pub(crate) fn nearest(t: Table, file: &[u8], offset: u64, n: u64, x: Nearest, y: Nearest) -> Reading
     requires { ⌜ (offset < 4294967296) × (n ≤ 655362) × NearestBelow n x × NearestBelow n y ⌝ }
     ensures { λ r. ⌜ r ≡ readPicks (now (file .entry)) t linear false offset (nearestPick n x y) ⌝ }
@@ -46,6 +46,8 @@ pub(crate) fn nearest(t: Table, file: &[u8], offset: u64, n: u64, x: Nearest, y:
     let nb = y.number;
     let va = x.vertex;
     let vb = y.vertex;
+    let da = x.distance;
+    let db = y.distance;
     let number = joint(na, nb);
     if number != 0 {
         return Reading::Refused(number);
@@ -55,7 +57,7 @@ pub(crate) fn nearest(t: Table, file: &[u8], offset: u64, n: u64, x: Nearest, y:
     if held <= k {
         return Reading::Refused(19);
     }
-    Reading::Energy(energy(file, start, k))
+    Reading::Energy(da, energy(file, start, k), db)
 }
 
 // The energies of a vertex, whose places begin at k, against those of a face are among the first ones held.
@@ -286,7 +288,11 @@ pub(crate) fn interpolated(
         return Reading::Refused(19);
     }
     if 0.0 < beta {
-        return Reading::Energy(face_average(file, start, offset, n, f, g, p, q, beta));
+        return Reading::Energy(
+            0.0,
+            face_average(file, start, offset, n, f, g, p, q, beta),
+            0.0,
+        );
     }
-    Reading::Energy(face_terms(file, start, offset, n, f, g, p, q))
+    Reading::Energy(0.0, face_terms(file, start, offset, n, f, g, p, q), 0.0)
 }

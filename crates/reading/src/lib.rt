@@ -12,8 +12,9 @@ pub use atom::atom_lookup_boltzmann;
 pub use stages::lookup;
 pub use stages::lookup_boltzmann;
 
-// What a reading answers.
+// What a reading answers: the energy, between the squared distances of both directions to the vertices that a nearest
+// reading took, which are 0.0 for any other. Side by side the two would be read from memory as one, and wait for it.
 pub enum Reading {
-    Energy(f64),
+    Energy(f64, f64, f64),
     Refused(u64),
 }

@@ -44,8 +44,8 @@ fn read_resolution(
 {
     let levels = t.levels;
     match row {
-        SlabResolution::Scalar(e) => return Reading::Energy(float::widen(e)),
-        SlabResolution::Repulsive => return Reading::Energy(1.0 / 0.0),
+        SlabResolution::Scalar(e) => return Reading::Energy(0.0, float::widen(e), 0.0),
+        SlabResolution::Repulsive => return Reading::Energy(0.0, 1.0 / 0.0, 0.0),
         SlabResolution::Mesh(level, interpolate) => {
             if (3 < kind) | (levels <= level as u64) {
                 return Reading::Refused(19);
@@ -197,7 +197,7 @@ pub fn lookup(
         return Reading::Refused(18);
     }
     if outside(t, r) {
-        return Reading::Energy(0.0);
+        return Reading::Energy(0.0, 0.0, 0.0);
     }
     if (g.n_r == 0) | (g.n_omega == 0) {
         return Reading::Refused(19);
@@ -211,7 +211,7 @@ pub fn lookup(
     }
     let at = start + s * 10;
     if file[at as usize] == 0 {
-        return Reading::Energy(bits::widened(u32_inside(file, at + 6)));
+        return Reading::Energy(0.0, bits::widened(u32_inside(file, at + 6)), 0.0);
     }
     read_row(
         t.levels,
@@ -263,7 +263,7 @@ pub fn lookup_boltzmann(
         return Reading::Refused(21);
     }
     if outside(t, r) {
-        return Reading::Energy(0.0);
+        return Reading::Energy(0.0, 0.0, 0.0);
     }
     if (g.n_r == 0) | (g.n_omega == 0) {
         return Reading::Refused(19);
@@ -277,7 +277,7 @@ pub fn lookup_boltzmann(
     }
     let at = start + s * 10;
     if file[at as usize] == 0 {
-        return Reading::Energy(bits::widened(u32_inside(file, at + 6)));
+        return Reading::Energy(0.0, bits::widened(u32_inside(file, at + 6)), 0.0);
     }
     read_row(
         t.levels,

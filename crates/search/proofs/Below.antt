@@ -97,13 +97,14 @@ module _ (vs : List Float) (n : ℕ) (p : Vector3) where
 
   pub located-below : 0 < n → (l : Locator) (g : ℕ) → Located0 (locateIn l vs n g p)
   unfolding locateIn bestFace
-  located-below N l g = by (nearestIn l vs n g p .number) (nearestIn l vs n g p .vertex) (eqb (nearestIn l vs n g p .number) 0) refl
+  located-below N l g = by (nearestIn l vs n g p) (eqb (nearestIn l vs n g p .number) 0) refl
     where
-      face-by : (v : ℕ) (t : Bool) → (t ≡ true → every (vertexInside vs n) (entriesAt 3 (l .faceOffsets) (l .faces) v) ≡ true)
-          → Located0 (cond t (bestFace vs p (triples (entriesAt 3 (l .faceOffsets) (l .faces) v))) (notLocated 19))
-      face-by v true h = λ e. low-from noFit (N, N, N) (entriesAt 3 (l .faceOffsets) (l .faces) v) (h refl)
+      face-by : (v : Nearest) (t : Bool) → (t ≡ true → every (vertexInside vs n) (entriesAt 3 (l .faceOffsets) (l .faces) (v .vertex)) ≡ true)
+          → Located0 (cond t (bestFace vs p v (triples (entriesAt 3 (l .faceOffsets) (l .faces) (v .vertex)))) (notLocated 19))
+      face-by v true h = λ e. low-from noFit (N, N, N) (entriesAt 3 (l .faceOffsets) (l .faces) (v .vertex)) (h refl)
       face-by v false h = none 19 (λ e. omega arith)
 
-      by : (k v : ℕ) (t : Bool) → eqb k 0 ≡ t → Located0 (cond t (cond (entriesInside vs n 3 (l .faceOffsets) (l .faces) v) (bestFace vs p (triples (entriesAt 3 (l .faceOffsets) (l .faces) v))) (notLocated 19)) (notLocated k))
-      by k v true h = face-by v (entriesInside vs n 3 (l .faceOffsets) (l .faces) v) (listed 3 (l .faceOffsets) (l .faces) v)
-      by k v false h = none k (eqb-false k 0 h)
+      by : (v : Nearest) (t : Bool) → eqb (v .number) 0 ≡ t
+          → Located0 (cond t (cond (entriesInside vs n 3 (l .faceOffsets) (l .faces) (v .vertex)) (bestFace vs p v (triples (entriesAt 3 (l .faceOffsets) (l .faces) (v .vertex)))) (notLocated 19)) (notLocated (v .number)))
+      by v true h = face-by v (entriesInside vs n 3 (l .faceOffsets) (l .faces) (v .vertex)) (listed 3 (l .faceOffsets) (l .faces) (v .vertex))
+      by v false h = none (v .number) (eqb-false (v .number) 0 h)

@@ -16,8 +16,8 @@ use Rattle.lists.specs.Lists.{every}
 use Rattle.mesh.specs.Faces.{face}
 use Rattle.search.specs.Geometry.{cellIndex}
 use Rattle.search.specs.Cells.{triples}
-use Rattle.search.specs.Search.{notNearest, nearer, nearestFrom, nearestAmong, nearestInCells, nearestIn, noFit, notLocated, better, fitFrom, bestFace, Locator, vertexInside, entriesAt, entriesInside, locateIn}
-use Rattle.search.specs.Internal.{spanOf, nearestOver, locatedFit, fitOver}
+use Rattle.search.specs.Search.{notNearest, nearer, nearestFrom, nearestAmong, nearestInCells, nearestIn, noFit, notLocated, better, fitFrom, locatedFit, bestFace, Locator, vertexInside, entriesAt, entriesInside, locateIn}
+use Rattle.search.specs.Internal.{spanOf, nearestOver, fitOver}
 use Rattle.search.specs.declared.Vector3.{Vector3}
 use Rattle.search.specs.declared.Nearest.{Nearest}
 use Rattle.search.specs.declared.cells.Span.{Span}
@@ -161,10 +161,10 @@ stops true true false s h = refl
 stops true false r s h = refl
 stops false q r s h = refl
 
-module _ (vs : List Float) (n : ℕ) (p : Vector3) (l : List ℕ) where
+module _ (vs : List Float) (n : ℕ) (p : Vector3) (v : Nearest) (l : List ℕ) where
   pub fit-turn : (best : Fit) (i a b c : ℕ) → i + 3 ≤ length l → a ≡ getD l i 0 → b ≡ getD l (i + 1) 0 → c ≡ getD l (i + 2) 0
       → (inside vs n a && (inside vs n b && inside vs n c)) ≡ true
-      → fitOver vs n p best (drop i l) ≡ fitOver vs n p (better vs p best (face a b c)) (drop (i + 3) l)
+      → fitOver vs n p v best (drop i l) ≡ fitOver vs n p v (better vs p best (face a b c)) (drop (i + 3) l)
   unfolding fitOver every triples fitFrom vertexInside
   fit-turn best i a b c h x y z t =
       let k = and-eq-true-iff (inside vs n a) (inside vs n b && inside vs n c) .0 t in
@@ -172,11 +172,11 @@ module _ (vs : List Float) (n : ℕ) (p : Vector3) (l : List ℕ) where
       rw (three l i a b c h x y z, k .0, m .0, m .1)
 
   pub fit-stop : (best : Fit) (i a b c : ℕ) → i + 3 ≤ length l → a ≡ getD l i 0 → b ≡ getD l (i + 1) 0 → c ≡ getD l (i + 2) 0
-      → (inside vs n a && (inside vs n b && inside vs n c)) ≡ false → fitOver vs n p best (drop i l) ≡ notLocated 19
+      → (inside vs n a && (inside vs n b && inside vs n c)) ≡ false → fitOver vs n p v best (drop i l) ≡ notLocated 19
   unfolding fitOver every triples vertexInside
   fit-stop best i a b c h x y z t = rw (three l i a b c h x y z, stops (inside vs n a) (inside vs n b) (inside vs n c) (every (vertexInside vs n) (drop (i + 3) l)) t)
 
-  pub fit-end : (best : Fit) (i : ℕ) → length l ≤ i → fitOver vs n p best (drop i l) ≡ locatedFit best
+  pub fit-end : (best : Fit) (i : ℕ) → length l ≤ i → fitOver vs n p v best (drop i l) ≡ locatedFit v best
   unfolding fitOver every triples fitFrom
   fit-end best i h = rw (drop-of-length-le l h)
 
@@ -192,6 +192,6 @@ module _ (l : Locator) (vs : List Float) (n g : ℕ) (p : Vector3) (v : Nearest)
     unfolding locateIn nearestIn
     faces-not-held h = rw (← e, eq-eqb (v .number) 0 f, not-held vs n 3 (l .faceOffsets) (l .faces) (v .vertex) s k h)
 
-    pub faces-held : s .held ≡ true → locateIn l vs n g p ≡ fitOver vs n p noFit (take (s .to - s .from) (drop (s .from) (l .faces)))
+    pub faces-held : s .held ≡ true → locateIn l vs n g p ≡ fitOver vs n p v noFit (take (s .to - s .from) (drop (s .from) (l .faces)))
     unfolding locateIn nearestIn bestFace fitOver
     faces-held h = let q = held vs n 3 (l .faceOffsets) (l .faces) (v .vertex) s k h in rw (← e, eq-eqb (v .number) 0 f, q .inside, q .cut)

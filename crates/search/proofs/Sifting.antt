@@ -24,10 +24,11 @@ use Rattle.mesh.specs.Faces.{face}
 use Rattle.mesh.specs.declared.Face.{Face}
 use Rattle.search.specs.Geometry.{one, plus, minus, times, over, weights, inFace, vertexAt, projectedBarycentric}
 use Rattle.search.specs.Cells.{triples}
-use Rattle.search.specs.Search.{noFit, better, fitFrom, vertexInside}
-use Rattle.search.specs.Internal.{limitOf, locatedFit, fitOver, sidesOf, past, pastFace, sifted, sift, siftOver}
+use Rattle.search.specs.Search.{noFit, better, fitFrom, locatedFit, vertexInside}
+use Rattle.search.specs.Internal.{limitOf, fitOver, sidesOf, past, pastFace, sifted, sift, siftOver}
 use Rattle.search.specs.declared.Vector3.{Vector3}
 use Rattle.search.specs.declared.Weights.{Weights}
+use Rattle.search.specs.declared.Nearest.{Nearest}
 use Rattle.search.specs.declared.faces.Fit.{Fit}
 use Rattle.search.specs.declared.faces.Within.{Within}
 use Rattle.search.specs.declared.triangle.Sides.{Sides}
@@ -407,9 +408,9 @@ module _ (vs : List Float) (n : ℕ) (p : Vector3) (l : List ℕ) (w : Within) (
       by true k = (h ∙ better-by vs p noFit f true k, k)
       by false k = absurd (never b (h ∙ better-by vs p noFit f false k) o)
 
-  pub told-best : 3 ≤ length l → (b : Fit) → b ≡ better vs p noFit f → (lt none (b .least) || (eqb (w .count) 0 && le none (b .least))) ≡ true → locatedFit b ≡ fitOver vs n p noFit l
+  pub told-best : 3 ≤ length l → (v : Nearest) (b : Fit) → b ≡ better vs p noFit f → (lt none (b .least) || (eqb (w .count) 0 && le none (b .least))) ≡ true → locatedFit v b ≡ fitOver vs n p v noFit l
   unfolding fitOver isNan lt
-  told-best h b k o = rw (all-within vs n l, ended .0) (ap locatedFit (sym (by (lt none (b .least)) (eqb (w .count) 0) refl refl o)))
+  told-best h v b k o = rw (all-within vs n l, ended .0) (ap (locatedFit v) (sym (by (lt none (b .least)) (eqb (w .count) 0) refl refl o)))
     where
       at-least : (x : Float) → T (not (isNan x)) → le none x ≡ true → High x
       at-least x i g = (not-true (lt x none) (sym (le-not none x tt i) ∙ g), i)

@@ -11,7 +11,7 @@ use Rattle.mesh.specs.Faces.{face}
 use Rattle.mesh.specs.declared.Face.{Face}
 use Rattle.search.specs.Geometry.{times, minus, zero, dot, difference, vertexAt}
 use Rattle.search.specs.Cells.{triples}
-use Rattle.search.specs.Search.{vertexInside, nearestFrom, notNearest, fitFrom, notLocated}
+use Rattle.search.specs.Search.{vertexInside, nearestFrom, notNearest, fitFrom, notLocated, locatedFit}
 use Rattle.search.specs.declared.Vector3.{Vector3}
 use Rattle.search.specs.declared.Nearest.{Nearest}
 use Rattle.search.specs.declared.Located.{Located}
@@ -52,12 +52,9 @@ Measured b = (b .number ≡ 0) × T (fits binary64 (b .distance)) × T (clearSig
 abbrev pub limitOf : ℕ → ℕ → ℕ
 limitOf n places = cond (ltb n (places / 3)) n (places / 3)
 
-abbrev pub locatedFit : Fit → Located
-locatedFit b = record { number = 0; face = b .face; weights = b .weights }
-
--- the best of a list's faces and of one that was there before, or 19
-unfoldable pub fitOver : List Float → ℕ → Vector3 → Fit → List ℕ → Located
-fitOver vs n p best l = cond (every (vertexInside vs n) l) (locatedFit (fitFrom vs p best (triples l))) (notLocated 19)
+-- the best of a list's faces and of one that was there before, beside nearest vertex v; or 19
+unfoldable pub fitOver : List Float → ℕ → Vector3 → Nearest → Fit → List ℕ → Located
+fitOver vs n p v best l = cond (every (vertexInside vs n) l) (locatedFit v (fitFrom vs p best (triples l))) (notLocated 19)
 
 -- the dot products that `projectedBarycentric` begins with
 unfoldable pub sidesOf : Vector3 → Vector3 → Vector3 → Vector3 → Sides

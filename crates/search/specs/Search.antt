@@ -49,7 +49,7 @@ abbrev pub zeroWeights : Weights
 zeroWeights = record { a = zero; b = zero; c = zero }
 
 abbrev pub notLocated : ℕ → Located
-notLocated number = record { number = number; face = face 0 0 0; weights = zeroWeights }
+notLocated number = record { number = number; vertex = 0; distance = zero; face = face 0 0 0; weights = zeroWeights }
 
 abbrev pub noFit : Fit
 noFit = record { face = face 0 0 0; weights = zeroWeights; least = inf true }
@@ -64,9 +64,13 @@ unfoldable pub fitFrom : List Float → Vector3 → Fit → List Face → Fit
 fitFrom vs p best [] = best
 fitFrom vs p best (f ∷ l) = fitFrom vs p (better vs p best f) l
 
--- the answer where no face fits is face 0, 0, 0 with weights of 0
-unfoldable pub bestFace : List Float → Vector3 → List Face → Located
-bestFace vs p l = let b = fitFrom vs p noFit l in record { number = 0; face = b .face; weights = b .weights }
+-- beside the nearest vertex and its squared distance: document 02, paper 7, "face location passes it on"
+abbrev pub locatedFit : Nearest → Fit → Located
+locatedFit v b = record { number = 0; vertex = v .vertex; distance = v .distance; face = b .face; weights = b .weights }
+
+-- the best of the faces of nearest vertex v; the answer where no face fits is face 0, 0, 0 with weights of 0
+unfoldable pub bestFace : List Float → Vector3 → Nearest → List Face → Located
+bestFace vs p v l = locatedFit v (fitFrom vs p noFit l)
 
 -- ---- over the mesh of a level, of n vertices and g cells to an edge of the cube; p is a direction divided by its length
 
@@ -77,7 +81,7 @@ nearestOf m n g p = nearestAmong (m .vertices) p (cell (m .vertices) n g (cellIn
 unfoldable pub locate : Mesh → ℕ → ℕ → Vector3 → Located
 locate m n g p =
     let v = nearestOf m n g p in
-    cond (eqb (v .number) 0) (bestFace (m .vertices) p (facesOf m n (v .vertex))) (notLocated (v .number))
+    cond (eqb (v .number) 0) (bestFace (m .vertices) p v (facesOf m n (v .vertex))) (notLocated (v .number))
 
 -- ---- over lent lists
 
@@ -141,6 +145,6 @@ locateIn l vs n g p =
     let v = nearestIn l vs n g p in
     cond (eqb (v .number) 0)
     (cond (entriesInside vs n 3 (l .faceOffsets) (l .faces) (v .vertex))
-    (bestFace vs p (triples (entriesAt 3 (l .faceOffsets) (l .faces) (v .vertex))))
+    (bestFace vs p v (triples (entriesAt 3 (l .faceOffsets) (l .faces) (v .vertex))))
     (notLocated 19))
     (notLocated (v .number))

@@ -5,9 +5,10 @@ ghost use lib.ListN.{length};
 ghost use Rattle.mesh.specs.Levels.{vertexCount, gridSize};
 ghost use Rattle.mesh.specs.Faces.{face};
 ghost use Rattle.search.specs.Geometry.{vertexAt, projectedBarycentric};
-ghost use Rattle.search.specs.Search.{noFit, notLocated, better, locateIn, locatorOf};
-ghost use Rattle.search.specs.Internal.{locatedFit, fitOver, sifted, siftOver};
+ghost use Rattle.search.specs.Search.{noFit, notLocated, better, locatedFit, locateIn, locatorOf};
+ghost use Rattle.search.specs.Internal.{fitOver, sifted, siftOver};
 use crate::Located;
+use crate::Nearest;
 use crate::Vector3;
 use crate::Weights;
 use crate::cells::find_nearest_vertex;
@@ -57,6 +58,8 @@ fn not_located(number: u64) -> Located
 {
     Located {
         number,
+        vertex: 0,
+        distance: 0.0,
         face: Face { a: 0, b: 0, c: 0 },
         weights: Weights {
             a: 0.0,
@@ -66,13 +69,17 @@ fn not_located(number: u64) -> Located
     }
 }
 
-fn fitted(best: Fit) -> Located
-    ensures { λ r. ⌜ r ≡ locatedFit best ⌝ }
+fn fitted(near: Nearest, best: Fit) -> Located
+    ensures { λ r. ⌜ r ≡ locatedFit near best ⌝ }
 {
+    let vertex = near.vertex;
+    let distance = near.distance;
     let face = best.face;
     let weights = best.weights;
     Located {
         number: 0,
+        vertex,
+        distance,
         face,
         weights,
     }
@@ -111,10 +118,10 @@ fn better(vertices: &[f64], p: Vector3, best: Fit, a: usize, b: usize, c: usize)
     best
 }
 
-// The best of the faces that are listed, three places each, one after another.
-fn best_of_all(faces: &[u16], vertices: &[f64], n: usize, p: Vector3) -> Located
+// The best of the faces that are listed, three places each, one after another, beside the nearest vertex.
+fn best_of_all(faces: &[u16], vertices: &[f64], n: usize, p: Vector3, near: Nearest) -> Located
     requires { ⌜ length (now faces) % 3 ≡ 0 ⌝ }
-    ensures { λ r. ⌜ r ≡ fitOver (now (vertices .entry)) n p noFit (now (faces .entry)) ⌝ }
+    ensures { λ r. ⌜ r ≡ fitOver (now (vertices .entry)) n p near noFit (now (faces .entry)) ⌝ }
 {
     let places = vertices.len();
     let mut best = no_fit();
@@ -129,7 +136,7 @@ fn best_of_all(faces: &[u16], vertices: &[f64], n: usize, p: Vector3) -> Located
         best = better(vertices, p, best, a, b, c);
         i += 3;
     }
-    fitted(best)
+    fitted(near, best)
 }
 
 // Of the faces that are listed those that p is not told to be past: whether there are none, one or more (0, 1, 2), and the
@@ -177,16 +184,16 @@ fn sift(faces: &[u16], vertices: &[f64], limit: usize, p: Vector3) -> Within
     w
 }
 
-// The best of the faces that are listed, three places each.
-fn best_face(faces: &[u16], vertices: &[f64], n: usize, p: Vector3) -> Located
+// The same, by one pass where it tells.
+fn best_face(faces: &[u16], vertices: &[f64], n: usize, p: Vector3, near: Nearest) -> Located
     requires { ⌜ length (now faces) % 3 ≡ 0 ⌝ }
-    ensures { λ r. ⌜ r ≡ fitOver (now (vertices .entry)) n p noFit (now (faces .entry)) ⌝ }
+    ensures { λ r. ⌜ r ≡ fitOver (now (vertices .entry)) n p near noFit (now (faces .entry)) ⌝ }
 {
     let w = sift(faces, vertices, limit_of(n, vertices.len()), p);
     let count = w.count;
     let at = w.at;
     if (1 < count) | (faces.len() == 0) {
-        return best_of_all(faces, vertices, n, p);
+        return best_of_all(faces, vertices, n, p, near);
     }
     let a = wide16(faces[at]);
     let b = wide16(faces[at + 1]);
@@ -195,12 +202,12 @@ fn best_face(faces: &[u16], vertices: &[f64], n: usize, p: Vector3) -> Located
     let least = fit.least;
     // p is past every other face, so none of those has a least weight above 0
     if (0.0 < least) | ((count == 0) & (0.0 <= least)) {
-        return fitted(fit);
+        return fitted(near, fit);
     }
-    best_of_all(faces, vertices, n, p)
+    best_of_all(faces, vertices, n, p, near)
 }
 
-// The face and weights of a direction p of length 1. The lists are those of one level, from its first entry on.
+// The nearest vertex, face and weights of a direction p of length 1. The lists are those of one level, from its first entry on.
 pub fn locate(
     level: u8,
     cell_offsets: &[u32],
@@ -226,5 +233,5 @@ pub fn locate(
         return not_located(19);
     }
     let n = mesh::vertex_count(level) as usize;
-    best_face(&faces[from..to], vertices, n, p)
+    best_face(&faces[from..to], vertices, n, p, nearest)
 }

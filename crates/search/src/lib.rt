@@ -57,10 +57,13 @@ pub struct Nearest {
     pub distance: f64,
 }
 
-// The face that fits a direction best, and the direction's weights in it: number 0; or 19 or 20.
+// The nearest vertex and the square of its distance, its face that fits a direction best, and the direction's weights in
+// it: number 0; or 19 or 20, and then all else is 0.
 #[repr(C)]
 pub struct Located {
     pub number: u64,
+    pub vertex: u64,
+    pub distance: f64,
     pub face: Face,
     pub weights: Weights,
 }

@@ -1,5 +1,6 @@
 -- Checks of the mesh rule, the locator and the reading by computation. Not in the starred table.
 use mathlib.Core.Path.{_≡_, refl}
+use mathlib.Core.Bool.{false}
 use mathlib.Core.List.{List, [], _∷_, _++_, map}
 use Prim.Native.Nat.{ℕ, _+_, _*_}
 use lib.ListN.{length, getD, replicate, set, take, drop}
@@ -12,6 +13,7 @@ use Rattle.search.specs.Search.{Locator, locatorOf}
 use Rattle.locator.specs.Several.{locators}
 use Rattle.locator.specs.Locator.{locatorOut}
 use Rattle.search.specs.declared.Vector3.{Vector3}
+use Rattle.rows.specs.Rows.{Row, scalar, repulsive, mesh}
 use Rattle.grid.specs.Settings.{counted}
 use Rattle.table.specs.Read.{readOut}
 use Rattle.reading.specs.Resolve.{Query, boltzmann, ReadingValues}
@@ -161,6 +163,32 @@ pub by-the-rule : computed (toBits binary64 (ruled (counted (table .grid)) (rows
 unfolding computed
 by-the-rule = refl
 
+-- how far the chosen vertices lie (document 02, paper 7): the same directions with the row made nearest take vertices 8 and 5, whose squared distances from the unit
+-- directions these are, by an evaluation written apart; from the file, weighted too, and by the rule
+abbrev distances : ReadingValues → List ℕ
+distances v = map (toBits binary64) (v .distanceA ∷ v .distanceB ∷ [])
+
+abbrev to-eight-and-five : List ℕ
+to-eight-and-five = 0x3FD1_C484_DB23_FC60 ∷ 0x3FCE_11C8_16C1_8EEC ∷ []
+
+abbrev made-nearest : Row ℕ → Row ℕ
+made-nearest (scalar x) = scalar x
+made-nearest repulsive = repulsive
+made-nearest (mesh v b es) = mesh v false es
+
+pub how-far : computed (distances (reading nearestFile made slanted)) ≡ to-eight-and-five
+unfolding computed
+how-far = refl
+
+pub how-far-by-the-rule : computed (distances (ruled (counted (table .grid)) (map made-nearest (rows table)) icosahedron slanted)) ≡ to-eight-and-five
+unfolding computed
+how-far-by-the-rule = refl
+
+-- any other reading 0.0 for both: the same row interpolated
+pub none-shown : computed (distances (reading (file table) made slanted)) ≡ 0 ∷ 0 ∷ []
+unfolding computed
+none-shown = refl
+
 -- 18, also for a distance outside; then 0.0, whatever was lent
 pub direction-first : computed (reading [] none (query 0x4014_0000_0000_0000 none-at-all down) .number) ≡ 18
 unfolding computed
@@ -182,7 +210,11 @@ pub beta-held : computed (weighted [] none 1 (query 0x4014_0000_0000_0000 ahead 
 unfolding computed
 beta-held = refl
 
-pub outside : computed (reading nearestFile none (query 0x4014_0000_0000_0000 ahead down)) ≡ record { number = 0; energy = computed (f64 0) }
+pub how-far-weighted : computed (distances (weighted nearestFile made 0x3FF0_0000_0000_0000 slanted)) ≡ to-eight-and-five
+unfolding computed
+how-far-weighted = refl
+
+pub outside : computed (reading nearestFile none (query 0x4014_0000_0000_0000 ahead down)) ≡ record { number = 0; energy = computed (f64 0); distanceA = computed (f64 0); distanceB = computed (f64 0) }
 unfolding computed
 outside = refl
 
@@ -214,7 +246,7 @@ far-cell-interpolated = refl
 abbrev far-faces : Locator
 far-faces = locatorOf (made .cellOffsets) (made .cellVertices) (replicate 13 1) []
 
-pub far-face : computed (reading (file table) far-faces (query 0x3FE0_0000_0000_0000 ahead down)) ≡ record { number = 0; energy = computed (f64 0) }
+pub far-face : computed (reading (file table) far-faces (query 0x3FE0_0000_0000_0000 ahead down)) ≡ record { number = 0; energy = computed (f64 0); distanceA = computed (f64 0); distanceB = computed (f64 0) }
 unfolding computed
 far-face = refl
 

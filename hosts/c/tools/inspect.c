@@ -1,7 +1,8 @@
-/* inspect FILE: what a table holds, in words, or what refuses it. */
+/* inspect [--resolution] FILE: what a table holds, in words, or what refuses it. */
 #include "tools.h"
 
 #include <math.h>
+#include <string.h>
 
 enum { LEVELS = 16, SHOWN = 400, ACROSS = 50 };
 
@@ -68,24 +69,14 @@ static void print_slabs(const table_file *f) {
     putchar('\n');
 }
 
-int inspect_tool(int count, char **names) {
-    table_file f;
-    (void)count;
-    if (open_table(&f, names[0]) != GOOD)
-        return TROUBLE;
-    const icotable_table *t = &f.table;
-    if (t->number != 0) {
-        print_verdict(stdout, &f);
-        close_table(&f);
-        return FOUND;
-    }
-    tally seen = count_rows(&f);
-    printf("%s: %s, %zu bytes\n", f.name, table_words(f.atom), f.count);
+static void print_table(const table_file *f) {
+    const icotable_table *t = &f->table;
+    tally seen = count_rows(f);
     printf("distance    from %.17g to %.17g by %.17g: %llu bins\n", t->grid.rmin, t->grid.rmax, t->grid.dr, (unsigned long long)t->grid.n_r);
-    if (!f.atom)
+    if (!f->atom)
         printf("dihedral    %llu bins, step %.17g\n", (unsigned long long)t->grid.n_omega, t->grid.omega_step);
     printf("levels      %llu, the top one with %llu vertices\n", (unsigned long long)t->levels, (unsigned long long)icotable_vertices(t->levels - 1));
-    print_rows(&f, &seen);
+    print_rows(f, &seen);
     printf("energies    %llu", (unsigned long long)t->energies);
     if (seen.least <= seen.most)
         printf(", from %g to %g", seen.least, seen.most);
@@ -93,7 +84,29 @@ int inspect_tool(int count, char **names) {
         printf(", %llu infinite", (unsigned long long)seen.infinite);
     putchar('\n');
     if (t->grid.n_r <= SHOWN && t->grid.n_omega <= SHOWN)
-        print_slabs(&f);
+        print_slabs(f);
+}
+
+int inspect_tool(int count, char **names) {
+    table_file f;
+    bool resolution = strcmp(names[0], "--resolution") == 0;
+    if (count != 1 + resolution) {
+        fputs("usage: icotable inspect [--resolution] FILE\n", stderr);
+        return TROUBLE;
+    }
+    if (open_table(&f, names[resolution]) != GOOD)
+        return TROUBLE;
+    int status = GOOD;
+    if (f.table.number != 0) {
+        print_verdict(stdout, &f);
+        status = FOUND;
+    } else {
+        printf("%s: %s, %zu bytes\n", f.name, table_words(f.atom), f.count);
+        if (resolution)
+            status = print_resolution(&f);
+        else
+            print_table(&f);
+    }
     close_table(&f);
-    return GOOD;
+    return status;
 }

@@ -63,6 +63,10 @@ place find_place(const uint8_t *bytes, size_t count, bool atom);
 /* The library's number in words, and the byte where the walk agrees with it. */
 void print_verdict(FILE *out, const table_file *f);
 
+/* resolution.c: for each level of a table how far its vertices lie apart and from a direction, over the meshes of mesh.h, and
+ * the rows that have it. */
+int print_resolution(const table_file *f);
+
 int inspect_tool(int count, char **names);
 int verify_tool(int count, char **names);
 int diff_tool(int count, char **names);

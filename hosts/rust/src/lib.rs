@@ -29,7 +29,7 @@ pub use mesh::{Level, Mesh};
 pub use refusal::Refusal;
 pub use row::{Kind, Row};
 pub use sys::{AtomGrid, Grid};
-pub use table::Table;
+pub use table::{Reading, Table};
 
 /// Settings of a new table; the library works out the two bin counts.
 pub fn settings(rmin: f64, rmax: f64, dr: f64, omega_step: f64, threshold: f64, beta: f64) -> Grid {

@@ -63,6 +63,8 @@ pub struct Table {
 pub struct Value {
     pub number: u64,
     pub energy: f64,
+    pub distance_a: f64,
+    pub distance_b: f64,
 }
 
 /// The settings of a table of one molecule against an atom, and the bin count that they give.

@@ -16,6 +16,25 @@ pub struct Table {
     mesh: Arc<Mesh>,
 }
 
+/// What a reading answers.
+#[derive(Clone, Copy, Debug, PartialEq)]
+pub struct Reading {
+    /// Infinity inside a repulsive wall, 0 outside the table's distances.
+    pub energy: f64,
+    /// Where the row is read at the nearest vertices: the square of the distance from the first direction, divided by its length, to the vertex
+    /// that stands for it. 0 of any other reading.
+    pub distance_a: f64,
+    /// The same of the second direction.
+    pub distance_b: f64,
+}
+
+impl Reading {
+    fn of(value: sys::Value) -> Result<Reading, Refusal> {
+        let sys::Value { number, energy, distance_a, distance_b } = value;
+        answer(number, Reading { energy, distance_a, distance_b })
+    }
+}
+
 impl Table {
     /// Looks over a file, all of it. The mesh has to be the one that the table was built over, with at least its levels: a
     /// file does not hold it. A file of one molecule against an atom is refused.
@@ -28,16 +47,24 @@ impl Table {
     /// The energy at a distance, a dihedral angle and two directions of any length: infinity inside a repulsive wall, 0 outside the table's
     /// distances.
     pub fn lookup(&self, r: f64, omega: f64, a: [f64; 3], b: [f64; 3]) -> Result<f64, Refusal> {
-        let value = sys::reading(&self.held, self.mesh.lent_with(&self.file), &sys::Query { r, omega, a, b });
-        answer(value.number, value.energy)
+        self.reading(r, omega, a, b).map(|reading| reading.energy)
+    }
+
+    /// The same, and how far the vertices lie that it was read at: whether a level is fine enough (docs/GUIDE.md).
+    pub fn reading(&self, r: f64, omega: f64, a: [f64; 3], b: [f64; 3]) -> Result<Reading, Refusal> {
+        Reading::of(sys::reading(&self.held, self.mesh.lent_with(&self.file), &sys::Query { r, omega, a, b }))
     }
 
     /// The same, weighted by temperature: where a row is interpolated, the nine energies are averaged by their weights and by
     /// exp(-beta·energy). Rows of other kinds answer as in `lookup`. Beta is the reading's own, one over the unit of energies,
     /// finite and above 0, or the reading is refused (`Refusal::ReadingBeta`), whatever the row and the distance are.
     pub fn lookup_boltzmann(&self, r: f64, omega: f64, a: [f64; 3], b: [f64; 3], beta: f64) -> Result<f64, Refusal> {
-        let value = sys::boltzmann(&self.held, self.mesh.lent_with(&self.file), &sys::Query { r, omega, a, b }, beta);
-        answer(value.number, value.energy)
+        self.reading_boltzmann(r, omega, a, b, beta).map(|reading| reading.energy)
+    }
+
+    /// The weighted reading, and how far the vertices lie where it was read at the nearest ones.
+    pub fn reading_boltzmann(&self, r: f64, omega: f64, a: [f64; 3], b: [f64; 3], beta: f64) -> Result<Reading, Refusal> {
+        Reading::of(sys::boltzmann(&self.held, self.mesh.lent_with(&self.file), &sys::Query { r, omega, a, b }, beta))
     }
 
     /// The grid; rmax is the table's own, threshold and beta are 0.

@@ -213,6 +213,36 @@ fn a_reading_is_weighted_by_temperature() {
 }
 
 #[test]
+fn a_nearest_reading_shows_how_far_its_vertices_lie() {
+    let mut b = builder(1);
+    b.set(0, 0, &smooth(1)).unwrap();
+    b.set(1, 0, &smooth(1)).unwrap();
+    let mut file = b.write().unwrap();
+    let row = 56; // the first of the rows: interpolated as it is set
+    let (x, y) = ([1.0, 2.0, 3.0], [-3.0, 1.0, 0.25]);
+    let read = |file: &[u8]| Table::read(file.to_vec(), b.mesh().clone()).unwrap();
+    let shown = |t: &Table, r| t.reading(r, 0.0, x, y).map(|v| [v.distance_a, v.distance_b]);
+    assert_eq!(file[row], 3);
+    assert_eq!(shown(&read(&file), 0.0), Ok([0.0; 2]));
+    file[row] = 2;
+    let t = read(&file);
+    assert_eq!(t.row(0, 0).unwrap().kind, Kind::Mesh { level: 1, interpolate: false });
+    let far = |d: [f64; 3]| {
+        let l = (d[0] * d[0] + d[1] * d[1] + d[2] * d[2]).sqrt();
+        let to = |v: &[f64; 3]| (0..3).map(|k| (d[k] / l - v[k]).powi(2)).sum::<f64>();
+        b.mesh().directions(1).map(|v| to(&v)).fold(f64::INFINITY, f64::min)
+    };
+    let got = t.reading(0.0, 0.0, x, y).unwrap();
+    assert!((got.distance_a - far(x)).abs() < 1e-15 && (got.distance_b - far(y)).abs() < 1e-15, "{got:?}");
+    assert!(got.distance_a > 0.001 && got.distance_b > 0.001 && got.distance_a != got.distance_b);
+    assert_eq!(t.reading_boltzmann(0.0, 0.0, x, y, 1.0), Ok(got));
+    assert_eq!(t.lookup(0.0, 0.0, x, y), Ok(got.energy));
+    // another row, a Scalar one and a distance outside show none
+    assert_eq!([1.0, 2.5].map(|r| shown(&t, r)), [Ok([0.0; 2]); 2]);
+    assert_eq!(t.reading(0.0, 3.0, x, y).map(|v| [v.distance_a, v.distance_b]), Ok([0.0; 2]));
+}
+
+#[test]
 fn damaged_files_are_refused() {
     let mut b = builder(0);
     b.set(0, 0, &smooth(0)).unwrap();

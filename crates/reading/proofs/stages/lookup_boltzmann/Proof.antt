@@ -10,8 +10,7 @@ use borrow.Author.Tests.{not-true, not-false}
 use Rattle.lists.proofs.Counting.{yes, no}
 use Rattle.grid.specs.Settings.{above}
 use Rattle.search.specs.Search.{Locator, locatorOf}
-use Rattle.reading.specs.Resolve.{Query, boltzmann, wayValid, Resolved, unresolved, beyond, slabAt, queryValid, outside, resolve}
-use Rattle.reading.specs.declared.Reading.the-variants.{Energy}
+use Rattle.reading.specs.Resolve.{plain, Query, boltzmann, wayValid, Resolved, unresolved, beyond, slabAt, queryValid, outside, resolve}
 use Rattle.reading.specs.Internal.{slabOf}
 use Rattle.reading.proofs.Inside.{refused-18, refused-21, beyond-out, no-bins, some-bins, bins-some, row-none, row-fits, scalar-row, entry-row, answered, own-way}
 use Rattle.reading.proofs.Parts.{whole}
@@ -106,7 +105,7 @@ returns-6 c =
     let e = c .before .before .before .before in
     let h = e .before .before in
     let s = h .before .before .before .before .before .before .before .before .before .before .before .before .before .before .before .before .before .before .before in
-    answered (s .args .file .now) (s .args .t) (s .args .vertices .now) (lists s) (boltzmann (s .args .beta)) (query s) (slabAt (slabOf (s .args .t .grid) (s .args .r) (s .args .omega))) (Energy (c .widened .result)) (resolved (h .before .before .before))
+    answered (s .args .file .now) (s .args .t) (s .args .vertices .now) (lists s) (boltzmann (s .args .beta)) (query s) (slabAt (slabOf (s .args .t .grid) (s .args .r) (s .args .omega))) (plain (c .widened .result)) (resolved (h .before .before .before))
     (rw (c .widened .ensures, c .before .u32-inside .ensures)
     (scalar-row (s .args .file .now) (s .args .t) (s .args .vertices .now) (lists s) (boltzmann (s .args .beta)) (query s) (slabOf (s .args .t .grid) (s .args .r) (s .args .omega)) (e .before .slab-below .result) (h .items-inside .result) (h .items-inside .ensures) (slab (e .before)) (omega (arith, e .if5 .left)) (c .before .before .if6 .taken)))
 

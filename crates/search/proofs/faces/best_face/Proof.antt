@@ -106,7 +106,7 @@ returns-2 c =
     let a = e .before .before .before .before .before .args in
     let w = e .before .sift .result in
     c .fitted .ensures
-    ∙ told-best (a .vertices .now) (a .n) (a .p) (a .faces .now) w (passed (e .before)) (few e) (some e) (g .better .result)
+    ∙ told-best (a .vertices .now) (a .n) (a .p) (a .faces .now) w (passed (e .before)) (few e) (some e) (a .near) (g .better .result)
     (rw (g .better .ensures, f .no-fit .ensures, x .wide16 .ensures, y .wide162 .ensures, z .wide163 .ensures)) (c .before .if2 .taken)
 
 pub best-face-spec : {M : Type 1} → statement M

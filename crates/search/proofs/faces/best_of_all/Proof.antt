@@ -17,15 +17,15 @@ use Rattle.search.proofs.faces.best_of_all.Statement.{statement}
 use Rattle.search.proofs.faces.best_of_all.Tie as tie
 
 abbrev Inv-loop : tie.InvT-loop
-Inv-loop faces vertices n p places best₀ i₀ best i = (i ≤ length faces) × (i % 3 ≡ 0) × (fitOver vertices n p best (drop i faces) ≡ fitOver vertices n p best₀ faces)
+Inv-loop faces vertices n p near places best₀ i₀ best i = (i ≤ length faces) × (i % 3 ≡ 0) × (fitOver vertices n p near best (drop i faces) ≡ fitOver vertices n p near best₀ faces)
 
 abbrev μ-loop : tie.MeasureT-loop
-μ-loop faces vertices n p places best₀ i₀ best i = length faces - i
+μ-loop faces vertices n p near places best₀ i₀ best i = length faces - i
 
 -- the loop starts with no face
 start : (l : tie.At-loop Inv-loop μ-loop)
     → (let a = l .before .before .before .before .args in
-    fitOver (a .vertices .now) (a .n) (a .p) (l .before .no-fit .result) (a .faces .now) ≡ fitOver (a .vertices .now) (a .n) (a .p) noFit (a .faces .now))
+    fitOver (a .vertices .now) (a .n) (a .p) (a .near) (l .before .no-fit .result) (a .faces .now) ≡ fitOver (a .vertices .now) (a .n) (a .p) (a .near) noFit (a .faces .now))
 start l = rw (l .before .no-fit .ensures)
 
 -- the tests of the three vertices
@@ -71,7 +71,7 @@ returns c =
     let l = x .before .before .before in
     let a = l .before .before .before .before .args in
     c .not-located .ensures
-    ∙ sym (fit-stop (a .vertices .now) (a .n) (a .p) (a .faces .now) (l .loop .best) (l .loop .i) (x .wide16 .result) (y .wide162 .result) (z .wide163 .result) (omega arith) (x .wide16 .ensures) (y .wide162 .ensures) (z .wide163 .ensures) (no (tests i) (c .before .if1 .taken)))
+    ∙ sym (fit-stop (a .vertices .now) (a .n) (a .p) (a .near) (a .faces .now) (l .loop .best) (l .loop .i) (x .wide16 .result) (y .wide162 .result) (z .wide163 .result) (omega arith) (x .wide16 .ensures) (y .wide162 .ensures) (z .wide163 .ensures) (no (tests i) (c .before .if1 .taken)))
     ∙ l .loop .inv .2 ∙ start l
 
 better-requires : tie.Need-better-requires Inv-loop μ-loop
@@ -103,7 +103,7 @@ loop-again c =
       omega arith,
       omega arith,
       rw (c .better .ensures)
-          (sym (fit-turn (a .vertices .now) (a .n) (a .p) (a .faces .now) (l .loop .best) (l .loop .i) (x .wide16 .result) (y .wide162 .result) (z .wide163 .result) (omega arith) (x .wide16 .ensures) (y .wide162 .ensures) (z .wide163 .ensures) (yes (tests i) (c .before .if1 .left)))
+          (sym (fit-turn (a .vertices .now) (a .n) (a .p) (a .near) (a .faces .now) (l .loop .best) (l .loop .i) (x .wide16 .result) (y .wide162 .result) (z .wide163 .result) (omega arith) (x .wide16 .ensures) (y .wide162 .ensures) (z .wide163 .ensures) (yes (tests i) (c .before .if1 .left)))
           ∙ l .loop .inv .2),
     )
 
@@ -111,7 +111,7 @@ returns-2 : tie.Need-returns-2 Inv-loop μ-loop
 returns-2 c =
     let l = c .before .before in
     let a = l .before .before .before .before .args in
-    c .fitted .ensures ∙ sym (fit-end (a .vertices .now) (a .n) (a .p) (a .faces .now) (l .loop .best) (l .loop .i) (omega arith)) ∙ l .loop .inv .2 ∙ start l
+    c .fitted .ensures ∙ sym (fit-end (a .vertices .now) (a .n) (a .p) (a .near) (a .faces .now) (l .loop .best) (l .loop .i) (omega arith)) ∙ l .loop .inv .2 ∙ start l
 
 pub best-of-all-spec : {M : Type 1} → statement M
 best-of-all-spec =
