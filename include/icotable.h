@@ -34,8 +34,8 @@
  * no small number is flushed to zero: not in a program that is linked with -ffast-math, nor after fesetround. There an
  * answer can be another one. icotable_float_environment() of environment.h answers 0 where it is as it should be.
  *
- * Stack. No theorem bounds it. As measured on x86-64 and rounded up, settle takes 88 kB, locator 10 kB, a reading
- * 3 kB and every other function 2 kB, whatever the level.
+ * Stack. No theorem bounds it. As measured on x86-64 and rounded up, settle takes 88 kB, locator 10 kB, sizing 4 kB, a
+ * reading 3 kB and every other function 2 kB, whatever the level.
  *
  * Numbers. ICOTABLE_REFUSALS below has each one in words, and docs/REFUSALS.md an example of each.
  */
@@ -48,7 +48,7 @@
 /* The version, raised where a struct, a function or the table file changes (CHANGELOG.md). The pkg-config file and the
  * tool take it from here; a test compares it with hosts/rust. */
 #define ICOTABLE_VERSION_MAJOR 0
-#define ICOTABLE_VERSION_MINOR 12
+#define ICOTABLE_VERSION_MINOR 13
 #define ICOTABLE_VERSION_PATCH 0
 
 #define ICOTABLE_STRING_(x) #x
@@ -125,10 +125,13 @@ typedef struct icotable_built {
     icotable_builder builder;
 } icotable_built;
 
-/* gradient: the largest one of the slabs that still hold energies. */
+/* gradient: the largest one of the slabs that still hold energies.
+ * comparisons: the neighbour comparisons made, 2*n times the total of neighbour counts of the current level for each
+ * slab whose gradient was worked out: one that holds energies and does not become Repulsive. */
 typedef struct icotable_settled {
     uint64_t number;
     double gradient;
+    uint64_t comparisons;
     icotable_builder builder;
 } icotable_settled;
 
@@ -276,10 +279,12 @@ typedef struct icotable_atom_built {
     icotable_atom_builder builder;
 } icotable_atom_built;
 
-/* gradient: that of the slab, also where it becomes Scalar; 0 where it holds no energies or becomes Repulsive. */
+/* gradient: that of the slab, also where it becomes Scalar; 0 where it holds no energies or becomes Repulsive.
+ * comparisons: the neighbour comparisons made, the total of neighbour counts of the current level; 0 likewise. */
 typedef struct icotable_atom_settled {
     uint64_t number;
     double gradient;
+    uint64_t comparisons;
     icotable_atom_builder builder;
 } icotable_atom_settled;
 
@@ -381,6 +386,33 @@ icotable_energy icotable_atom_boltzmann(
     double r,
     double x, double y, double z,
     double beta);
+
+/* ---- sizing a build */
+
+/* What a build needs, before anything is sampled. store: the length of its store, and file: that of its longest file; no
+ * list of calls writes a longer one, and setting every slab at the top level without settling writes one that long. By
+ * level, from 0 to the top one, and 0 above it: the lengths of a locator's lists, and the comparisons of one settle whose
+ * slabs are all filled and none Repulsive. */
+typedef struct icotable_size {
+    uint64_t number, store, file;
+    uint64_t cell_offsets[16], cell_vertices[16], face_offsets[16], faces[16], comparisons[16];
+} icotable_size;
+
+/* From the settings, the top level and the meshes' neighbour lists alone, as fresh takes them; vertices and angles are not
+ * needed. Rows: store divided by n*n of the top level. Questions 1 to 7 as fresh puts them, 6 to the lengths of these two
+ * lists and 7 to what they hold. */
+icotable_size icotable_sizing(
+    icotable_grid grid,
+    uint64_t top,
+    const uint8_t *neighbour_counts, size_t neighbour_counts_count,
+    const uint16_t *neighbours, size_t neighbours_count);
+
+/* The same of a table against an atom. Rows: store divided by n of the top level. */
+icotable_size icotable_atom_sizing(
+    icotable_atom_grid grid,
+    uint64_t top,
+    const uint8_t *neighbour_counts, size_t neighbour_counts_count,
+    const uint16_t *neighbours, size_t neighbours_count);
 
 /* ---- sizes and numbers */
 

@@ -1,6 +1,6 @@
-/* Every number that a call can be refused with, each given by an example, and by one against an atom: writes
- * docs/REFUSALS.md, and the status is 1 where an example gives another number. The table has two distances, two dihedral
- * bins and two levels; that against an atom has two distances and two levels. */
+/* Every number that a call can be refused with, each given by an example, by one against an atom, and 1 to 7 by a sizing:
+ * writes docs/REFUSALS.md, and the status is 1 where an example gives another number. The table has two distances, two
+ * dihedral bins and two levels; that against an atom has two distances and two levels. */
 #include "mesh.h"
 
 #include <math.h>
@@ -424,6 +424,63 @@ static int differs(const example *e, uint64_t number) {
     return given != wanted;
 }
 
+/* ---- the sizing of a build: 1 to 7, as fresh puts them, and the last two to the neighbour lists alone */
+
+static uint64_t sized(icotable_grid g, uint64_t top, size_t neighbours) {
+    return icotable_sizing(g, top, held.neighbour_counts, held.neighbour_counts_count, held.neighbours, neighbours).number;
+}
+
+static uint64_t size_settings(void) {
+    icotable_grid g = settings;
+    g.omega_step = INFINITY;
+    return sized(g, TOP_LEVEL, held.neighbours_count);
+}
+
+static uint64_t size_level(void) {
+    return sized(settings, 16, held.neighbours_count);
+}
+
+static uint64_t size_bins(void) {
+    icotable_grid g = settings;
+    g.omega_step = 20;
+    return sized(g, TOP_LEVEL, held.neighbours_count);
+}
+
+static uint64_t size_own_count(void) {
+    icotable_grid g = settings;
+    g.rmin = 9007199254740991, g.rmax = 9007199254740994, g.dr = 2;
+    return sized(g, TOP_LEVEL, held.neighbours_count);
+}
+
+static uint64_t size_energies(void) {
+    icotable_grid g = settings;
+    g.rmax = 1300000, g.dr = 20, g.omega_step = 0.1;
+    return sized(g, TOP_LEVEL, held.neighbours_count);
+}
+
+static uint64_t size_short(void) {
+    return sized(settings, TOP_LEVEL, held.neighbours_count - 1);
+}
+
+static uint64_t size_mesh(void) {
+    uint16_t kept = held.neighbours[0];
+    held.neighbours[0] = 0;
+    uint64_t number = sized(settings, TOP_LEVEL, held.neighbours_count);
+    held.neighbours[0] = kept;
+    return number;
+}
+
+enum { SIZED = 7 };
+static const example size_examples[SIZED] = {
+    {size_settings, "sizing with an infinite step", 0},
+    {size_level, "sizing with top level 16", 0},
+    {size_bins, "sizing with step 20: no dihedral bin", 0},
+    {size_own_count, "sizing with rmin 9007199254740991, rmax 9007199254740994, dr 2", 0},
+    {size_energies, "sizing of 65000 distances and 63 dihedral bins at top level 1: 4095000 times 42 times 42 energies", 0},
+    {size_short, "sizing with a neighbour less than levels 0 and 1 have", 0},
+    {size_mesh, "sizing with a vertex that is among its own neighbours", 0},
+};
+
 int main(void) {
     int differing = 0;
     if (icotable_make_meshes(&held, TOP_LEVEL) != 0)
@@ -444,6 +501,13 @@ int main(void) {
          "there.\n\n| number | name | an example |\n|---|---|---|");
     for (uint64_t number = 1; number <= NUMBERS; number++) {
         const example *e = &atom_examples[number - 1];
+        printf("| %llu | %s | %s |\n", (unsigned long long)number, names[number], e->words);
+        differing += differs(e, number);
+    }
+    puts("\n## Sizing a build\n\n`icotable_sizing` and `icotable_atom_sizing` are refused as fresh is, before any list of a build is "
+         "there: 6 and 7 are\nput to the neighbour counts and the neighbours alone.\n\n| number | name | an example |\n|---|---|---|");
+    for (uint64_t number = 1; number <= SIZED; number++) {
+        const example *e = &size_examples[number - 1];
         printf("| %llu | %s | %s |\n", (unsigned long long)number, names[number], e->words);
         differing += differs(e, number);
     }

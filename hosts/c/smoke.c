@@ -1,6 +1,6 @@
 /* A host in C: an empty table of level 0 from its settings, written, printed and read back; a slab set and settled; calls
  * that are refused; the locator of the icosahedron; readings, also weighted and with locator lists that were altered;
- * the same of a table against an atom; sizes and numbers. Every answer is compared with what documents 01 and 02 say, and the status is 1 where one differs. */
+ * the same of a table against an atom; the sizing of a build; sizes and numbers. Every answer is compared with what documents 01 and 02 say, and the status is 1 where one differs. */
 #include "icotable.h"
 
 #include <math.h>
@@ -143,9 +143,11 @@ static void one_slab(void) {
     expect("settle", a.number, 0);
     expect("packed energies", a.builder.packed, PER);
     expect("gradient is 1 over the angle", a.gradient == 1 / angles[0], 1);
+    expect("comparisons, 2 * 12 times 12 vertices' five neighbours", a.comparisons, 1440);
     a = settle(s.builder, 1);
     expect("settle of a bin beyond the last", a.number, 8);
     expect("its gradient is 0", a.gradient == 0, 1);
+    expect("its comparisons", a.comparisons, 0);
     expect("the builder's bins after it", a.builder.grid.n_r, 1);
     expect("its packed energies", a.builder.packed, PER);
     for (int i = 0; i < PER; i++)
@@ -156,12 +158,36 @@ static void one_slab(void) {
     a = settle(b, 0);
     expect("settle", a.number, 0);
     expect("kind", kinds[0], 1);
+    expect("comparisons of a slab that becomes Repulsive", a.comparisons, 0);
     expect("packed energies less than none", a.builder.packed, (uint64_t)0 - PER);
     kinds[0] = 4;
     s = icotable_set(s.builder, store, PER, kinds, 1, levels, 1, values, 1, 0, 0, energies, PER);
     expect("set over a row of kind 4", s.number, 15);
     expect("packed energies after it", s.builder.packed, PER);
     kinds[0] = 0;
+}
+
+/* The same slab, before it is built: 52 + 4 + 10 + 4 * 144 bytes, and 60 neighbours against 2 * 12 lines. */
+static void sizing(void) {
+    icotable_size s = icotable_sizing(settings, 0, neighbour_counts, N, neighbours, 6 * N);
+    expect("sizing", s.number, 0);
+    expect("its store", s.store, PER);
+    expect("its file", s.file, 642);
+    expect("its cell offsets", s.cell_offsets[0], 25);
+    expect("its cell vertices", s.cell_vertices[0], 27 * N);
+    expect("its face offsets", s.face_offsets[0], N + 1);
+    expect("its faces", s.faces[0], 45 * N);
+    expect("its comparisons", s.comparisons[0], 2 * N * 60);
+    expect("its comparisons of a level above the top", s.comparisons[1], 0);
+    s = icotable_sizing(settings, 0, neighbour_counts, N, neighbours, 6 * N - 1);
+    expect("sizing with a neighbour less", s.number, 6);
+    expect("its store", s.store, 0);
+    icotable_atom_grid ion = {.rmin = 0, .rmax = 1, .dr = 1, .threshold = 0.1, .beta = 1};
+    s = icotable_atom_sizing(ion, 0, neighbour_counts, N, neighbours, 6 * N);
+    expect("sizing against an atom", s.number, 0);
+    expect("its store", s.store, N);
+    expect("its file", s.file, 40 + 4 + 10 + 4 * N);
+    expect("its comparisons", s.comparisons[0], 60);
 }
 
 static void refused(void) {
@@ -380,18 +406,21 @@ static void atom_slab(void) {
     double energies[N] = {1000};
     icotable_atom_builder b = atom_fresh(atom_settings, 0).builder;
     expect("settle of an empty distance", atom_settle(b, 0).number, 0);
+    expect("its comparisons", atom_settle(b, 0).comparisons, 0);
     icotable_atom_built s = atom_set(b, 0, energies, N);
     expect("set", s.number, 0);
     expect("kind", kinds[0], 3);
     icotable_atom_settled a = atom_settle(s.builder, 0);
     expect("settle", a.number, 0);
     expect("gradient is 1 over the angle", a.gradient == 1 / angles[0], 1);
+    expect("comparisons", a.comparisons, 60);
     expect("kind", kinds[0], 3);
     energies[0] = 0.001;
     expect("set of nearly equal energies", atom_set(b, 0, energies, N).number, 0);
     a = atom_settle(b, 0);
     expect("settle", a.number, 0);
     expect("the gradient of a slab that becomes Scalar is not 0", a.gradient > 0 && a.gradient < 0.01, 1);
+    expect("and its comparisons are counted", a.comparisons, 60);
     expect("kind", kinds[0], 0);
     for (int i = 0; i < N; i++)
         energies[i] = 10;
@@ -399,6 +428,7 @@ static void atom_slab(void) {
     a = atom_settle(b, 0);
     expect("settle", a.number, 0);
     expect("its gradient is 0", a.gradient == 0, 1);
+    expect("its comparisons", a.comparisons, 0);
     expect("kind", kinds[0], 1);
 }
 
@@ -552,6 +582,7 @@ int main(void) {
     mesh();
     empty_table();
     one_slab();
+    sizing();
     refused();
     locator();
     readings();

@@ -24,3 +24,8 @@ pub fn builder(grid: Grid, b: &Held) -> Builder {
 pub fn packed(_: &Builder) -> u64 {
     0
 }
+
+// The turns of `compute_gradient_1d`'s loops.
+pub fn comparisons(neighbours: &[Vec<u16>]) -> u64 {
+    neighbours.iter().map(|a| a.len() as u64).sum()
+}

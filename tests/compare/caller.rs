@@ -53,6 +53,7 @@ pub struct Call<'a> {
 pub struct Answer {
     pub number: u64,
     pub gradient: f64,
+    pub comparisons: u64,
     pub held: Held,
 }
 
@@ -124,13 +125,13 @@ impl<'a> Caller<'a> {
     }
 
     // Hands a call on, once it is answered.
-    fn finish(&mut self, what: What, held: Held, lent: [usize; 8], number: u64, gradient: f64) {
+    fn finish(&mut self, what: What, held: Held, lent: [usize; 8], number: u64, gradient: f64, comparisons: u64) {
         let name = match what {
             What::Fresh => "fresh",
             What::Set(..) => "set",
             What::Settle(_) => "settle",
         };
-        let answer = Answer { number, gradient, held: self.held };
+        let answer = Answer { number, gradient, comparisons, held: self.held };
         self.sink.call(&Call { what, held, lent }, &answer, &self.lists);
         self.case(&format!("{name} {number}"));
     }
@@ -181,7 +182,7 @@ impl<'a> Caller<'a> {
         }
         // fresh ignores the counts that it is handed, and is handed no level
         let handed = Held { n_r: counts[0], n_omega: counts[1], level: 77, ..b };
-        self.finish(What::Fresh, handed, lent, number, 0.0);
+        self.finish(What::Fresh, handed, lent, number, 0.0, 0);
         number
     }
 
@@ -198,14 +199,14 @@ impl<'a> Caller<'a> {
             self.take_row(s);
             self.count(packed);
         }
-        self.finish(What::Set(ri, oi, &rule, &energies), before, lent, number, 0.0);
+        self.finish(What::Set(ri, oi, &rule, &energies), before, lent, number, 0.0, 0);
         number
     }
 
     pub fn settle(&mut self, ri: u64, lent: [usize; 8]) -> u64 {
         let number = refusals::settle(&self.held, &lent, &self.lists, ri);
         let before = self.held;
-        let mut gradient = 0.0;
+        let (mut gradient, mut comparisons) = (0.0, 0);
         if number == 0 {
             assert!(!self.altered);
             self.gradients += 1;
@@ -216,6 +217,7 @@ impl<'a> Caller<'a> {
             gradient = rust.finish_r_slice(ri as usize);
             let level = rust.current_level as u64;
             slice.clone().for_each(|s| self.take_row(s));
+            comparisons = self.compared(&kinds, slice.start);
             self.settled(&kinds, slice, level, gradient);
             self.held.level = level;
             self.count(packed);
@@ -225,8 +227,15 @@ impl<'a> Caller<'a> {
                 self.case(words);
             }
         }
-        self.finish(What::Settle(ri), before, lent, number, gradient);
+        self.finish(What::Settle(ri), before, lent, number, gradient, comparisons);
         number
+    }
+
+    // Document 02's comparisons, which the Rust does not count: those that its gradient makes, for every slab that held energies and is not Repulsive now.
+    fn compared(&self, before: &[u8], first: usize) -> u64 {
+        let each = shape::comparisons(&self.mesh(self.held.level).neighbors);
+        let reached = |k: usize| before[k] >= 2 && self.lists.kinds[first + k] != 1;
+        (0..before.len()).filter(|&k| reached(k)).map(|_| each).sum()
     }
 
     // Which cases a settled slice has.

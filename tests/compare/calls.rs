@@ -1,4 +1,4 @@
-// Writes the lists of calls that tests/replay has as calls, with the answers, gradients, levels and rows that the Rust gives; a refused call's number is document 01's (refusals.rs). The
+// Writes the lists of calls that tests/replay has as calls, with the answers, gradients, levels and rows that the Rust gives, and the comparisons that caller.rs counts; a refused call's number is document 01's (refusals.rs). The
 // first argument names the file, and what the replay prints where all agrees goes to the second. Prints which cases occur, and fails where one is missing. A third argument, a number, gives
 // other lists of the same kinds. Built with --cfg atom it writes calls_atom, of tables of one molecule against an atom.
 mod lines;
@@ -47,11 +47,11 @@ use meshes::{icosphere, Mesh, Random};
 use refusals::{vertices_below, Held, Lists};
 use shape::PAIR;
 
-const LINE: usize = 574;
+const LINE: usize = 591;
 
 const HEAD: &[&str] = &[
-    "Lists of calls of fresh, set and settle, 574 letters a line; numbers in hexadecimal, floats by their bits. A line that starts so is passed over.",
-    "01 fresh, 02 set, 03 settle: the number answered (00: accepted), the level after the call, settle's gradient, the store's stamp; twelve rows: kind, level, value;",
+    "Lists of calls of fresh, set and settle, 591 letters a line; numbers in hexadecimal, floats by their bits. A line that starts so is passed over.",
+    "01 fresh, 02 set, 03 settle: the number answered (00: accepted), the level after the call, settle's gradient and comparisons, the store's stamp; twelve rows: kind, level, value;",
     "how many entries are lent of store, kinds, levels, values, vertices, neighbour counts, neighbours, angles; rmin, rmax, dr, omega step, threshold, beta, both bin counts, top level, level;",
     "distance bin, dihedral bin; the rule of the energies: how many they are, modulus m, seed, base, step, then two places with values of their own (FFFF: none).",
     "Energy i is base + step * (x % m), x being the seed after i + 1 turns of x = x * 16807 % 2147483647. The stamp is h = (h * 16807 + bits % 2147483647 + 1) % 2147483647 over the store, from 1.",
@@ -68,19 +68,19 @@ impl Fixed<LINE> {
         let floats = [s.rmin, s.rmax, s.dr, s.omega_step, s.threshold, s.beta];
         let words = floats.map(bits).into_iter().chain([b.n_r, b.n_omega, b.top, b.level]);
         for (k, n) in words.enumerate() {
-            self.put(269 + 17 * k, 16, n);
+            self.put(286 + 17 * k, 16, n);
         }
     }
 
     fn rule(&mut self, r: &Rule) {
-        self.put(473, 4, r.count as u64);
-        self.put(478, 8, r.modulus);
-        self.put(487, 8, r.seed);
-        self.put(496, 16, bits(r.base));
-        self.put(513, 16, bits(r.step));
+        self.put(490, 4, r.count as u64);
+        self.put(495, 8, r.modulus);
+        self.put(504, 8, r.seed);
+        self.put(513, 16, bits(r.base));
+        self.put(530, 16, bits(r.step));
         for (k, (place, e)) in r.places.into_iter().enumerate() {
-            self.put(530 + 22 * k, 4, place.min(0xffff) as u64);
-            self.put(535 + 22 * k, 16, bits(e));
+            self.put(547 + 22 * k, 4, place.min(0xffff) as u64);
+            self.put(552 + 22 * k, 16, bits(e));
         }
     }
 }
@@ -122,14 +122,14 @@ impl Sink for Written {
             What::Fresh => Line::new(1),
             What::Set(ri, oi, rule, _) => {
                 let mut line = Line::new(2);
-                line.put(439, 16, ri);
-                line.put(456, 16, oi);
+                line.put(456, 16, ri);
+                line.put(473, 16, oi);
                 line.rule(rule);
                 line
             }
             What::Settle(ri) => {
                 let mut line = Line::new(3);
-                line.put(439, 16, ri);
+                line.put(456, 16, ri);
                 line
             }
         };
@@ -137,14 +137,15 @@ impl Sink for Written {
         line.put(3, 2, answer.number);
         line.put(6, 16, answer.held.level);
         line.put(23, 16, bits(answer.gradient));
-        line.put(40, 8, stamp(&lists.store));
+        line.put(40, 16, answer.comparisons);
+        line.put(57, 8, stamp(&lists.store));
         for i in 0..12 {
-            line.put(49 + 15 * i, 2, lists.kinds[i] as u64);
-            line.put(52 + 15 * i, 2, lists.levels[i] as u64);
-            line.put(55 + 15 * i, 8, lists.values[i] as u64);
+            line.put(66 + 15 * i, 2, lists.kinds[i] as u64);
+            line.put(69 + 15 * i, 2, lists.levels[i] as u64);
+            line.put(72 + 15 * i, 8, lists.values[i] as u64);
         }
         for (k, &n) in call.lent.iter().enumerate() {
-            line.put(229 + 5 * k, 4, n as u64);
+            line.put(246 + 5 * k, 4, n as u64);
         }
         self.out.extend(line.0);
     }
@@ -214,6 +215,7 @@ fn report(caller: &Caller, path: &str) {
         calls += accepted + refused;
     }
     agree("gradients", caller.gradients);
+    agree("comparisons", caller.gradients);
     agree("levels", calls);
     agree("rows", 12 * calls);
     agree("stores", calls);

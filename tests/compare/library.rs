@@ -76,18 +76,18 @@ impl caller::Sink for Library {
         report::input();
         let given = builder_of(&call.held);
         let (mut l, m) = lists_of(&mut self.lists, &call.lent);
-        let (name, number, gradient, builder) = match call.what {
+        let (name, number, gradient, comparisons, builder) = match call.what {
             What::Fresh => {
                 let a = shape::fresh(given.grid, given.top, &mut l, m);
-                ("fresh", a.number, 0.0, a.builder)
+                ("fresh", a.number, 0.0, 0, a.builder)
             }
             What::Set(ri, oi, _, energies) => {
                 let a = shape::set(given, &mut l, ri, oi, energies);
-                ("set", a.number, 0.0, a.builder)
+                ("set", a.number, 0.0, 0, a.builder)
             }
             What::Settle(ri) => {
                 let a = shape::settle(given, &mut l, m, ri);
-                ("settle", a.number, a.gradient, a.builder)
+                ("settle", a.number, a.gradient, a.comparisons, a.builder)
             }
         };
         // a refused fresh answers with zeros, a refused set or settle with the builder as it came
@@ -97,8 +97,9 @@ impl caller::Sink for Library {
             _ => given,
         };
         let input = || format!("{:?}, lent {:?}", call.held, call.lent);
-        if (number, bits(gradient)) != (answer.number, bits(answer.gradient)) {
-            differ(name, input(), format!("{number}, gradient {gradient:e}"), format!("{}, gradient {:e}", answer.number, answer.gradient));
+        if (number, bits(gradient), comparisons) != (answer.number, bits(answer.gradient), answer.comparisons) {
+            let said = |number: u64, gradient: f64, comparisons: u64| format!("{number}, gradient {gradient:e}, {comparisons} comparisons");
+            differ(name, input(), said(number, gradient, comparisons), said(answer.number, answer.gradient, answer.comparisons));
         }
         if builder_words(&builder) != builder_words(&wanted) {
             differ(name, input(), format!("{builder:?}"), format!("{wanted:?}"));

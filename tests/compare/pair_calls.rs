@@ -13,3 +13,8 @@ pub fn builder(grid: Grid, b: &Held) -> Builder {
 pub fn packed(b: &Builder) -> u64 {
     b.packed
 }
+
+// The turns of `compute_gradient`'s loops: for each pair of vertices the neighbours of the first, then those of the second.
+pub fn comparisons(neighbours: &[Vec<u16>]) -> u64 {
+    neighbours.iter().map(|a| neighbours.iter().map(|b| (a.len() + b.len()) as u64).sum::<u64>()).sum()
+}

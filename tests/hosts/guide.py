@@ -66,6 +66,7 @@ def main():
     parts = [
         HEAD,
         snippets(page, "What the library needs of the process", 4),
+        snippets(page, "Reserving a job", 4),
         snippets(page, "Building a table", 7),
         BETWEEN,
         snippets(page, "Reading in a simulation", 4),

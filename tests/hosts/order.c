@@ -42,7 +42,7 @@ typedef struct call {
 } call;
 
 typedef struct answer {
-    uint64_t number, length;
+    uint64_t number, length, comparisons;
     double gradient;
 } answer;
 
@@ -84,6 +84,7 @@ static answer made(world *w, const call *c) {
         icotable_settled settled = icotable_settle(w->builder, LISTS(w), ICOTABLE_MESHES(&meshes), c->ri);
         a.number = settled.number;
         a.gradient = settled.gradient;
+        a.comparisons = settled.comparisons;
         w->builder = settled.builder;
     } else {
         uint8_t *output = w->output[w->writes++];

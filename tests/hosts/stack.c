@@ -90,6 +90,11 @@ static void reading(void) {
     }
 }
 
+static void sizing(void) {
+    sink = (double)icotable_sizing(settings, TOP, meshes.neighbour_counts, meshes.neighbour_counts_count, meshes.neighbours, meshes.neighbours_count).file;
+    sink = (double)icotable_atom_sizing(atom_settings, TOP, meshes.neighbour_counts, meshes.neighbour_counts_count, meshes.neighbours, meshes.neighbours_count).file;
+}
+
 static void numbers(void) {
     for (int i = 0; i < 2000; i++) {
         double x = (double)(i - 500) * 1e-3, y = x * 1e-308;
@@ -115,6 +120,7 @@ static const operation operations[] = {
     {"read", nothing, read_table, 2},
     {"locator", nothing, locator, 10},
     {"reading, boltzmann", nothing, reading, 3},
+    {"sizing", nothing, sizing, 4},
     {"root, exp, ln, mul_add, narrow, narrow_case, vertices, cells", nothing, numbers, 2},
 };
 

@@ -6,12 +6,12 @@
 
 #include <string.h>
 
-enum { FRESH, SET = 2, SETTLE = 4, GRADIENTS = 6, LEVELS, ROWS, STORES };
+enum { FRESH, SET = 2, SETTLE = 4, GRADIENTS = 6, COMPARISONS, LEVELS, ROWS, STORES };
 
 enum { STORE = 25392, SLABS = 12, N = 146, ENERGIES = 8500 };
 
 /* Letters of a call's stored answer, and where the builder stands in a line. */
-enum { ANSWER = 3 + 17 + 17 + 9 + SLABS * 15, BUILDER = 3 + ANSWER + 8 * 5 };
+enum { ANSWER = 3 + 17 + 17 + 17 + 9 + SLABS * 15, BUILDER = 3 + ANSWER + 8 * 5 };
 
 /* The lists, in the order in which a line says how much of each is lent. */
 typedef struct lists {
@@ -32,6 +32,7 @@ typedef struct lengths {
 typedef struct outcome {
     uint64_t number;
     double gradient;
+    uint64_t comparisons;
     icotable_builder builder;
 } outcome;
 
@@ -152,10 +153,10 @@ static outcome settle(replay *r, lists *l, const lengths *n, icotable_builder he
     uint64_t ri = word(r, 16);
     if (r->atom) {
         icotable_atom_settled a = icotable_atom_settle(to_atom(&held), l->store, n->store, ROW_LISTS, MESH_LISTS, ri);
-        return (outcome){.number = a.number, .gradient = a.gradient, .builder = of_atom(&a.builder)};
+        return (outcome){a.number, a.gradient, a.comparisons, of_atom(&a.builder)};
     }
     icotable_settled a = icotable_settle(held, l->store, n->store, ROW_LISTS, MESH_LISTS, ri);
-    return (outcome){.number = a.number, .gradient = a.gradient, .builder = a.builder};
+    return (outcome){a.number, a.gradient, a.comparisons, a.builder};
 }
 
 /* A number that stands for the bits of every energy of the store. */
@@ -166,15 +167,16 @@ static uint64_t stamp(const double *store) {
     return h;
 }
 
-/* The stored answer: number, level, gradient, stamp of the store, and all twelve rows, also those beyond the ones that
+/* The stored answer: number, level, gradient, comparisons, stamp of the store, and all twelve rows, also those beyond the ones that
  * the table needs. */
 static void judge(replay *r, int kind, bool right, const outcome *o, const lists *l) {
     bool agrees = same(r, kind, 2, o->number) && right;
     bool level = same(r, LEVELS, 16, o->builder.level);
     bool gradient = same(r, kind < SETTLE ? kind : GRADIENTS, 16, bits(o->gradient));
-    counted(r, kind, agrees && (kind == SETTLE || gradient));
+    bool comparisons = same(r, kind < SETTLE ? kind : COMPARISONS, 16, o->comparisons);
+    counted(r, kind, agrees && (kind == SETTLE || (gradient && comparisons)));
     if (kind == SETTLE)
-        counted(r, GRADIENTS, gradient);
+        counted(r, GRADIENTS, gradient), counted(r, COMPARISONS, comparisons);
     counted(r, LEVELS, level);
     counted(r, STORES, same(r, STORES, 8, stamp(l->store)));
     for (size_t i = 0; i < SLABS; i++) {

@@ -173,6 +173,7 @@ static kind_count calls[] = {
     {.words = "settle, accepted"},
     {.words = "settle, refused"},
     {.words = "gradients"},
+    {.words = "comparisons"},
     {.words = "levels"},
     {.words = "rows"},
     {.words = "stores"},
@@ -204,6 +205,20 @@ static kind_count damaged[] = {
     {.words = "by another number"},
     {0},
 };
+static kind_count sizes[] = {
+    {.words = "sizings, accepted"},
+    {.words = "stores"},
+    {.words = "files"},
+    {.words = "numbers by level"},
+    {.words = "refused with 1"},
+    {.words = "refused with 2"},
+    {.words = "refused with 3"},
+    {.words = "refused with 4"},
+    {.words = "refused with 5"},
+    {.words = "refused with 6"},
+    {.words = "refused with 7"},
+    {0},
+};
 
 static const struct {
     const char *name;
@@ -218,6 +233,8 @@ static const struct {
     {"readings_atom", readings, replay_readings, true},
     {"damaged", damaged, replay_damaged, false},
     {"damaged_atom", damaged, replay_damaged, true},
+    {"sizes", sizes, replay_sizes, false},
+    {"sizes_atom", sizes, replay_sizes, true},
 };
 
 static char *letters_of(const char *name, size_t *count) {
@@ -252,6 +269,6 @@ int main(int count, char **words) {
         free(r.letters);
         return report(&r);
     }
-    fputs("usage: replay searches|calls|calls_atom|readings|readings_atom|damaged|damaged_atom FILE\n", stderr);
+    fputs("usage: replay searches|calls|calls_atom|readings|readings_atom|damaged|damaged_atom|sizes|sizes_atom FILE\n", stderr);
     return 2;
 }

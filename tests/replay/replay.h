@@ -60,5 +60,6 @@ void replay_searches(replay *r);
 void replay_calls(replay *r);
 void replay_readings(replay *r);
 void replay_damaged(replay *r);
+void replay_sizes(replay *r);
 
 #endif

@@ -2,16 +2,20 @@
 use mathlib.Core.Path.{_≡_, refl, sym, _∙_}
 use mathlib.Core.Bool.{true, _&&_, _||_, and-true, or-false, and-assoc, or-assoc, and-eq-true-iff}
 use mathlib.Core.List.{List, [], _∷_, map}
-use Prim.Native.Nat.{ℕ, _^_, _<_}
+use Prim.Native.Nat.{ℕ, _+_, _%_, _^_, _<_}
+use native.Mathlib.Nat.{mod-eq-of-lt}
+use native.Mathlib.Omega.{arith}
+use lib.ListN.{length}
 use lib.Dec.{ltb}
 use lib.Ieee.{Float, lt}
 use borrow.Author.Tests.{ltb-true}
 use Rattle.lists.specs.Lists.{every}
 use Rattle.rows.specs.Rows.{Row}
-use Rattle.settling.specs.Settling.{newRow, inPlaceOf, settles, someSettle, largestFrom, settledRows, notRepulsive, packedRow, packedRows, packedAfter}
+use Rattle.settling.specs.Settling.{newRow, inPlaceOf, settles, someSettle, largestFrom, settledRows, notRepulsive, packedRow, packedRows, packedAfter, comparisonsFor, comparisonsIn}
 use Rattle.settling.specs.Internal.{tallied}
 use Rattle.builder.specs.Internal.{tallyFrom, dropsBy}
 use Rattle.settling.proofs.Packed.{after-few, after-same, after-both}
+use Rattle.settling.proofs.Compared.{in-few}
 use Rattle.settling.specs.declared.Tally.{Tally}
 use Rattle.settling.specs.declared.Verdict.{Verdict}
 
@@ -39,6 +43,17 @@ module _ (f : Row Float → Verdict) (c : ℕ) where
       let left = inPlaceOf r (newRow c (f r)) in
       tally-packed (tallied c t r (f r)) rs (after-few (t .packed) (packedRow r) (packedRow left))
       ∙ after-both (t .packed) (packedRow r) (packedRow left) (packedRows rs) (packedRows (settledRows c rs (map f rs)))
+
+  -- .. in a slice of so many slabs that nothing wraps
+  pub tally-reached : (t : Tally) (rs : List (Row Float)) → t .reached + length rs < 2 ^ 64 → tallyFrom f c t rs .reached ≡ t .reached + comparisonsIn 1 (map f rs)
+  unfolding tallyFrom tallied comparisonsIn
+  tally-reached t [] h = omega arith
+  tally-reached t (r ∷ rs) h =
+      let one = comparisonsFor 1 (f r) in
+      let few = in-few (f r ∷ []) in
+      let e : (t .reached + one) % 2 ^ 64 ≡ t .reached + one = mod-eq-of-lt (omega (arith, h, few)) in
+      let next : (t .reached + one) % 2 ^ 64 + length rs < 2 ^ 64 = rw e (omega (arith, h, few)) in
+      tally-reached (tallied c t r (f r)) rs next ∙ rw e (omega arith)
 
 -- the level drops only where it is above 0
 pub drops-above : (t : Tally) (threshold : Float) (level : ℕ) → dropsBy t threshold level ≡ true → 0 < level

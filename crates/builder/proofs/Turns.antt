@@ -1,5 +1,5 @@
 -- A turn of the loop over a slice. Assumes nothing.
-use mathlib.Core.Path.{_≡_, refl, sym, _∙_}
+use mathlib.Core.Path.{_≡_, refl, sym, ap, _∙_}
 use mathlib.Core.Bool.{Bool, true, false, cond, and-eq-true-iff}
 use mathlib.Core.List.{List, [], _∷_, map}
 use mathlib.Core.Option.{Option, none, some}
@@ -85,6 +85,11 @@ rows-more top l base n i h =
     let e : n - i ≡ suc (n - (i + 1)) = omega arith in
     let d : suc (base + i) ≡ base + (i + 1) = omega arith in
     rw (e, d)
+
+pub rows-count : (each : ℕ → ℕ) (top : ℕ) (l : BuilderLists) (s n : ℕ) → length (rowsIn each top l s n) ≡ n
+unfolding rowsIn
+rows-count each top l s zero = refl
+rows-count each top l s (suc n) = ap suc (rows-count each top l (suc s) n)
 
 -- a test that every row of the slice passes
 pub row-passes : (p : Row Float → Bool) (top : ℕ) (l : BuilderLists) (s n i : ℕ) → i < n → every p (rowsFrom top l s n) ≡ true → p (rowAt top l (s + i)) ≡ true

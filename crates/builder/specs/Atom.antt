@@ -12,8 +12,8 @@ use Rattle.mesh.specs.Mesh.{Mesh, levelPart, meshLong, meshesKeep}
 use Rattle.grid.specs.Atom.{atomQuestion, atomCounted}
 use Rattle.grid.specs.declared.AtomGrid.{AtomGrid}
 use Rattle.rows.specs.Rows.{Row, rowKnown}
-use Rattle.settling.specs.Gradient.{zero}
-use Rattle.settling.specs.Settling.{fromLevel, newRow, replacedBy, atomVerdictOf, atomLevel}
+use Rattle.settling.specs.Gradient.{zero, lineComparisons}
+use Rattle.settling.specs.Settling.{fromLevel, newRow, replacedBy, comparisonsFor, atomVerdictOf, atomLevel}
 use Rattle.builder.specs.BuilderLists.{BuilderLists, rowIn, slabRoom}
 use Rattle.builder.specs.Calls.{filledSlabs, slabSet}
 use Rattle.builder.specs.declared.AtomBuilder.{AtomBuilder}
@@ -76,18 +76,19 @@ abbrev pub atomBuiltNumbered : AtomBuilt → Bool
 atomBuiltNumbered (Builds b) = true
 atomBuiltNumbered (NotBuilt n) = not (eqb n 0)
 
--- "any other settling returns its slab's gradient"; beside a number that refuses stands 0
+-- "any other settling returns its slab's gradient"; document 02, paper 8: "Settling reports the comparisons it made"; beside a number that refuses stands 0
 pub record AtomSettledValues : Type 0 where
   pub number : ℕ
   pub gradient : Float
+  pub comparisons : ℕ
   pub builder : AtomBuilder
 
 abbrev pub atomSettledValues : AtomBuilder → AtomSettled → AtomSettledValues
-atomSettledValues kept (Settles b x) = record { number = 0; gradient = x; builder = b }
-atomSettledValues kept (NotSettled n) = record { number = n; gradient = zero; builder = kept }
+atomSettledValues kept (Settles b x k) = record { number = 0; gradient = x; comparisons = k; builder = b }
+atomSettledValues kept (NotSettled n) = record { number = n; gradient = zero; comparisons = 0; builder = kept }
 
 abbrev pub atomSettledNumbered : AtomSettled → Bool
-atomSettledNumbered (Settles b x) = true
+atomSettledNumbered (Settles b x k) = true
 atomSettledNumbered (NotSettled n) = not (eqb n 0)
 
 -- what stands for a builder where fresh is refused
@@ -134,8 +135,9 @@ atomSettleAccepted b m l ri =
     let g = b .grid in
     let c = b .level in
     let v = atomVerdictOf (g .threshold) (g .beta) (levelPart c m) (vertexCount c) (atomRow (b .top) l ri) in
+    let k = comparisonsFor (lineComparisons (levelPart c m) (vertexCount c)) (v .verdict) in
     record {
-      answer = atomSettledValues b (Settles (record { grid = g; top = b .top; level = atomLevel (g .threshold) c v }) (v .gradient));
+      answer = atomSettledValues b (Settles (record { grid = g; top = b .top; level = atomLevel (g .threshold) c v }) (v .gradient) k);
       lists = record { store = l .store; rows = replacedBy (l .rows) ri (newRow c (v .verdict)) };
     }
 

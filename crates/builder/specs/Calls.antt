@@ -6,14 +6,14 @@ use lib.ListN.{replicate}
 use lib.Dec.{eqb}
 use lib.Ieee.{Float}
 use Rattle.lists.specs.Lists.{put}
-use Rattle.mesh.specs.Levels.{per}
-use Rattle.mesh.specs.Mesh.{Mesh}
+use Rattle.mesh.specs.Levels.{vertexCount, per}
+use Rattle.mesh.specs.Mesh.{Mesh, levelPart}
 use Rattle.grid.specs.Settings.{counted}
 use Rattle.grid.specs.declared.Grid.{Grid}
 use Rattle.rows.specs.declared.SlabResolution.the-variants.{Mesh as toMesh}
 use Rattle.rows.specs.Rows.{Rows, Row, replaced, rowsOf}
-use Rattle.settling.specs.Gradient.{zero}
-use Rattle.settling.specs.Settling.{newRow, replacedBy, verdicts, settledSlice, packedRow, packedRows, packedAfter}
+use Rattle.settling.specs.Gradient.{zero, comparisons}
+use Rattle.settling.specs.Settling.{newRow, replacedBy, verdicts, settledSlice, packedRow, packedRows, packedAfter, comparisonsIn}
 use Rattle.settling.specs.declared.Verdict.{Verdict}
 use Rattle.builder.specs.BuilderLists.{BuilderLists, slabs, slab, rowAt, sliceAt}
 use Rattle.builder.specs.Refusals.{meshedRefusal, setRefusal, settleRefusal}
@@ -38,18 +38,19 @@ abbrev pub builtNumbered : Built → Bool
 builtNumbered (Builds b) = true
 builtNumbered (NotBuilt n) = not (eqb n 0)
 
--- "settle returns the largest gradient"; beside a number that refuses stands 0
+-- "settle returns the largest gradient"; document 02, paper 8: "Settling reports the comparisons it made"; beside a number that refuses stands 0
 pub record SettledValues : Type 0 where
   pub number : ℕ
   pub gradient : Float
+  pub comparisons : ℕ
   pub builder : Builder
 
 abbrev pub settledValues : Builder → Settled → SettledValues
-settledValues kept (Settles b x) = record { number = 0; gradient = x; builder = b }
-settledValues kept (NotSettled n) = record { number = n; gradient = zero; builder = kept }
+settledValues kept (Settles b x k) = record { number = 0; gradient = x; comparisons = k; builder = b }
+settledValues kept (NotSettled n) = record { number = n; gradient = zero; comparisons = 0; builder = kept }
 
 abbrev pub settledNumbered : Settled → Bool
-settledNumbered (Settles b x) = true
+settledNumbered (Settles b x k) = true
 settledNumbered (NotSettled n) = not (eqb n 0)
 
 -- what stands for a builder where fresh is refused
@@ -124,9 +125,10 @@ settleAccepted b m l ri =
     let rs = sliceAt b l ri in
     let vs = verdicts (b .grid) m (b .level) rs in
     let s = settledSlice (b .grid) (b .level) rs vs in
+    let k = comparisonsIn (comparisons (levelPart (b .level) m) (vertexCount (b .level))) vs in
     record {
       answer = settledValues b
-          (Settles (record { grid = b .grid; top = b .top; level = s .level; packed = packedAfter (b .packed) (packedRows rs) (packedRows (s .rows)) }) (s .gradient));
+          (Settles (record { grid = b .grid; top = b .top; level = s .level; packed = packedAfter (b .packed) (packedRows rs) (packedRows (s .rows)) }) (s .gradient) k);
       lists = record { store = l .store; rows = settledLists (b .level) (l .rows) (slab (b .grid) ri 0) vs };
     }
 

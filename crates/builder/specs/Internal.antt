@@ -74,7 +74,7 @@ pub record SettleReadyIn (b : Builder) (ms : Mesh) (l : BuilderLists) (ri : ℕ)
 
 -- nothing so far
 abbrev pub start : ℕ → Tally
-start packed = record { gradient = ofBits binary64 0; settled = false; clear = true; packed = packed }
+start packed = record { gradient = ofBits binary64 0; settled = false; clear = true; packed = packed; reached = 0 }
 
 -- what settling a slice gives and leaves, over the mesh of the current level
 abbrev pub SliceSettled : Builder → Mesh → BuilderLists → ℕ → Tally → Rows → Type 0

@@ -2,11 +2,12 @@
 ghost use mathlib.Core.Path.{_≡_};
 ghost use mathlib.Core.Bool.{true, _&&_};
 ghost use mathlib.Core.List.{[]};
-ghost use Prim.Native.Nat.{suc};
+ghost use Prim.Native.Nat.{suc, _≤_};
 ghost use Rattle.lists.specs.Questions.{ask, first};
 ghost use Rattle.mesh.specs.Levels.{verticesBelow};
-ghost use Rattle.mesh.specs.Mesh.{meshLong, meshesKeep, meshOf};
+ghost use Rattle.mesh.specs.Mesh.{meshLong, meshesKeep, meshOf, neighbourTotal};
 ghost use Rattle.rows.specs.Rows.{rowsOf};
+ghost use Rattle.settling.specs.Settling.{comparisonsFor};
 ghost use Rattle.builder.specs.BuilderLists.{listsOf};
 ghost use Rattle.builder.specs.Atom.{AtomBuiltOut, AtomSettleOut, atomBuiltValues, atomBuiltNumbered, atomSettledValues, atomSettledNumbered, noAtomBuilder, atomBuilderQuestion, atomRoom, atomFreshBuilder, atomFreshOut, atomSetQuestion, atomSetOut, atomSettleRefusal, atomSettleOut};
 ghost use Rattle.builder.specs.Internal.{AtomSettleReady, partLinks, atomSettledSlab};
@@ -17,6 +18,7 @@ use crate::copies;
 use crate::questions;
 use grid::AtomGrid;
 use settling::AtomVerdict;
+use settling::Verdict;
 
 // Questions 1 to 7 of a call that the meshes are lent to.
 pub fn atom_meshed_refusal(
@@ -266,6 +268,17 @@ fn atom_settle_slab(
     v
 }
 
+// The comparisons of a slab: the level's total of neighbours, if it reached the gradient.
+fn atom_compared(level: u64, v: Verdict, counts: &[u8]) -> u64
+    requires { ⌜ level ≤ 15 ⌝ }
+    ensures { λ r. ⌜ r ≡ comparisonsFor (neighbourTotal (now (counts .entry)) level) v ⌝ }
+{
+    if settling::settles(v) {
+        return mesh::neighbour_total(level as u8, counts);
+    }
+    0
+}
+
 // Settles a slab, if it holds energies, and then the level.
 pub fn atom_settle(
     b: AtomBuilder,
@@ -313,6 +326,8 @@ pub fn atom_settle(
     let grid = b.grid;
     let threshold = grid.threshold;
     let top = b.top;
+    let found = v.verdict;
+    let comparisons = atom_compared(b.level, found, counts);
     let level = settling::atom_level(threshold, b.level, v);
-    AtomSettled::Accepted(AtomBuilder { grid, top, level }, v.gradient)
+    AtomSettled::Accepted(AtomBuilder { grid, top, level }, v.gradient, comparisons)
 }

@@ -45,9 +45,9 @@ pub enum Built {
     Refused(u64),
 }
 
-// What settle answers: the builder, and the largest gradient.
+// What settle answers: the builder, the largest gradient, and the neighbour comparisons made.
 pub enum Settled {
-    Accepted(Builder, f64),
+    Accepted(Builder, f64, u64),
     Refused(u64),
 }
 
@@ -58,7 +58,7 @@ pub enum AtomBuilt {
 }
 
 pub enum AtomSettled {
-    Accepted(AtomBuilder, f64),
+    Accepted(AtomBuilder, f64, u64),
     Refused(u64),
 }
 
@@ -229,5 +229,6 @@ pub fn settle(
         levels,
         values,
     );
-    Settled::Accepted(slices::dropped(b, t), t.gradient)
+    let comparisons = slices::compared(b, t, counts);
+    Settled::Accepted(slices::dropped(b, t), t.gradient, comparisons)
 }

@@ -3,7 +3,7 @@ ghost use mathlib.Core.Path.{_≡_};
 ghost use mathlib.Core.List.{[]};
 ghost use Prim.Native.Nat.{_+_, _*_, _≤_};
 ghost use lib.ListN.{length, take, drop};
-ghost use Rattle.mesh.specs.Mesh.{meshOf};
+ghost use Rattle.mesh.specs.Mesh.{meshOf, neighbourTotal};
 ghost use Rattle.builder.specs.BuilderLists.{listsOf};
 ghost use Rattle.mesh.specs.Levels.{vertexCount};
 ghost use Rattle.rows.specs.Rows.{resolutionAt, rowWith, rowsOf};
@@ -80,6 +80,7 @@ pub(crate) fn settle_rows(
         settled: false,
         clear: true,
         packed,
+        reached: 0,
     };
     let mut i: u64 = 0;
     while i < n {
@@ -173,4 +174,16 @@ pub(crate) fn dropped(b: Builder, t: Tally) -> Builder
         level,
         packed,
     }
+}
+
+// The comparisons of a slice: for each slab that reached the gradient the level's total of neighbours, once for each vertex of either molecule.
+pub(crate) fn compared(b: Builder, t: Tally, counts: &[u8]) -> u64
+    requires { ⌜ (b .level ≤ 15) × (t .reached ≤ 4294967295) × (neighbourTotal (now counts) (b .level) ≤ vertexCount (b .level) * 6) ⌝ }
+    ensures { λ r. ⌜ r ≡ t .reached * (2 * vertexCount (b .level) * neighbourTotal (now (counts .entry)) (b .level)) ⌝ }
+{
+    let level = b.level as u8;
+    let reached = t.reached;
+    let n = mesh::vertex_count(level);
+    let total = mesh::neighbour_total(level, counts);
+    reached * (2 * n * total)
 }

@@ -20,7 +20,7 @@ unfoldable pub builtIn : BuildAnswer → BuiltValues
 builtIn a = record { number = a .number; builder = a .builder }
 
 unfoldable pub settledIn : SettleAnswer → SettledValues
-settledIn a = record { number = a .number; gradient = a .gradient; builder = a .builder }
+settledIn a = record { number = a .number; gradient = a .gradient; comparisons = a .comparisons; builder = a .builder }
 
 unfoldable pub writtenIn : WriteAnswer → WrittenValues
 writtenIn a = record { number = a .number; length = a .length }

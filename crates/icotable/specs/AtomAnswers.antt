@@ -15,7 +15,7 @@ unfoldable pub atomBuiltIn : AtomBuildAnswer → AtomBuiltValues
 atomBuiltIn a = record { number = a .number; builder = a .builder }
 
 unfoldable pub atomSettledIn : AtomSettleAnswer → AtomSettledValues
-atomSettledIn a = record { number = a .number; gradient = a .gradient; builder = a .builder }
+atomSettledIn a = record { number = a .number; gradient = a .gradient; comparisons = a .comparisons; builder = a .builder }
 
 -- a reading against an atom shows no distances
 unfoldable pub energyIn : EnergyAnswer → ReadingValues

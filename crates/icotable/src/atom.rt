@@ -9,6 +9,7 @@ ghost use Rattle.table.specs.Atom.{atomReadValues, atomReadOut};
 ghost use Rattle.reading.specs.Resolve.{linear, boltzmann, readingValues};
 ghost use Rattle.reading.specs.Atom.{atomReadingBy};
 ghost use Rattle.reading.specs.Internal.{energyAlone};
+ghost use Rattle.sizing.specs.Sizing.{atomSizingOut};
 ghost use Rattle.icotable.specs.Answers.{writtenIn};
 ghost use Rattle.icotable.specs.AtomAnswers.{atomBuiltIn, atomSettledIn, energyIn, atomTableWith, atomTableAnswer, atomTableFrom};
 use crate::WriteAnswer;
@@ -19,6 +20,7 @@ use builder::AtomSettled;
 use grid::AtomGrid;
 use reading::Reading;
 use search::Vector3;
+use sizing::Size;
 use table::AtomReadAnswer;
 use table::AtomTable;
 
@@ -33,6 +35,7 @@ pub struct AtomBuildAnswer {
 pub struct AtomSettleAnswer {
     pub number: u64,
     pub gradient: f64,
+    pub comparisons: u64,
     pub builder: AtomBuilder,
 }
 
@@ -92,14 +95,16 @@ fn atom_settle_answer(kept: AtomBuilder, a: AtomSettled) -> AtomSettleAnswer
     ensures { λ r. ⌜ atomSettledIn r ≡ atomSettledValues kept a ⌝ }
 {
     match a {
-        AtomSettled::Accepted(builder, gradient) => AtomSettleAnswer {
+        AtomSettled::Accepted(builder, gradient, comparisons) => AtomSettleAnswer {
             number: 0,
             gradient,
+            comparisons,
             builder,
         },
         AtomSettled::Refused(number) => AtomSettleAnswer {
             number,
             gradient: 0.0,
+            comparisons: 0,
             builder: kept,
         },
     }
@@ -449,4 +454,17 @@ pub extern "C" fn icotable_atom_boltzmann(
         dz,
         beta,
     )
+}
+
+// What a build of these settings needs.
+#[no_mangle]
+pub extern "C" fn icotable_atom_sizing(
+    grid: AtomGrid,
+    top: u64,
+    neighbour_counts: &[u8],
+    neighbours: &[u16],
+) -> Size
+    ensures { λ r. ⌜ r ≡ atomSizingOut grid top (now («neighbour_counts» .entry)) (now (neighbours .entry)) ⌝ }
+{
+    sizing::atom_sizing(grid, top, neighbour_counts, neighbours)
 }

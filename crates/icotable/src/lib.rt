@@ -15,6 +15,7 @@ ghost use Rattle.table.specs.Read.{readValues, readOut};
 ghost use Rattle.locator.specs.Locator.{LocatorOut, locatorOut};
 ghost use Rattle.reading.specs.Resolve.{boltzmann, readingValues};
 ghost use Rattle.reading.specs.Reading.{readingBy, readingOut};
+ghost use Rattle.sizing.specs.Sizing.{sizingOut};
 ghost use Rattle.icotable.specs.Sizes.{heldVertices, heldCells};
 ghost use Rattle.icotable.specs.Answers.{builtIn, settledIn, writtenIn, valueIn, tableWith, tableAnswer, tableFrom};
 use builder::Builder;
@@ -23,6 +24,7 @@ use builder::Settled;
 use grid::Grid;
 use reading::Reading;
 use search::Vector3;
+use sizing::Size;
 use table::ReadAnswer;
 use table::Table;
 use writer::Written;
@@ -40,6 +42,7 @@ pub struct BuildAnswer {
 pub struct SettleAnswer {
     pub number: u64,
     pub gradient: f64,
+    pub comparisons: u64,
     pub builder: Builder,
 }
 
@@ -111,14 +114,16 @@ fn settle_answer(kept: Builder, a: Settled) -> SettleAnswer
     ensures { λ r. ⌜ settledIn r ≡ settledValues kept a ⌝ }
 {
     match a {
-        Settled::Accepted(builder, gradient) => SettleAnswer {
+        Settled::Accepted(builder, gradient, comparisons) => SettleAnswer {
             number: 0,
             gradient,
+            comparisons,
             builder,
         },
         Settled::Refused(number) => SettleAnswer {
             number,
             gradient: 0.0,
+            comparisons: 0,
             builder: kept,
         },
     }
@@ -553,6 +558,19 @@ pub extern "C" fn icotable_boltzmann(
         bz,
         beta,
     )
+}
+
+// What a build of these settings needs.
+#[no_mangle]
+pub extern "C" fn icotable_sizing(
+    grid: Grid,
+    top: u64,
+    neighbour_counts: &[u8],
+    neighbours: &[u16],
+) -> Size
+    ensures { λ r. ⌜ r ≡ sizingOut grid top (now («neighbour_counts» .entry)) (now (neighbours .entry)) ⌝ }
+{
+    sizing::sizing(grid, top, neighbour_counts, neighbours)
 }
 
 // The vertices of a level; 0 above level 15.

@@ -84,7 +84,7 @@ module _ (g : AtomGrid) (top : ℕ) (m : Mesh) (base : AtomBasis g top m) (v : �
   unfolding atomRoom
   roomy = room-held (g .«n_r») (vertexCount top) (length store) (length (l .kinds)) (length (l .levels)) (length (l .values)) (a .room)
 
-  meshed-yes : atomMeshedRefusal b m ls ≡ 0
+  pub meshed-yes : atomMeshedRefusal b m ls ≡ 0
   unfolding atomMeshedRefusal first ask
   meshed-yes = rw (asked, roomy, base .held, base .kept)
 

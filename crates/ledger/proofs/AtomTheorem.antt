@@ -1,6 +1,5 @@
 -- Demand 3 for tables against an atom. Assumes nothing.
 use mathlib.Core.Path.{_≡_, refl, sym, ap, _∙_}
-use Rattle.lists.proofs.Asking.{first-yes}
 use mathlib.Core.Bool.{Bool, true, false}
 use mathlib.Core.List.{List}
 use Prim.Native.Nat.{ℕ, suc, _+_}
@@ -9,7 +8,7 @@ use lib.ListN.{length, getD, take, drop, length-map}
 use lib.Seq.{take-all, take-at, ext-getD}
 use lib.Dec.{eqb}
 use lib.Ieee.{binary64, toBits}
-use borrow.Author.Tests.{eqb-true, eqb-false}
+use borrow.Author.Tests.{eqb-false}
 use Rattle.lists.specs.Lists.{put}
 use Rattle.mesh.specs.Levels.{vertexCount}
 use Rattle.mesh.specs.Mesh.{Mesh}
@@ -18,11 +17,7 @@ use Rattle.grid.specs.declared.AtomGrid.{AtomGrid}
 use Rattle.grid.proofs.Tables.{atom-table-valid, atom-some-bins}
 use Rattle.rows.specs.Rows.{Row, repulsive, compared}
 use Rattle.builder.specs.BuilderLists.{BuilderLists}
-use Rattle.builder.specs.Calls.{filledSlabs}
-use Rattle.builder.specs.Atom.{atomBuiltValues, noAtomBuilder, atomMeshedRefusal, atomFreshBuilder, atomFreshOut}
 use Rattle.builder.specs.declared.AtomBuilder.{AtomBuilder}
-use Rattle.builder.specs.declared.AtomBuilt.the-variants.{Accepted as Builds}
-use Rattle.builder.proofs.Laws.{AtomMeshed, atom-meshed}
 use Rattle.search.specs.Search.{Locator}
 use Rattle.locator.specs.Several.{Roomy}
 use Rattle.locator.proofs.Laid.{made-yes}
@@ -34,27 +29,14 @@ use Rattle.reading.specs.Resolve.{Way}
 use Rattle.reading.specs.Atom.{AtomQuery, atomRuledBy}
 use Rattle.ledger.specs.Ledger.{Ledger}
 use Rattle.ledger.specs.AtomLedger.{atomOpened, atomLedger}
-use Rattle.ledger.specs.AtomPromise.{AtomHistory, atomEnded, atomFile, AtomAccepted, atomRows, AtomSame, atomReadingOf, AtomKept, AtomPromise}
+use Rattle.ledger.specs.AtomPromise.{AtomHistory, atomFresh, atomEnded, atomFile, AtomAccepted, atomRows, AtomSame, atomReadingOf, AtomKept, AtomPromise}
 use Rattle.ledger.proofs.Invariant.{rows-are}
-use Rattle.ledger.proofs.AtomFollows.{AtomBasis, atomBuilderAt, AtomAgree, atom-follows, atom-starts}
+use Rattle.ledger.proofs.AtomFollows.{atomBuilderAt}
+use Rattle.ledger.proofs.AtomEnds.{yes-all, basis, agree}
 use Rattle.ledger.proofs.Admitted.{atom-rule-answered}
 use Rattle.ledger.proofs.AtomReadings.{atom-reads}
 
--- ---- what accepted calls are
-
-fresh-number : (g : AtomGrid) (top : ℕ) (m : Mesh) (l : BuilderLists) (x : Bool) → eqb (atomMeshedRefusal (atomFreshBuilder g top) m l) 0 ≡ x → atomFreshOut g top m l .answer .number ≡ 0
-    → atomMeshedRefusal (atomFreshBuilder g top) m l ≡ 0
-unfolding atomFreshOut
-fresh-number g top m l true d e = eqb-true _ 0 d
-fresh-number g top m l false d e = rw d at e
-
-fresh-is : (g : AtomGrid) (top : ℕ) (m : Mesh) (l : BuilderLists) → atomMeshedRefusal (atomFreshBuilder g top) m l ≡ 0
-    → atomFreshOut g top m l ≡ record {
-      answer = atomBuiltValues noAtomBuilder (Builds (atomBuilderAt (atomCounted g) top top));
-      lists = filledSlabs (atomCounted g .«n_r») (vertexCount top) l;
-    }
-unfolding atomFreshOut atomFreshBuilder
-fresh-is g top m l e = rw e
+-- ---- one list of calls
 
 -- the bytes of an accepted write
 written-is : (b : AtomBuilder) (m : Mesh) (l : BuilderLists) (out : List ℕ) (x : Bool) → eqb (atomWriteRefusal b m l (length out)) 0 ≡ x → atomWriteOut b m l out .answer .number ≡ 0
@@ -63,8 +45,6 @@ unfolding atomWriteOut put
 written-is b m l out true d e = rw d (take-at (atomFileFrom b l) (drop (0 + length (atomFileFrom b l)) out) (length (atomFileFrom b l)) refl)
 written-is b m l out false d e = absurd (eqb-false _ 0 d (rw d at e))
 
--- ---- one list of calls
-
 module _ (h : AtomHistory) (ok : AtomAccepted h) where
   abbrev g : AtomGrid
   g = atomCounted (h .grid)
@@ -72,39 +52,24 @@ module _ (h : AtomHistory) (ok : AtomAccepted h) where
   abbrev last : Ledger
   last = atomLedger g (h .meshes) (atomOpened g (h .top)) (h .calls)
 
-  none : atomMeshedRefusal (atomFreshBuilder (h .grid) (h .top)) (h .meshes) (h .lists) ≡ 0
-  none = fresh-number (h .grid) (h .top) (h .meshes) (h .lists) _ refl (ok .fresh)
-
-  yes-all : AtomMeshed (atomBuilderAt g (h .top) (h .top)) (h .meshes) (length (h .lists .store)) (length (h .lists .rows .kinds)) (length (h .lists .rows .levels)) (length (h .lists .rows .values))
-  unfolding atomMeshedRefusal atomFreshBuilder
-  yes-all = atom-meshed (atomBuilderAt g (h .top) (h .top)) (h .meshes) (length (h .lists .store)) (length (h .lists .rows .kinds)) (length (h .lists .rows .levels)) (length (h .lists .rows .values)) none
-
-  basis : AtomBasis g (h .top) (h .meshes)
-  unfolding atomMeshedRefusal atomFreshBuilder
-  basis = record { asked = first-yes none .0; held = yes-all .held; kept = yes-all .kept }
-
-  -- the builder ends as the ledger does
-  agree : AtomAgree g (h .top) (atomEnded h) last
-  unfolding atomEnded
-  agree =
-      rw (fresh-is (h .grid) (h .top) (h .meshes) (h .lists) none)
-      (atom-follows g (h .top) (h .meshes) basis _ (atomOpened g (h .top)) (h .calls) (atom-starts g (h .top) (h .lists) (yes-all .room)))
+  abbrev begins : atomFresh h .answer .number ≡ 0
+  begins = ok .fresh
 
   many : length (atomRows h) ≡ g .«n_r»
   unfolding atomRows
-  many = length-map (last .rows) compared ∙ agree .fit .many
+  many = length-map (last .rows) compared ∙ agree h begins .fit .many
 
   rows-written : atomFileFrom (atomBuilderAt g (h .top) (last .level)) (atomEnded h .lists) ≡ atomFileOf g (suc (h .top)) (atomRows h)
   unfolding atomFileFrom atomRows
   rows-written =
       let l = atomEnded h .lists in
-      rw (rows-are vertexCount (g .«n_r») (h .top) (l .store) (l .rows) (last .rows) (agree .fit) (g .«n_r») 0 (omega arith), take-all (g .«n_r») (last .rows) (omega (arith, agree .fit .many)))
+      rw (rows-are vertexCount (g .«n_r») (h .top) (l .store) (l .rows) (last .rows) (agree h begins .fit) (g .«n_r») 0 (omega arith), take-all (g .«n_r») (last .rows) (omega (arith, agree h begins .fit .many)))
 
   file-is : atomFile h ≡ atomFileOf g (suc (h .top)) (atomRows h)
   unfolding atomFile
   file-is =
       written-is (atomEnded h .builder) (h .meshes) (atomEnded h .lists) (h .output) _ refl (ok .write)
-      ∙ ap (λ (b : AtomBuilder). atomFileFrom b (atomEnded h .lists)) (agree .same) ∙ rows-written
+      ∙ ap (λ (b : AtomBuilder). atomFileFrom b (atomEnded h .lists)) (agree h begins .same) ∙ rows-written
 
   filable : AtomFilable g (suc (h .top)) (atomRows h)
   unfolding atomCounted atomRows
@@ -112,21 +77,21 @@ module _ (h : AtomHistory) (ok : AtomAccepted h) where
       record {
         rmin = ok .rmin;
         dr = ok .dr;
-        held = atom-table-valid g (h .top) (h .top) (basis .asked);
+        held = atom-table-valid g (h .top) (h .top) (basis h begins .asked);
         many = many;
-        fine = fine-rows vertexCount (h .top) (last .rows) (agree .fit .good);
+        fine = fine-rows vertexCount (h .top) (last .rows) (agree h begins .fit .good);
       }
 
   reads-rows : (l : Locator) → Roomy (h .top) l → (way : Way) (q : AtomQuery) → atomReadingOf h l way q ≡ atomRuledBy g (atomRows h) (h .meshes) way q
   reads-rows l r way q =
       rw (file-is, atom-file-accepted g (suc (h .top)) (atomRows h) filable)
-      (atom-reads (h .top) (h .meshes) l (yes-all .asked .top-le) (basis .held) (basis .kept) r way q g (atomRows h) filable)
+      (atom-reads (h .top) (h .meshes) l (yes-all h begins .asked .top-le) (basis h begins .held) (basis h begins .kept) r way q g (atomRows h) filable)
 
   kept : AtomKept h
   kept =
       record {
         read = rw (file-is, atom-file-accepted g (suc (h .top)) (atomRows h) filable) refl;
-        locator-calls = λ l r. made-yes (h .top) (h .meshes) l (yes-all .asked .top-le) (basis .held) (basis .kept) r;
+        locator-calls = λ l r. made-yes (h .top) (h .meshes) l (yes-all h begins .asked .top-le) (basis h begins .held) (basis h begins .kept) r;
         readings = reads-rows;
         answers = λ l r way q. rw (reads-rows l r way q) (atom-rule-answered way g (atomRows h) (h .meshes) q (atom-some-bins g (suc (h .top)) (filable .held)));
       }

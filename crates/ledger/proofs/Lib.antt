@@ -1,16 +1,23 @@
--- Laws of lists of calls, and the theorems: `promise` (Theorem), `atom-promise` (AtomTheorem), `any-order` and `later` (Order), `within-runs` (Runs), `packed-moves` (Packed), `file-length` (Ends).
+-- Laws of lists of calls, and the theorems: `promise` (Theorem), `atom-promise` (AtomTheorem), `any-order` and `later` (Order), `within-runs` (Runs), `packed-moves` (Packed), `file-length` (Ends),
+-- `reports` and `atom-reports` (Comparisons),
+-- `longest`, `reached` and `fitting` (Longest) with those of an atom (AtomLongest), `foretold` and `atom-foretold` (Foretold).
 pub mod Store
 pub mod Invariant
 pub mod Follows
 pub mod PackedRows
 pub mod Packed
+pub mod Comparisons
 pub mod Ends
 pub mod Readings
 pub mod Admitted
 pub mod Theorem
 pub mod AtomFollows
 pub mod AtomReadings
+pub mod AtomEnds
 pub mod AtomTheorem
 pub mod Sets
 pub mod Runs
 pub mod Order
+pub mod Longest
+pub mod AtomLongest
+pub mod Foretold

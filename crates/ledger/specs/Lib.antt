@@ -1,8 +1,11 @@
--- A reader has to believe `Ledger`, `Promise`, `Replies`, `Order`, `Packed` and, of tables against an atom, `AtomLedger` and `AtomPromise`.
+-- A reader has to believe `Ledger`, `Promise`, `Replies`, `Order`, `Packed`, `Comparisons`, `Longest`, `Foretold` and, of tables against an atom, `AtomLedger` and `AtomPromise`.
 pub mod Ledger
 pub mod Promise
 pub mod Replies
 pub mod Order
 pub mod Packed
+pub mod Comparisons
 pub mod AtomLedger
 pub mod AtomPromise
+pub mod Longest
+pub mod Foretold

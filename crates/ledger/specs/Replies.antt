@@ -11,13 +11,13 @@ use Rattle.ledger.specs.Promise.{History, fresh}
 -- 01's number and values of a call's answer; and what a write leaves in its output
 pub data Reply : Type 0 where
   set-reply : ℕ → Reply
-  settle-reply : ℕ → Float → Reply
+  settle-reply : ℕ → Float → ℕ → Reply
   write-reply : ℕ → ℕ → List ℕ → Reply
 
 -- 0 is acceptance
 abbrev pub number : Reply → ℕ
 number (set-reply n) = n
-number (settle-reply n x) = n
+number (settle-reply n x k) = n
 number (write-reply n k out) = n
 
 abbrev pub writeReply : WriteOut → Reply
@@ -25,7 +25,7 @@ writeReply o = write-reply (o .answer .number) (o .answer .length) (o .output)
 
 unfoldable pub replied : Mesh → State → Call → Reply
 replied m st (set-call ri oi e) = set-reply (setOut (st .builder) (st .lists) ri oi e .answer .number)
-replied m st (settle-call ri) = let a = settleOut (st .builder) m (st .lists) ri .answer in settle-reply (a .number) (a .gradient)
+replied m st (settle-call ri) = let a = settleOut (st .builder) m (st .lists) ri .answer in settle-reply (a .number) (a .gradient) (a .comparisons)
 replied m st (write-call out) = writeReply (writeOut (st .builder) m (st .lists) out)
 
 unfoldable pub replies : Mesh → State → List Call → List Reply

@@ -50,7 +50,7 @@ calledOver m st l (write-call out) = let o = writeOut (st .builder) m l out in l
 
 unfoldable pub repliedOver : Mesh → Builder → BuilderLists → Call → Reply
 repliedOver m b l (set-call ri oi e) = set-reply (setLent b l ri oi e .answer)
-repliedOver m b l (settle-call ri) = let a = settleLent b m l ri .answer in settle-reply (a .number) (a .gradient)
+repliedOver m b l (settle-call ri) = let a = settleLent b m l ri .answer in settle-reply (a .number) (a .gradient) (a .comparisons)
 repliedOver m b l (write-call out) = writeReply (writeOut b m l out)
 
 abbrev pub calledLent : Mesh → LentState → Call → LentState

@@ -35,12 +35,12 @@ fn set_done(kept: Builder, a: Built) -> SetDone
 }
 
 fn settle_done(kept: Builder, a: Settled) -> SettleDone
-    ensures { λ r. ⌜ (lentNumbered (r .answer) ≡ settledNumbered a) × (r .builder ≡ settledValues kept a .builder) × (lentValues (r .answer) ≡ record { number = settledValues kept a .number; gradient = settledValues kept a .gradient }) ⌝ }
+    ensures { λ r. ⌜ (lentNumbered (r .answer) ≡ settledNumbered a) × (r .builder ≡ settledValues kept a .builder) × (lentValues (r .answer) ≡ record { number = settledValues kept a .number; gradient = settledValues kept a .gradient; comparisons = settledValues kept a .comparisons }) ⌝ }
 {
     match a {
-        Settled::Accepted(builder, gradient) => SettleDone {
+        Settled::Accepted(builder, gradient, comparisons) => SettleDone {
             builder,
-            answer: LentSettled::Accepted(gradient),
+            answer: LentSettled::Accepted(gradient, comparisons),
         },
         Settled::Refused(number) => SettleDone {
             builder: kept,

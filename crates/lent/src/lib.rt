@@ -19,8 +19,8 @@ pub struct RowRecord {
     pub value: u32,
 }
 
-// What settle answers where the builder is lent: the largest gradient.
+// What settle answers where the builder is lent: the largest gradient, and the neighbour comparisons made.
 pub enum LentSettled {
-    Accepted(f64),
+    Accepted(f64, u64),
     Refused(u64),
 }

@@ -1,18 +1,11 @@
--- What the mesh rule says of a mesh.
-use mathlib.Core.Path.{_≡_, refl}
+-- What question 6 says of a mesh.
+use mathlib.Core.Path.{_≡_}
 use mathlib.Core.Bool.{true, _&&_, and-eq-true-iff}
-use mathlib.Core.List.{[]}
 use Prim.Native.Nat.{ℕ, _*_, _≤_}
 use lib.ListN.{length}
 use lib.Dec.{leb}
 use borrow.Author.Tests.{leb-true}
-use Rattle.mesh.specs.Mesh.{Mesh, within, lists, neighbourKept, vertexKept, meshRoom, meshLong, meshOf}
-
--- a vertex and its neighbours keep the rule whatever the coordinates are
-pub kept-links : (n : ℕ) (m : Mesh) (v : ℕ)
-    → vertexKept n (meshOf [] (m .counts) (m .neighbours) (m .angles)) v ≡ vertexKept n m v
-unfolding vertexKept neighbourKept lists within
-kept-links n m v = refl
+use Rattle.mesh.specs.Mesh.{Mesh, meshRoom, meshLong, linksRoom}
 
 -- the lists are long enough for n vertices
 pub record Held (n : ℕ) (m : Mesh) : Type 0 where
@@ -28,3 +21,10 @@ held n m e =
     let b = and-eq-true-iff (leb n (length (m .counts))) (leb (6 * n) (length (m .neighbours)) && leb (6 * n) (length (m .angles))) .0 (a .1) in
     let d = and-eq-true-iff (leb (6 * n) (length (m .neighbours))) (leb (6 * n) (length (m .angles))) .0 (b .1) in
     record { vertices = leb-true _ _ (a .0); counts = leb-true _ _ (b .0); neighbours = leb-true _ _ (d .0); angles = leb-true _ _ (d .1) }
+
+-- the same of neighbour counts and neighbours alone
+pub links-held : (n counts neighbours : ℕ) → linksRoom n counts neighbours ≡ true → (n ≤ counts) × (6 * n ≤ neighbours)
+unfolding linksRoom
+links-held n counts neighbours e =
+    let a = and-eq-true-iff (leb n counts) (leb (6 * n) neighbours) .0 e in
+    (leb-true n counts (a .0), leb-true (6 * n) neighbours (a .1))

@@ -3,3 +3,5 @@ pub mod Laws
 pub mod Sizes
 pub mod Tables
 pub mod Kept
+pub mod Totals
+pub mod Parts

@@ -7,7 +7,7 @@ use lib.Seq.{slice}
 use lib.Dec.{leb, ltb, eqb}
 use lib.Ieee.{Float, nan, binary64, ofBits, lt}
 use lib.Ieee.Scale.{finite}
-use Rattle.lists.specs.Lists.{allUpTo, anyUpTo}
+use Rattle.lists.specs.Lists.{allUpTo, anyUpTo, sum}
 use Rattle.mesh.specs.Levels.{vertexCount, verticesBelow}
 
 -- "Lent: 3n f64, n neighbour counts (u8), 6n u16 and 6n angles, six places a vertex": of one level, or of several one after another (S3.3)
@@ -60,6 +60,30 @@ verticesFinite n vs = allUpTo (3 * n) (λ i. finite (getD vs i nan))
 unfoldable pub keepsRule : ℕ → Mesh → Bool
 keepsRule n m = verticesFinite n (m .vertices) && allUpTo n (vertexKept n m)
 
+-- ---- the mesh rule in parts, for calls that take a mesh without some of its lists: the rule is the three of them together (`rule-parts`, proofs/Parts)
+
+-- of the neighbour at place k of v, but for its angle
+unfoldable pub neighbourLinked : ℕ → Mesh → ℕ → ℕ → Bool
+neighbourLinked n m v k =
+    let w = neighbour m v k in
+    ltb w n && (not (eqb w v) && (not (within m v k w) && lists m w v))
+
+unfoldable pub vertexLinked : ℕ → Mesh → ℕ → Bool
+vertexLinked n m v = leb 5 (degree m v) && (leb (degree m v) 6 && allUpTo (degree m v) (neighbourLinked n m v))
+
+-- the part of neighbour counts and neighbours: "5 or 6 distinct neighbours below n, not itself, each listing it in turn" (S3.4)
+unfoldable pub linksKept : ℕ → Mesh → Bool
+linksKept n m = allUpTo n (vertexLinked n m)
+
+-- the part of the angles
+unfoldable pub anglesOf : Mesh → ℕ → Bool
+anglesOf m v = allUpTo (degree m v) (λ k. angleKept (angleTo m v k))
+
+unfoldable pub anglesKept : ℕ → Mesh → Bool
+anglesKept n m = allUpTo n (anglesOf m)
+
+-- ---- several levels
+
 -- level m's part of meshes that are lent one after another (S5.7)
 unfoldable pub levelPart : ℕ → Mesh → Mesh
 levelPart m l =
@@ -83,3 +107,14 @@ meshLong n m = meshRoom n (length (m .vertices)) (length (m .counts)) (length (m
 -- 7: "Does every lent mesh keep the mesh rule?", of the levels from 0 to the top (S5.7)
 unfoldable pub meshesKeep : ℕ → Mesh → Bool
 meshesKeep top l = allUpTo (suc top) (λ m. keepsRule (vertexCount m) (levelPart m l))
+
+-- document 02, paper 8: "the total of neighbours" of level m: its vertices' entries of the neighbour counts that are lent, added up (S3.9)
+unfoldable pub neighbourTotal : List ℕ → ℕ → ℕ
+neighbourTotal counts m = sum (vertexCount m) (λ v. getD counts (verticesBelow m + v) 0)
+
+-- document 02, paper 8, "6 and 7 to the neighbour counts and lists alone": the lengths that n vertices need, and the levels from 0 to the top (S5.6, S5.7)
+unfoldable pub linksRoom : ℕ → ℕ → ℕ → Bool
+linksRoom n counts neighbours = leb n counts && leb (6 * n) neighbours
+
+unfoldable pub meshesLinked : ℕ → Mesh → Bool
+meshesLinked top l = allUpTo (suc top) (λ m. linksKept (vertexCount m) (levelPart m l))

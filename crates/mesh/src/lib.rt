@@ -10,12 +10,16 @@ pub use levels::vertex_count;
 pub use levels::vertices_below;
 pub use rule::degree;
 pub use rule::entry;
+pub use rule::links_kept;
 pub use rule::lists;
 pub use rule::mesh_keeps;
 pub use rule::mesh_room;
 pub use rule::neighbour;
+pub use several::links_room;
 pub use several::meshes_keep;
+pub use several::meshes_linked;
 pub use several::meshes_room;
+pub use several::neighbour_total;
 
 // The vertices of a face, ascending.
 #[repr(C)]

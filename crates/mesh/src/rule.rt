@@ -2,11 +2,13 @@
 ghost use mathlib.Core.Path.{_≡_};
 ghost use mathlib.Core.Bool.{_&&_};
 ghost use mathlib.Core.List.{[]};
-ghost use Prim.Native.Nat.{_+_, _*_};
-ghost use lib.ListN.{getD};
+ghost use Prim.Native.Nat.{_+_, _*_, _≤_};
+ghost use lib.ListN.{length, getD};
+ghost use lib.Dec.{eqb};
 ghost use lib.Ieee.{nan};
+ghost use Rattle.lists.specs.Lists.{anyUpTo};
 ghost use Rattle.mesh.specs.Levels.{vertexCount};
-ghost use Rattle.mesh.specs.Mesh.{within, lists, angleKept, neighbourKept, vertexKept, verticesFinite, keepsRule, meshRoom, meshLong, meshOf};
+ghost use Rattle.mesh.specs.Mesh.{within, lists, angleKept, neighbourLinked, vertexLinked, linksKept, anglesOf, anglesKept, verticesFinite, keepsRule, meshRoom, meshLong, meshOf};
 ghost use Rattle.mesh.specs.Internal.{links};
 use crate::levels::vertex_count;
 
@@ -42,10 +44,30 @@ pub fn entry(list: &[f64], i: usize) -> f64
     0.0 / 0.0
 }
 
-// w is among the first k neighbours of v.
+// w is among the k entries from a place on, all of which are there.
+fn among(neighbours: &[u16], at: usize, k: u32, w: u32) -> bool
+    requires { ⌜ at + k ≤ length (now neighbours) ⌝ }
+    ensures { λ r. ⌜ r ≡ anyUpTo k (λ j. eqb (getD (now (neighbours .entry)) (at + j) 0) w) ⌝ }
+{
+    let mut j: u32 = 0;
+    while j < k {
+        let i = at + j as usize;
+        if neighbours[i] as u32 == w {
+            return true;
+        }
+        j += 1;
+    }
+    false
+}
+
+// w is among the first k neighbours of v. Where all of these are there, as in every mesh that is asked about, none is asked for singly.
 fn within(neighbours: &[u16], v: u32, k: u32, w: u32) -> bool
     ensures { λ r. ⌜ r ≡ within (links [] (now (neighbours .entry))) v k w ⌝ }
 {
+    let at = 6 * v as usize;
+    if at + k as usize <= neighbours.len() {
+        return among(neighbours, at, k, w);
+    }
     let mut j: u32 = 0;
     while j < k {
         if neighbour(neighbours, v, j) == w {
@@ -63,15 +85,9 @@ pub fn lists(counts: &[u8], neighbours: &[u16], v: u32, w: u32) -> bool
     within(neighbours, v, degree(counts, v), w)
 }
 
-fn angle_kept(x: f64) -> bool
-    ensures { λ r. ⌜ r ≡ angleKept x ⌝ }
-{
-    ieee::is_finite(x) & !(x < 0.0)
-}
-
-// The neighbour at place k of v keeps the rule.
-fn neighbour_kept(n: u32, counts: &[u8], neighbours: &[u16], angles: &[f64], v: u32, k: u32) -> bool
-    ensures { λ r. ⌜ r ≡ neighbourKept n (meshOf [] (now (counts .entry)) (now (neighbours .entry)) (now (angles .entry))) v k ⌝ }
+// The neighbour at place k of v keeps the rule, but for its angle.
+fn neighbour_linked(n: u32, counts: &[u8], neighbours: &[u16], v: u32, k: u32) -> bool
+    ensures { λ r. ⌜ r ≡ neighbourLinked n (links (now (counts .entry)) (now (neighbours .entry))) v k ⌝ }
 {
     let w = neighbour(neighbours, v, k);
     if n <= w {
@@ -83,14 +99,11 @@ fn neighbour_kept(n: u32, counts: &[u8], neighbours: &[u16], angles: &[f64], v: 
     if within(neighbours, v, k, w) {
         return false;
     }
-    if !lists(counts, neighbours, w, v) {
-        return false;
-    }
-    angle_kept(entry(angles, 6 * v as usize + k as usize))
+    lists(counts, neighbours, w, v)
 }
 
-fn vertex_kept(n: u32, counts: &[u8], neighbours: &[u16], angles: &[f64], v: u32) -> bool
-    ensures { λ r. ⌜ r ≡ vertexKept n (meshOf [] (now (counts .entry)) (now (neighbours .entry)) (now (angles .entry))) v ⌝ }
+fn vertex_linked(n: u32, counts: &[u8], neighbours: &[u16], v: u32) -> bool
+    ensures { λ r. ⌜ r ≡ vertexLinked n (links (now (counts .entry)) (now (neighbours .entry))) v ⌝ }
 {
     let d = degree(counts, v);
     if d < 5 {
@@ -101,10 +114,62 @@ fn vertex_kept(n: u32, counts: &[u8], neighbours: &[u16], angles: &[f64], v: u32
     }
     let mut k: u32 = 0;
     while k < d {
-        if !neighbour_kept(n, counts, neighbours, angles, v, k) {
+        if !neighbour_linked(n, counts, neighbours, v, k) {
             return false;
         }
         k += 1;
+    }
+    true
+}
+
+// The part of the mesh rule that neighbour counts and neighbours decide.
+pub fn links_kept(n: u32, counts: &[u8], neighbours: &[u16]) -> bool
+    ensures { λ r. ⌜ r ≡ linksKept n (links (now (counts .entry)) (now (neighbours .entry))) ⌝ }
+{
+    let mut v: u32 = 0;
+    while v < n {
+        if !vertex_linked(n, counts, neighbours, v) {
+            return false;
+        }
+        v += 1;
+    }
+    true
+}
+
+fn angle_kept(x: f64) -> bool
+    ensures { λ r. ⌜ r ≡ angleKept x ⌝ }
+{
+    ieee::is_finite(x) & !(x < 0.0)
+}
+
+// An angle that is not lent is a NaN, and keeps no rule.
+fn angles_of(counts: &[u8], angles: &[f64], v: u32) -> bool
+    ensures { λ r. ⌜ r ≡ anglesOf (meshOf [] (now (counts .entry)) [] (now (angles .entry))) v ⌝ }
+{
+    let d = degree(counts, v);
+    let at = 6 * v as usize;
+    if angles.len() < at + d as usize {
+        return d == 0;
+    }
+    let mut all = true;
+    let mut j: u32 = 0;
+    while j < d {
+        let i = at + j as usize;
+        all = all & angle_kept(angles[i]);
+        j += 1;
+    }
+    all
+}
+
+fn angles_kept(n: u32, counts: &[u8], angles: &[f64]) -> bool
+    ensures { λ r. ⌜ r ≡ anglesKept n (meshOf [] (now (counts .entry)) [] (now (angles .entry))) ⌝ }
+{
+    let mut v: u32 = 0;
+    while v < n {
+        if !angles_of(counts, angles, v) {
+            return false;
+        }
+        v += 1;
     }
     true
 }
@@ -113,17 +178,19 @@ fn vertices_finite(n: u32, vertices: &[f64]) -> bool
     ensures { λ r. ⌜ r ≡ verticesFinite n (now (vertices .entry)) ⌝ }
 {
     let end = 3 * n as usize;
+    if vertices.len() < end {
+        return false;
+    }
+    let mut all = true;
     let mut i: usize = 0;
     while i < end {
-        if !ieee::is_finite(entry(vertices, i)) {
-            return false;
-        }
+        all = all & ieee::is_finite(vertices[i]);
         i += 1;
     }
-    true
+    all
 }
 
-// The mesh rule, of one level's lists.
+// The mesh rule, of one level's lists, part by part.
 pub(crate) fn keeps_rule(
     n: u32,
     vertices: &[f64],
@@ -136,14 +203,10 @@ pub(crate) fn keeps_rule(
     if !vertices_finite(n, vertices) {
         return false;
     }
-    let mut v: u32 = 0;
-    while v < n {
-        if !vertex_kept(n, counts, neighbours, angles, v) {
-            return false;
-        }
-        v += 1;
+    if !links_kept(n, counts, neighbours) {
+        return false;
     }
-    true
+    angles_kept(n, counts, angles)
 }
 
 // The lengths that n vertices need.

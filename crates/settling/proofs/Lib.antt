@@ -7,3 +7,4 @@ pub mod Numbers
 pub mod Slopes
 pub mod Changes
 pub mod Packed
+pub mod Compared

@@ -9,7 +9,7 @@ use lib.Ieee.{Float, nan, binary64, ofBits, ofInt, neg, add, sub, mul, div, lt}
 use Rattle.ieee.specs.Narrow.{narrowed}
 use Rattle.float.specs.Order.{magnitude, larger}
 use Rattle.float.specs.Exp.{exponential}
-use Rattle.lists.specs.Lists.{forEach, every}
+use Rattle.lists.specs.Lists.{forEach, every, sum}
 use Rattle.mesh.specs.Mesh.{Mesh, degree, neighbour, angleTo}
 
 abbrev pub zero : Float
@@ -58,6 +58,18 @@ gradientOf m n ws =
 
 unfoldable pub gradient : Mesh → ℕ → Float → List Float → Float
 gradient m n beta e = gradientOf m n (map (weight beta) e)
+
+-- ---- document 02, paper 8: the neighbour comparisons of a slab, counted where the gradient makes them; "pairs passed over for their angle are counted"
+
+-- of `gradientOf`: for each pair of vertices one for each neighbour of the first, and one for each neighbour of the second (S7.11)
+unfoldable pub comparisons : Mesh → ℕ → ℕ
+comparisons m n = sum n (λ i. sum n (λ j. degree m i + degree m j))
+
+-- of `lineGradient`: for each vertex one for each neighbour (S18.5)
+unfoldable pub lineComparisons : Mesh → ℕ → ℕ
+lineComparisons m n = sum n (degree m)
+
+-- ---- the mean
 
 -- "Sums run in index order; the mean's .. starts at -0.0" (S2.15)
 unfoldable pub sumFrom : Float → List Float → Float

@@ -1,7 +1,7 @@
 -- What only the code and the proofs need; a reader need not believe it. Definitions only.
 use mathlib.Core.Bool.{Bool, true, false, cond, _&&_, _||_}
 use mathlib.Core.List.{List, [], _∷_, _++_}
-use Prim.Native.Nat.{ℕ, zero, suc, _+_, _*_}
+use Prim.Native.Nat.{ℕ, zero, suc, _+_, _*_, _%_, _^_}
 use lib.ListN.{getD}
 use lib.Ieee.{Float, nan, binary64, mul, neg}
 use Rattle.lists.specs.Lists.{forEach}
@@ -13,7 +13,7 @@ use Rattle.rows.specs.declared.SlabResolution.the-variants.{Scalar as toScalar,
 use Rattle.settling.specs.Gradient as Gradient
 use Rattle.settling.specs.Gradient.{weight}
 unfoldable pub use Rattle.settling.specs.Gradient.{lineGradient}
-use Rattle.settling.specs.Settling.{newRow, inPlaceOf, steeperOf, settles, notRepulsive, packedRow, packedAfter}
+use Rattle.settling.specs.Settling.{newRow, inPlaceOf, steeperOf, settles, notRepulsive, packedRow, packedAfter, comparisonsFor}
 use Rattle.settling.specs.declared.Tally.{Tally}
 use Rattle.settling.specs.declared.Verdict.{Verdict}
 use Rattle.settling.specs.declared.Verdict.the-variants.{Empty, Blocked, Isotropic, Smooth, Rough}
@@ -88,4 +88,5 @@ tallied c t r v =
       settled = t .settled || settles v;
       clear = t .clear && notRepulsive left;
       packed = packedAfter (t .packed) (packedRow r) (packedRow left);
+      reached = (t .reached + comparisonsFor 1 v) % 2 ^ 64;
     }

@@ -131,6 +131,18 @@ packedRows (r ∷ rs) = packedRow r + packedRows rs
 unfoldable pub packedAfter : ℕ → ℕ → ℕ → ℕ
 packedAfter packed old new = (packed + new + (2 ^ 64 - old % 2 ^ 64)) % 2 ^ 64
 
+-- ---- document 02, paper 8: "Settling reports the comparisons it made"
+
+-- of a slab whose gradient takes x comparisons: "For each slab that reaches the gradient", also where it then becomes Scalar;
+-- "Repulsive and empty slabs count none" (S7.11)
+unfoldable pub comparisonsFor : ℕ → Verdict → ℕ
+comparisonsFor x v = cond (settles v) x 0
+
+-- .. and of the slabs of a slice
+unfoldable pub comparisonsIn : ℕ → List Verdict → ℕ
+comparisonsIn x [] = 0
+comparisonsIn x (v ∷ vs) = comparisonsFor x v + comparisonsIn x vs
+
 -- ---- against an atom (`Adaptive3DBuilder::finish_r_slice`), where a slice is one slab
 
 -- of n energies: "any other settling returns its slab's gradient, also where the slab becomes Scalar" (S18.4)

@@ -8,6 +8,7 @@ pub use atom::atom_verdict_of;
 pub use verdicts::packed_after;
 pub use verdicts::packed_row;
 pub use verdicts::replace_by;
+pub use verdicts::settles;
 pub use verdicts::tallied;
 pub use verdicts::verdict_of;
 
@@ -26,11 +27,12 @@ pub struct AtomVerdict {
     pub gradient: f64,
 }
 
-// What a slice adds up to: the largest gradient of slabs left as Mesh, whether some slab was settled, whether no row is Repulsive, and the
-// builder's number of packed energies.
+// What a slice adds up to: the largest gradient of slabs left as Mesh, whether some slab was settled, whether no row is Repulsive, the
+// builder's number of packed energies, and how many slabs reached the gradient.
 pub struct Tally {
     pub gradient: f64,
     pub settled: bool,
     pub clear: bool,
     pub packed: u64,
+    pub reached: u64,
 }

@@ -2,13 +2,14 @@
 ghost use mathlib.Core.Path.{_≡_};
 ghost use mathlib.Core.Bool.{cond, _&&_, _||_};
 ghost use mathlib.Core.List.{[]};
+ghost use Prim.Native.Nat.{_+_, _%_, _^_};
 ghost use lib.Dec.{leb};
 ghost use lib.Ieee.{binary64, ofBits};
 ghost use Rattle.mesh.specs.Mesh.{meshOf};
 ghost use Rattle.mesh.specs.Levels.{vertexCount};
 ghost use Rattle.rows.specs.Rows.{Rows, rowWith, rowsOf};
 ghost use Rattle.settling.specs.Gradient.{repulsive, allRepulsive, sumFrom, meanNarrowed};
-ghost use Rattle.settling.specs.Settling.{byGradient, verdict, verdictOf, newRow, replacedBy, steeperOf, settles, packedAfter};
+ghost use Rattle.settling.specs.Settling.{byGradient, verdict, verdictOf, newRow, replacedBy, steeperOf, settles, packedAfter, comparisonsFor};
 ghost use Rattle.settling.specs.declared.Verdict.the-variants.{Empty};
 ghost use Rattle.settling.specs.Internal.{stays, becomes, leftRow, isClear, packedIn};
 use crate::Tally;
@@ -78,7 +79,8 @@ fn steeper_of(x: f64, v: Verdict) -> f64
     }
 }
 
-pub(crate) fn settles(v: Verdict) -> bool
+// The slab's gradient was worked out.
+pub fn settles(v: Verdict) -> bool
     ensures { λ r. ⌜ r ≡ settles v ⌝ }
 {
     match v {
@@ -205,6 +207,16 @@ pub fn packed_after(packed: u64, old: u64, new: u64) -> u64
     std::num::wrapping_add_u64(without, new)
 }
 
+// How many slabs reached the gradient, with one slab more.
+fn reached_with(reached: u64, v: Verdict) -> u64
+    ensures { λ r. ⌜ r ≡ (reached + comparisonsFor 1 v) % 2 ^ 64 ⌝ }
+{
+    if settles(v) {
+        return std::num::wrapping_add_u64(reached, 1);
+    }
+    reached
+}
+
 // The slice with one slab more.
 pub fn tallied(level: u8, t: Tally, row: SlabResolution, v: Verdict) -> Tally
     ensures { λ r. ⌜ r ≡ record {
@@ -212,18 +224,21 @@ pub fn tallied(level: u8, t: Tally, row: SlabResolution, v: Verdict) -> Tally
       settled = t .settled || settles v;
       clear = t .clear && isClear (leftRow level row v);
       packed = packedAfter (t .packed) (packedIn row) (packedIn (leftRow level row v));
+      reached = (t .reached + comparisonsFor 1 v) % 2 ^ 64;
     } ⌝ }
 {
     let gradient = t.gradient;
     let settled = t.settled;
     let clear = t.clear;
     let packed = t.packed;
+    let reached = t.reached;
     let left = left_row(level, row, v);
     Tally {
         gradient: steeper_of(gradient, v),
         settled: settled | settles(v),
         clear: clear & is_clear(left),
         packed: packed_after(packed, packed_row(row), packed_row(left)),
+        reached: reached_with(reached, v),
     }
 }
 

@@ -1,6 +1,7 @@
 // The accident that started this port: a slice is settled, the level drops, and a job that was restarted settles a slice of the level that has gone. Document 01 refuses that with 11; the
 // Rust accepts it, and its table then has more energies than its rows account for.
 use crate::begun;
+use crate::compared;
 use crate::say;
 use crate::set_number;
 use crate::settings;
@@ -65,7 +66,7 @@ fn set_twelve(
 // The builder after settle.
 fn after(b: Builder, a: Settled) -> Builder {
     match a {
-        Settled::Accepted(c, _) => c,
+        Settled::Accepted(c, _, _) => c,
         Settled::Refused(_) => b,
     }
 }
@@ -140,6 +141,7 @@ fn settle_late(b: Builder, ri: u64, store: &[f64; 21168], before: Rows) {
     say(b"  bytes", n, 84852);
     let a = settled(b, ri, store, &mut kinds, &mut levels, &mut values);
     say(b"  settled at a level that has gone", settled_number(a), 11);
+    say(b"  comparisons", compared(a), 0);
     let c = after(b, a);
     say(b"  level after it", level_of(c), 0);
     let m = written(c, store, &kinds, &levels, &values, &mut twice);
@@ -160,7 +162,7 @@ fn settle_late(b: Builder, ri: u64, store: &[f64; 21168], before: Rows) {
 
 // A table of slices 0 to `late`, of n_omega slabs each and twelve in all, every one of them set at level 1. The first slice is settled and the level drops; then the last slice is settled,
 // which is the same one where there is one alone.
-fn settle_both(what: &[u8], rmax: f64, omega_step: f64, late: u64, n_omega: u64) {
+fn settle_both(what: &[u8], rmax: f64, omega_step: f64, late: u64, n_omega: u64, comparisons: u64) {
     let mut store = [1.0; 21168];
     let mut kinds: [u8; 12] = [9; 12];
     let mut levels: [u8; 12] = [9; 12];
@@ -172,6 +174,7 @@ fn settle_both(what: &[u8], rmax: f64, omega_step: f64, late: u64, n_omega: u64)
     say(b", sets refused", refused, 0);
     let a = settled(b, 0, &store, &mut kinds, &mut levels, &mut values);
     say(b"  settled", settled_number(a), 0);
+    say(b"  comparisons", compared(a), comparisons);
     let c = after(b, a);
     say(b"  level after it", level_of(c), 0);
     let nearest = nearest_rows(&kinds, &levels, &values);
@@ -191,6 +194,7 @@ pub(crate) fn settled_twice() {
         0.5235987755982988,
         0,
         12,
+        211680,
     );
     settle_both(
         b"twelve slabs of level 1 in two slices",
@@ -198,5 +202,6 @@ pub(crate) fn settled_twice() {
         1.0471975511965976,
         1,
         6,
+        105840,
     );
 }

@@ -139,8 +139,16 @@ pub(crate) fn settled(
 
 pub(crate) fn settled_number(a: Settled) -> u64 {
     match a {
-        Settled::Accepted(_, _) => 0,
+        Settled::Accepted(_, _, _) => 0,
         Settled::Refused(no) => no,
+    }
+}
+
+// The neighbour comparisons that settle reports; a refused one has made none.
+pub(crate) fn compared(a: Settled) -> u64 {
+    match a {
+        Settled::Accepted(_, _, n) => n,
+        Settled::Refused(_) => 0,
     }
 }
 
@@ -198,8 +206,8 @@ fn nothing_set() {
     tail(output);
 }
 
-// One slab of level 0 with 144 equal energies: the file's length, then the kind and the value that the slab settles to.
-fn one_slab(what: &[u8], energy: f64, kind: u64) {
+// One slab of level 0 with 144 equal energies: the file's length, then the comparisons, and the kind and the value that the slab settles to.
+fn one_slab(what: &[u8], energy: f64, kind: u64, comparisons: u64) {
     let mut store = [1.0; 144];
     let mut kinds: [u8; 1] = [9; 1];
     let mut levels: [u8; 1] = [9; 1];
@@ -230,13 +238,14 @@ fn one_slab(what: &[u8], energy: f64, kind: u64) {
     say(b"  bytes", n, 642);
     let a = settled(b, 0, &store, &mut kinds, &mut levels, &mut values);
     say(b"  settled", settled_number(a), 0);
+    say(b"  comparisons", compared(a), comparisons);
     say(b"  kind", wide8(kinds[0]), kind);
     say(b"  value", wide32(values[0]), 0);
 }
 
 fn main() {
     nothing_set();
-    one_slab(b"144 tens", 10.0, 1);
-    one_slab(b"144 zeros", 0.0, 0);
+    one_slab(b"144 tens", 10.0, 1, 0);
+    one_slab(b"144 zeros", 0.0, 0, 1440);
     accident::settled_twice();
 }

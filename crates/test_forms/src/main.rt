@@ -17,10 +17,11 @@ struct Rows {
     values: [u32; 2],
 }
 
-// What a settle answered and left: its number, the gradient's bits, the level, and row 0 as one number.
+// What a settle answered and left: its number, the gradient's bits, the comparisons, the level, and row 0 as one number.
 struct Left {
     number: u64,
     gradient: u64,
+    comparisons: u64,
     level: u64,
     row: u64,
 }
@@ -42,6 +43,7 @@ fn say(what: &[u8], lent: u64, by_value: u64) {
 fn compare(what: &[u8], lent: Left, by_value: Left) {
     say(what, lent.number, by_value.number);
     say(b"  gradient's bits", lent.gradient, by_value.gradient);
+    say(b"  comparisons", lent.comparisons, by_value.comparisons);
     say(b"  level after it", lent.level, by_value.level);
     say(b"  row 0", lent.row, by_value.row);
 }
@@ -52,15 +54,17 @@ fn packed(kind: u8, level: u8, value: u32) -> u64 {
 
 fn value_left(a: Settled, kept: u64, row: u64) -> Left {
     match a {
-        Settled::Accepted(b, x) => Left {
+        Settled::Accepted(b, x, comparisons) => Left {
             number: 0,
             gradient: bits::bits64(x),
+            comparisons,
             level: b.level,
             row,
         },
         Settled::Refused(number) => Left {
             number,
             gradient: 0,
+            comparisons: 0,
             level: kept,
             row,
         },
@@ -69,15 +73,17 @@ fn value_left(a: Settled, kept: u64, row: u64) -> Left {
 
 fn lent_left(a: LentSettled, level: u64, row: u64) -> Left {
     match a {
-        LentSettled::Accepted(x) => Left {
+        LentSettled::Accepted(x, comparisons) => Left {
             number: 0,
             gradient: bits::bits64(x),
+            comparisons,
             level,
             row,
         },
         LentSettled::Refused(number) => Left {
             number,
             gradient: 0,
+            comparisons: 0,
             level,
             row,
         },

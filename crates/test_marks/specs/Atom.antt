@@ -9,7 +9,7 @@ use Rattle.float.specs.Log.{logarithm}
 use Rattle.grid.specs.Atom.{atomInRange, atomCountValid, atomSlabsFit, atomQuestion, atomCounted, atomGridValid}
 use Rattle.grid.specs.declared.AtomGrid.{AtomGrid}
 use Rattle.rows.specs.Rows.{rowsOf}
-use Rattle.settling.specs.Gradient.{lineGradient, atomGradient}
+use Rattle.settling.specs.Gradient.{lineGradient, atomGradient, lineComparisons}
 use Rattle.settling.specs.Settling.{atomVerdict, atomLevel}
 use Rattle.builder.specs.Atom.{AtomSettledValues, atomRoom, atomMeshedRefusal, atomSetQuestion, atomSetRefusal, atomSettleRefusal, atomFreshBuilder, atomFreshOut, atomSetOut, atomSettleAccepted, atomSettleOut}
 use Rattle.table.specs.Atom.{atomFileOf, atomGridOf, atomTableOf, atomTableValid, atomReadRefusal, atomReadOut}
@@ -24,7 +24,7 @@ use Rattle.test_marks.specs.Computed.{f64, lent, history, computed}
 -- ---- the definitions opened
 
 unfoldable pub atomComputed : {A : Type 0} → A → A
-unfolding computed atomInRange atomCountValid atomSlabsFit atomQuestion atomCounted atomGridValid lineGradient atomGradient atomVerdict atomLevel atomRoom atomMeshedRefusal atomSetQuestion atomSetRefusal atomSettleRefusal atomFreshBuilder atomFreshOut atomSetOut atomSettleAccepted atomSettleOut atomFileOf atomGridOf atomTableOf atomTableValid atomReadRefusal atomReadOut atomFileFrom atomWriteRefusal atomWriteOut atomCalled atomRun atomOpened atomLedgerQuestion atomSettleEntered atomEntered atomLedger atomEnded atomFile atomRows
+unfolding computed atomInRange atomCountValid atomSlabsFit atomQuestion atomCounted atomGridValid lineGradient atomGradient lineComparisons atomVerdict atomLevel atomRoom atomMeshedRefusal atomSetQuestion atomSetRefusal atomSettleRefusal atomFreshBuilder atomFreshOut atomSetOut atomSettleAccepted atomSettleOut atomFileOf atomGridOf atomTableOf atomTableValid atomReadRefusal atomReadOut atomFileFrom atomWriteRefusal atomWriteOut atomCalled atomRun atomOpened atomLedgerQuestion atomSettleEntered atomEntered atomLedger atomEnded atomFile atomRows
 atomComputed x = x
 
 -- ---- histories: rmin 0, dr 1, beta 1, threshold 0.1
@@ -112,6 +112,15 @@ tens-level = refl
 pub flat-answers : atomComputed (lt (f64 0) (settled (atomHistory₂ (set-call 0 flat ∷ [])) 0 .gradient)) ≡ true
 unfolding atomComputed
 flat-answers = refl
+
+-- document 02, paper 8: its comparisons too, the total of neighbours once: 12 vertices of five and 30 of six; a repulsive slab has none
+pub flat-compared : atomComputed (settled (atomHistory₂ (set-call 0 flat ∷ [])) 0 .comparisons) ≡ 240
+unfolding atomComputed
+flat-compared = refl
+
+pub tens-compared : atomComputed (settled (atomHistory₂ (set-call 1 (atomTens 42) ∷ [])) 1 .comparisons) ≡ 0
+unfolding atomComputed
+tens-compared = refl
 
 pub flat-scalar : atomComputed (atomEnded (atomHistory₂ (set-call 0 flat ∷ settle-call 0 ∷ [])) .builder .level) ≡ 0
 unfolding atomComputed

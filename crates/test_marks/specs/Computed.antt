@@ -23,8 +23,8 @@ use Rattle.grid.specs.Bins.{distanceBin, dihedralBin}
 use Rattle.grid.specs.Settings.{above, question, inRange, levelsValid, countsValid, ownCount, slabsFit, counted}
 use Rattle.grid.specs.declared.Grid.{Grid}
 use Rattle.rows.specs.Rows.{resolutionOf, resolutionAt, replaced, known, rowRoom}
-use Rattle.settling.specs.Gradient.{weight, repulsive, allRepulsive, steeper, alongNeighbours, pairWeight, gradientOf, gradient, sumFrom, meanNarrowed}
-use Rattle.settling.specs.Settling.{byGradient, verdict, verdicts, settledRows, largestFrom, someSettle, drops, settledSlice, packedRows, packedAfter}
+use Rattle.settling.specs.Gradient.{weight, repulsive, allRepulsive, steeper, alongNeighbours, pairWeight, gradientOf, gradient, comparisons, sumFrom, meanNarrowed}
+use Rattle.settling.specs.Settling.{byGradient, verdict, verdicts, settledRows, largestFrom, someSettle, drops, settledSlice, packedRows, packedAfter, comparisonsFor, comparisonsIn}
 use Rattle.builder.specs.BuilderLists.{BuilderLists, rowIn, rowsIn, listRoom, rowsKnown, listsOf}
 use Rattle.builder.specs.Calls.{settledLists, setBuilder, freshBuilder, filledSlabs, freshOut, slabSet, setOut, settleAccepted, settleOut}
 use Rattle.builder.specs.Refusals.{meshedRefusal, setQuestion, setRefusal, settleRefusal}
@@ -95,7 +95,7 @@ unfolding distanceBin dihedralBin above question counted inRange levelsValid cou
 calls x = x
 
 unfoldable settling : {A : Type 0} → A → A
-unfolding weight repulsive allRepulsive steeper alongNeighbours pairWeight gradientOf gradient sumFrom meanNarrowed byGradient verdict verdicts settledRows largestFrom someSettle drops settledSlice
+unfolding weight repulsive allRepulsive steeper alongNeighbours pairWeight gradientOf gradient comparisons sumFrom meanNarrowed byGradient verdict verdicts settledRows largestFrom someSettle drops settledSlice comparisonsFor comparisonsIn
 settling x = x
 
 unfoldable tables : {A : Type 0} → A → A

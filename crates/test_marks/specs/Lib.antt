@@ -10,3 +10,4 @@ pub mod Weighted
 pub mod Cased
 pub mod Ordered
 pub mod Atom
+pub mod Sized

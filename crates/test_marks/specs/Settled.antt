@@ -13,7 +13,7 @@ use Rattle.builder.specs.declared.Builder.{Builder}
 use Rattle.writer.specs.Write.{writeOut}
 use Rattle.ledger.specs.Ledger.{Call, set-call, settle-call, State, run}
 use Rattle.ledger.specs.Promise.{History, ended}
-use Rattle.test_marks.specs.Icospheres.{twoLevels}
+use Rattle.test_marks.specs.Icospheres.{icosahedron, twoLevels}
 use Rattle.test_marks.specs.Computed.{f64, settings, lent, history, history₂, computed}
 
 -- what a call answers after a list of calls
@@ -74,6 +74,18 @@ tens-repulsive = refl
 pub zeros-scalar : computed (ended (history (set-call 0 0 (zeros 144) ∷ settle-call 0 ∷ [])) .lists .rows) ≡ rowsOf (0 ∷ 9 ∷ []) (0 ∷ 9 ∷ []) (0 ∷ 9 ∷ [])
 unfolding computed
 zeros-scalar = refl
+
+-- document 02, paper 8: the comparisons of a slab that becomes Scalar are counted, 2·12 times 12 vertices' five neighbours; those of a Repulsive one are not
+abbrev compared : List Float → ℕ
+compared e = let st = ended (history (set-call 0 0 e ∷ [])) in settleOut (st .builder) icosahedron (st .lists) 0 .answer .comparisons
+
+pub zeros-compared : computed (compared (zeros 144)) ≡ 1440
+unfolding computed
+zeros-compared = refl
+
+pub tens-compared : computed (compared tens) ≡ 0
+unfolding computed
+tens-compared = refl
 
 -- the sum starts at -0.0: zeros below 0 have the mean -0
 pub minus-zero : computed (ended (history (set-call 0 0 (replicate 144 (f64 0x8000_0000_0000_0000)) ∷ settle-call 0 ∷ [])) .lists .rows .values) ≡ 0x8000_0000 ∷ 9 ∷ []

@@ -71,5 +71,6 @@ int inspect_tool(int count, char **names);
 int verify_tool(int count, char **names);
 int diff_tool(int count, char **names);
 int map_tool(int count, char **names);
+int size_tool(int count, char **names);
 
 #endif

@@ -1,9 +1,11 @@
 //! Tables of one molecule against an atom: a slab is one distance bin, with an energy for each vertex.
+use crate::builder::Settled;
 use crate::environment::FloatEnvironment;
 use crate::error::Error;
-use crate::lists::{bins, passed, Lists};
+use crate::lists::Lists;
 use crate::refusal::{answer, Refusal};
 use crate::row::Row;
+use crate::sizing::atom_sizing;
 use crate::sys::{self, AtomGrid};
 use crate::Mesh;
 use std::sync::Arc;
@@ -25,8 +27,7 @@ impl AtomBuilder {
     /// A builder with no slab set, at the mesh's top level.
     pub fn new(settings: AtomGrid, mesh: Arc<Mesh>) -> Result<AtomBuilder, Error> {
         FloatEnvironment::ask()?;
-        passed(sys::atom_fresh(settings, mesh.top(), &mut Lists::default().lent(), mesh.lent()).number)?;
-        let mut lists = Lists::of(bins(settings.rmax - settings.rmin, settings.dr), per(mesh.top()));
+        let mut lists = Lists::of(&atom_sizing(settings, &mesh)?);
         let built = sys::atom_fresh(settings, mesh.top(), &mut lists.lent(), mesh.lent());
         Ok(answer(built.number, AtomBuilder { held: built.builder, mesh, lists })?)
     }
@@ -38,12 +39,12 @@ impl AtomBuilder {
         answer(built.number, ())
     }
 
-    /// Settles the slab of a distance bin, and answers its gradient; 0 where it holds no energies or is made Repulsive. The level
-    /// may drop.
-    pub fn settle(&mut self, ri: u64) -> Result<f64, Refusal> {
+    /// Settles the slab of a distance bin; gradient and comparisons are 0 where it holds no energies or is made Repulsive. The
+    /// level may drop.
+    pub fn settle(&mut self, ri: u64) -> Result<Settled, Refusal> {
         let settled = sys::atom_settle(self.held, &mut self.lists.lent(), self.mesh.lent(), ri);
         self.held = settled.builder;
-        answer(settled.number, settled.gradient)
+        answer(settled.number, Settled { gradient: settled.gradient, comparisons: settled.comparisons })
     }
 
     /// The table file.

@@ -1,8 +1,9 @@
 //! A table that is being built.
 use crate::environment::FloatEnvironment;
 use crate::error::Error;
-use crate::lists::{bins, passed, Lists};
+use crate::lists::Lists;
 use crate::refusal::{answer, Refusal};
+use crate::sizing::sizing;
 use crate::sys::{self, Grid};
 use crate::Mesh;
 use std::sync::Arc;
@@ -11,8 +12,19 @@ use std::sync::Arc;
 #[derive(Clone, Debug, PartialEq)]
 pub struct Builder {
     held: sys::Builder,
+    longest: u64,
     mesh: Arc<Mesh>,
     lists: Lists,
+}
+
+/// What a settle tells of its slice, or of its slab against an atom.
+#[derive(Clone, Copy, Debug, PartialEq)]
+pub struct Settled {
+    /// The largest gradient of the slabs that still hold energies; against an atom the slab's own, also where it becomes Scalar.
+    pub gradient: f64,
+    /// The neighbour comparisons made: for each slab whose gradient was worked out 2·n times the total of the current level's
+    /// neighbour counts, against an atom the total once.
+    pub comparisons: u64,
 }
 
 // Energies of a slab.
@@ -20,20 +32,14 @@ pub(crate) fn per(level: u64) -> usize {
     (sys::vertices(level) as usize).pow(2)
 }
 
-// Bytes of a file of so many slabs and packed energies.
-fn file_length(top: u64, slabs: u64, packed: u64) -> u64 {
-    52 + 4 * (top + 1) + 10 * slabs + 4 * packed
-}
-
 impl Builder {
     /// A builder with no slab set, at the mesh's top level.
     pub fn new(settings: Grid, mesh: Arc<Mesh>) -> Result<Builder, Error> {
         FloatEnvironment::ask()?;
-        passed(sys::fresh(settings, mesh.top(), &mut Lists::default().lent(), mesh.lent()).number)?;
-        let slabs = bins(settings.rmax - settings.rmin, settings.dr) * bins(std::f64::consts::TAU, settings.omega_step);
-        let mut lists = Lists::of(slabs, per(mesh.top()));
+        let size = sizing(settings, &mesh)?;
+        let mut lists = Lists::of(&size);
         let built = sys::fresh(settings, mesh.top(), &mut lists.lent(), mesh.lent());
-        Ok(answer(built.number, Builder { held: built.builder, mesh, lists })?)
+        Ok(answer(built.number, Builder { held: built.builder, longest: size.file, mesh, lists })?)
     }
 
     /// Gives the slab of a distance bin and a dihedral bin its energies: that of vertices a and b of the current level at a·n + b.
@@ -43,11 +49,11 @@ impl Builder {
         answer(built.number, ())
     }
 
-    /// Settles the slabs of a distance bin, and answers the largest gradient. The level may drop.
-    pub fn settle(&mut self, ri: u64) -> Result<f64, Refusal> {
+    /// Settles the slabs of a distance bin. The level may drop.
+    pub fn settle(&mut self, ri: u64) -> Result<Settled, Refusal> {
         let settled = sys::settle(self.held, &mut self.lists.lent(), self.mesh.lent(), ri);
         self.held = settled.builder;
-        answer(settled.number, settled.gradient)
+        answer(settled.number, Settled { gradient: settled.gradient, comparisons: settled.comparisons })
     }
 
     /// The table file.
@@ -60,17 +66,13 @@ impl Builder {
 
     /// The length of the file that [`write`](Builder::write) would give now, in bytes. The builder counts as it is built, so this costs nothing.
     pub fn file_length(&self) -> u64 {
-        file_length(self.held.top, self.slabs(), self.held.packed)
+        let grid = self.held.grid;
+        52 + 4 * (self.held.top + 1) + 10 * grid.n_r * grid.n_omega + 4 * self.held.packed
     }
 
     /// That length as a share of the longest file: the one whose slabs all hold energies of the top level.
     pub fn share(&self) -> f64 {
-        let most = self.slabs() * per(self.held.top) as u64;
-        self.file_length() as f64 / file_length(self.held.top, self.slabs(), most) as f64
-    }
-
-    fn slabs(&self) -> u64 {
-        self.held.grid.n_r * self.held.grid.n_omega
+        self.file_length() as f64 / self.longest as f64
     }
 
     /// The settings with the bin counts that they give.

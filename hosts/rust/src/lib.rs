@@ -3,7 +3,7 @@
 //!
 //! A safe wrapper over libicotable.a, whose functions are proved. [`Mesh`] holds the meshes and locators of all levels,
 //! [`Builder`] the lists that a table is built in, [`Table`] a table file; [`AtomBuilder`] and [`AtomTable`] are the same of
-//! one molecule against an atom. What the library refuses is a [`Refusal`], with document 01's number and its words; a refused
+//! one molecule against an atom; [`sizing`] says beforehand what a build needs. What the library refuses is a [`Refusal`], with document 01's number and its words; a refused
 //! call alters nothing. The wrapper itself is not proved: it sizes the lists, hands them over and turns numbers into the enum.
 //!
 //! The proofs speak of one floating-point environment; [`Builder::new`], [`Table::read`] and the atom's two ask whether the
@@ -18,16 +18,18 @@ mod lists;
 mod mesh;
 mod refusal;
 mod row;
+mod sizing;
 mod sys;
 mod table;
 
 pub use atom::{AtomBuilder, AtomTable};
-pub use builder::Builder;
+pub use builder::{Builder, Settled};
 pub use environment::FloatEnvironment;
 pub use error::Error;
 pub use mesh::{Level, Mesh};
 pub use refusal::Refusal;
 pub use row::{Kind, Row};
+pub use sizing::{atom_sizing, sizing, LevelSizing, Sizing};
 pub use sys::{AtomGrid, Grid};
 pub use table::{Reading, Table};
 

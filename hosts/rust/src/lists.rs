@@ -1,9 +1,9 @@
 //! The lists that a table is built in.
-use crate::refusal::Refusal;
+use crate::sizing::Sizing;
 use crate::sys;
 
 // The store, and the three numbers of each row.
-#[derive(Clone, Debug, Default, PartialEq)]
+#[derive(Clone, Debug, PartialEq)]
 pub(crate) struct Lists {
     store: Vec<f64>,
     kinds: Vec<u8>,
@@ -12,9 +12,10 @@ pub(crate) struct Lists {
 }
 
 impl Lists {
-    // Room for so many slabs, and for so many energies in each.
-    pub(crate) fn of(slabs: usize, per: usize) -> Lists {
-        Lists { store: vec![0.0; slabs * per], kinds: vec![0; slabs], levels: vec![0; slabs], values: vec![0; slabs] }
+    // As long as a build needs them.
+    pub(crate) fn of(size: &Sizing) -> Lists {
+        let slabs = size.slabs as usize;
+        Lists { store: vec![0.0; size.store as usize], kinds: vec![0; slabs], levels: vec![0; slabs], values: vec![0; slabs] }
     }
 
     pub(crate) fn lent(&mut self) -> sys::Lists<'_> {
@@ -31,18 +32,4 @@ impl Lists {
         let energies: usize = rows.map(|(&kind, &level)| if kind < 2 { 0 } else { per(level as u64) }).sum();
         head + 4 * (top as usize + 1) + 10 * self.kinds.len() + 4 * energies
     }
-}
-
-// What `fresh` answers to lists of no length: what questions 1 to 5 refuse; those passed, it is 6, and the settings give a table.
-pub(crate) fn passed(number: u64) -> Result<(), Refusal> {
-    match Refusal::of(number) {
-        Some(Refusal::ShortList) => Ok(()),
-        Some(refusal) => Err(refusal),
-        None => unreachable!("a table has a slab"),
-    }
-}
-
-// As document 01 counts bins; the library has found the count to be from 1 to 65,535.
-pub(crate) fn bins(length: f64, step: f64) -> usize {
-    (length / step + 0.5) as usize
 }

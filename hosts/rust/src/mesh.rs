@@ -83,6 +83,11 @@ impl Mesh {
         sys::Meshes { vertices: &self.vertices, counts: &self.counts, neighbours: &self.neighbours, angles: &self.angles }
     }
 
+    // Neighbour counts and neighbours.
+    pub(crate) fn links(&self) -> (&[u8], &[u16]) {
+        (&self.counts, &self.neighbours)
+    }
+
     // What a reading of a file is lent.
     pub(crate) fn lent_with<'a>(&'a self, file: &'a [u8]) -> sys::Lent<'a> {
         sys::Lent {

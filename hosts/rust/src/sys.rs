@@ -37,6 +37,7 @@ pub struct Built {
 pub struct Settled {
     pub number: u64,
     pub gradient: f64,
+    pub comparisons: u64,
     pub builder: Builder,
 }
 
@@ -99,6 +100,7 @@ pub struct AtomBuilt {
 pub struct AtomSettled {
     pub number: u64,
     pub gradient: f64,
+    pub comparisons: u64,
     pub builder: AtomBuilder,
 }
 
@@ -118,6 +120,19 @@ pub struct AtomTable {
 pub struct Energy {
     pub number: u64,
     pub energy: f64,
+}
+
+#[repr(C)]
+#[derive(Clone, Copy, Debug, Default, PartialEq)]
+pub struct Size {
+    pub number: u64,
+    pub store: u64,
+    pub file: u64,
+    pub cell_offsets: [u64; 16],
+    pub cell_vertices: [u64; 16],
+    pub face_offsets: [u64; 16],
+    pub faces: [u64; 16],
+    pub comparisons: [u64; 16],
 }
 
 #[rustfmt::skip]
@@ -178,6 +193,8 @@ extern "C" {
         table: *const AtomTable, file: *const u8, a: usize, vertices: *const f64, b: usize, cell_offsets: *const u32, c: usize, cell_vertices: *const u16, d: usize,
         face_offsets: *const u32, e: usize, faces: *const u16, f: usize, r: f64, x: f64, y: f64, z: f64, beta: f64,
     ) -> Energy;
+    fn icotable_sizing(grid: Grid, top: u64, counts: *const u8, a: usize, neighbours: *const u16, b: usize) -> Size;
+    fn icotable_atom_sizing(grid: AtomGrid, top: u64, counts: *const u8, a: usize, neighbours: *const u16, b: usize) -> Size;
     fn icotable_vertices(level: u64) -> u64;
     fn icotable_cells(level: u64) -> u64;
     fn icotable_root(x: f64) -> f64;
@@ -360,6 +377,15 @@ pub fn atom_reading(table: &AtomTable, l: Lent, r: f64, d: [f64; 3]) -> Energy {
 
 pub fn atom_boltzmann(table: &AtomTable, l: Lent, r: f64, d: [f64; 3], beta: f64) -> Energy {
     with_lent!(icotable_atom_boltzmann, table, l, r, d[0], d[1], d[2], beta)
+}
+
+// Of the meshes the neighbour lists alone are looked at.
+pub fn sizing(grid: Grid, top: u64, counts: &[u8], neighbours: &[u16]) -> Size {
+    unsafe { icotable_sizing(grid, top, counts.as_ptr(), counts.len(), neighbours.as_ptr(), neighbours.len()) }
+}
+
+pub fn atom_sizing(grid: AtomGrid, top: u64, counts: &[u8], neighbours: &[u16]) -> Size {
+    unsafe { icotable_atom_sizing(grid, top, counts.as_ptr(), counts.len(), neighbours.as_ptr(), neighbours.len()) }
 }
 
 pub fn vertices(level: u64) -> u64 {

@@ -1,5 +1,7 @@
 //! The wrapper's tables of one molecule against an atom, used as a host does.
-use icotable::{atom_settings, settings, vertex_count, AtomBuilder, AtomGrid, AtomTable, Builder, Error, Kind, Mesh, Refusal, Table};
+use icotable::{
+    atom_settings, atom_sizing, settings, vertex_count, AtomBuilder, AtomGrid, AtomTable, Builder, Error, Kind, Mesh, Refusal, Settled, Table,
+};
 use std::sync::Arc;
 
 fn mesh(top: u64) -> Arc<Mesh> {
@@ -51,7 +53,9 @@ fn a_refused_call_alters_nothing() {
 fn a_slab_is_not_settled_again_once_its_level_has_gone() {
     let mut b = builder(1);
     b.set(0, &smooth(1)).unwrap();
-    assert!(b.settle(0).unwrap() > 0.0);
+    let settled = b.settle(0).unwrap();
+    assert!(settled.gradient > 0.0);
+    assert_eq!(settled.comparisons, 240);
     assert_eq!(b.level(), 0);
     let file = b.write().unwrap();
     assert_eq!(b.settle(0), Err(Refusal::OtherLevel));
@@ -63,17 +67,20 @@ fn the_level_drops_by_the_slabs_own_gradient() {
     let mut b = builder(2);
     b.set(0, &vec![20.0; vertex_count(2).unwrap()]).unwrap();
     // no energies, and repulsive ones: no gradient, no drop
-    assert_eq!((b.settle(1), b.settle(0), b.level()), (Ok(0.0), Ok(0.0), 2));
+    let none = Ok(Settled { gradient: 0.0, comparisons: 0 });
+    assert_eq!((b.settle(1), b.settle(0), b.level()), (none, none, 2));
     // nearly flat: a Scalar, whose gradient is answered, and the level drops beside the Repulsive row
     let mut flat = vec![0.5; vertex_count(2).unwrap()];
     flat[3] = 0.501;
     b.set(1, &flat).unwrap();
-    assert!(b.settle(1).unwrap() > 0.0);
+    let settled = b.settle(1).unwrap();
+    assert!(settled.gradient > 0.0);
+    assert_eq!(settled.comparisons, 540);
     assert_eq!(b.level(), 1);
     // steep: no drop
     let steep: Vec<f64> = (0..vertex_count(1).unwrap()).map(|i| (i % 2) as f64).collect();
     b.set(2, &steep).unwrap();
-    assert!(b.settle(2).unwrap() > 0.1);
+    assert!(b.settle(2).unwrap().gradient > 0.1);
     assert_eq!(b.level(), 1);
     let t = AtomTable::read(b.write().unwrap(), b.mesh().clone()).unwrap();
     let kinds = [0, 1, 2].map(|ri| t.row(ri).unwrap().kind);
@@ -159,4 +166,16 @@ fn a_mesh_with_too_few_levels_is_refused_where_it_is_touched() {
     let t = AtomTable::read(b.write().unwrap(), mesh(0)).unwrap();
     assert_eq!(t.lookup(0.0, [1.0, 0.0, 0.0]), Err(Refusal::NotLent));
     assert_eq!(t.lookup(1.0, [1.0, 0.0, 0.0]), Ok(0.0));
+}
+
+#[test]
+fn a_build_is_sized_before_it_is_made() {
+    let size = atom_sizing(small(), &mesh(2)).expect("sizing");
+    let mut b = builder(2);
+    assert_eq!((size.slabs, size.store), (b.grid().n_r, b.grid().n_r * 92));
+    assert_eq!(size.levels.iter().map(|l| l.comparisons).collect::<Vec<u64>>(), [60, 240, 540]);
+    for ri in 0..size.slabs {
+        b.set(ri, &[1.0; 92]).expect("set");
+    }
+    assert_eq!(b.write().expect("write").len() as u64, size.file);
 }

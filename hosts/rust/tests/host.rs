@@ -1,5 +1,5 @@
 //! The wrapper, used as a host does.
-use icotable::{atom_settings, settings, vertex_count, AtomBuilder, AtomTable, Builder, Error, FloatEnvironment, Grid, Kind, Level, Mesh, Refusal, Table};
+use icotable::{atom_settings, settings, sizing, vertex_count, AtomBuilder, AtomTable, Builder, Error, FloatEnvironment, Grid, Kind, Level, Mesh, Refusal, Table};
 use std::sync::Arc;
 
 fn mesh(top: u64) -> Arc<Mesh> {
@@ -155,7 +155,8 @@ fn a_slice_is_not_settled_again_once_its_level_has_gone() {
     let mut b = builder(1);
     b.set(0, 0, &smooth(1)).unwrap();
     b.set(0, 1, &smooth(1)).unwrap();
-    b.settle(0).unwrap();
+    // two slabs of 42 vertices with 240 neighbours in all
+    assert_eq!(b.settle(0).unwrap().comparisons, 2 * (2 * 42 * 240));
     assert_eq!(b.level(), 0);
     let file = b.write().unwrap();
     assert_eq!(b.settle(0), Err(Refusal::OtherLevel));
@@ -307,4 +308,24 @@ fn the_length_of_the_file_is_known_while_building() {
     b.settle(1).unwrap();
     told(&b);
     assert_eq!(b.file_length(), 100 + 4 * 144);
+}
+
+#[test]
+fn a_build_is_sized_before_it_is_made() {
+    for top in 0..=2 {
+        let n = vertex_count(top).unwrap() as u64;
+        let size = sizing(small(), &mesh(top)).expect("sizing");
+        let mut b = builder(top);
+        let slabs = b.grid().n_r * b.grid().n_omega;
+        assert_eq!((size.slabs, size.store, size.levels.len() as u64), (slabs, slabs * n * n, top + 1));
+        for ri in 0..b.grid().n_r {
+            for oi in 0..b.grid().n_omega {
+                b.set(ri, oi, &vec![1.0; (n * n) as usize]).expect("set");
+            }
+        }
+        // an icosphere has 6n - 12 pairs of neighbours, each from both sides
+        assert_eq!(size.levels[top as usize].comparisons, b.grid().n_omega * 2 * n * (6 * n - 12));
+        assert_eq!((b.write().expect("write").len() as u64, b.share()), (size.file, 1.0));
+    }
+    assert_eq!(sizing(settings(0.0, 2.0, -1.0, 3.0, 0.1, 1.0), &mesh(1)), Err(Refusal::Settings));
 }

@@ -21,7 +21,7 @@ fn build(builder: &mut Builder) -> Result<(), Refusal> {
             let energies = slab(&directions, grid.rmin + ri as f64 * grid.dr, oi as f64 * grid.omega_step);
             builder.set(ri, oi, &energies)?;
         }
-        let gradient = builder.settle(ri)?;
+        let gradient = builder.settle(ri)?.gradient;
         let done = 100 * (ri + 1) / grid.n_r;
         println!("slice {ri}: gradient {gradient:.4}, level {}; {done}% done, a file of {} bytes", builder.level(), builder.file_length());
     }
@@ -34,7 +34,7 @@ fn build_ion(builder: &mut AtomBuilder) -> Result<(), Refusal> {
         let r = grid.rmin + ri as f64 * grid.dr;
         let energies: Vec<f64> = builder.directions().into_iter().map(|d| ion_energy(&first_pose(d), r)).collect();
         builder.set(ri, &energies)?;
-        let gradient = builder.settle(ri)?;
+        let gradient = builder.settle(ri)?.gradient;
         println!("distance {r}: gradient {gradient:.4}, level {}", builder.level());
     }
     Ok(())
