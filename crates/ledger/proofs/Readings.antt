@@ -24,14 +24,16 @@ use Rattle.locator.proofs.Laid.{nearest-at, locate-at}
 use Rattle.locator.proofs.Picked.{FaceBelow, nearest-vertex, located-face}
 use Rattle.builder.specs.BuilderLists.{slabs}
 use Rattle.lists.proofs.Places.{place}
-use Rattle.table.specs.File.{energiesIn, packedEnergies, entry, sectionsOf, fileOf}
+use Rattle.table.specs.File.{energiesIn, packedEnergies, entry, fileOf}
 use Rattle.table.specs.declared.Table.{Table}
 use Rattle.table.proofs.Back.{All}
 use Rattle.table.proofs.Sound.{Fine}
 use Rattle.table.proofs.OfRows.{before}
 use Rattle.table.proofs.OfSections as OfSections
 use Rattle.table.proofs.OfSections.{Sized}
-use Rattle.table.proofs.OfFile.{Filable, gridIn, tableIn, sized}
+use Rattle.table.specs.Tail.{noTail}
+use Rattle.table.proofs.OfTail.{none-tailable}
+use Rattle.table.proofs.OfFile.{Filable, gridIn, tableIn, sized, none-is}
 use Rattle.reading.specs.Resolve.{readingValues, Query, Way, wayValid, queryValid, outside, Resolved, unresolved, beyond, slabAt, resolve, Picks, unpicked, picked, Combination, combined, joint, pairPlace, nearestPick, facePick}
 use Rattle.reading.specs.Reading.{rowInside, energyInside, entryAt, energyAt, searchIn, picksBy, entryBy, slabBy, readEntry, readingBy}
 use Rattle.reading.proofs.Picked.{both-found}
@@ -122,7 +124,7 @@ pub record Laid (each : ℕ → ℕ) (levels : ℕ) (rows : List (Row ℕ)) (fil
   pub found : (s k : ℕ) → s < length rows → k < length (energiesIn (getD rows s repulsive))
       → (energyInside file t (before each levels rows s + k) ≡ true) × (energyAt file t (before each levels rows s + k) ≡ getD (energiesIn (getD rows s repulsive)) k 0)
 
-module _ {each : ℕ → ℕ} {xs ns : List ℕ} {levels : ℕ} {rows : List (Row ℕ)} (sized : Sized each xs ns levels rows) (g : Grid) where
+module _ {each : ℕ → ℕ} {xs ns : List ℕ} {levels : ℕ} {rows : List (Row ℕ)} {file post : List ℕ} (sized : Sized each xs ns levels rows file post) (g : Grid) (terms start : ℕ) where
   abbrev tableAt : Table
   tableAt =
       record {
@@ -130,28 +132,27 @@ module _ {each : ℕ → ℕ} {xs ns : List ℕ} {levels : ℕ} {rows : List (Ro
         levels = levels;
         rows = length rows;
         energies = length (packedEnergies rows);
+        terms = terms;
         «grid_start» = 4;
         «bins_start» = 4 + length xs * 8 + 4;
         «levels_start» = OfSections.levelsAt sized + 4;
         «rows_start» = OfSections.rowsAt sized;
         «energies_start» = OfSections.energiesAt sized;
+        «tail_start» = start;
       }
 
-  abbrev sections : List ℕ
-  sections = sectionsOf each xs ns levels rows
-
-  pub laid : Laid each levels rows sections tableAt
+  pub laid : Laid each levels rows file tableAt
   unfolding rowInside energyInside entryAt energyAt
   laid =
       let long = OfSections.sections-length sized in
       record {
         held = λ v h. lt-ltb v levels h;
-        row-in = λ s h. rw (lt-ltb s (length rows) h, le-leb (tableAt .«rows_start» + s * 10 + 10) (length sections) (omega (arith, long)));
+        row-in = λ s h. rw (lt-ltb s (length rows) h, le-leb (tableAt .«rows_start» + s * 10 + 10) (length file) (omega (arith, long)));
         entry-is = OfSections.entry-of sized;
         found = λ s k h i.
             let e = OfSections.energy-of sized s k h i in
             let j = before each levels rows s + k in (
-              rw (lt-ltb j (length (packedEnergies rows)) (e .0), le-leb (tableAt .«energies_start» + j * 4 + 4) (length sections) (omega (arith, long, e .0))),
+              rw (lt-ltb j (length (packedEnergies rows)) (e .0), le-leb (tableAt .«energies_start» + j * 4 + 4) (length file) (omega (arith, long, e .0))),
               e .1,
             );
       }
@@ -213,8 +214,7 @@ module _ (top : ℕ) (m : Mesh) (l : Locator) (low : top ≤ 15) (held : meshLon
     t = tableIn g (suc top) rows
 
     table-laid : Laid per (suc top) rows (fileOf g (suc top) rows) t
-    unfolding fileOf
-    table-laid = laid (sized g (suc top) rows ok) (gridIn g (suc top) rows)
+    table-laid = rw (← none-is g (suc top) rows) (laid (sized g (suc top) rows noTail ok none-tailable) (gridIn g (suc top) rows) (t .terms) (t .«tail_start»))
 
     grid-same : (valid : Bool) → resolve valid (gridIn g (suc top) rows) q ≡ resolve valid g q
     unfolding resolve outside
