@@ -11,6 +11,7 @@ pub use bytes::u32_from_le_bytes;
 pub use questions::energies_of;
 pub use reader::atom_read;
 pub use reader::read;
+pub use walk::tail_size;
 
 // Where each section after the first begins, with its count, and where the last one ends.
 pub struct Layout {
