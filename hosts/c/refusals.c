@@ -434,7 +434,7 @@ static const char *const names[] = {
 enum { NUMBERS = sizeof names / sizeof names[0] - 1, EXAMPLES = sizeof examples / sizeof examples[0] };
 enum { ATOM_NUMBERS = sizeof atom_examples / sizeof atom_examples[0] };
 _Static_assert(NUMBERS == EXAMPLES, "an example for each number");
-_Static_assert(ATOM_NUMBERS == ICOTABLE_READING_BETA, "one against an atom for each that is not of a long-range tail");
+_Static_assert(ATOM_NUMBERS == (int)ICOTABLE_READING_BETA, "one against an atom for each that is not of a long-range tail");
 
 /* Whether the example of a number gives another one. */
 static int differs(const example *e, uint64_t number) {
