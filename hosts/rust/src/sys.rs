@@ -335,8 +335,9 @@ pub fn write(b: Builder, l: Held, m: Meshes, output: &mut [u8]) -> Written {
     with_held!(icotable_write, b, l, m, (), output)
 }
 
-// Of a long-range tail.
-pub struct Terms<'a> {
+// A long-range tail, as it is handed over.
+#[derive(Clone, Copy)]
+pub struct Tail<'a> {
     pub coefficients: &'a [f64],
     pub kappas: &'a [f64],
     pub powers: &'a [u32],
@@ -344,7 +345,7 @@ pub struct Terms<'a> {
 }
 
 #[rustfmt::skip]
-pub fn write_tail(b: Builder, l: Held, m: Meshes, t: Terms, output: &mut [u8]) -> Written {
+pub fn write_tail(b: Builder, l: Held, m: Meshes, t: Tail, output: &mut [u8]) -> Written {
     with_held!(
         icotable_write_tail, b, l, m,
         (

@@ -37,8 +37,8 @@ impl Lists {
         }
     }
 
-    pub(crate) fn lent(&self) -> sys::Terms<'_> {
-        sys::Terms { coefficients: &self.coefficients, kappas: &self.kappas, powers: &self.powers, prefactor: self.prefactor.as_slice() }
+    pub(crate) fn lent(&self) -> sys::Tail<'_> {
+        sys::Tail { coefficients: &self.coefficients, kappas: &self.kappas, powers: &self.powers, prefactor: self.prefactor.as_slice() }
     }
 }
 
