@@ -71,7 +71,7 @@ use queries::query;
 use refusals::Lists;
 use report::differ;
 use rust_tail::TableMetadata;
-use samples::{sample, EDGES};
+use samples::{base_and_exponent, sample};
 use std::collections::BTreeMap;
 use tail::{distance, question, raised, Tail};
 use worlds::World;
@@ -114,17 +114,8 @@ fn exact_powers() -> u64 {
 
 fn powers(count: u64, random: &mut Random, tally: &mut Tally) {
     tally.add("powers that are exact", exact_powers());
-    for i in 0..count {
-        let n = match random.below(4) {
-            0 => random.below(20) as u32,
-            1 => random.bits() as u32,
-            _ => (1u32 << random.below(32)).wrapping_add(random.below(5) as u32).wrapping_sub(2),
-        };
-        let r = match random.below(3) {
-            0 => samples::edge(i as usize % EDGES),
-            1 => 1.0 + random.unit() * 2f64.powi(-(random.below(33) as i32)),
-            _ => sample(random),
-        };
+    for _ in 0..count {
+        let (r, n) = base_and_exponent(random);
         same_power(r, n);
     }
     tally.add("powers", count);
