@@ -286,8 +286,9 @@ icotable_value icotable_boltzmann(
 
 /* The long-range tail at distance r, from a file and what read answered for it. No reading includes it: a host adds it
  * where r is beyond rmax and icotable_reading gives 0. It is 0 without terms, and both distances are 0. It answers
- * inside the table too, and at 0, below 0 and at infinity, as IEEE 754 has the division. Question 18, put to r alone;
- * then 19, where there are terms and they or the prefactor are not inside the file. */
+ * inside the table too, and at 0, below 0 and at infinity, as IEEE 754 has product and division: with a kappa of 0 a NaN
+ * at infinity. Question 18, put to r alone; then 19, where there are terms and they or the prefactor are not inside the
+ * file. */
 icotable_value icotable_tail(const icotable_table *table, const uint8_t *file, size_t file_count, double r);
 
 /* ---- one molecule against an atom */
