@@ -13,3 +13,4 @@ pub mod Shifts
 pub mod Reach
 pub mod Ranks
 pub mod Leading
+pub mod Halving

@@ -14,6 +14,7 @@ ghost use Rattle.float.specs.Order.{magnitude, larger, smaller, rank, or
 ghost use Rattle.float.specs.Whole.{floored, ceiled, truncation};
 ghost use Rattle.float.specs.Exp.{bits, inverseFactorials, horner, doublings, scaled, exponential};
 ghost use Rattle.float.specs.Log.{inverseOdds, ratio, combined, logarithm};
+ghost use Rattle.float.specs.Power.{power};
 
 // Its bits are 401921FB54442D18.
 pub const TAU: f64 = 6.283185307179586;
@@ -315,4 +316,19 @@ pub fn ln(x: f64) -> f64
         return -1.0 / 0.0;
     }
     0.0 / 0.0
+}
+
+// r to the power n. The exponent falls at each call: a u32 has at most 32 halves.
+pub fn power(r: f64, n: u32) -> f64
+    ensures { λ x. ⌜ x ≡ power r n ⌝ }
+{
+    if n == 0 {
+        return 1.0;
+    }
+    let half = power(r, n / 2);
+    let square = half * half;
+    if n % 2 == 1 {
+        return square * r;
+    }
+    square
 }

@@ -61,8 +61,7 @@ module _ (top : ℕ) (m : Mesh) (l : Locator) (low : top ≤ 15) (held : meshLon
     t = atomTableIn g (suc top) rows
 
     table-laid : Laid vertexCount (suc top) rows (atomFileOf g (suc top) rows) (asTable t)
-    unfolding atomFileOf
-    table-laid = laid (sized g (suc top) rows ok) (asGrid (atomGridIn g (suc top) rows))
+    table-laid = laid (sized g (suc top) rows ok) (asGrid (atomGridIn g (suc top) rows)) 0 0
 
     grid-same : (valid : Bool) → atomResolve valid (atomGridIn g (suc top) rows) q ≡ atomResolve valid g q
     unfolding atomResolve outside

@@ -55,11 +55,13 @@ asTable t = record {
   levels = t .levels;
   rows = t .rows;
   energies = t .energies;
+  terms = 0;
   «grid_start» = t .«grid_start»;
   «bins_start» = t .«bins_start»;
   «levels_start» = t .«levels_start»;
   «rows_start» = t .«rows_start»;
   «energies_start» = t .«energies_start»;
+  «tail_start» = 0;
 }
 
 -- `Table3DAdaptive::resolve_slab_idx`, after 18 and 21, whose answer is handed in; of 19: is there a bin?

@@ -49,11 +49,13 @@ rowsTable levels start count =
       levels = levels;
       rows = 0;
       energies = count;
+      terms = 0;
       «grid_start» = 0;
       «bins_start» = 0;
       «levels_start» = 0;
       «rows_start» = 0;
       «energies_start» = start;
+      «tail_start» = 0;
     }
 
 -- where the row of a distance starts in a file of n bytes, against an atom; n where there is none

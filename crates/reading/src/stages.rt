@@ -103,11 +103,13 @@ pub(crate) fn rows_table(levels: u64, start: u64, count: u64) -> Table
         levels,
         rows: 0,
         energies: count,
+        terms: 0,
         grid_start: 0,
         bins_start: 0,
         levels_start: 0,
         rows_start: 0,
         energies_start: start,
+        tail_start: 0,
     }
 }
 

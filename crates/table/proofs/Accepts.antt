@@ -19,7 +19,7 @@ use Rattle.table.specs.Internal.{rowsQuestion}
 use Rattle.table.proofs.Back.{item-at}
 use Rattle.table.proofs.Sound.{entries-length, entries-held, entries-tiled, numbers, energies-valid}
 use Rattle.table.proofs.OfRows.{counts-many, counts-at, counts-fit}
-use Rattle.table.proofs.OfSections.{Sized, file, few-counts, few-entries, levelsAt, rowsAt, energiesAt, laid, sections-length, entries-are, energies-are}
+use Rattle.table.proofs.OfSections.{Sized, few-counts, few-entries, levelsAt, rowsAt, energiesAt, endsAt, laid, sections-length, entries-are, energies-are}
 use Rattle.table.proofs.Sections as Sections
 
 pub all-is : (p : ℕ → Bool) (n : ℕ) → ((k : ℕ) → k < n → p k ≡ true) → allUpTo n p ≡ true
@@ -27,44 +27,48 @@ unfolding allUpTo
 all-is p zero h = refl
 all-is p (suc n) h = rw (all-is p n (λ k l. h k (omega arith)), h n (omega arith))
 
-module _ {each : ℕ → ℕ} {xs ns : List ℕ} {levels : ℕ} {rows : List (Row ℕ)} (w : Sized each xs ns levels rows) where
-  pub levels-count : countAt (file w) (levelsAt w) ≡ levels
+module _ {each : ℕ → ℕ} {xs ns : List ℕ} {levels : ℕ} {rows : List (Row ℕ)} {file post : List ℕ} (w : Sized each xs ns levels rows file post) where
+  pub levels-count : countAt file (levelsAt w) ≡ levels
   levels-count =
-      Sections.levels-count xs ns _ _ _ (w .few-floats) (w .few-bins) (few-counts w) (few-entries w) (w .few-energies) ∙ counts-many levels
+      Sections.levels-count xs ns _ _ _ file post (w .is) (w .few-floats) (w .few-bins) (few-counts w) (few-entries w) (w .few-energies) ∙ counts-many levels
 
-  pub rows-count : countAt (file w) (levelsAt w + 4 + levels * 4) ≡ length rows
+  pub rows-count : countAt file (levelsAt w + 4 + levels * 4) ≡ length rows
   rows-count =
       rw (counts-many levels, entries-length each 0 rows) at
-      (Sections.rows-count xs ns (map vertexCount (below levels)) (entries each 0 rows) (packedEnergies rows) (w .few-floats) (w .few-bins) (few-counts w) (few-entries w) (w .few-energies))
+      (Sections.rows-count xs ns (map vertexCount (below levels)) (entries each 0 rows) (packedEnergies rows) file post (w .is) (w .few-floats) (w .few-bins) (few-counts w) (few-entries w) (w .few-energies))
 
-  pub energies-count : countAt (file w) (rowsAt w + length rows * 10) ≡ length (packedEnergies rows)
+  pub energies-count : countAt file (rowsAt w + length rows * 10) ≡ length (packedEnergies rows)
   energies-count =
       rw (counts-many levels, entries-length each 0 rows) at
-      (Sections.energies-count xs ns (map vertexCount (below levels)) (entries each 0 rows) (packedEnergies rows) (w .few-floats) (w .few-bins) (few-counts w) (few-entries w) (w .few-energies))
+      (Sections.energies-count xs ns (map vertexCount (below levels)) (entries each 0 rows) (packedEnergies rows) file post (w .is) (w .few-floats) (w .few-bins) (few-counts w) (few-entries w) (w .few-energies))
 
-  pub laid-out : laidOut (length xs) (length ns) (file w) (layout (file w)) ≡ true
+  pub floats-count : countAt file 0 ≡ length xs
+  floats-count =
+      Sections.floats-count xs ns (map vertexCount (below levels)) (entries each 0 rows) (packedEnergies rows) file post (w .is) (w .few-floats) (w .few-bins) (few-counts w) (few-entries w) (w .few-energies)
+
+  pub bins-count : countAt file (4 + length xs * 8) ≡ length ns
+  bins-count =
+      Sections.bins-count xs ns (map vertexCount (below levels)) (entries each 0 rows) (packedEnergies rows) file post (w .is) (w .few-floats) (w .few-bins) (few-counts w) (few-entries w) (w .few-energies)
+
+  -- 13, where nothing follows
+  pub laid-out : length post ≡ 0 → laidOut (length xs) (length ns) file (layout file) ≡ true
   unfolding laidOut
-  laid-out =
-      rw (
-        laid w,
-        Sections.floats-count xs ns (map vertexCount (below levels)) (entries each 0 rows) (packedEnergies rows) (w .few-floats) (w .few-bins) (few-counts w) (few-entries w) (w .few-energies),
-        Sections.bins-count xs ns (map vertexCount (below levels)) (entries each 0 rows) (packedEnergies rows) (w .few-floats) (w .few-bins) (few-counts w) (few-entries w) (w .few-energies),
-        eq-eqb (length xs) (length xs) refl,
-        eq-eqb (length ns) (length ns) refl,
-      ) (eq-eqb _ _ (sym (sections-length w)))
+  laid-out h =
+      rw (laid w, floats-count, bins-count, eq-eqb (length xs) (length xs) refl, eq-eqb (length ns) (length ns) refl)
+      (eq-eqb (endsAt w) (length file) (omega (arith, sections-length w, h)))
 
-  level : (k : ℕ) → k < levels → eqb (numberAt 4 (file w) (levelsAt w + 4 + 4 * k)) (vertexCount k) ≡ true
+  level : (k : ℕ) → k < levels → eqb (numberAt 4 file (levelsAt w + 4 + 4 * k)) (vertexCount k) ≡ true
   unfolding numberAt
   level k l =
-      let back = Sections.levels-back xs ns (map vertexCount (below levels)) (entries each 0 rows) (packedEnergies rows) (w .few-floats) (w .few-bins) (few-counts w) (few-entries w) (w .few-energies) (counts-fit levels (w .few-levels)) in
+      let back = Sections.levels-back xs ns (map vertexCount (below levels)) (entries each 0 rows) (packedEnergies rows) file post (w .is) (w .few-floats) (w .few-bins) (few-counts w) (few-entries w) (w .few-energies) (counts-fit levels (w .few-levels)) in
       eq-eqb _ (vertexCount k)
-      (rw (mul-comm 4 k) (sym (item-at numberOf 4 (file w) 0 (levelsAt w + 4) (length (map vertexCount (below levels))) k (omega (arith, l, counts-many levels)))
+      (rw (mul-comm 4 k) (sym (item-at numberOf 4 file 0 (levelsAt w + 4) (length (map vertexCount (below levels))) k (omega (arith, l, counts-many levels)))
       ∙ ap (λ (q : List ℕ). getD q k 0) back ∙ counts-at levels k l))
 
-  pub levels-held : allUpTo levels (λ k. eqb (numberAt 4 (file w) (levelsAt w + 4 + 4 * k)) (vertexCount k)) ≡ true
-  levels-held = all-is (λ k. eqb (numberAt 4 (file w) (levelsAt w + 4 + 4 * k)) (vertexCount k)) levels level
+  pub levels-held : allUpTo levels (λ k. eqb (numberAt 4 file (levelsAt w + 4 + 4 * k)) (vertexCount k)) ≡ true
+  levels-held = all-is (λ k. eqb (numberAt 4 file (levelsAt w + 4 + 4 * k)) (vertexCount k)) levels level
 
-  pub rows-asked : rowsQuestion each (file w) levels (rowsAt w) (length rows) (energiesAt w) (length (packedEnergies rows)) ≡ 0
+  pub rows-asked : rowsQuestion each file levels (rowsAt w) (length rows) (energiesAt w) (length (packedEnergies rows)) ≡ 0
   unfolding ask
   rows-asked =
       rw (

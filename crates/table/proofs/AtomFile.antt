@@ -1,7 +1,7 @@
 -- The file of a table against an atom: the reader accepts it, what stands where in it, and that it is one to one. Assumes nothing.
 use mathlib.Core.Path.{_≡_, refl, sym, ap, _∙_}
 use mathlib.Core.Bool.{true, and-eq-true-iff}
-use mathlib.Core.List.{List, [], _∷_}
+use mathlib.Core.List.{List, [], _∷_, append-nil}
 use Prim.Native.Nat.{ℕ, _+_, _*_, _-_, _<_}
 use native.Mathlib.Omega.{arith}
 use lib.ListN.{length, getD, take, drop}
@@ -72,13 +72,14 @@ module _ (g : AtomGrid) (levels : ℕ) (rows : List (Row ℕ)) (ok : AtomFilable
   abbrev es : List ℕ
   es = packedEnergies rows
 
-  pub sized : Sized vertexCount (toBits binary64 (g .rmin) ∷ toBits binary64 (g .dr) ∷ []) (g .«n_r» ∷ []) levels rows
-  unfolding atomGridValid atomSlabsFit
+  pub sized : Sized vertexCount (toBits binary64 (g .rmin) ∷ toBits binary64 (g .dr) ∷ []) (g .«n_r» ∷ []) levels rows file []
+  unfolding atomFileOf atomGridValid atomSlabsFit
   sized =
       let a = and-eq-true-iff (atomGridRange g levels) (leb (g .«n_r» * vertexCount (levels - 1)) 4294967295) .0 (ok .held) in
       let r = atom-ranged g levels (a .0) in
       let fit = leb-true (g .«n_r» * vertexCount (levels - 1)) 4294967295 (a .1) in
       record {
+        is = sym (append-nil file);
         floats = (toBits-lt binary64 (g .rmin) (ok .rmin), (toBits-lt binary64 (g .dr) (ok .dr), tt));
         bins = (omega (arith, r .distances), tt);
         few-floats = lit< tt;
@@ -90,7 +91,7 @@ module _ (g : AtomGrid) (levels : ℕ) (rows : List (Row ℕ)) (ok : AtomFilable
       }
 
   table-is : atomTableOf file (layout file) ≡ atomTableIn g levels rows
-  unfolding atomFileOf atomTableOf atomGridOf
+  unfolding atomTableOf atomGridOf
   table-is =
       rw (
         laid sized,
@@ -106,35 +107,31 @@ module _ (g : AtomGrid) (levels : ℕ) (rows : List (Row ℕ)) (ok : AtomFilable
 
   -- 14
   held : atomTableValid file (atomTableIn g levels rows) ≡ true
-  unfolding atomFileOf atomTableValid atomGridValid
+  unfolding atomTableValid atomGridValid
   held = rw (ok .held, eq-eqb (length rows) (g .«n_r») (ok .many)) (levels-held sized)
 
   asked : 0 ≡ atomTableQuestion file (atomTableOf file (layout file))
-  unfolding ask atomFileOf
+  unfolding ask
   asked = rw (table-is, held) (sym (rows-asked sized))
 
   -- the reader accepts the file
   pub atom-file-accepted : atomReadOut (atomFileOf g levels rows) ≡ atomReadValues (Reads (atomTableIn g levels rows))
-  unfolding atomFileOf
-  atom-file-accepted = atom-read-accepted file (laid-out sized) 0 asked refl ∙ ap (λ (t : AtomTable). atomReadValues (Reads t)) table-is
+  atom-file-accepted = atom-read-accepted file (laid-out sized refl) 0 asked refl ∙ ap (λ (t : AtomTable). atomReadValues (Reads t)) table-is
 
   -- ---- what stands in it
 
   pub atom-file-length : length (atomFileOf g levels rows) ≡ 28 + 4 + levels * 4 + 4 + length rows * 10 + 4 + length es * 4
-  unfolding atomFileOf
-  atom-file-length = sections-length sized
+  atom-file-length = sections-length sized ∙ omega arith
 
   -- row s, its energies at the place where those of the rows before it end
   pub atom-entry-of : (s : ℕ) → s < length rows
       → entryOf (take 10 (drop (atomTableIn g levels rows .«rows_start» + s * 10) (atomFileOf g levels rows))) ≡ entry (before vertexCount levels rows s) (getD rows s repulsive)
-  unfolding atomFileOf
   atom-entry-of = OfSections.entry-of sized
 
   -- energy k of row s
   pub atom-energy-of : (s k : ℕ) → s < length rows → k < length (energiesIn (getD rows s repulsive))
       → (before vertexCount levels rows s + k < length es)
       × (numberAt 4 (atomFileOf g levels rows) (atomTableIn g levels rows .«energies_start» + (before vertexCount levels rows s + k) * 4) ≡ getD (energiesIn (getD rows s repulsive)) k 0)
-  unfolding atomFileOf
   atom-energy-of = OfSections.energy-of sized
 
 -- ---- one to one
@@ -149,7 +146,6 @@ pub record AtomHolds (g h : AtomGrid) (m n : ℕ) (a b : List (Row ℕ)) : Type 
 
 -- files are equal only where they hold the same
 pub atom-file-holds : (g h : AtomGrid) (m n : ℕ) (a b : List (Row ℕ)) → AtomFilable g m a → AtomFilable h n b → atomFileOf g m a ≡ atomFileOf h n b → AtomHolds g h m n a b
-unfolding atomFileOf
 atom-file-holds g h m n a b p q e =
     let t : atomTableIn g m a ≡ atomTableIn h n b =
     sym (ap (λ (v : AtomReadValues). v .table) (atom-file-accepted g m a p)) ∙ ap (λ (f : List ℕ). atomReadOut f .table) e ∙ ap (λ (v : AtomReadValues). v .table) (atom-file-accepted h n b q) in

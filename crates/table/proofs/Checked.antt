@@ -2,7 +2,7 @@
 use mathlib.Core.Path.{_≡_, refl, ap, _∙_}
 use mathlib.Core.Bool.{Bool, true, false, and-eq-true-iff}
 use mathlib.Core.List.{List, [], _∷_}
-use Prim.Native.Nat.{ℕ, zero, suc, _+_, _*_, _-_, _≤_, _<_}
+use Prim.Native.Nat.{ℕ, _+_, _*_, _-_, _≤_, _<_}
 use native.Mathlib.Nat.{suc-mul, mul-le-mul, mul-pos}
 use native.Mathlib.Omega.{arith}
 use lib.ListN.{length}
@@ -19,13 +19,14 @@ use Rattle.grid.specs.Settings.{above, binsInRange, ownCount, slabsFit, gridRan
 use Rattle.grid.specs.declared.Grid.{Grid}
 use Rattle.grid.proofs.Tables.{some-bins}
 use Rattle.grid.proofs.Reaches.{reaches}
-use Rattle.table.specs.Bytes.{numberAt, items}
+use Rattle.table.specs.Bytes.{numberAt}
 use Rattle.table.specs.File.{Entry, entryOf}
-use Rattle.table.specs.Read.{layout, laidOut, gridOf, tableOf, rowItems, tableValid, entryValid, tiled, ReadValues, readValues, readRefusal, readOut}
+use Rattle.table.specs.Read.{layout, tableLaidOut, gridOf, tableOf, rowItems, tableValid, entryValid, tiled, ReadValues, readValues, readRefusal, readOut}
 use Rattle.table.specs.Checks.{checkGrid, slabChecked, checkSlabs}
 use Rattle.table.specs.declared.Layout.{Layout}
 use Rattle.table.specs.declared.Table.{Table}
 use Rattle.table.specs.declared.ReadAnswer.the-variants.{Accepted as Reads}
+use Rattle.table.proofs.Items.{items-many}
 use Rattle.table.proofs.Accepted.{held-ranged}
 
 -- ---- the grid
@@ -125,11 +126,6 @@ module _ (file : List ℕ) (t : Table) (few : t .energies ≤ 4294967295) (count
 
 -- ---- the whole
 
-items-many : {A : Type 0} (dec : List ℕ → A) (w : ℕ) (file : List ℕ) (at n : ℕ) → length (items dec w file at n) ≡ n
-unfolding items
-items-many dec w file at zero = refl
-items-many dec w file at (suc n) = ap suc (items-many dec w file (at + w) n)
-
 -- what an accepted file was asked
 accepted-by : (file : List ℕ) (t : Table) (x : Bool) → eqb (readRefusal file (layout file) (tableOf file (layout file))) 0 ≡ x → readOut file ≡ readValues (Reads t)
     → (readRefusal file (layout file) (tableOf file (layout file)) ≡ 0) × (tableOf file (layout file) ≡ t)
@@ -146,7 +142,7 @@ unfolding readRefusal tableValid checkSlabs gridValid slabsFit
 found-checked file p e =
     let t = tableOf file p in
     let n = t .grid .«n_r» * t .grid .«n_omega» in
-    let q14 = ask-yes {q = tableValid file t} (lit< tt) (ask-yes {q = laidOut 3 2 file p} (lit< tt) e .1) in
+    let q14 = ask-yes {q = tableValid file t} (lit< tt) (ask-yes {q = tableLaidOut file p} (lit< tt) e .1) in
     let q15 = ask-yes {q = every (entryValid (t .levels)) (rowItems file t)} (lit< tt) (q14 .1) in
     let q16 = ask-yes {q = tiled per 0 (t .energies) (rowItems file t)} (lit< tt) (q15 .1) in
     let g = and-eq-true-iff (gridValid (t .grid) (t .levels)) _ .0 (q14 .0) in

@@ -5,13 +5,15 @@ use mathlib.Core.List.{List, [], _∷_}
 use Prim.Native.Nat.{ℕ, zero, suc, _+_, _*_, _-_, _≤_, _<_}
 use native.Mathlib.Nat.{add-zero}
 use native.Mathlib.Omega.{arith}
-use lib.ListN.{getD, take, drop}
+use lib.ListN.{length, getD, take, drop}
 use lib.Seq.{drop-drop}
 use lib.Dec.{leb, eqb}
+use lib.Ieee.{binary64, ofBits}
 use borrow.Author.Tests.{eqb-true}
 use Rattle.lists.specs.Lists.{every}
 use Rattle.mesh.proofs.Laws.{count-le, per-le}
 use Rattle.table.specs.Bytes.{numberOf, numberAt, items}
+use Rattle.table.specs.Tail.{Term, termOf}
 use Rattle.table.specs.File.{Entry, entryOf}
 use Rattle.table.specs.Read.{tiled}
 use Rattle.table.specs.Internal.{eachOf, placedAt, nextPlace}
@@ -22,6 +24,11 @@ module _ {A : Type 0} (dec : List ℕ → A) (w : ℕ) (file : List ℕ) where
   unfolding items
   items-cons at zero h = absurd (omega arith)
   items-cons at (suc n) h = let e : suc n - 1 ≡ n = omega arith in rw e
+
+  pub items-many : (at n : ℕ) → length (items dec w file at n) ≡ n
+  unfolding items
+  items-many at zero = refl
+  items-many at (suc n) = ap suc (items-many (at + w) n)
 
   pub every-stop : (p : A → Bool) (at n : ℕ) → 0 < n → p (dec (take w (drop at file))) ≡ false → every p (items dec w file at n) ≡ false
   unfolding every
@@ -81,6 +88,15 @@ unfolding entryOf
 entry-at file at =
     let k : numberOf (take 1 (take 10 (drop at file))) ≡ getD file at 0 = part-at 0 1 10 file at (omega arith) ∙ byte-is file (at + 0) ∙ rw (add-zero at) in
     rw (k, part-at 1 1 10 file at (omega arith), byte-is file (at + 1), part-at 2 4 10 file at (omega arith), part-at 6 4 10 file at (omega arith))
+
+-- the term at a byte
+pub term-at : (file : List ℕ) (at : ℕ)
+    → _≡_ {A = Term} (termOf (take 20 (drop at file)))
+    (record { coefficient = ofBits binary64 (numberAt 8 file at); kappa = ofBits binary64 (numberAt 8 file (at + 8)); power = numberAt 4 file (at + 16) })
+unfolding termOf
+term-at file at =
+    let x : numberOf (take 8 (take 20 (drop at file))) ≡ numberAt 8 file at = part-at 0 8 20 file at (omega arith) ∙ rw (add-zero at) in
+    rw (x, part-at 8 8 20 file at (omega arith), part-at 16 4 20 file at (omega arith))
 
 -- ---- tiling
 

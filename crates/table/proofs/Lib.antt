@@ -9,6 +9,7 @@ pub mod Sound
 pub mod Accepts
 pub mod OfRows
 pub mod OfSections
+pub mod OfTail
 pub mod OfFile
 pub mod AtomFile
 pub mod Checked

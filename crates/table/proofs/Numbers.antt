@@ -45,6 +45,11 @@ above w file at =
 pub four : (file : List ℕ) (at : ℕ) → numberAt 4 file at ≡ ((getD file (at + 3) 0 * 256 + getD file (at + 2) 0) * 256 + getD file (at + 1) 0) * 256 + getD file at 0
 four file at = above 0 file at ∙ omega (arith, no-bytes file (at + 4))
 
+-- beyond the end
+pub none-there : (file : List ℕ) (at : ℕ) → length file ≤ at → numberAt 4 file at ≡ 0
+none-there file at h =
+    omega (arith, four file at, beyond file at h, beyond file (at + 1) (omega arith), beyond file (at + 2) (omega arith), beyond file (at + 3) (omega arith))
+
 pub four-bytes : (file : List ℕ) (at : ℕ) → numberOf (getD file at 0 ∷ getD file (at + 1) 0 ∷ getD file (at + 2) 0 ∷ getD file (at + 3) 0 ∷ []) ≡ numberAt 4 file at
 unfolding numberOf
 four-bytes file at = omega (arith, four file at)

@@ -1,10 +1,10 @@
 -- Rows in a file of five sections: what stands where, and that rows can be told from it. Over the number of energies a row and the numbers of the heads. Assumes nothing.
 use mathlib.Core.Path.{_≡_, sym, ap, _∙_}
-use mathlib.Core.List.{List, map}
+use mathlib.Core.List.{List, _++_, map}
 use Prim.Native.Nat.{ℕ, _+_, _*_, _^_, _≤_, _<_}
 use native.Mathlib.Nat.{zero-add}
 use native.Mathlib.Omega.{arith}
-use lib.ListN.{length, getD, take, drop}
+use lib.ListN.{length, getD, take, drop, length-append}
 use Rattle.lists.specs.Lists.{below}
 use Rattle.mesh.specs.Levels.{vertexCount}
 use Rattle.rows.specs.Rows.{Row, repulsive}
@@ -17,8 +17,9 @@ use Rattle.table.proofs.Sound.{Fine, entries-length, entries-fit, numbe
 use Rattle.table.proofs.OfRows.{before, counts-many, numbers-fit, entry-is, energies-in, energy-is, same-rows}
 use Rattle.table.proofs.Sections as Sections
 
--- the numbers of the heads, a level count and rows that a file can hold
-pub record Sized (each : ℕ → ℕ) (xs ns : List ℕ) (levels : ℕ) (rows : List (Row ℕ)) : Type 0 where
+-- a file of the numbers of the heads, a level count and rows that it can hold, and of what follows its five sections
+pub record Sized (each : ℕ → ℕ) (xs ns : List ℕ) (levels : ℕ) (rows : List (Row ℕ)) (file post : List ℕ) : Type 0 where
+  pub is : file ≡ sectionsOf each xs ns levels rows ++ post
   pub floats : All (λ k. k < 256 ^ 8) xs
   pub bins : All (λ k. k < 256 ^ 4) ns
   pub few-floats : length xs < 256 ^ 4
@@ -28,10 +29,7 @@ pub record Sized (each : ℕ → ℕ) (xs ns : List ℕ) (levels : ℕ) (rows : 
   pub few-energies : length (packedEnergies rows) < 256 ^ 4
   pub fine : All (Fine each levels) rows
 
-module _ {each : ℕ → ℕ} {xs ns : List ℕ} {levels : ℕ} {rows : List (Row ℕ)} (w : Sized each xs ns levels rows) where
-  abbrev pub file : List ℕ
-  file = sectionsOf each xs ns levels rows
-
+module _ {each : ℕ → ℕ} {xs ns : List ℕ} {levels : ℕ} {rows : List (Row ℕ)} {file post : List ℕ} (w : Sized each xs ns levels rows file post) where
   abbrev ls : List ℕ
   ls = map vertexCount (below levels)
 
@@ -57,40 +55,45 @@ module _ {each : ℕ → ℕ} {xs ns : List ℕ} {levels : ℕ} {rows : List (Ro
   abbrev pub energiesAt : ℕ
   energiesAt = rowsAt + length rows * 10 + 4
 
+  -- where the fifth section ends
+  abbrev pub endsAt : ℕ
+  endsAt = energiesAt + length es * 4
+
   pub laid : layout file ≡ record {
     bins = 4 + length xs * 8;
     levels = levelsAt;
     rows = levelsAt + 4 + levels * 4;
     energies = rowsAt + length rows * 10;
-    end = energiesAt + length es * 4;
+    end = endsAt;
   }
   laid =
       rw (counts-many levels, entries-length each 0 rows) at
-      (Sections.laid xs ns ls rs es (w .few-floats) (w .few-bins) few-counts few-entries (w .few-energies))
+      (Sections.laid xs ns ls rs es file post (w .is) (w .few-floats) (w .few-bins) few-counts few-entries (w .few-energies))
 
   pub float-of : (i : ℕ) → i < length xs → numberAt 8 file (4 + i * 8) ≡ getD xs i 0
-  float-of = Sections.float-back xs ns ls rs es (w .few-floats) (w .few-bins) few-counts few-entries (w .few-energies) (w .floats)
+  float-of = Sections.float-back xs ns ls rs es file post (w .is) (w .few-floats) (w .few-bins) few-counts few-entries (w .few-energies) (w .floats)
 
   pub bin-of : (i : ℕ) → i < length ns → numberAt 4 file (4 + length xs * 8 + 4 + i * 4) ≡ getD ns i 0
-  bin-of = Sections.bin-back xs ns ls rs es (w .few-floats) (w .few-bins) few-counts few-entries (w .few-energies) (w .bins)
+  bin-of = Sections.bin-back xs ns ls rs es file post (w .is) (w .few-floats) (w .few-bins) few-counts few-entries (w .few-energies) (w .bins)
 
   fit-rows : All Fitting rs
   fit-rows = entries-fit each levels 0 rows (omega (arith, w .few-levels)) (w .fine) (omega (arith, w .few-energies))
 
-  pub sections-length : length file ≡ energiesAt + length es * 4
-  sections-length =
-      Sections.ends xs ns ls rs es (w .few-floats) (w .few-bins) few-counts few-entries (w .few-energies)
-      ∙ rw (counts-many levels, entries-length each 0 rows)
+  pub five-length : length (sectionsOf each xs ns levels rows) ≡ endsAt
+  five-length = Sections.five xs ns ls rs es ∙ rw (counts-many levels, entries-length each 0 rows)
+
+  pub sections-length : length file ≡ endsAt + length post
+  sections-length = ap length (w .is) ∙ length-append (sectionsOf each xs ns levels rows) post ∙ omega (arith, five-length)
 
   pub entries-are : items entryOf 10 file rowsAt (length rows) ≡ rs
   entries-are =
       rw (counts-many levels, entries-length each 0 rows) at
-      (Sections.rows-back xs ns ls rs es (w .few-floats) (w .few-bins) few-counts few-entries (w .few-energies) fit-rows)
+      (Sections.rows-back xs ns ls rs es file post (w .is) (w .few-floats) (w .few-bins) few-counts few-entries (w .few-energies) fit-rows)
 
   pub energies-are : items numberOf 4 file energiesAt (length es) ≡ es
   energies-are =
       rw (counts-many levels, entries-length each 0 rows) at
-      (Sections.energies-back xs ns ls rs es (w .few-floats) (w .few-bins) few-counts few-entries (w .few-energies) (numbers-fit es (numbers each levels rows (w .fine))))
+      (Sections.energies-back xs ns ls rs es file post (w .is) (w .few-floats) (w .few-bins) few-counts few-entries (w .few-energies) (numbers-fit es (numbers each levels rows (w .fine))))
 
   -- row s, its energies at the place where those of the rows before it end
   pub entry-of : (s : ℕ) → s < length rows → entryOf (take 10 (drop (rowsAt + s * 10) file)) ≡ entry (before each levels rows s) (getD rows s repulsive)
@@ -112,8 +115,8 @@ module _ {each : ℕ → ℕ} {xs ns : List ℕ} {levels : ℕ} {rows : List (Ro
       )
 
 -- files are equal only where the rows are
-pub rows-same : {each : ℕ → ℕ} {xs ns ys ks : List ℕ} {m n : ℕ} {a b : List (Row ℕ)} (v : Sized each xs ns m a) (w : Sized each ys ks n b)
-    → sectionsOf each xs ns m a ≡ sectionsOf each ys ks n b → a ≡ b
+pub rows-same : {each : ℕ → ℕ} {xs ns ys ks : List ℕ} {m n : ℕ} {a b : List (Row ℕ)} {f h s t : List ℕ} (v : Sized each xs ns m a f s) (w : Sized each ys ks n b h t)
+    → f ≡ h → a ≡ b
 rows-same {each = each} {m = m} {n = n} {a = a} {b = b} v w e =
     let t = sym (laid v) ∙ ap layout e ∙ laid w in
     let rows = ap (λ (p : Layout). p .rows) t in

@@ -9,6 +9,7 @@ use Rattle.mesh.specs.Levels.{vertexCount, per}
 use Rattle.grid.specs.declared.Grid.{Grid}
 use Rattle.rows.specs.Rows.{Row, scalar, repulsive, mesh}
 use Rattle.table.specs.Bytes.{bytesOf, numberOf, section}
+use Rattle.table.specs.Tail.{Tail, tailBytes}
 
 -- "rows, ten bytes: kind u8 .., level u8, offset u32, scalar u32"
 pub record Entry : Type 0 where
@@ -63,3 +64,7 @@ sectionsOf each xs ns levels rows =
 unfoldable pub fileOf : Grid → ℕ → List (Row ℕ) → List ℕ
 fileOf g levels rows =
     sectionsOf per (toBits binary64 (g .rmin) ∷ toBits binary64 (g .dr) ∷ toBits binary64 (g .«omega_step») ∷ []) (g .«n_r» ∷ g .«n_omega» ∷ []) levels rows
+
+-- the same with what follows section 5
+unfoldable pub fullFile : Grid → ℕ → List (Row ℕ) → Tail → List ℕ
+fullFile g levels rows t = fileOf g levels rows ++ tailBytes t

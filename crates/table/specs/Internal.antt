@@ -2,16 +2,17 @@
 use mathlib.Core.Path.{_≡_}
 use mathlib.Core.Bool.{Bool, true, false, not, cond, _||_}
 use mathlib.Core.List.{List}
-use Prim.Native.Nat.{ℕ, _+_, _*_, _≤_}
+use Prim.Native.Nat.{ℕ, _+_, _*_, _≤_, _<_}
 use lib.ListN.{length}
 use lib.Dec.{leb, eqb}
 use lib.Ieee.{binary32, nanBits}
-use Rattle.lists.specs.Questions.{ask}
+use Rattle.lists.specs.Questions.{ask, first}
 use Rattle.lists.specs.Lists.{every}
 use Rattle.mesh.specs.Levels.{vertexCount, per}
 use Rattle.table.specs.Bytes.{numberOf, items}
+use Rattle.table.specs.Tail.{tailValid}
 use Rattle.table.specs.File.{entryOf}
-use Rattle.table.specs.Read.{countAt, tableValid, entryValid, tiled}
+use Rattle.table.specs.Read.{countAt, tailIn, tableValid, entryValid, tiled}
 use Rattle.table.specs.Atom.{atomTableValid}
 use Rattle.table.specs.declared.Layout.{Layout}
 use Rattle.table.specs.declared.Table.{Table}
@@ -23,7 +24,15 @@ pub record SectionsInside (i j : ℕ) (file : List ℕ) (p : Layout) : Type 0 wh
   pub levels : p .levels ≡ 4 + i * 8 + 4 + j * 4
   pub rows : p .rows ≡ p .levels + 4 + countAt file (p .levels) * 4
   pub energies : p .energies ≡ p .rows + 4 + countAt file (p .rows) * 10
-  pub end : length file ≡ p .energies + 4 + countAt file (p .energies) * 4
+  pub end : p .energies + 4 + countAt file (p .energies) * 4 ≤ length file
+
+-- k terms at a byte, where there are any, and their prefactor are inside the file
+abbrev pub TailInside : List ℕ → ℕ → ℕ → Type 0
+TailInside file at k = 0 < k → at + k * 20 + 8 ≤ length file
+
+-- the same of a table whose sixth section may follow
+abbrev pub TableSections : List ℕ → Layout → Type 0
+TableSections file p = SectionsInside 3 2 file p × TailInside file (p .end + 4) (countAt file (p .end))
 
 -- the sections that the later questions walk are inside the file: i levels at byte x, j rows at y and k energies at z
 pub record Inside (file : List ℕ) (x i y j z k : ℕ) : Type 0 where
@@ -32,7 +41,8 @@ pub record Inside (file : List ℕ) (x i y j z k : ℕ) : Type 0 where
   pub energies : z + k * 4 ≤ length file
 
 abbrev pub TableInside : List ℕ → Table → Type 0
-TableInside file t = Inside file (t .«levels_start») (t .levels) (t .«rows_start») (t .rows) (t .«energies_start») (t .energies)
+TableInside file t =
+    Inside file (t .«levels_start») (t .levels) (t .«rows_start») (t .rows) (t .«energies_start») (t .energies) × TailInside file (t .«tail_start») (t .terms)
 
 abbrev pub AtomTableInside : List ℕ → AtomTable → Type 0
 AtomTableInside file t = Inside file (t .«levels_start») (t .levels) (t .«rows_start») (t .rows) (t .«energies_start») (t .energies)
@@ -49,9 +59,11 @@ rowsQuestion each file levels y rows z energies =
     (ask (tiled each 0 energies (items entryOf 10 file y rows)) 16
     (ask (every (λ x. not (nanBits binary32 x)) (items numberOf 4 file z energies)) 17 0))
 
--- 14 to 17, of a table whose sections are inside the file
+-- 14 to 17, then 23, of a table whose sections are inside the file
 abbrev pub tableQuestion : List ℕ → Table → ℕ
-tableQuestion file t = ask (tableValid file t) 14 (rowsQuestion per file (t .levels) (t .«rows_start») (t .rows) (t .«energies_start») (t .energies))
+tableQuestion file t =
+    ask (tableValid file t) 14
+    (first (rowsQuestion per file (t .levels) (t .«rows_start») (t .rows) (t .«energies_start») (t .energies)) (ask (tailValid (tailIn file t)) 23 0))
 
 abbrev pub atomTableQuestion : List ℕ → AtomTable → ℕ
 atomTableQuestion file t =

@@ -1,5 +1,5 @@
--- Read, in stages over one walk of the sections: layout (13), grid (14), rows (15), tiling (16), energies (17). Definitions only.
-use mathlib.Core.Bool.{Bool, true, not, cond, _&&_}
+-- Read, in stages over one walk of the sections: layout (13), grid (14), rows (15), tiling (16), energies (17), terms (23). Definitions only.
+use mathlib.Core.Bool.{Bool, true, not, cond, _&&_, _||_}
 use mathlib.Core.List.{List, [], _∷_}
 use Prim.Native.Nat.{ℕ, _+_, _*_}
 use lib.ListN.{length}
@@ -12,6 +12,7 @@ use Rattle.grid.specs.Bins.{tableRmax}
 unfoldable pub use Rattle.grid.specs.Settings.{gridValid}
 use Rattle.grid.specs.declared.Grid.{Grid}
 use Rattle.table.specs.Bytes.{numberOf, numberAt, items}
+use Rattle.table.specs.Tail.{Term, Tail, termOf, tailValid}
 use Rattle.table.specs.File.{Entry, entryOf}
 use Rattle.table.specs.declared.Layout.{Layout}
 use Rattle.table.specs.declared.Table.{Table}
@@ -23,7 +24,19 @@ noGrid = let x = ofBits binary64 0 in record { rmin = x; rmax = x; dr = x; «ome
 
 abbrev noTable : Table
 noTable =
-    record { grid = noGrid; levels = 0; rows = 0; energies = 0; «grid_start» = 0; «bins_start» = 0; «levels_start» = 0; «rows_start» = 0; «energies_start» = 0 }
+    record {
+      grid = noGrid;
+      levels = 0;
+      rows = 0;
+      energies = 0;
+      terms = 0;
+      «grid_start» = 0;
+      «bins_start» = 0;
+      «levels_start» = 0;
+      «rows_start» = 0;
+      «energies_start» = 0;
+      «tail_start» = 0;
+    }
 
 -- 01's number and values for each case of the answer: "read returns the grid, the counts and each section's start"; beside a number that
 -- refuses stands a table of zeros
@@ -61,6 +74,18 @@ layout file =
 unfoldable pub laidOut : ℕ → ℕ → List ℕ → Layout → Bool
 laidOut i j file p = eqb (countAt file 0) i && (eqb (countAt file (p .bins)) j && eqb (p .end) (length file))
 
+-- the last part of 13 where a sixth section may follow: the file ends at the end of section 5; or there are terms there, at least one, and
+-- their prefactor ends it. "a sixth section with count 0, or one without its prefactor, is refused by 13"
+unfoldable pub ended : List ℕ → ℕ → Bool
+ended file end = eqb end (length file) || (ltb 0 (countAt file end) && eqb (past file end 20 + 8) (length file))
+
+unfoldable pub tableLaidOut : List ℕ → Layout → Bool
+tableLaidOut file p = eqb (countAt file 0) 3 && (eqb (countAt file (p .bins)) 2 && ended file (p .end))
+
+-- where the terms start. "Without the section, read gives its count as 0 and its start as the file's length."
+unfoldable pub tailAt : List ℕ → ℕ → ℕ
+tailAt file end = cond (eqb (countAt file end) 0) (length file) (end + 4)
+
 -- ---- what the sections hold
 
 abbrev pub f64At : List ℕ → ℕ → Float
@@ -91,11 +116,13 @@ tableOf file p =
       levels = countAt file (p .levels);
       rows = countAt file (p .rows);
       energies = countAt file (p .energies);
+      terms = countAt file (p .end);
       «grid_start» = 4;
       «bins_start» = p .bins + 4;
       «levels_start» = p .levels + 4;
       «rows_start» = p .rows + 4;
       «energies_start» = p .energies + 4;
+      «tail_start» = tailAt file (p .end);
     }
 
 abbrev pub rowItems : List ℕ → Table → List Entry
@@ -103,6 +130,13 @@ rowItems file t = items entryOf 10 file (t .«rows_start») (t .rows)
 
 abbrev pub energyItems : List ℕ → Table → List ℕ
 energyItems file t = items numberOf 4 file (t .«energies_start») (t .energies)
+
+abbrev pub termItems : List ℕ → Table → List Term
+termItems file t = items termOf 20 file (t .«tail_start») (t .terms)
+
+-- the tail that a file holds: the prefactor stands after the terms
+abbrev pub tailIn : List ℕ → Table → Tail
+tailIn file t = record { terms = termItems file t; prefactor = f64At file (t .«tail_start» + t .terms * 20) }
 
 -- ---- 14, grid and levels
 
@@ -133,16 +167,17 @@ unfoldable pub tiled : (ℕ → ℕ) → ℕ → ℕ → List Entry → Bool
 tiled each o n [] = eqb o n
 tiled each o n (r ∷ rs) = cond (leb (r .kind) 1) (tiled each o n rs) (eqb (r .offset) o && tiled each (o + each (r .level)) n rs)
 
--- ---- 17, energies, and the whole
+-- ---- 17, energies, 23, terms, and the whole
 
--- "Read": 13 to 17, each put to the whole file before the next (S5.17)
+-- "Read": 13 to 17, each put to the whole file before the next (S5.17); 23 after them
 unfoldable pub readRefusal : List ℕ → Layout → Table → ℕ
 readRefusal file p t =
-    ask (laidOut 3 2 file p) 13
+    ask (tableLaidOut file p) 13
     (ask (tableValid file t) 14
     (ask (every (entryValid (t .levels)) (rowItems file t)) 15
     (ask (tiled per 0 (t .energies) (rowItems file t)) 16
-    (ask (every (λ x. not (nanBits binary32 x)) (energyItems file t)) 17 0))))
+    (ask (every (λ x. not (nanBits binary32 x)) (energyItems file t)) 17
+    (ask (tailValid (tailIn file t)) 23 0)))))
 
 unfoldable pub readOut : List ℕ → ReadValues
 readOut file =

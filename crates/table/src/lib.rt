@@ -11,6 +11,7 @@ pub use bytes::u32_from_le_bytes;
 pub use questions::energies_of;
 pub use reader::atom_read;
 pub use reader::read;
+pub use walk::tail_size;
 
 // Where each section after the first begins, with its count, and where the last one ends.
 pub struct Layout {
@@ -21,17 +22,20 @@ pub struct Layout {
     pub end: u64,
 }
 
-// What a file holds: its grid, the counts of levels, rows and energies, and where each section starts, at the byte after its count.
+// What a file holds: its grid, the counts of levels, rows, energies and terms, and where each section starts, at the byte after its
+// count. A file without terms has no sixth section: its start is the file's length.
 pub struct Table {
     pub grid: Grid,
     pub levels: u64,
     pub rows: u64,
     pub energies: u64,
+    pub terms: u64,
     pub grid_start: u64,
     pub bins_start: u64,
     pub levels_start: u64,
     pub rows_start: u64,
     pub energies_start: u64,
+    pub tail_start: u64,
 }
 
 // What a file of a table against an atom holds; its second section has the distance count alone.

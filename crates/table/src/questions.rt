@@ -1,4 +1,4 @@
-// The questions 14 to 17 that read puts to a file, each one loop over a section.
+// The questions 14 to 17 and 23 that read puts to a file, each one loop over a section.
 ghost use mathlib.Core.Path.{_≡_};
 ghost use mathlib.Core.Bool.{not, _&&_};
 ghost use Prim.Native.Nat.{_+_, _*_, _≤_};
@@ -8,14 +8,16 @@ ghost use lib.Ieee.{binary32, nanBits};
 ghost use Rattle.lists.specs.Lists.{allUpTo, every};
 ghost use Rattle.mesh.specs.Levels.{vertexCount};
 ghost use Rattle.table.specs.Bytes.{numberOf, numberAt, items};
+ghost use Rattle.table.specs.Tail.{termOf, termValid, tailValid};
 ghost use Rattle.table.specs.File.{entryOf};
-ghost use Rattle.table.specs.Read.{tableValid, scalarValid, entryValid, tiled};
+ghost use Rattle.table.specs.Read.{tableValid, tailIn, scalarValid, entryValid, tiled};
 ghost use Rattle.table.specs.Atom.{atomTableValid};
-ghost use Rattle.table.specs.Internal.{TableInside, AtomTableInside, eachOf, rowsQuestion, tableQuestion, atomTableQuestion, placedAt, nextPlace};
+ghost use Rattle.table.specs.Internal.{TableInside, TailInside, AtomTableInside, eachOf, rowsQuestion, tableQuestion, atomTableQuestion, placedAt, nextPlace};
 use crate::AtomTable;
 use crate::Table;
 use crate::bytes::u32_in;
 use crate::bytes::u64_in;
+use crate::walk::f64_in;
 
 // Each vertex count is its level's.
 fn levels_valid(file: &[u8], start: u64, levels: u64) -> bool
@@ -238,7 +240,51 @@ fn rows_question(
     0
 }
 
-// Questions 14 to 17.
+// Question 23, of the term at a byte.
+fn term_valid(file: &[u8], at: u64) -> bool
+    requires { ⌜ at + 20 ≤ length (now file) ⌝ }
+    ensures { λ r. ⌜ r ≡ termValid (termOf (take 20 (drop at (now (file .entry))))) ⌝ }
+{
+    let coefficient = f64_in(file, at);
+    let kappa = f64_in(file, at + 8);
+    let power = u32_in(file, at + 16);
+    ieee::is_finite(coefficient) & (ieee::is_finite(kappa) & (power <= 2147483647))
+}
+
+// Question 23, of every term.
+fn terms_valid(file: &[u8], start: u64, terms: u64) -> bool
+    requires { ⌜ start + terms * 20 ≤ length (now file) ⌝ }
+    ensures { λ r. ⌜ r ≡ every termValid (items termOf 20 (now (file .entry)) start terms) ⌝ }
+{
+    let mut at = start;
+    let mut left = terms;
+    while 0 < left {
+        if !term_valid(file, at) {
+            return false;
+        }
+        at += 20;
+        left -= 1;
+    }
+    true
+}
+
+// Question 23.
+fn tail_valid(file: &[u8], t: Table) -> bool
+    requires { ⌜ TailInside (now file) (t .«tail_start») (t .terms) ⌝ }
+    ensures { λ r. ⌜ r ≡ tailValid (tailIn (now (file .entry)) t) ⌝ }
+{
+    let terms = t.terms;
+    let start = t.tail_start;
+    if terms == 0 {
+        return true;
+    }
+    if !terms_valid(file, start, terms) {
+        return false;
+    }
+    ieee::is_finite(f64_in(file, start + terms * 20))
+}
+
+// Questions 14 to 17, then 23.
 pub(crate) fn table_question(file: &[u8], t: Table) -> u64
     requires { ⌜ TableInside (now file) t ⌝ }
     ensures { λ r. ⌜ r ≡ tableQuestion (now (file .entry)) t ⌝ }
@@ -251,7 +297,7 @@ pub(crate) fn table_question(file: &[u8], t: Table) -> u64
     if !table_valid(file, t) {
         return 14;
     }
-    rows_question(
+    let no = rows_question(
         file,
         true,
         levels,
@@ -259,7 +305,14 @@ pub(crate) fn table_question(file: &[u8], t: Table) -> u64
         rows,
         energies_start,
         energies,
-    )
+    );
+    if no != 0 {
+        return no;
+    }
+    if !tail_valid(file, t) {
+        return 23;
+    }
+    0
 }
 
 pub(crate) fn atom_table_question(file: &[u8], t: AtomTable) -> u64

@@ -10,14 +10,15 @@ use crate::questions::table_question;
 use crate::walk::atom_table_of;
 use crate::walk::laid_out;
 use crate::walk::sections;
+use crate::walk::table_laid_out;
 use crate::walk::table_of;
 
-// Reads a file: the questions 13 to 17, each put to the whole file before the next.
+// Reads a file: the questions 13 to 17, then 23, each put to the whole file before the next.
 pub fn read(file: &[u8]) -> ReadAnswer
     ensures { λ r. ⌜ (readNumbered r ≡ true) × (readValues r ≡ readOut (now (file .entry))) ⌝ }
 {
     let p = sections(file);
-    if !laid_out(file, p, 3, 2) {
+    if !table_laid_out(file, p) {
         return ReadAnswer::Refused(13);
     }
     let t = table_of(file, p);

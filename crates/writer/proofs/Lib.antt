@@ -3,3 +3,4 @@ pub mod Puts
 pub mod Filed
 pub mod Whole
 pub mod Outcome
+pub mod OfTail

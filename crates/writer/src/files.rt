@@ -34,7 +34,7 @@ pub(crate) fn rows_known(top: u64, kinds: &[u8], levels: &[u8], n: u64) -> bool
 }
 
 // Questions 1 to 7, then 15 of every row.
-fn write_question(
+pub(crate) fn write_question(
     b: Builder,
     store: u64,
     kinds: &[u8],
@@ -74,7 +74,7 @@ fn write_question(
 }
 
 // The file, whose rows hold e energies together.
-fn put_file(
+pub(crate) fn put_file(
     b: Builder,
     store: &[f64],
     kinds: &[u8],

@@ -285,7 +285,7 @@ fn put_rows(
 }
 
 // The section of energies, of which there are e.
-fn put_tail(
+fn put_energy_section(
     out: &mut [u8],
     at: u64,
     e: u64,
@@ -325,7 +325,7 @@ pub(crate) fn put_rest(
     let z = table::energies_of(pairs, top as u8);
     put_levels(out, at, top + 1);
     put_rows(out, at + 8 + 4 * top, pairs, kinds, levels, values, n);
-    put_tail(
+    put_energy_section(
         out,
         at + 12 + 4 * top + 10 * n,
         e,

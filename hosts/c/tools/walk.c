@@ -9,10 +9,11 @@
 static const double TAU = 6.283185307179586;
 static const uint32_t UNUSED = 0xFFFFFFFF;
 
-/* Where each section's items begin, and how many there are; and whose table it is taken for. */
+/* Where each section's items begin, and how many there are; and whose table it is taken for. Without a sixth section it
+ * has no items. */
 typedef struct sections {
     bool atom;
-    size_t at[5], count[5];
+    size_t at[6], count[6];
 } sections;
 
 __attribute__((format(printf, 3, 4))) static place found(uint64_t number, size_t byte, const char *why, ...) {
@@ -25,6 +26,28 @@ __attribute__((format(printf, 3, 4))) static place found(uint64_t number, size_t
 }
 
 static const place nothing = {0};
+
+/* Behind the fifth section: nothing; or, of two molecules, at least one term and the prefactor. */
+static place walk_sixth(const uint8_t *bytes, size_t count, size_t at, sections *s) {
+    if (at == count)
+        return nothing;
+    if (s->atom)
+        return found(13, at, "%zu bytes follow the last section", count - at);
+    if (count - at < 4)
+        return found(13, at, "%zu bytes follow section 5 (energies), which are no count of section 6 (terms)", count - at);
+    size_t terms = u32_of(bytes + at), behind = at + 4 + 20 * terms;
+    if (terms == 0)
+        return found(13, at, "the count of section 6 (terms) is 0, where a table without terms has no section 6");
+    if ((count - at - 4) / 20 < terms)
+        return found(13, at, "section 6 (terms) has %zu items of 20 bytes by its count, and the file ends %zu bytes behind it", terms, count - at - 4);
+    if (count - behind < 8)
+        return found(13, behind, "%zu bytes follow section 6 (terms), where the prefactor has 8", count - behind);
+    if (count - behind > 8)
+        return found(13, behind + 8, "%zu bytes follow the prefactor", count - behind - 8);
+    s->at[5] = at + 4;
+    s->count[5] = terms;
+    return nothing;
+}
 
 static place walk_sections(const uint8_t *bytes, size_t count, sections *s) {
     static const size_t width[5] = {8, 4, 4, 10, 4};
@@ -49,11 +72,7 @@ static place walk_sections(const uint8_t *bytes, size_t count, sections *s) {
                                               width[k], count - at - 4);
         at += 4 + width[k] * items;
     }
-    if (second.number != 0)
-        return second;
-    if (at != count)
-        return found(13, at, "%zu bytes follow the last section", count - at);
-    return nothing;
+    return second.number != 0 ? second : walk_sixth(bytes, count, at, s);
 }
 
 /* To a u64: toward zero, saturating, a NaN to 0. */
@@ -163,8 +182,23 @@ static place walk_energies(const uint8_t *bytes, const sections *s) {
     return nothing;
 }
 
+static place walk_terms(const uint8_t *bytes, const sections *s) {
+    static const char *const name[2] = {"coefficient", "kappa"};
+    size_t at = s->at[5];
+    for (size_t i = 0; i < s->count[5]; i++, at += 20) {
+        for (size_t k = 0; k < 2; k++)
+            if (!isfinite(f64_of(bytes + at + 8 * k)))
+                return found(23, at + 8 * k, "the %s of term %zu is %g", name[k], i, f64_of(bytes + at + 8 * k));
+        if (u32_of(bytes + at + 16) > 2147483647)
+            return found(23, at + 16, "the power of term %zu is %u, and 2147483647 is the largest", i, u32_of(bytes + at + 16));
+    }
+    if (s->count[5] > 0 && !isfinite(f64_of(bytes + at)))
+        return found(23, at, "the prefactor is %g", f64_of(bytes + at));
+    return nothing;
+}
+
 place find_place(const uint8_t *bytes, size_t count, bool atom) {
-    static place (*const walks[])(const uint8_t *, const sections *) = {walk_grid, walk_rows, walk_tiling, walk_energies};
+    static place (*const walks[])(const uint8_t *, const sections *) = {walk_grid, walk_rows, walk_tiling, walk_energies, walk_terms};
     sections s = {.atom = atom};
     place p = walk_sections(bytes, count, &s);
     for (size_t k = 0; p.number == 0 && k < sizeof walks / sizeof walks[0]; k++)

@@ -4,17 +4,17 @@ use mathlib.Core.Bool.{true}
 use borrow.Author.Needs.{needs}
 use borrow.Author.Tests.{ne-eqb}
 use Rattle.lists.proofs.Counting.{yes, no}
-use Rattle.table.specs.Read.{layout, laidOut, tableOf}
-use Rattle.table.specs.Internal.{SectionsInside, tableQuestion}
-use Rattle.table.proofs.Accepted.{laid, inside, read-unlaid, read-refused, read-accepted}
+use Rattle.table.specs.Read.{layout, tableLaidOut, tableOf}
+use Rattle.table.specs.Internal.{TableSections, tableQuestion}
+use Rattle.table.proofs.Accepted.{table-laid, table-inside, read-unlaid, read-refused, read-accepted}
 use Rattle.table.proofs.reader.read.Statement.{statement}
 use Rattle.table.proofs.reader.read.Tie as tie
 
-answered : (c : tie.Else1) → laidOut 3 2 (c .before .before .before .before .args .file .now) (layout (c .before .before .before .before .args .file .now)) ≡ true
-answered c = rw (← c .before .before .sections .ensures) (yes (c .before .laid-out .ensures) (c .if1 .left))
+answered : (c : tie.Else1) → tableLaidOut (c .before .before .before .before .args .file .now) (layout (c .before .before .before .before .args .file .now)) ≡ true
+answered c = rw (← c .before .before .sections .ensures) (yes (c .before .table-laid-out .ensures) (c .if1 .left))
 
-placed : (c : tie.Else1) → SectionsInside 3 2 (c .before .before .before .before .args .file .now) (c .before .before .sections .result)
-placed c = laid 3 2 _ _ (c .before .before .sections .ensures) (yes (c .before .laid-out .ensures) (c .if1 .left))
+placed : (c : tie.Else1) → TableSections (c .before .before .before .before .args .file .now) (c .before .before .sections .result)
+placed c = table-laid _ _ (c .before .before .sections .ensures) (yes (c .before .table-laid-out .ensures) (c .if1 .left))
 
 asked : (c : tie.After-table-question) → c .table-question .result ≡ tableQuestion (c .before .before .before .before .before .before .args .file .now) (tableOf (c .before .before .before .before .before .before .args .file .now) (layout (c .before .before .before .before .before .before .args .file .now)))
 asked c = rw (← c .before .before .before .before .sections .ensures, ← c .before .table-of .ensures) (c .table-question .ensures)
@@ -22,14 +22,14 @@ asked c = rw (← c .before .before .before .before .sections .ensures, ← c .b
 returns : tie.Need-returns
 returns c =
     let f = c .before .before .before .before .args .file .now in
-    (refl, sym (read-unlaid f (rw (← c .before .before .sections .ensures) (no (c .before .laid-out .ensures) (c .if1 .taken)))))
+    (refl, sym (read-unlaid f (rw (← c .before .before .sections .ensures) (no (c .before .table-laid-out .ensures) (c .if1 .taken)))))
 
 table-of-requires : tie.Need-table-of-requires
 table-of-requires c κs = placed c
 
 table-question-requires : tie.Need-table-question-requires
 unfolding tableOf
-table-question-requires c κs = rw (c .table-of .ensures) (inside 3 2 _ _ (placed (c .before)))
+table-question-requires c κs = rw (c .table-of .ensures) (table-inside _ _ (placed (c .before)))
 
 returns-2 : tie.Need-returns-2
 returns-2 c =

@@ -17,8 +17,8 @@ put-rows-requires c κs =
     let p = c .before .before .before .before .before .before .before .before .before .before .before .pre .0 in
     (omega (arith, p .fits), omega (arith, p .sure .slabs-le), p .sure .few)
 
-put-tail-requires : tie.Need-put-tail-requires
-put-tail-requires c κs =
+put-energy-section-requires : tie.Need-put-energy-section-requires
+put-energy-section-requires c κs =
     let p = c .before .before .before .before .before .before .before .before .before .before .before .before .before .before .before .pre .0 in
     let z = c .before .before .before .before .before .before .before .before .before .energies-of .ensures in
     (omega (arith, p .fits), omega (arith, p .energies, p .sure .few), p .energies, rw z (p .sure .store), rw z (p .sure .bounded))
@@ -27,10 +27,10 @@ returns : tie.Need-returns
 returns c =
     let s = c .before .before .before .before .before .before .before .before .before .before .before .before .before .before .before .before .before .before in
     let a = s .args in
-    rw (c .before .before .put-tail .ensures, c .before .before .before .before .before .before .put-rows .ensures, c .before .before .before .before .before .before .before .before .before .before .put-levels .ensures, c .before .before .before .before .before .before .before .before .before .before .before .before .energies-of .ensures)
+    rw (c .before .before .put-energy-section .ensures, c .before .before .before .before .before .before .put-rows .ensures, c .before .before .before .before .before .before .before .before .before .before .put-levels .ensures, c .before .before .before .before .before .before .before .before .before .before .before .before .energies-of .ensures)
     (rest-put (eachOf (a .pairs)) (a .top) (a .n) (listsOf (a .store .now) (a .kinds .now) (a .levels .now) (a .values .now)) (a .out .now) (a .at) (omega (arith, s .pre .0 .fits)))
 
 pub put-rest-spec : {M : Type 1} → statement M
 put-rest-spec =
     tie.close
-    (tie.spec (λ c. search needs) (λ c κs. search needs) (λ c. search needs) put-levels-requires (λ c. search needs) (λ c. search needs) (λ c. search needs) put-rows-requires (λ c. search needs) (λ c. search needs) (λ c. search needs) (λ c. search needs) (λ c. search needs) put-tail-requires (λ c. search needs) returns)
+    (tie.spec (λ c. search needs) (λ c κs. search needs) (λ c. search needs) put-levels-requires (λ c. search needs) (λ c. search needs) (λ c. search needs) put-rows-requires (λ c. search needs) (λ c. search needs) (λ c. search needs) (λ c. search needs) (λ c. search needs) put-energy-section-requires (λ c. search needs) returns)

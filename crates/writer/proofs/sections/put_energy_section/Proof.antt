@@ -1,4 +1,4 @@
--- `put_tail` meets its contract. Assumes nothing.
+-- `put_energy_section` meets its contract. Assumes nothing.
 use mathlib.Core.Path.{_≡_, sym, _∙_}
 use Prim.Native.Nat.{_+_}
 use native.Mathlib.Omega.{arith}
@@ -11,8 +11,8 @@ use Rattle.writer.specs.Internal.{resolutions, energiesFor}
 use Rattle.writer.proofs.Puts.{puts}
 use Rattle.table.proofs.Lengths.{bytes-length}
 use Rattle.writer.proofs.Filed.{energies-length, res-length}
-use Rattle.writer.proofs.sections.put_tail.Statement.{statement}
-use Rattle.writer.proofs.sections.put_tail.Tie as tie
+use Rattle.writer.proofs.sections.put_energy_section.Statement.{statement}
+use Rattle.writer.proofs.sections.put_energy_section.Tie as tie
 
 returns : tie.Need-returns
 unfolding section
@@ -26,7 +26,7 @@ returns c =
     rw (c .before .before .put-slabs .ensures, c .before .before .before .before .before .before .put-u32 .ensures, len)
     (puts (a .out .now) (a .at) (bytesOf 4 (a .e)) (packed (bytesOf 4) (energiesFor (eachOf (a .pairs)) (a .z) (a .store .now) 0 xs)) (a .at + 4) (omega (arith, bytes-length 4 (a .e))) (omega (arith, s .pre .0)))
 
-pub put-tail-spec : {M : Type 1} → statement M
-put-tail-spec =
+pub put-energy-section-spec : {M : Type 1} → statement M
+put-energy-section-spec =
     tie.close
     (tie.spec (λ c. search needs) (λ c κs. search needs) (λ c. search needs) (λ c κs. search needs) (λ c. search needs) returns)
