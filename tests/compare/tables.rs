@@ -178,7 +178,7 @@ fn accepted(file: &[u8]) -> Table {
     let rmax = (n_r as f64).mul_add(dr, rmin);
     // of an atom's file neither is taken
     let grid = shape::grid([rmin, rmax, dr, float(20), 0.0, 0.0], [n_r, word(counts + 4)]);
-    Table { number: 0, grid, levels, rows, energies: word(start[4] as usize - 4), start }
+    shape::table(grid, [levels, rows, word(start[4] as usize - 4)], start, file)
 }
 
 // A copy of a file with a few things altered.

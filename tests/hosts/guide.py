@@ -34,7 +34,8 @@ int main(void) {
     for (int i = 0; i < n * n; i++)
         energies[i] = 7;
 """
-BETWEEN = """    icotable_free_meshes(&m);
+BETWEEN = """    printf("tail %g of %llu terms\\n", tail.energy, (unsigned long long)far.terms);
+    icotable_free_meshes(&m);
     {
         uint8_t *file = output;
         size_t length = w.length;
@@ -68,6 +69,7 @@ def main():
         snippets(page, "What the library needs of the process", 4),
         snippets(page, "Reserving a job", 4),
         snippets(page, "Building a table", 7),
+        snippets(page, "Beyond the table's distances", 4),
         BETWEEN,
         snippets(page, "Reading in a simulation", 4),
         snippets(page, "Readings weighted by temperature", 4),
