@@ -534,7 +534,7 @@ int main(void) {
     puts("# Refusals\n\nA call that is refused answers the number of the first question that was answered no, and alters "
          "nothing: no list, no\nbuilder, no file. `include/icotable.h` has the table (`ICOTABLE_REFUSALS`, "
          "`icotable_words`), `hosts/rust` the same as\nan enum (`Refusal`); docs/SPEC.md has each question, S5.1 to S5.20 "
-         "and S5.24, and their order. Each example below is\nrun by `hosts/c/refusals.c`, which writes this page; the gate "
+         "and S5.24 to S5.27, and their order. Each example below\nis run by `hosts/c/refusals.c`, which writes this page; the gate "
          "compares the page with what it writes.\n\n"
          "| number | name | what was answered no | an example |\n|---|---|---|---|");
     for (uint64_t number = 1; number <= NUMBERS; number++) {
@@ -543,16 +543,16 @@ int main(void) {
         differing += differs(e, number);
     }
     puts("\n## Against an atom\n\nThe calls of a table against an atom (`icotable_atom_fresh` and so on) have the same "
-         "numbers with the same words. What\nconcerns the step, the dihedral angle, the second direction, the long-range tail and "
-         "the viewer is not asked there.\n\n| number | name | an example |\n|---|---|---|");
+         "numbers with the same words. What\nconcerns the step, the dihedral angle, the second direction, the long-range tail and a "
+         "viewer's bounds is\nnot asked there.\n\n| number | name | an example |\n|---|---|---|");
     for (uint64_t number = 1; number <= ATOM_NUMBERS; number++) {
         const example *e = &atom_examples[number - 1];
         printf("| %llu | %s | %s |\n", (unsigned long long)number, names[number], e->words);
         differing += differs(e, number);
     }
     puts("\n## Sizing a build\n\n`icotable_sizing` and `icotable_atom_sizing` are refused as fresh is, before any list of a build is "
-         "there: 6 and 7 are\nput to the neighbour counts and the neighbours alone. Then 23 is put to the number of terms, where two molecules "
-         "have them.\n\n| number | name | an example |\n|---|---|---|");
+         "there: 6 and 7 are\nput to the neighbour counts and the neighbours alone. Then 23 is put to the number of terms, where two molecules\nhave "
+         "them.\n\n| number | name | an example |\n|---|---|---|");
     for (int i = 0; i < SIZED; i++) {
         const example *e = &size_examples[i];
         uint64_t number = size_numbers[i];
