@@ -48,7 +48,7 @@
 /* The version, raised where a struct, a function or the table file changes (CHANGELOG.md). The pkg-config file and the
  * tool take it from here; a test compares it with hosts/rust. */
 #define ICOTABLE_VERSION_MAJOR 0
-#define ICOTABLE_VERSION_MINOR 14
+#define ICOTABLE_VERSION_MINOR 15
 #define ICOTABLE_VERSION_PATCH 0
 
 #define ICOTABLE_STRING_(x) #x
@@ -80,7 +80,8 @@
     X(20, EMPTY_CELL, "the cell that a direction falls into lists no vertex") \
     X(21, READING_BETA, "a reading's own beta is not finite and above 0") \
     X(22, PREFACTOR, "terms of a long-range tail are handed over without a prefactor") \
-    X(23, TERM, "a coefficient, a kappa or the prefactor of a long-range tail is not finite, a power is above 2147483647, or there are more than 4294967295 terms")
+    X(23, TERM, "a coefficient, a kappa or the prefactor of a long-range tail is not finite, a power is above 2147483647, or there are more than 4294967295 terms") \
+    X(24, VIEWER_BOUND, "the file has more than 4 levels or 4096 rows, which the viewer does not open")
 
 #define ICOTABLE_REFUSAL_(number, name, words) ICOTABLE_##name = number,
 enum icotable_refusal { ICOTABLE_REFUSALS(ICOTABLE_REFUSAL_) ICOTABLE_ACCEPTED = 0 };
@@ -234,6 +235,10 @@ icotable_written icotable_write_tail(
 
 /* Looks over a file, all of it. Questions 13 to 17, 23. */
 icotable_table icotable_read(const uint8_t *file, size_t file_count);
+
+/* The same for a viewer, which opens tables of at most 4 levels and 4096 rows: what it accepts icotable_read accepts, with
+ * the same answer. Questions 13, 14, 24, 15 to 17, 23. */
+icotable_table icotable_view(const uint8_t *file, size_t file_count);
 
 /* The locator of one level's mesh. Questions 2, 6, 7. */
 uint64_t icotable_locator(

@@ -205,6 +205,21 @@ static uint64_t large_power(void) {
     return write_terms(powers, 1);
 }
 
+/* An empty table of one slab and five levels, by hand. */
+static uint64_t five_levels(void) {
+    static const uint8_t head[] = {3, 0, 0, 0, 0, 0, 0, 0, 0, 0, 0, 0, 0, 0, 0, 0, 0, 0, 0xF0, 0x3F, 0, 0, 0, 0, 0, 0, 0x18, 0x40,
+                                   2, 0, 0, 0, 1, 0, 0, 0, 1, 0, 0, 0, 5, 0, 0, 0};
+    static const uint8_t row[] = {1, 0, 0, 0, 0, 0, 0xFF, 0xFF, 0xFF, 0xFF, 0, 0, 0, 0, 0, 0, 0, 0};
+    memcpy(file, head, sizeof head);
+    for (size_t m = 0; m < 5; m++) {
+        uint8_t n[4] = {(uint8_t)icotable_vertices(m), 0, 0, 0};
+        memcpy(file + sizeof head + 4 * m, n, 4);
+    }
+    memcpy(file + sizeof head + 20, row, sizeof row);
+    size_t length = sizeof head + 20 + sizeof row;
+    return icotable_read(file, length).number != 0 ? 100 : icotable_view(file, length).number;
+}
+
 /* ---- against an atom */
 
 enum { ATOM_SLABS = 2, ATOM_STORE = ATOM_SLABS * N };
@@ -398,6 +413,7 @@ static const example examples[] = {
     {no_beta, "a weighted reading with beta 0, at a distance outside the table", 0},
     {no_prefactor, "write with two terms and an empty list for the prefactor", 0},
     {large_power, "write with a term whose power is 2147483648", 0},
+    {five_levels, "view of a file of five levels, which read accepts", 0},
 };
 
 static const example atom_examples[] = {
@@ -434,7 +450,7 @@ static const char *const names[] = {
 enum { NUMBERS = sizeof names / sizeof names[0] - 1, EXAMPLES = sizeof examples / sizeof examples[0] };
 enum { ATOM_NUMBERS = sizeof atom_examples / sizeof atom_examples[0] };
 _Static_assert(NUMBERS == EXAMPLES, "an example for each number");
-_Static_assert(ATOM_NUMBERS == (int)ICOTABLE_READING_BETA, "one against an atom for each that is not of a long-range tail");
+_Static_assert(ATOM_NUMBERS == (int)ICOTABLE_READING_BETA, "one against an atom for each that is not of a long-range tail or a viewer");
 
 /* Whether the example of a number gives another one. */
 static int differs(const example *e, uint64_t number) {
@@ -518,7 +534,7 @@ int main(void) {
     puts("# Refusals\n\nA call that is refused answers the number of the first question that was answered no, and alters "
          "nothing: no list, no\nbuilder, no file. `include/icotable.h` has the table (`ICOTABLE_REFUSALS`, "
          "`icotable_words`), `hosts/rust` the same as\nan enum (`Refusal`); docs/SPEC.md has each question, S5.1 to S5.20 "
-         "and S5.24, and their order. Each example below is\nrun by `hosts/c/refusals.c`, which writes this page; the gate "
+         "and S5.24 to S5.27, and their order. Each example below\nis run by `hosts/c/refusals.c`, which writes this page; the gate "
          "compares the page with what it writes.\n\n"
          "| number | name | what was answered no | an example |\n|---|---|---|---|");
     for (uint64_t number = 1; number <= NUMBERS; number++) {
@@ -527,16 +543,16 @@ int main(void) {
         differing += differs(e, number);
     }
     puts("\n## Against an atom\n\nThe calls of a table against an atom (`icotable_atom_fresh` and so on) have the same "
-         "numbers with the same words. What\nconcerns the step, the dihedral angle, the second direction and the long-range tail "
-         "is not asked there.\n\n| number | name | an example |\n|---|---|---|");
+         "numbers with the same words. What\nconcerns the step, the dihedral angle, the second direction, the long-range tail and a "
+         "viewer's bounds is\nnot asked there.\n\n| number | name | an example |\n|---|---|---|");
     for (uint64_t number = 1; number <= ATOM_NUMBERS; number++) {
         const example *e = &atom_examples[number - 1];
         printf("| %llu | %s | %s |\n", (unsigned long long)number, names[number], e->words);
         differing += differs(e, number);
     }
     puts("\n## Sizing a build\n\n`icotable_sizing` and `icotable_atom_sizing` are refused as fresh is, before any list of a build is "
-         "there: 6 and 7 are\nput to the neighbour counts and the neighbours alone. Then 23 is put to the number of terms, where two molecules "
-         "have them.\n\n| number | name | an example |\n|---|---|---|");
+         "there: 6 and 7 are\nput to the neighbour counts and the neighbours alone. Then 23 is put to the number of terms, where two molecules\nhave "
+         "them.\n\n| number | name | an example |\n|---|---|---|");
     for (int i = 0; i < SIZED; i++) {
         const example *e = &size_examples[i];
         uint64_t number = size_numbers[i];

@@ -1,6 +1,6 @@
 /* A host in C: an empty table of level 0 from its settings, written, printed and read back; a slab set and settled; calls
  * that are refused; the locator of the icosahedron; readings, also weighted and with locator lists that were altered; a
- * long-range tail; the same of a table against an atom; the sizing of a build; sizes and numbers. Every answer is
+ * long-range tail; the bounds of a viewer; the same of a table against an atom; the sizing of a build; sizes and numbers. Every answer is
  * compared with what documents 01 and 02 say, and the status is 1 where one differs. */
 #include "icotable.h"
 
@@ -660,6 +660,52 @@ static void atom_zero_weight(void) {
     lent_vertices = vertices;
 }
 
+/* An empty table of one dihedral bin, by hand: the first levels, and so many distances, each a Scalar row of 0. */
+static uint8_t large[66 + 16 + 10 * 4096];
+
+static size_t by_hand(uint32_t held, uint32_t rows) {
+    static const double grid[3] = {0, 1, 6};
+    static const uint8_t row[10] = {0, 0, 0xFF, 0xFF, 0xFF, 0xFF, 0, 0, 0, 0};
+    uint32_t first = 3, bins[3] = {2, rows, 1}, none = 0;
+    uint8_t *at = large;
+    memcpy(at, &first, 4), memcpy(at + 4, grid, 24), memcpy(at + 28, bins, 12), memcpy(at + 40, &held, 4);
+    for (uint32_t m = 0; m < held; m++) {
+        uint32_t n = (uint32_t)icotable_vertices(m);
+        memcpy(at + 44 + 4 * m, &n, 4);
+    }
+    at += 44 + 4 * held;
+    memcpy(at, &rows, 4);
+    for (uint32_t i = 0; i < rows; i++)
+        memcpy(at + 4 + 10 * i, row, 10);
+    memcpy(at + 4 + 10 * rows, &none, 4);
+    return 52 + 4 * held + 10 * rows;
+}
+
+/* Both sides of each bound; 24 after 14 and before 15. */
+static void viewer(void) {
+    size_t length = by_hand(4, 4096);
+    icotable_table read = icotable_read(large, length), view = icotable_view(large, length);
+    expect("read of 4 levels and 4096 rows", read.number, 0);
+    expect("view of them", view.number, 0);
+    expect("bytes of its answer that differ from read's", memcmp(&read, &view, sizeof read) != 0, 0);
+    length = by_hand(5, 1);
+    expect("read of 5 levels", icotable_read(large, length).number, 0);
+    expect("view of them", icotable_view(large, length).number, 24);
+    expect("levels of a view that is refused", icotable_view(large, length).levels, 0);
+    large[68] = 4;
+    expect("read of 5 levels and a row of kind 4", icotable_read(large, length).number, 15);
+    expect("view of them", icotable_view(large, length).number, 24);
+    large[44] = 13;
+    expect("view of 5 levels, the first of 13 vertices", icotable_view(large, length).number, 14);
+    expect("view of them without the last byte", icotable_view(large, length - 1).number, 13);
+    length = by_hand(1, 4097);
+    expect("read of 4097 rows", icotable_read(large, length).number, 0);
+    expect("view of them", icotable_view(large, length).number, 24);
+    length = by_hand(1, 2);
+    large[52] = 4;
+    expect("view of a row of kind 4", icotable_view(large, length).number, 15);
+}
+
 static void sizes_and_numbers(void) {
     expect("vertices of level 15", icotable_vertices(15), 2562);
     expect("cell offsets of level 15", icotable_cells(15), 3751);
@@ -715,6 +761,7 @@ int main(void) {
     tail_readings();
     tail_refused();
     tail_damaged();
+    viewer();
     empty_atom_table();
     atom_slab();
     atom_refused();

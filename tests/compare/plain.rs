@@ -126,11 +126,23 @@ fn nan_bits(x: u32) -> bool {
 
 // The number of the first question from 13 to 17, then 23, that is answered no, or 0.
 pub fn read(file: &[u8]) -> u64 {
+    read_over(usize::MAX, usize::MAX, file)
+}
+
+// The same for the viewer: 24 after 14.
+pub fn view(file: &[u8]) -> u64 {
+    read_over(4, 4096, file)
+}
+
+fn read_over(most_levels: usize, most_rows: usize, file: &[u8]) -> u64 {
     let Some((parts, sixth)) = sections(file) else { return 13 };
     if !grid_held(&parts) {
         return 14;
     }
     let levels = parts[2].len() / 4;
+    if levels > most_levels || parts[3].len() / 10 > most_rows {
+        return 24;
+    }
     for row in parts[3].chunks_exact(10) {
         let (offset, scalar) = (number(row, 2).unwrap(), number(row, 6).unwrap());
         let held = match row[0] {

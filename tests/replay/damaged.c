@@ -70,7 +70,7 @@ static void replay_copy(replay *r, const whole_file *f) {
     size_t length = read_copy(r, f, copy);
     int kind = kind_of(r);
     uint64_t ours = read_table(copy, length, r->atom).number;
-    place p = find_place(copy, length, r->atom);
+    place p = find_place(copy, length, r->atom, false);
     bool agrees = holds(r, kind, p.number == ours, "the tools' walk comes to another number than the library");
     agrees &= holds(r, kind, ours == 0 || can_be(f, &p, first_change(f, copy, length), length),
         "the tools' walk names a byte that cannot be");

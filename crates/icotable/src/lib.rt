@@ -13,6 +13,7 @@ ghost use Rattle.float.specs.Power.{power};
 ghost use Rattle.builder.specs.Calls.{BuiltOut, SettleOut, builtValues, settledValues, noBuilder, freshOut, setOut, settleOut};
 ghost use Rattle.writer.specs.Write.{WriteOut, writtenValues, writeOut};
 ghost use Rattle.table.specs.Read.{readValues, readOut};
+ghost use Rattle.table.specs.View.{viewer, readOver};
 ghost use Rattle.locator.specs.Locator.{LocatorOut, locatorOut};
 ghost use Rattle.reading.specs.Resolve.{boltzmann, readingValues};
 ghost use Rattle.reading.specs.Reading.{readingBy, readingOut};
@@ -353,6 +354,15 @@ pub extern "C" fn icotable_read(file: &[u8]) -> TableAnswer
     ensures { λ r. ⌜ r ≡ tableAnswer (readOut (now (file .entry))) ⌝ }
 {
     let a = table::read(file);
+    table_answer(a)
+}
+
+// The same for the viewer, which opens small tables alone.
+#[no_mangle]
+pub extern "C" fn icotable_view(file: &[u8]) -> TableAnswer
+    ensures { λ r. ⌜ r ≡ tableAnswer (readOver viewer (now (file .entry))) ⌝ }
+{
+    let a = table::view(file);
     table_answer(a)
 }
 

@@ -12,3 +12,4 @@ pub mod Ordered
 pub mod Atom
 pub mod Sized
 pub mod Tails
+pub mod Viewed

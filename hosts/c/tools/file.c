@@ -46,6 +46,12 @@ static void look_over(table_file *f) {
     f->table = read_table(f->bytes, f->count, f->atom);
 }
 
+void view_table(table_file *f) {
+    f->atom = false;
+    f->viewer = true;
+    f->table = icotable_view(f->bytes, f->count);
+}
+
 int open_table(table_file *f, const char *name) {
     *f = (table_file){.name = name};
     struct stat what;

@@ -10,13 +10,13 @@
 
 enum { GOOD = 0, FOUND = 1, TROUBLE = 2 };
 
-/* A file in memory, and what the library's reader for its kind answered. A table against an atom is held like one of two
- * molecules that has one dihedral bin and no terms; its step is 0. */
+/* A file in memory, and what the library's reader for its kind answered, or its reader for a viewer. A table against an atom
+ * is held like one of two molecules that has one dihedral bin and no terms; its step is 0. */
 typedef struct table_file {
     const char *name;
     uint8_t *bytes;
     size_t count;
-    bool atom;
+    bool atom, viewer;
     icotable_table table;
 } table_file;
 
@@ -44,6 +44,8 @@ typedef struct place {
 /* file.c: reads the whole file and has the library look it over, as a table against an atom where its first count is that
  * of one. TROUBLE, with a line to standard error, where it cannot be read; GOOD otherwise, whatever the verdict. */
 int open_table(table_file *f, const char *name);
+/* Looks an open file over once more, under a viewer's bounds: a viewer opens tables of two molecules alone. */
+void view_table(table_file *f);
 void close_table(table_file *f);
 /* What the reader of its kind answers; a table against an atom with one dihedral bin. */
 icotable_table read_table(const uint8_t *bytes, size_t count, bool atom);
@@ -67,8 +69,8 @@ void print_row(FILE *out, const table_file *f, const row *r);
 void print_slab(FILE *out, const table_file *f, uint64_t slab);
 void print_bins(FILE *out, const table_file *f, uint64_t slab);
 
-/* walk.c: the questions of read, 13 to 17 and 23, once more, by the host, for the byte alone: a hint. */
-place find_place(const uint8_t *bytes, size_t count, bool atom);
+/* walk.c: the questions of read, 13 to 17, 23 and a viewer's 24, once more, by the host, for the byte alone: a hint. */
+place find_place(const uint8_t *bytes, size_t count, bool atom, bool viewer);
 /* The library's number in words, and the byte where the walk agrees with it. */
 void print_verdict(FILE *out, const table_file *f);
 

@@ -9,10 +9,10 @@
 static const double TAU = 6.283185307179586;
 static const uint32_t UNUSED = 0xFFFFFFFF;
 
-/* Where each section's items begin, and how many there are; and whose table it is taken for. Without a sixth section it
- * has no items. */
+/* Where each section's items begin, and how many there are; whose table it is taken for, and for whom it is opened.
+ * Without a sixth section it has no items. */
 typedef struct sections {
-    bool atom;
+    bool atom, viewer;
     size_t at[6], count[6];
 } sections;
 
@@ -129,6 +129,15 @@ static place walk_grid(const uint8_t *bytes, const sections *s) {
     return nothing;
 }
 
+static place walk_bound(const uint8_t *bytes, const sections *s) {
+    (void)bytes;
+    if (s->viewer && s->count[2] > 4)
+        return found(24, s->at[2] - 4, "%zu levels, where a viewer opens at most 4", s->count[2]);
+    if (s->viewer && s->count[3] > 4096)
+        return found(24, s->at[3] - 4, "%zu rows, where a viewer opens at most 4096", s->count[3]);
+    return nothing;
+}
+
 static bool is_nan(uint32_t bits) {
     return (bits & 0x7FFFFFFF) > 0x7F800000;
 }
@@ -197,9 +206,9 @@ static place walk_terms(const uint8_t *bytes, const sections *s) {
     return nothing;
 }
 
-place find_place(const uint8_t *bytes, size_t count, bool atom) {
-    static place (*const walks[])(const uint8_t *, const sections *) = {walk_grid, walk_rows, walk_tiling, walk_energies, walk_terms};
-    sections s = {.atom = atom};
+place find_place(const uint8_t *bytes, size_t count, bool atom, bool viewer) {
+    static place (*const walks[])(const uint8_t *, const sections *) = {walk_grid, walk_bound, walk_rows, walk_tiling, walk_energies, walk_terms};
+    sections s = {.atom = atom, .viewer = viewer};
     place p = walk_sections(bytes, count, &s);
     for (size_t k = 0; p.number == 0 && k < sizeof walks / sizeof walks[0]; k++)
         p = walks[k](bytes, &s);
@@ -209,11 +218,11 @@ place find_place(const uint8_t *bytes, size_t count, bool atom) {
 void print_verdict(FILE *out, const table_file *f) {
     uint64_t number = f->table.number;
     if (number == 0) {
-        fprintf(out, "%s: %s, accepted\n", f->name, table_words(f->atom));
+        fprintf(out, "%s: %s, accepted%s\n", f->name, table_words(f->atom), f->viewer ? " under a viewer's bounds" : "");
         return;
     }
     fprintf(out, "%s: refused with %llu as %s: %s\n", f->name, (unsigned long long)number, table_words(f->atom), icotable_words(number));
-    place p = find_place(f->bytes, f->count, f->atom);
+    place p = find_place(f->bytes, f->count, f->atom, f->viewer);
     if (p.number == number)
         fprintf(out, "%s: at byte %zu: %s\n", f->name, p.byte, p.why);
 }

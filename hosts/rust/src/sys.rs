@@ -162,6 +162,7 @@ extern "C" {
         output: *mut u8, m: usize,
     ) -> Written;
     fn icotable_read(file: *const u8, a: usize) -> Table;
+    fn icotable_view(file: *const u8, a: usize) -> Table;
     fn icotable_tail(table: *const Table, file: *const u8, a: usize, r: f64) -> Value;
     fn icotable_locator(
         level: u64, vertices: *const f64, a: usize, counts: *const u8, b: usize, neighbours: *const u16, c: usize, angles: *const f64, d: usize,
@@ -362,6 +363,10 @@ pub fn tail(table: &Table, file: &[u8], r: f64) -> Value {
 
 pub fn read(file: &[u8]) -> Table {
     unsafe { icotable_read(file.as_ptr(), file.len()) }
+}
+
+pub fn view(file: &[u8]) -> Table {
+    unsafe { icotable_view(file.as_ptr(), file.len()) }
 }
 
 #[rustfmt::skip]

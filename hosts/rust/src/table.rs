@@ -40,8 +40,18 @@ impl Table {
     /// Looks over a file, all of it. The mesh has to be the one that the table was built over, with at least its levels: a
     /// file does not hold it. A file of one molecule against an atom is refused.
     pub fn read(file: Vec<u8>, mesh: Arc<Mesh>) -> Result<Table, Error> {
+        Table::opened(sys::read, file, mesh)
+    }
+
+    /// The same under the bounds of a viewer: a file of more than 4 levels or 4,096 rows is refused (`Refusal::ViewerBound`). What it
+    /// accepts `read` accepts, as the same table.
+    pub fn view(file: Vec<u8>, mesh: Arc<Mesh>) -> Result<Table, Error> {
+        Table::opened(sys::view, file, mesh)
+    }
+
+    fn opened(reader: fn(&[u8]) -> sys::Table, file: Vec<u8>, mesh: Arc<Mesh>) -> Result<Table, Error> {
         FloatEnvironment::ask()?;
-        let held = sys::read(&file);
+        let held = reader(&file);
         Ok(answer(held.number, Table { file, held, mesh })?)
     }
 

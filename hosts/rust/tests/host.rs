@@ -37,7 +37,7 @@ fn refusals_are_the_headers() {
         assert_eq!(format!("{refusal:?}"), camel);
         found += 1;
     }
-    assert_eq!(found, 23);
+    assert_eq!(found, 24);
     assert_eq!(Refusal::ALL.len(), found);
 }
 
@@ -307,6 +307,20 @@ fn powers_are_by_halves() {
         let half = power(1.1, n / 2);
         assert_eq!(power(1.1, n), if n % 2 == 1 { half * half * 1.1 } else { half * half });
     }
+}
+
+// At most 4 levels; the same table where both readers accept it.
+#[test]
+fn a_viewer_opens_small_tables() {
+    let small = builder(3).write().unwrap();
+    let viewed = Table::view(small.clone(), mesh(3)).expect("four levels");
+    let read = Table::read(small.clone(), mesh(3)).expect("four levels");
+    assert_eq!((viewed.levels(), viewed.file()), (4, read.file()));
+    assert_eq!(viewed.grid(), read.grid());
+    let large = builder(4).write().unwrap();
+    assert!(Table::read(large.clone(), mesh(4)).is_ok());
+    assert_eq!(Table::view(large, mesh(4)).unwrap_err(), Error::Refused(Refusal::ViewerBound));
+    assert_eq!(Table::view(small[1..].to_vec(), mesh(3)).unwrap_err(), Error::Refused(Refusal::Sections));
 }
 
 #[test]
