@@ -1,5 +1,5 @@
 -- Which faces and least vertices a search passes over. Assumes nothing.
-use mathlib.Core.Path.{_≡_, refl, sym, _∙_}
+use mathlib.Core.Path.{_≡_, refl, sym}
 use mathlib.Core.Bool.{Bool, true, false, _&&_, true≢false, and-true}
 use Prim.Native.Nat.{ℕ, _≤_, _<_}
 use native.Mathlib.Omega.{arith}
@@ -36,5 +36,5 @@ module _ (m : Mesh) (i j k v : ℕ) where
 -- behind the end of the loop over least vertices
 pub behind-end : (i n v k : ℕ) → (ltb i n && leb i v) ≡ false → i ≤ k → k < n → v < k
 behind-end i n v k e p q =
-    let h : leb i v ≡ false = sym (rw (lt-ltb i n (omega arith)) at e) ∙ e in
+    let h = rw (lt-ltb i n (omega arith)) at e in
     omega (arith, leb-false i v h)

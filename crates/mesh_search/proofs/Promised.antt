@@ -16,7 +16,7 @@ use Rattle.mesh.specs.Levels.{vertexCount, gridSize, verticesBelow}
 use Rattle.mesh.specs.Mesh.{Mesh, degree, within, lists, verticesFinite, keepsRule, neighbourLinked, vertexLinked, linksKept, anglesKept, meshRoom, meshLong, linksRoom, levelPart, meshesKeep}
 use Rattle.mesh.specs.Faces.{isFace, facesFrom, extractFaces}
 use Rattle.mesh.proofs.Parts.{rule-parts}
-use Rattle.mesh.proofs.Kept.{held}
+use Rattle.mesh.proofs.Kept.{Held}
 use Rattle.search.specs.Geometry.{zero, unit, vertexAt, cellIndex}
 use Rattle.search.specs.Cells.{cell, facesOf}
 use Rattle.search.specs.Search.{Locator, locatorOf, notNearest, squared, nearer, nearestFrom, nearestAmong, nearestOf, locate, bestFace, notLocated, locatedFit, noFit, fitFrom, nearestIn, locateIn, locatorFrom, verticesFrom}
@@ -34,7 +34,7 @@ use Rattle.mesh_search.specs.Alike.{Alike, OneLevel, SeveralLevels, Sear
 
 -- ---- the questions
 
-module _ (level : ℕ) (m : Mesh) (d : Vector3) (low : level ≤ 15) (long : meshLong (vertexCount level) m ≡ true) (kept : keepsRule (vertexCount level) m ≡ true)
+module _ (level : ℕ) (m : Mesh) (d : Vector3) (low : level ≤ 15) (long : Held (vertexCount level) m) (kept : keepsRule (vertexCount level) m ≡ true)
     (valid : directionValid d ≡ true) where
   abbrev n : ℕ
   n = vertexCount level
@@ -52,8 +52,7 @@ module _ (level : ℕ) (m : Mesh) (d : Vector3) (low : level ≤ 15) (long : mes
   room : searchRoom n (length (m .vertices)) (length (m .counts)) (length (m .neighbours)) ≡ true
   unfolding searchRoom linksRoom
   room =
-      let h = held n m long in
-      rw (le-leb (3 * n) (length (m .vertices)) (h .vertices), le-leb n (length (m .counts)) (h .counts), le-leb (6 * n) (length (m .neighbours)) (h .neighbours))
+      rw (le-leb (3 * n) (length (m .vertices)) (long .vertices), le-leb n (length (m .counts)) (long .counts), le-leb (6 * n) (length (m .neighbours)) (long .neighbours))
 
   not-asked : searchRefusal level (withoutAngles m) d ≡ 0
   unfolding searchRefusal ask
@@ -84,13 +83,29 @@ module _ (vs : List Float) (p : Vector3) where
   none-else : (l : List ℕ) → eqb (nearestAmong vs p l .number) 0 ≡ false → nearestAmong vs p l ≡ notNearest 20
   unfolding nearestAmong nearestFrom nearer
   none-else [] e = refl
-  none-else (v ∷ l) e = 
+  none-else (v ∷ l) e =
       let first : Nearest = record { number = 0; vertex = v; distance = squared p (vertexAt vs v) } in
       absurd (true≢false (sym (eq-eqb (nearestFrom vs p first l .number) 0 (stays first l refl)) ∙ e))
 
+part-by : (m : Mesh) (n : ℕ) (p : Vector3) (l : List ℕ) (t : Bool) → eqb (nearestAmong (m .vertices) p l .number) 0 ≡ t
+    → (let near : Nearest = nearestAmong (m .vertices) p l in
+    nearestPart (cond t (locatedFit near (fitFrom (m .vertices) p noFit (facesOf m n (near .vertex)))) (notLocated (near .number))) ≡ near)
+part-by m n p l true e = rw (← eqb-true (nearestAmong (m .vertices) p l .number) 0 e)
+part-by m n p l false e = let h = none-else (m .vertices) p l e in rw h
+
 nearest-part : (m : Mesh) (n g : ℕ) (p : Vector3) → nearestPart (locate m n g p) ≡ nearestOf m n g p
-unfolding locate bestFace
-nearest-part m n g p = ?
+unfolding locate bestFace nearestOf
+nearest-part m n g p = let l = cell (m .vertices) n g (cellIndex g p) in part-by m n p l (eqb (nearestAmong (m .vertices) p l .number) 0) refl
+
+-- what the two searches over the mesh's locator answer, s and vs being the lists that they read
+alike : (level : ℕ) (m : Mesh) (d : Vector3) (s : Locator) (vs : List Float)
+    → (let n = vertexCount level in let g = gridSize (vertexCount level) in
+    searchOut level (withoutAngles m) d ≡ locate m n g (unit d)
+    → locateIn s vs n g (unit d) ≡ locate m n g (unit d) → nearestIn s vs n g (unit d) ≡ nearestOf m n g (unit d) → Alike level m d s vs)
+alike level m d s vs here stored near = record {
+  located = here ∙ sym stored;
+  nearest = ap nearestPart here ∙ nearest-part m (vertexCount level) (gridSize (vertexCount level)) (unit d) ∙ sym near;
+}
 
 -- ---- one level
 
@@ -101,12 +116,33 @@ ahead-nothing : (r : Locator) → ahead r nothing ≡ r
 unfolding ahead nothing
 ahead-nothing r = rw (append-nil (r .cellOffsets), append-nil (r .cellVertices), append-nil (r .faceOffsets), append-nil (r .faces))
 
+module _ (level : ℕ) (m : Mesh) (l : Locator) (e : locatorRefusal level m l ≡ 0) where
+  made : locatorOut level m l .lists ≡ locatorLists (vertexCount level) (gridSize (vertexCount level)) m l
+  unfolding locatorOut
+  made = rw (eq-eqb (locatorRefusal level m l) 0 e)
+
+  ok : Accepted (vertexCount level) (gridSize (vertexCount level)) m (length (l .cellOffsets)) (length (l .cellVertices)) (length (l .faceOffsets)) (length (l .faces))
+  unfolding locatorRefusal refusal
+  ok = accepted level m (length (l .cellOffsets)) (length (l .cellVertices)) (length (l .faceOffsets)) (length (l .faces)) e
+
 one-level : OneLevel
-unfolding locatorOut locatorRefusal refusal
-one-level level m l d low long kept fits valid = ?
+one-level level m l d low long kept fits valid =
+    let n = vertexCount level in
+    let g = gridSize (vertexCount level) in
+    let e = not-refused level m l low long fits kept in
+    let a = ok level m l e in
+    let stored = rw (ahead-nothing (locatorLists n g m l), append-nil (m .vertices)) at (locate-in n g m l a [] nothing (unit d)) in
+    let near = rw (ahead-nothing (locatorLists n g m l), append-nil (m .vertices)) at (nearest-in n g m l a [] nothing (unit d)) in
+    rw (made level m l e) (alike level m d (locatorLists n g m l) (m .vertices) (searched level m d low (a .held) kept valid) stored near)
+
+-- ---- several levels
 
 several-levels : SeveralLevels
-several-levels top ms l d low long kept roomy valid level h = ?
+several-levels top ms l d low long kept roomy valid level h =
+    let a = call-accepted top ms l low long kept roomy level h in
+    alike level (levelPart level ms) d (locatorFrom level (locators top ms l)) (verticesFrom level (ms .vertices))
+    (searched level (levelPart level ms) d (omega arith) (a .held) (a .kept) valid)
+    (locate-at top ms l low long kept roomy level h (unit d)) (nearest-at top ms l low long kept roomy level h (unit d))
 
 pub search-promise : SearchPromise
 search-promise = record { one = one-level; several = several-levels }
