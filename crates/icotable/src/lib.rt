@@ -30,6 +30,7 @@ use table::Table;
 use writer::Written;
 
 mod atom;
+mod found;
 
 // Of fresh and set.
 #[repr(C)]
