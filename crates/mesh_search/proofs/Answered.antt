@@ -1,17 +1,11 @@
 -- What an accepted search may count on, and what it answers. Assumes nothing.
-use mathlib.Core.Path.{_≡_, refl, sym, ap, _∙_}
-use mathlib.Core.Bool.{Bool, true, false, cond, _&&_}
-use mathlib.Core.List.{List, []}
+use mathlib.Core.Path.{_≡_, _∙_}
 use Prim.Native.Nat.{ℕ, _≤_}
-use native.Mathlib.Omega.{arith}
-use lib.ListN.{length}
-use lib.Dec.{leb, eqb, lit<}
-use lib.Ieee.{Float}
+use lib.Dec.{leb, lit<}
 use borrow.Author.Tests.{leb-true, eq-eqb, ne-eqb}
-use Rattle.lists.specs.Questions.{ask}
 use Rattle.lists.proofs.Asking.{ask-yes}
 use Rattle.mesh.specs.Levels.{vertexCount, gridSize}
-use Rattle.mesh.specs.Mesh.{Mesh, meshOf, within, lists}
+use Rattle.mesh.specs.Mesh.{Mesh, within, lists}
 use Rattle.mesh.specs.Faces.{isFace, facesFrom, extractFaces}
 use Rattle.mesh.specs.Internal.{links}
 use Rattle.search.specs.Geometry.{unit, cellIndex}

@@ -1,31 +1,29 @@
 -- The search without a locator answers as the stored search over the mesh's locator. Assumes nothing.
 use mathlib.Core.Path.{_≡_, refl, sym, ap, _∙_}
-use mathlib.Core.Bool.{Bool, true, false, cond, _&&_, true≢false, and-eq-true-iff}
-use mathlib.Core.List.{List, [], _∷_, _++_, append-nil}
-use Prim.Native.Nat.{ℕ, suc, _+_, _*_, _≤_}
+use mathlib.Core.Bool.{Bool, true, false, cond, _&&_, _||_, true≢false, and-eq-true-iff}
+use mathlib.Core.List.{List, [], _∷_, append-nil}
+use Prim.Native.Nat.{ℕ, _*_, _≤_}
 use native.Mathlib.Omega.{arith}
 use lib.ListN.{length}
-use lib.Dec.{leb, eqb}
+use lib.Dec.{eqb}
 use lib.Ieee.{Float}
 use borrow.Author.Tests.{le-leb, eq-eqb, eqb-true}
 use Rattle.float.specs.Order.{ordered}
-use Rattle.lists.specs.Lists.{allUpTo}
 use Rattle.lists.specs.Questions.{ask}
-use Rattle.lists.proofs.Counting.{all-at}
-use Rattle.mesh.specs.Levels.{vertexCount, gridSize, verticesBelow}
-use Rattle.mesh.specs.Mesh.{Mesh, degree, within, lists, verticesFinite, keepsRule, neighbourLinked, vertexLinked, linksKept, anglesKept, meshRoom, meshLong, linksRoom, levelPart, meshesKeep}
+use Rattle.mesh.specs.Levels.{vertexCount, gridSize}
+use Rattle.mesh.specs.Mesh.{Mesh, within, lists, verticesFinite, keepsRule, neighbourLinked, vertexLinked, linksKept, anglesKept, linksRoom, levelPart}
 use Rattle.mesh.specs.Faces.{isFace, facesFrom, extractFaces}
 use Rattle.mesh.proofs.Parts.{rule-parts}
 use Rattle.mesh.proofs.Kept.{Held}
-use Rattle.search.specs.Geometry.{zero, unit, vertexAt, cellIndex}
+use Rattle.search.specs.Geometry.{unit, vertexAt, cellIndex}
 use Rattle.search.specs.Cells.{cell, facesOf}
 use Rattle.search.specs.Search.{Locator, locatorOf, notNearest, squared, nearer, nearestFrom, nearestAmong, nearestOf, locate, bestFace, notLocated, locatedFit, noFit, fitFrom, nearestIn, locateIn, locatorFrom, verticesFrom}
 use Rattle.search.specs.declared.Vector3.{Vector3}
 use Rattle.search.specs.declared.Nearest.{Nearest}
 use Rattle.search.specs.declared.Located.{Located}
-use Rattle.locator.specs.Locator.{locatorLong, locatorRefusal, locatorLists, locatorOut}
+use Rattle.locator.specs.Locator.{locatorRefusal, locatorLists, locatorOut}
 use Rattle.locator.specs.Internal.{refusal}
-use Rattle.locator.specs.Several.{locatorPart, locators, Roomy}
+use Rattle.locator.specs.Several.{locators}
 use Rattle.locator.proofs.Accepted.{Accepted, accepted, not-refused}
 use Rattle.locator.proofs.Answers.{ahead, nearest-in, locate-in}
 use Rattle.locator.proofs.Laid.{call-accepted, nearest-at, locate-at}
@@ -97,6 +95,15 @@ nearest-part : (m : Mesh) (n g : ℕ) (p : Vector3) → nearestPart (locate m n 
 unfolding locate bestFace nearestOf
 nearest-part m n g p = let l = cell (m .vertices) n g (cellIndex g p) in part-by m n p l (eqb (nearestAmong (m .vertices) p l .number) 0) refl
 
+number-by : (vs : List Float) (p : Vector3) (l : List ℕ) (t : Bool) → eqb (nearestAmong vs p l .number) 0 ≡ t → (t || eqb (nearestAmong vs p l .number) 20) ≡ true
+number-by vs p l true e = refl
+number-by vs p l false e = let h = none-else vs p l e in rw h
+
+-- there is a nearest vertex, or the answer is 20
+found-or-none : (m : Mesh) (n g : ℕ) (p : Vector3) → (eqb (nearestOf m n g p .number) 0 || eqb (nearestOf m n g p .number) 20) ≡ true
+unfolding nearestOf
+found-or-none m n g p = let l = cell (m .vertices) n g (cellIndex g p) in number-by (m .vertices) p l (eqb (nearestAmong (m .vertices) p l .number) 0) refl
+
 -- what the two searches over the mesh's locator answer, s and vs being the lists that they read
 alike : (level : ℕ) (m : Mesh) (d : Vector3) (s : Locator) (vs : List Float)
     → (let n = vertexCount level in let g = gridSize (vertexCount level) in
@@ -104,8 +111,12 @@ alike : (level : ℕ) (m : Mesh) (d : Vector3) (s : Locator) (vs : List Float)
     → locateIn s vs n g (unit d) ≡ locate m n g (unit d) → nearestIn s vs n g (unit d) ≡ nearestOf m n g (unit d) → Alike level m d s vs)
 alike level m d s vs here stored near = record {
   located = here ∙ sym stored;
-  nearest = ap nearestPart here ∙ nearest-part m (vertexCount level) (gridSize (vertexCount level)) (unit d) ∙ sym near;
+  nearest = found ∙ sym near;
+  answers = let e = ap (λ (r : Nearest). r .number) found in rw e (found-or-none m (vertexCount level) (gridSize (vertexCount level)) (unit d));
 }
+  where
+    found : nearestPart (searchOut level (withoutAngles m) d) ≡ nearestOf m (vertexCount level) (gridSize (vertexCount level)) (unit d)
+    found = ap nearestPart here ∙ nearest-part m (vertexCount level) (gridSize (vertexCount level)) (unit d)
 
 -- ---- one level
 

@@ -1,8 +1,9 @@
 -- What document 02, paper 12 promises of the search without a locator, as one type. Definitions only.
 use mathlib.Core.Path.{_≡_}
-use mathlib.Core.Bool.{true}
+use mathlib.Core.Bool.{true, _||_}
 use mathlib.Core.List.{List}
 use Prim.Native.Nat.{ℕ, suc, _≤_}
+use lib.Dec.{eqb}
 use lib.Ieee.{Float}
 use Rattle.mesh.specs.Levels.{vertexCount, gridSize, verticesBelow}
 use Rattle.mesh.specs.Mesh.{Mesh, keepsRule, meshLong, levelPart, meshesKeep}
@@ -15,12 +16,14 @@ use Rattle.locator.specs.Several.{locators, Roomy}
 use Rattle.mesh_search.specs.MeshSearch.{directionValid, searchOut, withoutAngles}
 
 -- "its vertex, squared distance, face and weights have the bits of the stored search with the mesh's locator, and question 20 is answered alike": s is the locator's
--- lists and vs the vertices as the stored search reads them. `located` has all of an answer, number 20 too; `nearest` has what `find_nearest_vertex` answers
+-- lists and vs the vertices as the stored search reads them. `located` has all of an answer, number 20 too; `nearest` has what `find_nearest_vertex` answers; no
+-- other number than 0 and 20 is answered
 pub record Alike (level : ℕ) (m : Mesh) (d : Vector3) (s : Locator) (vs : List Float) : Type 0 where
   pub located : searchOut level (withoutAngles m) d ≡ locateIn s vs (vertexCount level) (gridSize (vertexCount level)) (unit d)
   pub nearest : _≡_ {A = Nearest}
       (let r = searchOut level (withoutAngles m) d in record { number = r .number; vertex = r .vertex; distance = r .distance })
       (nearestIn s vs (vertexCount level) (gridSize (vertexCount level)) (unit d))
+  pub answers : (let r = searchOut level (withoutAngles m) d in eqb (r .number) 0 || eqb (r .number) 20) ≡ true
 
 -- "For every mesh that keeps the mesh rule and every direction admitted": the mesh is as long as its level needs or longer, and the four lists that the locator call
 -- fills are of any contents and have room

@@ -11,3 +11,4 @@ pub mod Cased
 pub mod Ordered
 pub mod Atom
 pub mod Sized
+pub mod Found

@@ -1,14 +1,10 @@
 -- `refusal` meets its contract. Assumes nothing.
-use mathlib.Core.Path.{_≡_, _∙_, sym}
-use mathlib.Core.List.{[]}
 use native.Mathlib.Omega.{arith}
 use borrow.Author.Tests.{le-leb, lt-leb}
 use borrow.Author.Needs.{needs}
 use Rattle.lists.specs.Questions.{ask}
 use Rattle.lists.proofs.Counting.{yes, no}
-use Rattle.mesh.specs.Levels.{vertexCount}
-use Rattle.mesh.specs.Mesh.{meshOf, within, lists, linksKept, vertexLinked, neighbourLinked}
-use Rattle.mesh.specs.Internal.{links}
+use Rattle.mesh.specs.Mesh.{within, lists, linksKept, vertexLinked, neighbourLinked}
 use Rattle.mesh.proofs.Laws.{count-le}
 use Rattle.mesh_search.specs.MeshSearch.{keepsButAngles, directionValid, searchRefusal}
 use Rattle.mesh_search.proofs.refusal.Statement.{statement}

@@ -3,15 +3,13 @@ use mathlib.Core.Path.{_≡_, sym, _∙_}
 use mathlib.Core.List.{[]}
 use Prim.Native.Nat.{_≤_}
 use native.Mathlib.Omega.{arith}
-use borrow.Author.Needs.{needs}
 use Rattle.mesh.specs.Levels.{vertexCount, gridSize}
 use Rattle.mesh.specs.Mesh.{Mesh, meshOf}
-use Rattle.mesh.specs.Internal.{links}
 use Rattle.mesh.proofs.Laws.{count-le}
 use Rattle.mesh.proofs.Tables.{grid-le, grid-ge}
 use Rattle.search.specs.Geometry.{unit, cellIndex}
-use Rattle.search.specs.Cells.{cell, facesOf}
-use Rattle.search.specs.Search.{nearestAmong, noFit, fitFrom}
+use Rattle.search.specs.Cells.{cell}
+use Rattle.search.specs.Search.{nearestAmong}
 use Rattle.mesh_search.proofs.Answered.{low-level, refused, none-near, near-face}
 use Rattle.mesh_search.proofs.search_mesh.Statement.{statement}
 use Rattle.mesh_search.proofs.search_mesh.Tie as tie

@@ -1,11 +1,10 @@
 -- `best_face` meets its contract. Assumes nothing.
-use mathlib.Core.Path.{_≡_, refl, sym, _∙_}
+use mathlib.Core.Path.{_≡_, sym, _∙_}
 use mathlib.Core.Bool.{and-eq-true-iff}
 use Prim.Native.Nat.{_-_, _≤_, _<_}
 use native.Mathlib.Omega.{arith}
 use lib.Dec.{leb, ltb}
 use borrow.Author.Tests.{ltb-true}
-use borrow.Author.Needs.{needs}
 use Rattle.lists.specs.Lists.{joined}
 use Rattle.mesh.specs.Internal.{links}
 use Rattle.search.specs.Search.{noFit, fitFrom}

@@ -1,5 +1,4 @@
 -- `better` meets its contract. Assumes nothing.
-use borrow.Author.Needs.{needs}
 use Rattle.search.specs.Search.{better}
 use Rattle.mesh_search.proofs.faces.better.Statement.{statement}
 use Rattle.mesh_search.proofs.faces.better.Tie as tie

@@ -1,6 +1,5 @@
 -- `touches` meets its contract. Assumes nothing.
 use borrow.Author.Tests.{eq-eqb, ne-eqb}
-use borrow.Author.Needs.{needs}
 use Rattle.locator.specs.Internal.{touches}
 use Rattle.mesh_search.proofs.faces.touches.Statement.{statement}
 use Rattle.mesh_search.proofs.faces.touches.Tie as tie

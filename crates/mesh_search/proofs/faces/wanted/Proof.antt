@@ -1,7 +1,6 @@
 -- `wanted` meets its contract. Assumes nothing.
 use mathlib.Core.Path.{sym, _∙_}
 use borrow.Author.Tests.{not-true, not-false}
-use borrow.Author.Needs.{needs}
 use Rattle.mesh.specs.Faces.{has}
 use Rattle.mesh_search.proofs.Choices.{not-ascending, not-of, by-list}
 use Rattle.mesh_search.proofs.faces.wanted.Statement.{statement}

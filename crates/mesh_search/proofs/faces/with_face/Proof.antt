@@ -1,6 +1,4 @@
 -- `with_face` meets its contract. Assumes nothing.
-use mathlib.Core.Path.{refl}
-use borrow.Author.Needs.{needs}
 use Rattle.lists.proofs.Counting.{yes, no}
 use Rattle.search.specs.Search.{fitFrom}
 use Rattle.mesh_search.proofs.faces.with_face.Statement.{statement}

@@ -1,5 +1,4 @@
 -- `near` meets its contract. Assumes nothing.
-use mathlib.Core.Path.{refl}
 use mathlib.Core.Bool.{true, false}
 use native.Mathlib.Omega.{arith}
 use lib.Signed.{mag}

@@ -1,5 +1,4 @@
 -- `near_cell` meets its contract. Assumes nothing.
-use borrow.Author.Needs.{needs}
 use Rattle.search.specs.Cells.{nearCell}
 use Rattle.mesh_search.proofs.vertices.near_cell.Statement.{statement}
 use Rattle.mesh_search.proofs.vertices.near_cell.Tie as tie

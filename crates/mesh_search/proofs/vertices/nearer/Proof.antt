@@ -1,5 +1,4 @@
 -- `nearer` meets its contract. Assumes nothing.
-use borrow.Author.Needs.{needs}
 use Rattle.search.specs.Search.{squared, nearer}
 use Rattle.mesh_search.proofs.vertices.nearer.Statement.{statement}
 use Rattle.mesh_search.proofs.vertices.nearer.Tie as tie

@@ -1,5 +1,4 @@
 -- `tested` meets its contract. Assumes nothing.
-use borrow.Author.Needs.{needs}
 use Rattle.lists.proofs.Counting.{yes, no}
 use Rattle.mesh_search.proofs.vertices.tested.Statement.{statement}
 use Rattle.mesh_search.proofs.vertices.tested.Tie as tie
