@@ -1,5 +1,5 @@
 // A search without a locator beside the locator call and a search with it, by level, on an icosphere whose vertices are in another order: what one direction costs either way, and the number of
-// directions from which the locator pays.
+// directions from which the locator pays. Its questions are timed by a direction without a length, which is refused after them.
 #[path = "../tests/compare/meshes.rs"]
 #[allow(dead_code)]
 mod meshes;
@@ -25,8 +25,8 @@ fn lists(level: usize) -> Lists {
 
 fn main() {
     let mut random = Random::of(12);
-    println!("| level | vertices | locator call, µs | locate with it, µs | search without it, µs | the same against the call and one locate | the locator pays from |");
-    println!("|---|---|---|---|---|---|---|");
+    println!("| level | vertices | locator call, µs | locate with it, µs | search without it, µs | of that its questions, µs | the same against the call and one locate | the locator pays from |");
+    println!("|---|---|---|---|---|---|---|---|");
     for level in 0..16 {
         let mesh = icosphere(level).shuffled(&mut random);
         let (lent, mut lists) = (mesh.lent(), lists(level));
@@ -38,7 +38,9 @@ fn main() {
         }
         let with = least_alone(200, DIRECTIONS, || each(&directions, |&d| used(ours::locate(level, &lists, &lent.vertices, d)))) / 1000.0;
         let without = least_alone(60, DIRECTIONS, || each(&directions, |&d| used(ours::search_over(level as u64, &lent, d)))) / 1000.0;
+        let asked = least_alone(60, DIRECTIONS, || each(&directions, |_| used(ours::search_over(level as u64, &lent, [0.0; 3])))) / 1000.0;
         let pays = (made / (without - with)).ceil();
-        println!("| {level} | {} | {} | {} | {} | {:.2} | {pays} |", vertex_count(level), figure(made), figure(with), figure(without), without / (made + with));
+        let figures = [made, with, without, asked].map(figure).join(" | ");
+        println!("| {level} | {} | {figures} | {:.2} | {pays} |", vertex_count(level), without / (made + with));
     }
 }

@@ -3,7 +3,7 @@ use mathlib.Core.Path.{_≡_, sym, _∙_}
 use mathlib.Core.Bool.{and-eq-true-iff}
 use Prim.Native.Nat.{_-_, _≤_, _<_}
 use native.Mathlib.Omega.{arith}
-use lib.Dec.{leb, ltb}
+use lib.Dec.{ltb}
 use borrow.Author.Tests.{ltb-true}
 use Rattle.lists.specs.Lists.{joined}
 use Rattle.mesh.specs.Internal.{links}
@@ -25,7 +25,7 @@ inside : (c : tie.In-loop Inv-loop μ-loop) → c .before .loop .i < c .before .
 inside c =
     let l = c .before in
     let a = l .before .before .before .before .before .args in
-    ltb-true _ _ (and-eq-true-iff (ltb (l .loop .i) (a .n)) (leb (l .loop .i) (a .v)) .0 (c .loop-test .taken) .0)
+    ltb-true _ _ (and-eq-true-iff (ltb (l .loop .i) (a .n)) _ .0 (c .loop-test .taken) .0)
 
 loop-holds : tie.Need-loop-holds Inv-loop μ-loop
 unfolding fitFrom joined
