@@ -66,7 +66,7 @@ fn not_nearest(number: u64) -> Nearest
     }
 }
 
-// Vertex v at point a, unless the one before is as near or nearer.
+// Vertex v, unless the one before is as near or nearer.
 fn nearer(vertices: &[f64], p: Vector3, best: Nearest, v: u32) -> Nearest
     ensures { λ r. ⌜ r ≡ nearer (now (vertices .entry)) p best v ⌝ }
 {
