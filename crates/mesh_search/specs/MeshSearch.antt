@@ -14,19 +14,19 @@ use Rattle.search.specs.Search.{locate, notLocated}
 use Rattle.search.specs.declared.Vector3.{Vector3}
 use Rattle.search.specs.declared.Located.{Located}
 
--- 6, of "a search that takes only vertices and neighbours": the lengths that n vertices need (S21.2)
+-- 6, of "a search that takes only vertices and neighbours": the lengths that n vertices need (S22.2)
 unfoldable pub searchRoom : ℕ → ℕ → ℕ → ℕ → Bool
 searchRoom n vertices counts neighbours = leb (3 * n) vertices && linksRoom n counts neighbours
 
--- "7 without the angles": the mesh rule's parts of the vertices and of the links (S21.2)
+-- "7 without the angles": the mesh rule's parts of the vertices and of the links (S22.2)
 unfoldable pub keepsButAngles : ℕ → Mesh → Bool
 keepsButAngles n m = verticesFinite n (m .vertices) && linksKept n m
 
--- "18 to the direction": is its length finite and above 0? (S21.2)
+-- "18 to the direction": is its length finite and above 0? (S22.2)
 unfoldable pub directionValid : Vector3 → Bool
 directionValid d = finite (norm d) && lt zero (norm d)
 
--- "It puts 2, 6 and 7 without the angles, then 18 to the direction, then 20": the questions before the search, which itself answers 20 (S21.2)
+-- "It puts 2, 6 and 7 without the angles, then 18 to the direction, then 20": the questions before the search, which itself answers 20 (S22.2)
 unfoldable pub searchRefusal : ℕ → Mesh → Vector3 → ℕ
 searchRefusal level m d =
     let n = vertexCount level in
@@ -36,7 +36,7 @@ searchRefusal level m d =
     (ask (directionValid d) 18 0)))
 
 -- "it tests vertices in index order for the chosen cell by the binning rule and finds the faces touching the nearest from its neighbour lists": `locate` takes
--- the vertices of the cell as a filter of 0 .. n - 1 and the faces as a filter of `extract_faces` (search, Cells). The mesh's angles are not looked at (S21.1)
+-- the vertices of the cell as a filter of 0 .. n - 1 and the faces as a filter of `extract_faces` (search, Cells). The mesh's angles are not looked at (S22.1)
 unfoldable pub searchOut : ℕ → Mesh → Vector3 → Located
 searchOut level m d =
     let n = vertexCount level in
