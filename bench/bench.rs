@@ -87,6 +87,8 @@ mod builds;
 mod new;
 mod readings;
 mod searches;
+#[cfg(not(atom))]
+mod tails;
 mod timing;
 mod weighted;
 
@@ -154,6 +156,14 @@ fn reading_rows(random: &mut Random) {
     for (caller, from) in [(Caller::C, "C"), (Caller::Rust, "Rust")] {
         let (time, megabytes) = readings::weighted(caller, 3, [1, 8], 4096, 200, random);
         row(&format!("reading, weighted, level 3, {}, called from {from}", size(megabytes)), "ns", time, Bar::Times(1.5));
+    }
+}
+
+#[cfg(not(atom))]
+fn tail_rows(random: &mut Random) {
+    for terms in [1, 3] {
+        let time = tails::measure(terms, 4096, 200, random);
+        row(&format!("tail, {terms} {}", if terms == 1 { "term" } else { "terms" }), "ns", time, Bar::Goal(1.5));
     }
 }
 
@@ -262,6 +272,8 @@ fn main() {
     search_rows(&mut random);
     build_rows(&mut random);
     reading_rows(&mut random);
+    #[cfg(not(atom))]
+    tail_rows(&mut random);
     println!("\nHow cost grows with the level; in brackets the ratio to the Rust's.");
     by_level(&mut random);
     println!("\nHow a reading's cost grows with the table, Mesh rows at level 3; in brackets the ratio to the Rust's.");

@@ -48,7 +48,7 @@
 /* The version, raised where a struct, a function or the table file changes (CHANGELOG.md). The pkg-config file and the
  * tool take it from here; a test compares it with hosts/rust. */
 #define ICOTABLE_VERSION_MAJOR 0
-#define ICOTABLE_VERSION_MINOR 13
+#define ICOTABLE_VERSION_MINOR 15
 #define ICOTABLE_VERSION_PATCH 0
 
 #define ICOTABLE_STRING_(x) #x
@@ -76,9 +76,12 @@
     X(16, TILING, "the rows' offsets do not tile the energies in row order") \
     X(17, FILE_NAN, "an energy of the file is a NaN") \
     X(18, QUERY, "r is a NaN, omega not finite, or the length of a direction not finite or 0") \
-    X(19, NOT_LENT, "a bin count is 0, a row's kind is unknown or its level not held, or a row, energy, cell or mesh entry that the reading touches is not inside what was lent, an end offset is below its start, or a vertex number not below n") \
+    X(19, NOT_LENT, "a bin count is 0, a row's kind is unknown or its level not held, or a row, energy, term, cell or mesh entry that the reading touches is not inside what was lent, an end offset is below its start, or a vertex number not below n") \
     X(20, EMPTY_CELL, "the cell that a direction falls into lists no vertex") \
-    X(21, READING_BETA, "a reading's own beta is not finite and above 0")
+    X(21, READING_BETA, "a reading's own beta is not finite and above 0") \
+    X(22, PREFACTOR, "terms of a long-range tail are handed over without a prefactor") \
+    X(23, TERM, "a coefficient, a kappa or the prefactor of a long-range tail is not finite, a power is above 2147483647, or there are more than 4294967295 terms") \
+    X(24, VIEWER_BOUND, "the file has more than 4 levels or 4096 rows, which the viewer does not open")
 
 #define ICOTABLE_REFUSAL_(number, name, words) ICOTABLE_##name = number,
 enum icotable_refusal { ICOTABLE_REFUSALS(ICOTABLE_REFUSAL_) ICOTABLE_ACCEPTED = 0 };
@@ -111,9 +114,9 @@ typedef struct icotable_grid {
 } icotable_grid;
 
 /* The settings, the top level, the current one, and the number of packed energies: the sum over the Mesh rows of their
- * level's n*n, as long as builder and rows come from fresh by set and settle. So at any time the file is
- * 52 + 4*(top+1) + 10*n_r*n_omega + 4*packed bytes long. No call looks at it; set and settle move it by the difference
- * that the rows make which they replace, modulo 2^64. */
+ * level's n*n, as long as builder and rows come from fresh by set and settle. So at any time the file of icotable_write
+ * is 52 + 4*(top+1) + 10*n_r*n_omega + 4*packed bytes long. No call looks at it; set and settle move it by the
+ * difference that the rows make which they replace, modulo 2^64. */
 typedef struct icotable_builder {
     icotable_grid grid;
     uint64_t top, level;
@@ -140,13 +143,13 @@ typedef struct icotable_written {
     uint64_t number, length;
 } icotable_written;
 
-/* What a file holds. start: for each of the five sections, grid, bins, levels, rows and energies, the byte after its
- * count. */
+/* What a file holds. start: for each of the six sections, grid, bins, levels, rows, energies and terms, the byte after
+ * its count. A file without terms has no sixth section: terms is 0 and start[5] the file's length. */
 typedef struct icotable_table {
     uint64_t number;
     icotable_grid grid;
-    uint64_t levels, rows, energies;
-    uint64_t start[5];
+    uint64_t levels, rows, energies, terms;
+    uint64_t start[6];
 } icotable_table;
 
 /* energy: what a reading gives; infinity inside a repulsive wall, 0 outside the table's distances. distance_a and
@@ -209,8 +212,33 @@ icotable_written icotable_write(
     const double *angles, size_t angles_count,
     uint8_t *output, size_t output_count);
 
-/* Looks over a file, all of it. Questions 13 to 17. */
+/* The same with a long-range tail, what a host adds beyond rmax:
+ * prefactor * the sum over the terms of coefficient * exp(-kappa*r) / r^power. There are as many terms as coefficients;
+ * kappas and powers have one for each, and prefactor has one entry, or none where there are no terms. The file is
+ * 12 + 20*terms bytes longer; without terms it is that of icotable_write, whatever prefactor holds. Questions 1 to 7,
+ * 6 of kappas and powers too, 15, 22, 23, 12. */
+icotable_written icotable_write_tail(
+    icotable_builder builder,
+    const double *store, size_t store_count,
+    const uint8_t *kinds, size_t kinds_count,
+    const uint8_t *levels, size_t levels_count,
+    const uint32_t *values, size_t values_count,
+    const double *vertices, size_t vertices_count,
+    const uint8_t *neighbour_counts, size_t neighbour_counts_count,
+    const uint16_t *neighbours, size_t neighbours_count,
+    const double *angles, size_t angles_count,
+    const double *coefficients, size_t coefficients_count,
+    const double *kappas, size_t kappas_count,
+    const uint32_t *powers, size_t powers_count,
+    const double *prefactor, size_t prefactor_count,
+    uint8_t *output, size_t output_count);
+
+/* Looks over a file, all of it. Questions 13 to 17, 23. */
 icotable_table icotable_read(const uint8_t *file, size_t file_count);
+
+/* The same for a viewer, which opens tables of at most 4 levels and 4096 rows: what it accepts icotable_read accepts, with
+ * the same answer. Questions 13, 14, 24, 15 to 17, 23. */
+icotable_table icotable_view(const uint8_t *file, size_t file_count);
 
 /* The locator of one level's mesh. Questions 2, 6, 7. */
 uint64_t icotable_locator(
@@ -260,6 +288,13 @@ icotable_value icotable_boltzmann(
     double ax, double ay, double az,
     double bx, double by, double bz,
     double beta);
+
+/* The long-range tail at distance r, from a file and what read answered for it. No reading includes it: a host adds it
+ * where r is beyond rmax and icotable_reading gives 0. It is 0 without terms, and both distances are 0. It answers
+ * inside the table too, and at 0, below 0 and at infinity, as IEEE 754 has product and division: with a kappa of 0 a NaN
+ * at infinity. Question 18, put to r alone; then 19, where there are terms and they or the prefactor are not inside the
+ * file. */
+icotable_value icotable_tail(const icotable_table *table, const uint8_t *file, size_t file_count, double r);
 
 /* ---- one molecule against an atom */
 
@@ -390,24 +425,26 @@ icotable_energy icotable_atom_boltzmann(
 /* ---- sizing a build */
 
 /* What a build needs, before anything is sampled. store: the length of its store, and file: that of its longest file; no
- * list of calls writes a longer one, and setting every slab at the top level without settling writes one that long. By
- * level, from 0 to the top one, and 0 above it: the lengths of a locator's lists, and the comparisons of one settle whose
- * slabs are all filled and none Repulsive. */
+ * list of calls with at most the terms asked for writes a longer one, and setting every slab at the top level without
+ * settling, then writing that many terms, makes one that long. By level, from 0 to the top one, and 0 above it: the
+ * lengths of a locator's lists, and the comparisons of one settle whose slabs are all filled and none Repulsive. */
 typedef struct icotable_size {
     uint64_t number, store, file;
     uint64_t cell_offsets[16], cell_vertices[16], face_offsets[16], faces[16], comparisons[16];
 } icotable_size;
 
-/* From the settings, the top level and the meshes' neighbour lists alone, as fresh takes them; vertices and angles are not
- * needed. Rows: store divided by n*n of the top level. Questions 1 to 7 as fresh puts them, 6 to the lengths of these two
- * lists and 7 to what they hold. */
+/* From the settings, the top level, the meshes' neighbour lists, as fresh takes them, and the number of terms that a
+ * long-range tail may have (0 for icotable_write); vertices and angles are not needed. Rows: store divided by n*n of the
+ * top level. Questions 1 to 7 as fresh puts them, 6 to the lengths of these two lists and 7 to what they hold; then 23,
+ * where there are more than 4294967295 terms. */
 icotable_size icotable_sizing(
     icotable_grid grid,
     uint64_t top,
     const uint8_t *neighbour_counts, size_t neighbour_counts_count,
-    const uint16_t *neighbours, size_t neighbours_count);
+    const uint16_t *neighbours, size_t neighbours_count,
+    uint64_t terms);
 
-/* The same of a table against an atom. Rows: store divided by n of the top level. */
+/* The same of a table against an atom, which has no terms. Rows: store divided by n of the top level. */
 icotable_size icotable_atom_sizing(
     icotable_atom_grid grid,
     uint64_t top,
@@ -446,10 +483,12 @@ uint64_t icotable_cells(uint64_t level);
 
 /* The square root, a*b+c rounded once and the nearest float, as IEEE 754 has them; the exponential that settling and
  * weighted readings use; and the logarithm of weighted readings: NaN for a NaN or below 0, -infinity for a zero of
- * either sign. */
+ * either sign. icotable_power, r^n of a tail's terms: 1 for n = 0, a NaN's too; else r^(n/2), n/2 rounded down, squared
+ * and times r where n is odd, each product rounded. */
 double icotable_root(double x);
 double icotable_exp(double y);
 double icotable_ln(double x);
+double icotable_power(double r, uint32_t n);
 double icotable_mul_add(double a, double b, double c);
 float icotable_narrow(double x);
 

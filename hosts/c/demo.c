@@ -1,5 +1,6 @@
 /* The demonstration: builds the table of two small molecules from their energies, slice by slice, writes it, reads it
- * back and looks up energies; then the table of one of them against an ion, likewise. demo FILE ION_FILE writes the tables
+ * back and looks up energies, and with a long-range tail beyond its distances; then the table of one of them against an
+ * ion, likewise. demo FILE ION_FILE writes the tables
  * there; the status is 1 where something is not as it should be. */
 #include "environment.h"
 #include "mesh.h"
@@ -231,6 +232,33 @@ static int look_up(const work *w, const char *name, size_t length) {
     return refused == 0 && near > LOOKUPS * 9 / 10;
 }
 
+/* The same table with a long-range tail, in memory: within its distances a host takes the reading, beyond them the tail. */
+static int look_far(work *w, size_t length) {
+    static const double up[3] = {0, 0, 1};
+    far_field far = far_terms();
+    size_t room = length + 12 + 20 * FAR_TERMS;
+    uint8_t *file = memory(room, 1);
+    icotable_written f = icotable_write_tail(w->builder, w->store, w->store_count, ROWS(w), ICOTABLE_MESHES(&w->meshes), far.coefficients, FAR_TERMS, far.kappas,
+                                             FAR_TERMS, far.powers, FAR_TERMS, &far.factor, 1, file, room);
+    if (f.number != 0)
+        stop("write with a tail", f.number);
+    icotable_table t = icotable_read(file, f.length);
+    printf("\nWith a long-range tail of %llu terms the file has %llu bytes\n\n distance     from the table           the tail  (kJ/mol)\n",
+           (unsigned long long)t.terms, (unsigned long long)f.length);
+    int good = t.number == 0 && f.length == room;
+    for (double r = 23; r < 32; r += 2) {
+        icotable_value v = icotable_reading(&t, file, f.length, ICOTABLE_LOCATORS(&w->meshes), r, 0, up[0], up[1], up[2], up[0], up[1], up[2]);
+        icotable_value x = icotable_tail(&t, file, f.length, r);
+        double sum = 0;
+        for (int i = 0; i < FAR_TERMS; i++)
+            sum += far.coefficients[i] * exp(-far.kappas[i] * r) / pow(r, far.powers[i]);
+        printf("%9.3g  %17.5g  %17.5g\n", r, v.energy, x.energy);
+        good &= v.number == 0 && x.number == 0 && fabs(x.energy - far.factor * sum) < 1e-12 * fabs(x.energy);
+    }
+    free(file);
+    return good;
+}
+
 /* ---- one molecule against an ion */
 
 /* A slab's energies: the ion in the direction of each vertex of the current level. */
@@ -328,7 +356,7 @@ int main(int count, char **names) {
     uint8_t *file = written(w, &length);
     int safe = restarted(w, file, length);
     save(names[1], file, length);
-    int good = look_up(w, names[1], length);
+    int good = look_up(w, names[1], length) && look_far(w, length);
     good &= ion(&w->meshes, names[2]);
     free(file);
     icotable_free_meshes(&w->meshes);

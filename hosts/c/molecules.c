@@ -83,6 +83,21 @@ double pair_energy(const pose *a, const pose *b, double r) {
     return energy;
 }
 
+/* -beta/6 * (COULOMB * charge * dipole * (1 + SCREENING*r) * exp(-SCREENING*r) / r^2)^2, its square multiplied out. */
+far_field far_terms(void) {
+    double charge = 0, dipole = 0;
+    for (int i = 0; i < SITES; i++)
+        charge += second[i].charge;
+    for (int k = 0; k < 3; k++) {
+        double along = 0;
+        for (int i = 0; i < SITES; i++)
+            along += first[i].charge * first[i].at[k];
+        dipole += along * along;
+    }
+    double c = -BETA / 6 * COULOMB * charge * charge * dipole, kappa = 2 * SCREENING;
+    return (far_field){{c, kappa * c, 0.25 * kappa * kappa * c}, {kappa, kappa, kappa}, COULOMB, {4, 3, 2}};
+}
+
 double ion_energy(const pose *a, double r) {
     double energy = 0;
     for (int i = 0; i < SITES; i++) {

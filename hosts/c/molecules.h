@@ -3,6 +3,8 @@
 #ifndef MOLECULES_H
 #define MOLECULES_H
 
+#include <stdint.h>
+
 enum { SITES = 4 };
 
 /* 1 / RT at 298.15 K. */
@@ -20,6 +22,15 @@ pose second_pose(const double b[3], double omega);
 
 /* The energy with the second molecule r up the axis. */
 double pair_energy(const pose *first, const pose *second, double r);
+
+/* What is left of it far away, over all orientations: the anion's charge and the ampholyte's dipole, screened, each
+ * orientation by its Boltzmann weight. factor times the sum of three terms c * exp(-kappa*r) / r^power. */
+enum { FAR_TERMS = 3 };
+typedef struct far_field {
+    double coefficients[FAR_TERMS], kappas[FAR_TERMS], factor;
+    uint32_t powers[FAR_TERMS];
+} far_field;
+far_field far_terms(void);
 
 /* The energy of the first molecule with the ion r up the axis. */
 double ion_energy(const pose *first, double r);

@@ -1,4 +1,5 @@
-/* Every number that a call can be refused with, each given by an example, by one against an atom, 1 to 7 by a sizing, and those of a search without a locator:
+/* Every number that a call can be refused with, each given by an example, 1 to 21 by one against an atom, 1 to 7 and 23 by a
+ * sizing, and those of a search without a locator:
  * writes docs/REFUSALS.md, and the status is 1 where an example gives another number. The table has two distances, two
  * dihedral bins and two levels; that against an atom has two distances and two levels. */
 #include "mesh.h"
@@ -186,6 +187,38 @@ static uint64_t empty_cell(void) {
 static uint64_t no_beta(void) {
     icotable_table t = icotable_read(file, whole_file());
     return icotable_boltzmann(&t, file, ROOM, ICOTABLE_LOCATORS(&held), 9, 0, 1, 0, 0, 0, 0, 1, 0).number;
+}
+
+static const double coefficients[] = {-1.5, 2}, kappas[] = {0, 0.25}, prefactor[] = {4};
+
+static uint64_t write_terms(const uint32_t powers[2], size_t prefactors) {
+    return icotable_write_tail(begun(), store, STORE, kinds, SLABS, levels, SLABS, values, SLABS, ICOTABLE_MESHES(&held), coefficients, 2, kappas, 2, powers, 2,
+                               prefactor, prefactors, file, ROOM).number;
+}
+
+static uint64_t no_prefactor(void) {
+    static const uint32_t powers[] = {6, 1};
+    return write_terms(powers, 0);
+}
+
+static uint64_t large_power(void) {
+    static const uint32_t powers[] = {6, 2147483648};
+    return write_terms(powers, 1);
+}
+
+/* An empty table of one slab and five levels, by hand. */
+static uint64_t five_levels(void) {
+    static const uint8_t head[] = {3, 0, 0, 0, 0, 0, 0, 0, 0, 0, 0, 0, 0, 0, 0, 0, 0, 0, 0xF0, 0x3F, 0, 0, 0, 0, 0, 0, 0x18, 0x40,
+                                   2, 0, 0, 0, 1, 0, 0, 0, 1, 0, 0, 0, 5, 0, 0, 0};
+    static const uint8_t row[] = {1, 0, 0, 0, 0, 0, 0xFF, 0xFF, 0xFF, 0xFF, 0, 0, 0, 0, 0, 0, 0, 0};
+    memcpy(file, head, sizeof head);
+    for (size_t m = 0; m < 5; m++) {
+        uint8_t n[4] = {(uint8_t)icotable_vertices(m), 0, 0, 0};
+        memcpy(file + sizeof head + 4 * m, n, 4);
+    }
+    memcpy(file + sizeof head + 20, row, sizeof row);
+    size_t length = sizeof head + 20 + sizeof row;
+    return icotable_read(file, length).number != 0 ? 100 : icotable_view(file, length).number;
 }
 
 /* ---- against an atom */
@@ -379,6 +412,9 @@ static const example examples[] = {
     {no_rows, "a reading with an answer of read in which the host put 0 rows", 0},
     {empty_cell, "a reading over a mesh whose vertices are all 0, in a direction whose cell they are not in", 0},
     {no_beta, "a weighted reading with beta 0, at a distance outside the table", 0},
+    {no_prefactor, "write with two terms and an empty list for the prefactor", 0},
+    {large_power, "write with a term whose power is 2147483648", 0},
+    {five_levels, "view of a file of five levels, which read accepts", 0},
 };
 
 static const example atom_examples[] = {
@@ -413,8 +449,9 @@ static const char *const names[] = {
 };
 
 enum { NUMBERS = sizeof names / sizeof names[0] - 1, EXAMPLES = sizeof examples / sizeof examples[0] };
+enum { ATOM_NUMBERS = sizeof atom_examples / sizeof atom_examples[0] };
 _Static_assert(NUMBERS == EXAMPLES, "an example for each number");
-_Static_assert(sizeof examples == sizeof atom_examples, "one against an atom, too");
+_Static_assert(ATOM_NUMBERS == (int)ICOTABLE_READING_BETA, "one against an atom for each that is not of a long-range tail or a viewer");
 
 /* Whether the example of a number gives another one. */
 static int differs(const example *e, uint64_t number) {
@@ -424,10 +461,14 @@ static int differs(const example *e, uint64_t number) {
     return given != wanted;
 }
 
-/* ---- the sizing of a build: 1 to 7, as fresh puts them, and the last two to the neighbour lists alone */
+/* ---- the sizing of a build: 1 to 7, as fresh puts them, 6 and 7 to the neighbour lists alone; and 23 */
+
+static uint64_t sized_with(icotable_grid g, uint64_t top, size_t neighbours, uint64_t terms) {
+    return icotable_sizing(g, top, held.neighbour_counts, held.neighbour_counts_count, held.neighbours, neighbours, terms).number;
+}
 
 static uint64_t sized(icotable_grid g, uint64_t top, size_t neighbours) {
-    return icotable_sizing(g, top, held.neighbour_counts, held.neighbour_counts_count, held.neighbours, neighbours).number;
+    return sized_with(g, top, neighbours, 0);
 }
 
 static uint64_t size_settings(void) {
@@ -470,7 +511,12 @@ static uint64_t size_mesh(void) {
     return number;
 }
 
-enum { SIZED = 7 };
+static uint64_t size_terms(void) {
+    return sized_with(settings, TOP_LEVEL, held.neighbours_count, 4294967296);
+}
+
+enum { SIZED = 8 };
+static const uint64_t size_numbers[SIZED] = {1, 2, 3, 4, 5, 6, 7, 23};
 static const example size_examples[SIZED] = {
     {size_settings, "sizing with an infinite step", 0},
     {size_level, "sizing with top level 16", 0},
@@ -479,6 +525,7 @@ static const example size_examples[SIZED] = {
     {size_energies, "sizing of 65000 distances and 63 dihedral bins at top level 1: 4095000 times 42 times 42 energies", 0},
     {size_short, "sizing with a neighbour less than levels 0 and 1 have", 0},
     {size_mesh, "sizing with a vertex that is among its own neighbours", 0},
+    {size_terms, "sizing with 4294967296 terms", 0},
 };
 
 /* ---- a search without a locator: 2, 6, 7 without the angles, 18, 20 */
@@ -531,7 +578,7 @@ int main(void) {
     puts("# Refusals\n\nA call that is refused answers the number of the first question that was answered no, and alters "
          "nothing: no list, no\nbuilder, no file. `include/icotable.h` has the table (`ICOTABLE_REFUSALS`, "
          "`icotable_words`), `hosts/rust` the same as\nan enum (`Refusal`); docs/SPEC.md has each question, S5.1 to S5.20 "
-         "and S5.24, and their order. Each example below is\nrun by `hosts/c/refusals.c`, which writes this page; the gate "
+         "and S5.24 to S5.27, and their order. Each example below\nis run by `hosts/c/refusals.c`, which writes this page; the gate "
          "compares the page with what it writes.\n\n"
          "| number | name | what was answered no | an example |\n|---|---|---|---|");
     for (uint64_t number = 1; number <= NUMBERS; number++) {
@@ -540,17 +587,19 @@ int main(void) {
         differing += differs(e, number);
     }
     puts("\n## Against an atom\n\nThe calls of a table against an atom (`icotable_atom_fresh` and so on) have the same "
-         "numbers with the same words. What\nconcerns the step, the dihedral angle and the second direction is not asked "
-         "there.\n\n| number | name | an example |\n|---|---|---|");
-    for (uint64_t number = 1; number <= NUMBERS; number++) {
+         "numbers with the same words. What\nconcerns the step, the dihedral angle, the second direction, the long-range tail and a "
+         "viewer's bounds is\nnot asked there.\n\n| number | name | an example |\n|---|---|---|");
+    for (uint64_t number = 1; number <= ATOM_NUMBERS; number++) {
         const example *e = &atom_examples[number - 1];
         printf("| %llu | %s | %s |\n", (unsigned long long)number, names[number], e->words);
         differing += differs(e, number);
     }
     puts("\n## Sizing a build\n\n`icotable_sizing` and `icotable_atom_sizing` are refused as fresh is, before any list of a build is "
-         "there: 6 and 7 are\nput to the neighbour counts and the neighbours alone.\n\n| number | name | an example |\n|---|---|---|");
-    for (uint64_t number = 1; number <= SIZED; number++) {
-        const example *e = &size_examples[number - 1];
+         "there: 6 and 7 are\nput to the neighbour counts and the neighbours alone. Then 23 is put to the number of terms, where two molecules\nhave "
+         "them.\n\n| number | name | an example |\n|---|---|---|");
+    for (int i = 0; i < SIZED; i++) {
+        const example *e = &size_examples[i];
+        uint64_t number = size_numbers[i];
         printf("| %llu | %s | %s |\n", (unsigned long long)number, names[number], e->words);
         differing += differs(e, number);
     }

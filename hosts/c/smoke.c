@@ -1,6 +1,8 @@
 /* A host in C: an empty table of level 0 from its settings, written, printed and read back; a slab set and settled; calls
- * that are refused; the locator of the icosahedron; readings, also weighted and with locator lists that were altered;
- * the same of a table against an atom; the sizing of a build; a search without a locator; sizes and numbers. Every answer is compared with what documents 01 and 02 say, and the status is 1 where one differs. */
+ * that are refused; the locator of the icosahedron; readings, also weighted and with locator lists that were altered; a
+ * long-range tail; the bounds of a viewer; the same of a table against an atom; the sizing of a build; a search without a
+ * locator; sizes and numbers. Every answer is compared with what documents 01 and 02 say, and the status is 1 where one
+ * differs. */
 #include "icotable.h"
 
 #include <math.h>
@@ -114,8 +116,9 @@ static void empty_table(void) {
     expect("levels", t.levels, 1);
     expect("rows", t.rows, 1);
     expect("energies", t.energies, 0);
-    static const uint64_t start[5] = {4, 32, 44, 52, 66};
-    for (int i = 0; i < 5; i++)
+    expect("terms", t.terms, 0);
+    static const uint64_t start[6] = {4, 32, 44, 52, 66, 66};
+    for (int i = 0; i < 6; i++)
         expect("start of a section", t.start[i], start[i]);
     t = icotable_read(output, 67);
     expect("read of a byte more", t.number, 13);
@@ -169,7 +172,7 @@ static void one_slab(void) {
 
 /* The same slab, before it is built: 52 + 4 + 10 + 4 * 144 bytes, and 60 neighbours against 2 * 12 lines. */
 static void sizing(void) {
-    icotable_size s = icotable_sizing(settings, 0, neighbour_counts, N, neighbours, 6 * N);
+    icotable_size s = icotable_sizing(settings, 0, neighbour_counts, N, neighbours, 6 * N, 0);
     expect("sizing", s.number, 0);
     expect("its store", s.store, PER);
     expect("its file", s.file, 642);
@@ -179,7 +182,17 @@ static void sizing(void) {
     expect("its faces", s.faces[0], 45 * N);
     expect("its comparisons", s.comparisons[0], 2 * N * 60);
     expect("its comparisons of a level above the top", s.comparisons[1], 0);
-    s = icotable_sizing(settings, 0, neighbour_counts, N, neighbours, 6 * N - 1);
+    s = icotable_sizing(settings, 0, neighbour_counts, N, neighbours, 6 * N, 3);
+    expect("sizing with three terms", s.number, 0);
+    expect("its store", s.store, PER);
+    expect("its file", s.file, 642 + 12 + 3 * 20);
+    s = icotable_sizing(settings, 0, neighbour_counts, N, neighbours, 6 * N, 4294967295);
+    expect("sizing with 4294967295 terms", s.number, 0);
+    expect("its file", s.file, 642 + 12 + 20 * (uint64_t)4294967295);
+    s = icotable_sizing(settings, 0, neighbour_counts, N, neighbours, 6 * N, 4294967296);
+    expect("sizing with one more", s.number, 23);
+    expect("its store", s.store, 0);
+    s = icotable_sizing(settings, 0, neighbour_counts, N, neighbours, 6 * N - 1, 4294967296);
     expect("sizing with a neighbour less", s.number, 6);
     expect("its store", s.store, 0);
     icotable_atom_grid ion = {.rmin = 0, .rmax = 1, .dr = 1, .threshold = 0.1, .beta = 1};
@@ -369,6 +382,111 @@ static void empty_spans(void) {
     expect("reading with cell offsets that are all 325 and 324 vertices", reading(0.5, a, b).number, 20);
     file[ROW] = 2;
     expect("the same where the row is read at the nearest vertices", reading(0.5, a, b).number, 20);
+}
+
+/* ---- a long-range tail */
+
+typedef struct tail {
+    double coefficients[2], kappas[2], prefactor;
+    uint32_t powers[2];
+} tail;
+
+static const tail two = {.coefficients = {-1.5, 2}, .kappas = {0, 0.25}, .prefactor = 4, .powers = {6, 1}};
+
+/* With so many entries of each list. */
+static icotable_written written_tail(const tail *t, size_t terms, size_t kappas, size_t powers, size_t prefactors, size_t room) {
+    return icotable_write_tail(fresh(settings, 0).builder, store, PER, kinds, 1, levels, 1, values, 1, vertices, 3 * N, neighbour_counts, N, neighbours, 6 * N,
+                               angles, 6 * N, t->coefficients, terms, t->kappas, kappas, t->powers, powers, &t->prefactor, prefactors, file, room);
+}
+
+static void tail_bytes(void) {
+    static const char bytes[] = "02000000 000000000000F8BF 0000000000000000 06000000 0000000000000040 000000000000D03F 01000000 0000000000001040";
+    uint8_t plain[66];
+    memset(file, 0xAB, sizeof file);
+    expect("write of an empty table", written(fresh(settings, 0).builder, plain, sizeof plain).length, 66);
+    icotable_written w = written_tail(&two, 2, 2, 2, 1, sizeof file);
+    expect("write with two terms", w.number, 0);
+    expect("bytes", w.length, 66 + 12 + 2 * 20);
+    expect("its first bytes are those without", memcmp(file, plain, 66), 0);
+    expect("bytes of the tail that differ from document 02's", print(file + 66, bytes), 0);
+    expect("the byte behind the file", file[118], 0xAB);
+    table = icotable_read(file, w.length);
+    expect("read", table.number, 0);
+    expect("terms", table.terms, 2);
+    expect("their start", table.start[5], 70);
+    w = written_tail(&two, 0, 0, 0, 1, sizeof file);
+    expect("write with no terms and a prefactor", w.length, 66);
+    expect("its bytes are those without", memcmp(file, plain, 66), 0);
+    expect("read", icotable_read(file, w.length).terms, 0);
+    expect("its terms' start", icotable_read(file, w.length).start[5], 66);
+}
+
+static icotable_value tail_at(double r) {
+    return icotable_tail(&table, file, file_count, r);
+}
+
+static void tail_readings(void) {
+    file_count = written_tail(&two, 2, 2, 2, 1, sizeof file).length;
+    table = icotable_read(file, file_count);
+    icotable_value v = tail_at(2);
+    double wanted = 4 * (((-0.0 + -1.5 * icotable_exp(-0.0 * 2) / 64) + 2 * icotable_exp(-0.25 * 2) / 2));
+    expect("tail at 2", v.number, 0);
+    expect("its energy is the sum's", v.energy == wanted, 1);
+    expect("its distances are 0", v.distance_a == 0 && v.distance_b == 0, 1);
+    expect("tail at 0, -infinity and infinity, is a NaN", isnan(tail_at(0).energy) != 0, 1);
+    v = tail_at(INFINITY);
+    expect("tail at infinity with a kappa of 0, 0 times infinity, is a NaN", v.number == 0 && isnan(v.energy), 1);
+    expect("tail below 0", tail_at(-1).number, 0);
+    expect("tail at a NaN", tail_at(NAN).number, 18);
+    table.terms = 3;
+    expect("tail of a table that says it has three terms", tail_at(2).number, 19);
+    expect("the same at a NaN", tail_at(NAN).number, 18);
+    table.terms = UINT64_MAX / 20 + 1;
+    expect("tail of a table that says it has 2^64 / 20 terms and one", tail_at(2).number, 19);
+    table.terms = 2, table.start[5] = UINT64_MAX;
+    expect("tail of a table that says they start at the last byte of all", tail_at(2).number, 19);
+    table.terms = 0;
+    v = tail_at(2);
+    expect("tail without terms", v.number, 0);
+    expect("its energy is 0", v.energy == 0 && !signbit(v.energy), 1);
+}
+
+/* 6 of kappas and powers, 22, 23 and 12, in this order. */
+static void tail_refused(void) {
+    expect("write with a kappa less, and no prefactor", written_tail(&two, 2, 1, 2, 0, 1).number, 6);
+    expect("write with a power less", written_tail(&two, 2, 2, 1, 1, 1).number, 6);
+    tail wrong = two;
+    wrong.coefficients[1] = INFINITY;
+    expect("write with an infinite coefficient and no prefactor", written_tail(&wrong, 2, 2, 2, 0, 1).number, 22);
+    expect("write with an infinite coefficient", written_tail(&wrong, 2, 2, 2, 1, 1).number, 23);
+    expect("write of the term before it, to one byte", written_tail(&wrong, 1, 2, 2, 1, 1).number, 12);
+    expect("write of no terms, to one byte", written_tail(&wrong, 0, 2, 2, 0, 1).number, 12);
+    wrong = two, wrong.kappas[0] = NAN;
+    expect("write with a kappa that is a NaN", written_tail(&wrong, 2, 2, 2, 1, sizeof file).number, 23);
+    wrong = two, wrong.prefactor = -INFINITY;
+    expect("write with an infinite prefactor", written_tail(&wrong, 2, 2, 2, 1, sizeof file).number, 23);
+    wrong = two, wrong.powers[1] = 2147483648;
+    expect("write with the power 2147483648", written_tail(&wrong, 2, 2, 2, 1, sizeof file).number, 23);
+    wrong.powers[1] = 2147483647;
+    expect("write with the power 2147483647", written_tail(&wrong, 2, 2, 2, 1, sizeof file).number, 0);
+    expect("write to 117 bytes, where the file has 118", written_tail(&two, 2, 2, 2, 1, 117).number, 12);
+}
+
+/* Files with a sixth section that is not one, and values that are not those of a tail. */
+static void tail_damaged(void) {
+    size_t length = written_tail(&two, 2, 2, 2, 1, sizeof file).length;
+    expect("read without the last byte", icotable_read(file, length - 1).number, 13);
+    expect("read without the prefactor", icotable_read(file, length - 8).number, 13);
+    expect("read of a byte more", icotable_read(file, length + 1).number, 13);
+    expect("read as a table against an atom", icotable_atom_read(file, length).number, 13);
+    file[70 + 39] = 0x80;
+    expect("read with the power 2147483649", icotable_read(file, length).number, 23);
+    file[70 + 39] = 0, file[70 + 46] = 0xF0, file[70 + 47] = 0x7F;
+    expect("read with a prefactor that is infinite", icotable_read(file, length).number, 23);
+    file[66] = 0;
+    memmove(file + 70, file + 110, 8);
+    expect("read with a sixth section of no terms, and a prefactor", icotable_read(file, 78).number, 13);
+    expect("read with a sixth section of no terms", icotable_read(file, 70).number, 13);
 }
 
 /* ---- against an atom: a slab holds 12 energies */
@@ -562,6 +680,52 @@ static void atom_zero_weight(void) {
     lent_vertices = vertices;
 }
 
+/* An empty table of one dihedral bin, by hand: the first levels, and so many distances, each a Scalar row of 0. */
+static uint8_t large[66 + 16 + 10 * 4096];
+
+static size_t by_hand(uint32_t held, uint32_t rows) {
+    static const double grid[3] = {0, 1, 6};
+    static const uint8_t row[10] = {0, 0, 0xFF, 0xFF, 0xFF, 0xFF, 0, 0, 0, 0};
+    uint32_t first = 3, bins[3] = {2, rows, 1}, none = 0;
+    uint8_t *at = large;
+    memcpy(at, &first, 4), memcpy(at + 4, grid, 24), memcpy(at + 28, bins, 12), memcpy(at + 40, &held, 4);
+    for (uint32_t m = 0; m < held; m++) {
+        uint32_t n = (uint32_t)icotable_vertices(m);
+        memcpy(at + 44 + 4 * m, &n, 4);
+    }
+    at += 44 + 4 * held;
+    memcpy(at, &rows, 4);
+    for (uint32_t i = 0; i < rows; i++)
+        memcpy(at + 4 + 10 * i, row, 10);
+    memcpy(at + 4 + 10 * rows, &none, 4);
+    return 52 + 4 * held + 10 * rows;
+}
+
+/* Both sides of each bound; 24 after 14 and before 15. */
+static void viewer(void) {
+    size_t length = by_hand(4, 4096);
+    icotable_table read = icotable_read(large, length), view = icotable_view(large, length);
+    expect("read of 4 levels and 4096 rows", read.number, 0);
+    expect("view of them", view.number, 0);
+    expect("bytes of its answer that differ from read's", memcmp(&read, &view, sizeof read) != 0, 0);
+    length = by_hand(5, 1);
+    expect("read of 5 levels", icotable_read(large, length).number, 0);
+    expect("view of them", icotable_view(large, length).number, 24);
+    expect("levels of a view that is refused", icotable_view(large, length).levels, 0);
+    large[68] = 4;
+    expect("read of 5 levels and a row of kind 4", icotable_read(large, length).number, 15);
+    expect("view of them", icotable_view(large, length).number, 24);
+    large[44] = 13;
+    expect("view of 5 levels, the first of 13 vertices", icotable_view(large, length).number, 14);
+    expect("view of them without the last byte", icotable_view(large, length - 1).number, 13);
+    length = by_hand(1, 4097);
+    expect("read of 4097 rows", icotable_read(large, length).number, 0);
+    expect("view of them", icotable_view(large, length).number, 24);
+    length = by_hand(1, 2);
+    large[52] = 4;
+    expect("view of a row of kind 4", icotable_view(large, length).number, 15);
+}
+
 static void sizes_and_numbers(void) {
     expect("vertices of level 15", icotable_vertices(15), 2562);
     expect("cell offsets of level 15", icotable_cells(15), 3751);
@@ -584,6 +748,11 @@ static void sizes_and_numbers(void) {
     expect("the logarithm of 1 is 0", icotable_ln(1) == 0, 1);
     expect("the logarithm of -0 is -infinity", icotable_ln(-0.0) == -INFINITY, 1);
     expect("the logarithm of -1 is a NaN", isnan(icotable_ln(-1)) != 0, 1);
+    expect("3 to the power 5", (uint64_t)icotable_power(3, 5), 243);
+    expect("a NaN to the power 0", (uint64_t)icotable_power(NAN, 0), 1);
+    expect("-1 to the power 4294967295 is -1", icotable_power(-1, UINT32_MAX) == -1, 1);
+    double half = icotable_power(1.1, 3), square = half * half;
+    expect("1.1 to the power 7 is that to the power 3, squared, times 1.1", icotable_power(1.1, 7) == square * 1.1, 1);
     double tiny = 1.0 / (1 << 30);
     expect("fused (1 + 2^-30)(1 - 2^-30) - 1 is -2^-60", icotable_mul_add(1 + tiny, 1 - tiny, -1) == -tiny * tiny, 1);
     expect("16777217, narrowed", (uint64_t)icotable_narrow(16777217), 16777216);
@@ -609,6 +778,11 @@ int main(void) {
     weighted_readings();
     distances();
     empty_spans();
+    tail_bytes();
+    tail_readings();
+    tail_refused();
+    tail_damaged();
+    viewer();
     empty_atom_table();
     atom_slab();
     atom_refused();

@@ -61,6 +61,16 @@ pub fn grid_words(g: &Grid) -> Vec<u64> {
     floats.into_iter().chain([g.n_r]).collect()
 }
 
+// What read returns for a file with these counts and starts.
+pub fn table(grid: Grid, [levels, rows, energies]: [u64; 3], start: [u64; 5], _: &[u8]) -> Table {
+    Table { number: 0, grid, levels, rows, energies, start }
+}
+
+// Its counts and starts.
+pub fn section_words(t: &Table) -> Vec<u64> {
+    [t.levels, t.rows, t.energies].into_iter().chain(t.start).collect()
+}
+
 pub fn dihedral(_: &Grid) -> (f64, u64) {
     (omega_step(0.0), 1)
 }

@@ -1,4 +1,4 @@
-// The seventeen places where the Rust and document 01 are known to part (docs/DIFFERENCES.md), each on its smallest input: the Rust is run as it stands, a panic being caught, and so is the static
+// The twenty-two places where the Rust and documents 01 and 02 are known to part (docs/DIFFERENCES.md), each on its smallest input: the Rust is run as it stands, a panic being caught, and so is the static
 // library; what each does is compared with what is expected of it, and a line printed. Built with overflow checks, as a debug build of the Rust has them. Status 1 where anything is otherwise.
 #[allow(dead_code, clippy::all)]
 mod atom_builder {
@@ -19,6 +19,10 @@ mod oracle {
 #[allow(dead_code, clippy::all)]
 mod rust {
     include!(concat!(env!("COMPARE"), "/lookup.rs"));
+}
+#[allow(dead_code, clippy::all)]
+mod tail_native {
+    include!(concat!(env!("COMPARE"), "/tail_native.rs"));
 }
 #[allow(dead_code, clippy::all)]
 mod unwrapped {
@@ -366,17 +370,49 @@ fn r16(found: &mut Found) {
     );
 }
 
+// A tail of one term: the Rust's metadata with it, and what a write with it is answered here, with its file.
+fn one_term(coefficient: f64, power: u32, prefactor: &[f64]) -> (tail_native::TableMetadata, (u64, Vec<u8>)) {
+    let term = tail_native::TailCorrectionTerm { coefficient, kappa: 0.0, power };
+    let rust = tail_native::TableMetadata { tail_terms: vec![term], electric_prefactor: prefactor.first().copied(), ..Default::default() };
+    let mut host = Host::new(&[icosphere(0)]);
+    assert_eq!(host.fresh(PLAIN), 0);
+    let tail = icotable::Tail { coefficients: &[coefficient], kappas: &[0.0], powers: &[power], prefactor };
+    (rust, host.write_tail(tail))
+}
+
+// Nothing is put in the place of `exp`, `powi` and `sum` here.
+fn tails(found: &mut Found) {
+    let bits = |x: f64| format!("{:016X}", x.to_bits());
+    let r = std::hint::black_box(1.002f64);
+    let row = "1.002 to the 6, in the Rust its library's powi";
+    found.tell("R18", row, [bits(r.powi(6)), "3FF03165FE9D0EEC".into()], [bits(icotable::power(r, 6)), "3FF03165FE9D0EED".into()]);
+    let (rust, here) = one_term(1.0, u32::MAX, &[1.0]);
+    let row = "a tail's term with the power 4294967295, read at 2";
+    found.tell("R19", row, [rust.tail_energy(2.0).to_string(), "2".into()], [refused(here.0), refused(23)]);
+    let (rust, here) = one_term(1.0, 1, &[]);
+    let row = "a tail's term without a prefactor, read at 2";
+    let theirs = format!("{}, and validate refuses it: {}", rust.tail_energy(2.0), rust.validate().is_err());
+    found.tell("R20", row, [theirs, "0, and validate refuses it: true".into()], [refused(here.0), refused(22)]);
+    let (rust, here) = one_term(f64::INFINITY, 1, &[1.0]);
+    let row = "a tail's term with an infinite coefficient, read at 2";
+    found.tell("R21", row, [rust.tail_energy(2.0).to_string(), "inf".into()], [refused(here.0), refused(23)]);
+    let (rust, here) = one_term(1.0, 1, &[1.0]);
+    let table = icotable::read(&here.1);
+    let row = "a tail whose r is a NaN";
+    found.tell("R22", row, [rust.tail_energy(f64::NAN).to_string(), "NaN".into()], [refused(icotable::tail(&table, &here.1, f64::NAN).number), refused(18)]);
+}
+
 fn main() {
     std::panic::set_hook(Box::new(|_| ()));
     let mut found = Found { rows: 0, wrong: 0 };
-    let all: [fn(&mut Found); 14] = [r1, r2, readings, r7, r8, r9, r10, r11, r12, r13, r14, r15, r16, r17];
+    let all: [fn(&mut Found); 15] = [r1, r2, readings, r7, r8, r9, r10, r11, r12, r13, r14, r15, r16, r17, tails];
     for one in all {
         if let Err(e) = catch_unwind(AssertUnwindSafe(|| one(&mut found))) {
             println!("DIFFERENCE: a step before it failed: {:?}", e.downcast_ref::<String>());
             found.wrong += 1;
         }
     }
-    println!("expected: {} inputs of 17 rows, {} differences from what is expected", found.rows, found.wrong);
-    assert_eq!(found.rows, 18);
+    println!("expected: {} inputs of 22 rows, {} differences from what is expected", found.rows, found.wrong);
+    assert_eq!(found.rows, 23);
     std::process::exit((found.wrong > 0) as i32);
 }

@@ -83,6 +83,16 @@ impl Host {
         file.truncate(a.length as usize);
         file
     }
+
+    // The number answered to a write with a tail, and the file where it is accepted.
+    pub fn write_tail(&mut self, tail: icotable::Tail) -> (u64, Vec<u8>) {
+        let lent = self.lists.lengths();
+        let mut file = vec![0; 200 + 14 * lent[0]];
+        let (l, m) = lists_of(&mut self.lists, &lent);
+        let a = icotable::write_tail(self.builder, l.held(), m, tail, &mut file);
+        file.truncate(a.length as usize);
+        (a.number, file)
+    }
 }
 
 // A file that was read, with the meshes and locators of its levels.

@@ -1,6 +1,6 @@
 // Compares each operation on numbers of the static library libfloat_c.a with the machine's or Rust's own, bit for bit (any NaN is equal to any other): leaves SEED short|long.
-// Edges first, then inputs at random; the long run has widen go through every f32. Max, min, the total order and the remainder are written out here as document 01 has them; E and
-// ln are the oracle's. The cases of narrow are those of IEEE 754's clause 4.3.1, at every f32 in the long run. Prints a line for each operation, and ends with status 1 where one of them differs.
+// Edges first, then inputs at random; the long run has widen go through every f32. Max, min, the total order and the remainder are written out here as document 01 has them; E,
+// ln and the power are the oracle's. The cases of narrow are those of IEEE 754's clause 4.3.1, at every f32 in the long run. Prints a line for each operation, and ends with status 1 where one of them differs.
 mod arguments;
 #[allow(dead_code)]
 mod lines;
@@ -14,12 +14,16 @@ mod average {
 mod builder {
     include!(concat!(env!("COMPARE"), "/builder.rs"));
 }
+#[allow(dead_code, clippy::all)]
+mod rust_tail {
+    include!(concat!(env!("COMPARE"), "/tail.rs"));
+}
 mod samples;
 
 use arguments::arguments;
 use lines::bits;
 use meshes::Random;
-use samples::{cancelling, edge, near_multiple, near_root, narrow_tie, number, sample, step, EDGES};
+use samples::{base_and_exponent, cancelling, edge, near_multiple, near_root, narrow_tie, number, sample, step, EDGES};
 use std::f64::consts::TAU;
 
 extern "C" {
@@ -30,6 +34,7 @@ extern "C" {
     fn float_narrow_all(xs: *const f64, a: usize, out: *mut f32, b: usize);
     fn float_exp(y: f64) -> f64;
     fn float_ln(x: f64) -> f64;
+    fn float_power(r: f64, n: u32) -> f64;
     fn float_is_finite(x: f64) -> bool;
     fn float_widen(x: f32) -> f64;
     fn float_floor(x: f64) -> f64;
@@ -244,6 +249,15 @@ fn middles(count: u64, all: bool, random: &mut Random) -> u64 {
     leaf.done()
 }
 
+fn power(count: u64, random: &mut Random) -> u64 {
+    let mut leaf = Leaf::new("power");
+    for _ in 0..count {
+        let (r, n) = base_and_exponent(random);
+        leaf.judge([r.to_bits(), n as u64, 0], bits(unsafe { float_power(r, n) }), bits(rust_tail::raised(r, n)));
+    }
+    leaf.done()
+}
+
 fn of_u64(count: u64, random: &mut Random) -> u64 {
     let mut leaf = Leaf::new("of_u64");
     for i in 0..count {
@@ -307,6 +321,7 @@ fn main() {
         wrong += unary("E", n, r, samples::exponent, |x| bits(float_exp(x)), |x| bits(builder::exponential(x)));
         wrong += as_before(n / 2000, r, |x| bits(float_exp(x)));
         wrong += unary("ln", n, r, samples::logarithm, |x| bits(float_ln(x)), |x| bits(average::logarithm(x)));
+        wrong += power(n, r);
     }
     println!("leaves: {wrong} differences");
     std::process::exit((wrong > 0) as i32);

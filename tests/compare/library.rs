@@ -14,9 +14,8 @@ fn builder_words(b: &Builder) -> (Vec<u64>, u64, u64, u64) {
     (grid_words(&b.grid), b.top, b.level, shape::packed(b))
 }
 
-pub fn table_words(t: &Table) -> (Vec<u64>, [u64; 9]) {
-    let s = t.start;
-    (grid_words(&t.grid), [t.number, t.levels, t.rows, t.energies, s[0], s[1], s[2], s[3], s[4]])
+pub fn table_words(t: &Table) -> (u64, Vec<u64>, Vec<u64>) {
+    (t.number, grid_words(&t.grid), shape::section_words(t))
 }
 
 pub fn builder_of(b: &Held) -> Builder {

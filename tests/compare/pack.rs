@@ -29,5 +29,6 @@ pub fn packed(t: &RustTable) -> (Vec<u8>, Table) {
     section(4, t.data.len(), t.data.iter().flat_map(|x| x.to_bits().to_le_bytes()).collect());
     let grid = shape::grid([t.rmin, t.rmax, t.dr, omega_step, 0.0, 0.0], [t.n_r as u64, n_omega as u64]);
     let counts = [t.levels.len(), t.slab_res.len(), t.data.len()].map(|n| n as u64);
-    (file, Table { number: 0, grid, levels: counts[0], rows: counts[1], energies: counts[2], start })
+    let table = shape::table(grid, counts, start, &file);
+    (file, table)
 }

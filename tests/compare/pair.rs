@@ -58,6 +58,22 @@ pub fn grid_words(g: &Grid) -> Vec<u64> {
     floats.into_iter().chain([g.n_r, g.n_omega]).collect()
 }
 
+// What read returns for a file with these counts and starts of its five sections, whatever stands behind them.
+pub fn table(grid: Grid, [levels, rows, energies]: [u64; 3], start: [u64; 5], file: &[u8]) -> Table {
+    let end = (start[4] + 4 * energies) as usize;
+    let (terms, sixth) = match file.get(end..end + 4) {
+        Some(count) => (u32::from_le_bytes(count.try_into().unwrap()) as u64, end as u64 + 4),
+        None => (0, file.len() as u64),
+    };
+    let [a, b, c, d, e] = start;
+    Table { number: 0, grid, levels, rows, energies, terms, start: [a, b, c, d, e, sixth] }
+}
+
+// Its counts and starts.
+pub fn section_words(t: &Table) -> Vec<u64> {
+    [t.levels, t.rows, t.energies, t.terms].into_iter().chain(t.start).collect()
+}
+
 pub fn dihedral(g: &Grid) -> (f64, u64) {
     (g.omega_step, g.n_omega)
 }

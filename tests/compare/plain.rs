@@ -74,8 +74,9 @@ fn float(file: &[u8], at: usize) -> f64 {
     f64::from_le_bytes(file[at..at + 8].try_into().unwrap())
 }
 
-// The sections' items; none where they do not follow their counts to the last byte.
-fn sections(file: &[u8]) -> Option<[&[u8]; 5]> {
+// The items of the five sections, and what stands behind them; none where they do not follow their counts to the last byte. A table of two molecules may have a sixth section there: the count of
+// its terms, which is not 0, 20 bytes a term and the 8 of the prefactor.
+fn sections(file: &[u8]) -> Option<([&[u8]; 5], &[u8])> {
     let mut parts: [&[u8]; 5] = [&[]; 5];
     let mut at = 0;
     for (part, width) in parts.iter_mut().zip([8, 4, 4, 10, 4]) {
@@ -83,7 +84,18 @@ fn sections(file: &[u8]) -> Option<[&[u8]; 5]> {
         *part = file.get(at + 4..end)?;
         at = end;
     }
-    (at == file.len() && parts[0].len() == 8 * HEADS[0] && parts[1].len() == 4 * HEADS[1]).then_some(parts)
+    let sixth = &file[at..];
+    let terms = number(sixth, 0).unwrap_or(0) as usize;
+    let ended = sixth.is_empty() || shape::PAIR && terms > 0 && sixth.len() == 4 + 20 * terms + 8;
+    (ended && parts[0].len() == 8 * HEADS[0] && parts[1].len() == 4 * HEADS[1]).then_some((parts, sixth))
+}
+
+// 23, of a sixth section: every value finite, and no power above 2147483647.
+fn sixth_held(sixth: &[u8]) -> bool {
+    let Some(terms) = sixth.get(4..) else { return true };
+    let (terms, prefactor) = terms.split_at(terms.len() - 8);
+    let held = |t: &[u8]| float(t, 0).is_finite() && float(t, 8).is_finite() && number(t, 16).unwrap() <= i32::MAX as u32;
+    terms.chunks_exact(20).all(held) && float(prefactor, 0).is_finite()
 }
 
 fn grid_held(parts: &[&[u8]; 5]) -> bool {
@@ -112,13 +124,25 @@ fn nan_bits(x: u32) -> bool {
     x & 0x7FFF_FFFF > 0x7F80_0000
 }
 
-// The number of the first question from 13 to 17 that is answered no, or 0.
+// The number of the first question from 13 to 17, then 23, that is answered no, or 0.
 pub fn read(file: &[u8]) -> u64 {
-    let Some(parts) = sections(file) else { return 13 };
+    read_over(usize::MAX, usize::MAX, file)
+}
+
+// The same for the viewer: 24 after 14.
+pub fn view(file: &[u8]) -> u64 {
+    read_over(4, 4096, file)
+}
+
+fn read_over(most_levels: usize, most_rows: usize, file: &[u8]) -> u64 {
+    let Some((parts, sixth)) = sections(file) else { return 13 };
     if !grid_held(&parts) {
         return 14;
     }
     let levels = parts[2].len() / 4;
+    if levels > most_levels || parts[3].len() / 10 > most_rows {
+        return 24;
+    }
     for row in parts[3].chunks_exact(10) {
         let (offset, scalar) = (number(row, 2).unwrap(), number(row, 6).unwrap());
         let held = match row[0] {
@@ -143,6 +167,9 @@ pub fn read(file: &[u8]) -> u64 {
     }
     if parts[4].chunks_exact(4).any(|x| f32::from_le_bytes(x.try_into().unwrap()).is_nan()) {
         return 17;
+    }
+    if !sixth_held(sixth) {
+        return 23;
     }
     0
 }

@@ -146,6 +146,21 @@ pub fn logarithm(random: &mut Random) -> f64 {
     }
 }
 
+// For a power: any number, or one beside 1, whose large powers are neither 0 nor infinite; a small exponent, any, or one beside a power of 2.
+pub fn base_and_exponent(random: &mut Random) -> (f64, u32) {
+    let n = match random.below(4) {
+        0 => random.below(20) as u32,
+        1 => random.bits() as u32,
+        _ => (1u32 << random.below(32)).wrapping_add(random.below(5) as u32).wrapping_sub(2),
+    };
+    let r = match random.below(3) {
+        0 => edge(random.below(EDGES)),
+        1 => (1.0 + random.unit() * 2f64.powi(-(random.below(33) as i32))) * [1.0, -1.0][random.below(2)],
+        _ => sample(random),
+    };
+    (r, n)
+}
+
 // For a fused product and sum: the addend is near the product, almost undoes it, or decides a tie of it from far below.
 pub fn cancelling(random: &mut Random) -> [f64; 3] {
     let kind = random.below(6);

@@ -178,7 +178,7 @@ fn accepted(file: &[u8]) -> Table {
     let rmax = (n_r as f64).mul_add(dr, rmin);
     // of an atom's file neither is taken
     let grid = shape::grid([rmin, rmax, dr, float(20), 0.0, 0.0], [n_r, word(counts + 4)]);
-    Table { number: 0, grid, levels, rows, energies: word(start[4] as usize - 4), start }
+    shape::table(grid, [levels, rows, word(start[4] as usize - 4)], start, file)
 }
 
 // A copy of a file with a few things altered.
@@ -277,7 +277,45 @@ fn reads(file: &[u8], t: &Table, random: &mut Random, tally: &mut Tally) {
         } else {
             same_table(&copy, &Table { number, ..Table::default() });
         }
+        #[cfg(not(atom))]
+        viewed(&copy, tally);
         tally.add(&format!("read, damaged copies answered {number}"), 1);
+    }
+}
+
+// The viewer's answer: the number of `plain`, and where it accepts, read's answer.
+#[cfg(not(atom))]
+fn viewed(file: &[u8], tally: &mut Tally) {
+    report::input();
+    let (got, number) = (icotable::view(file), plain::view(file));
+    let wanted = if number == 0 { shape::read(file) } else { Table { number, ..Table::default() } };
+    if library::table_words(&got) != library::table_words(&wanted) || number == 0 && plain::read(file) != 0 {
+        differ("view", file_words(file), format!("{got:?}"), format!("{wanted:?}"));
+    }
+    tally.add(&format!("view, answered {number}"), 1);
+}
+
+// Files by hand around both bounds: of 1 to 17 levels, or of around 4,096 rows in one to three dihedral bins, all rows Scalar; as they are, and with a byte altered or missing.
+#[cfg(not(atom))]
+fn views(many: usize, random: &mut Random, tally: &mut Tally) {
+    for _ in 0..many {
+        let (levels, n_omega) = (1 + random.below(17) as u32, 1 + random.below(3) as u32);
+        let n_r = if random.below(20) == 0 { 4090 / n_omega + random.below(12) as u32 } else { 1 + random.below(3) as u32 };
+        let step = [6.0f64, 3.0, 2.0][n_omega as usize - 1];
+        let mut file: Vec<u8> = Vec::new();
+        let mut words = |ns: &[u32]| ns.iter().for_each(|n| file.extend(n.to_le_bytes()));
+        words(&[3]);
+        [0.5, 0.25, step].iter().for_each(|x: &f64| words(&[x.to_bits() as u32, (x.to_bits() >> 32) as u32]));
+        words(&[2, n_r, n_omega, levels]);
+        (1..=levels).for_each(|m| words(&[10 * m * m + 2]));
+        words(&[n_r * n_omega]);
+        (0..n_r * n_omega).for_each(|_| file.extend([0, 0, 255, 255, 255, 255, 0, 0, 128, 63]));
+        file.extend([0; 4]);
+        viewed(&file, tally);
+        let at = random.below(file.len().min(120 + 40 * random.below(3)));
+        file[at] ^= 1 << random.below(8);
+        viewed(&file, tally);
+        viewed(&file[..file.len() - 1], tally);
     }
 }
 
@@ -392,6 +430,9 @@ fn needed() -> Vec<String> {
     words.extend([0, 18, 20].map(|n| format!("reading, as written, answered {n}")));
     words.extend(reader::DAMAGED.iter().map(|case| format!("by hand: {case}, damaged or by a host")));
     words.extend(WEIGHTED.map(|case| format!("weighted reading, answered {case}")));
+    if shape::PAIR {
+        words.extend([0, 13, 14, 15, 16, 17, 24].map(|n| format!("view, answered {n}")));
+    }
     words.extend(CASES.iter().chain(shape::NEEDED).map(|&case| case.to_string()));
     words
 }
@@ -416,6 +457,8 @@ fn main() {
     for top in high {
         (0..each).for_each(|_| lists(World::new(top, &mut random), 1, many, &mut random, &mut tally));
     }
+    #[cfg(not(atom))]
+    views(length.choose(2000, 100_000), &mut random, &mut tally);
     let random_beta = Random::of(random.bits());
     let mut sink = Readings { answered: 0, refused: 0, files: 0, random: random_beta, weighted: 0 };
     for _ in 0..rounds {

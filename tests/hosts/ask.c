@@ -1,6 +1,6 @@
 /* Readings of a table: ask FILE < QUERIES. A query is a line of f64 as hexadecimal bits: r, omega, ax, ay, az, bx, by, bz or,
- * of a table against an atom, r, x, y, z. Prints for each the number and the bits of the energy. The meshes are the C
- * helper's. */
+ * of a table against an atom, r, x, y, z. Prints for each the number and the bits of the energy; of a table of two
+ * molecules also those of both distances and of the tail at r. The meshes are the C helper's. */
 #include "mesh.h"
 
 #include <inttypes.h>
@@ -58,8 +58,9 @@ int main(int count, char **names) {
     while (read_query(q, t.number == 0 ? 8 : 4)) {
         if (t.number == 0) {
             icotable_value v = icotable_reading(&t, file, length, ICOTABLE_LOCATORS(&m), q[0], q[1], q[2], q[3], q[4], q[5], q[6], q[7]);
-            double shown[3] = {v.energy, v.distance_a, v.distance_b};
-            print_answer(v.number, shown, 3);
+            icotable_value tail = icotable_tail(&t, file, length, q[0]);
+            double shown[4] = {v.energy, v.distance_a, v.distance_b, tail.energy};
+            print_answer(v.number | tail.number, shown, 4);
         } else {
             icotable_energy v = icotable_atom_reading(&u, file, length, ICOTABLE_LOCATORS(&m), q[0], q[1], q[2], q[3]);
             print_answer(v.number, &v.energy, 1);

@@ -34,7 +34,8 @@ int main(void) {
     for (int i = 0; i < n * n; i++)
         energies[i] = 7;
 """
-BETWEEN = """    icotable_free_meshes(&m);
+BETWEEN = """    printf("tail %g of %llu terms\\n", tail.energy, (unsigned long long)far.terms);
+    icotable_free_meshes(&m);
     {
         uint8_t *file = output;
         size_t length = w.length;
@@ -71,6 +72,7 @@ def main():
         snippets(page, "Finding a direction without a locator", 4),
         "    }\n",
         snippets(page, "Building a table", 7),
+        snippets(page, "Beyond the table's distances", 4),
         BETWEEN,
         snippets(page, "Reading in a simulation", 4),
         snippets(page, "Readings weighted by temperature", 4),

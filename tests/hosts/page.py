@@ -1,6 +1,6 @@
 #!/usr/bin/env python3
-"""docs/FORMAT.md followed in another language, from the page alone: the meshes and their checksums, table files of both kinds, and
-readings.
+"""docs/FORMAT.md followed in another language, from the page alone: the meshes and their checksums, table files of both kinds, one of
+them with a long-range tail, readings, and the tail.
 
 page.py PAGE ASK FOLDER: compares the checksums with the page's table, writes two tables to FOLDER, has ASK (tests/hosts/ask.c) read
 them, and compares each energy with the one that the page's rule gives. Ends in the counts; the status is 1 where one differs.
@@ -200,6 +200,7 @@ class Table:
         self.rmin, self.dr, self.step, _, self.n_r, self.n_omega, levels = struct.unpack_from("<dddIIII", data, 4)
         self.rows = 48 + 4 * levels
         self.energies = self.rows + 10 * self.n_r * self.n_omega + 4
+        self.sixth = self.energies + 4 * struct.unpack_from("<I", data, self.energies - 4)[0]
 
     def distance_bin(self, r):
         """None outside."""
@@ -212,6 +213,10 @@ class Table:
 
     def energy(self, place):
         return struct.unpack_from("<f", self.data, self.energies + 4 * place)[0]
+
+    def answers(self, meshes, r, omega, a, b):
+        """Of a reading, and the tail."""
+        return (*self.reading(meshes, r, omega, a, b), tail(self.data, self.sixth, r))
 
     def reading(self, meshes, r, omega, a, b):
         """The energy, and the squared distances that it shows."""
@@ -244,6 +249,9 @@ class AtomTable(Table):
         self.rows = 36 + 4 * levels
         self.energies = self.rows + 10 * self.n_r + 4
 
+    def answers(self, meshes, r, direction):
+        return self.reading(meshes, r, direction)
+
     def reading(self, meshes, r, direction):
         ri = self.distance_bin(r)
         if ri is None:
@@ -257,6 +265,46 @@ class AtomTable(Table):
         face, w = face_and_weights(mesh, p)
         t = [w[i] * self.energy(offset + face[i]) for i in range(3)]
         return ((t[0] + t[1]) + t[2],)
+
+
+# ---- the tail's rule
+
+
+def float_of(pattern):
+    return struct.unpack(">d", bytes.fromhex(pattern))[0]
+
+
+def power(r, n):
+    if n == 0:
+        return 1.0
+    h = power(r, n // 2)
+    return (h * h) * r if n % 2 else h * h
+
+
+def exponential(y):
+    if y < float_of("C08749999999999A"):
+        return 0.0
+    if y > float_of("40862E51EB851EB8"):
+        return math.inf
+    k = math.floor(y * float_of("3FF71547652B82FE") + 0.5)
+    t = (y - k * float_of("3FE62E42FEE00000")) - k * float_of("3DEA39EF35793C76")
+    p = 0.0
+    for j in range(13, -1, -1):
+        p = p * t + 1 / math.factorial(j)
+    h = k // 2
+    return (p * 2.0**h) * 2.0 ** (k - h)
+
+
+def tail(data, start, r):
+    """The sixth section begins at a byte; where the file ends there is none."""
+    if start == len(data):
+        return 0.0
+    (count,) = struct.unpack_from("<I", data, start)
+    total = -0.0
+    for i in range(count):
+        c, kappa, n = struct.unpack_from("<ddI", data, start + 4 + 20 * i)
+        total = total + (c * exponential(-kappa * r)) / power(r, n)
+    return struct.unpack_from("<d", data, start + 4 + 20 * count)[0] * total
 
 
 # ---- the comparison
@@ -280,7 +328,9 @@ def made_sections(draw, power):
 
 def made_table(draw):
     file = struct.pack("<Iddd", 3, 0.75, 0.3, TAU / DIHEDRALS) + struct.pack("<3I", 2, DISTANCES, DIHEDRALS)
-    return file + made_sections(draw, 2)
+    terms = [(2.0, 0.0, 1), (-3.5, 0.25, 6), (0.125, -0.5, 0), (40.0, 3.0, 13)]
+    sixth = struct.pack("<I", len(terms)) + b"".join(struct.pack("<ddI", *term) for term in terms) + struct.pack("<d", 17.7)
+    return file + made_sections(draw, 2) + sixth
 
 
 def made_atom_table(draw):
@@ -343,7 +393,7 @@ def compare_readings(ask, name, table, queries, meshes):
     answers = subprocess.run([ask, name], input=lines, capture_output=True, text=True, check=True).stdout.split("\n")
     differing = 0
     for query, answer in zip(queries, answers, strict=False):
-        wanted = " ".join(["0"] + [bits(x) for x in table.reading(meshes, *query)])
+        wanted = " ".join(["0"] + [bits(x) for x in table.answers(meshes, *query)])
         if answer != wanted:
             print(f"the library answers {answer}, the page's rule {wanted}: {query}")
             differing += 1

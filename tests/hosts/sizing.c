@@ -1,7 +1,7 @@
 /* The sizing of a build: sizing. Of all sixteen levels its answer is compared with lengths that are worked out here; lists of
  * exactly these lengths have to be accepted by fresh and the locator call, and with one entry less each of them has to be refused
  * with 6; a build whose slabs are all set at the top level has to give a file of exactly the length that was said, and builds
- * that are settled none that is longer. The same against an atom. sizing table prints the table of docs/GUIDE.md. The status is 1
+ * that are settled none that is longer. The same with a long-range tail, and against an atom. sizing table prints the table of docs/GUIDE.md. The status is 1
  * where an answer is another one. */
 #include "mesh.h"
 
@@ -26,8 +26,12 @@ static void expect(const char *what, uint64_t level, uint64_t got, uint64_t want
 static const icotable_grid pairs = {.rmin = 1, .rmax = 1 + DISTANCES, .dr = 1, .omega_step = 3.1, .threshold = 0.5, .beta = 1};
 static const icotable_atom_grid atoms = {.rmin = 1, .rmax = 1 + DISTANCES, .dr = 1, .threshold = 0.5, .beta = 1};
 
+static icotable_size sized_with(icotable_grid grid, uint64_t top, size_t counts, size_t neighbours, uint64_t terms) {
+    return icotable_sizing(grid, top, meshes.neighbour_counts, counts, meshes.neighbours, neighbours, terms);
+}
+
 static icotable_size sized(icotable_grid grid, uint64_t top, size_t counts, size_t neighbours) {
-    return icotable_sizing(grid, top, meshes.neighbour_counts, counts, meshes.neighbours, neighbours);
+    return sized_with(grid, top, counts, neighbours, 0);
 }
 
 static icotable_size atom_sized(icotable_atom_grid grid, uint64_t top, size_t counts, size_t neighbours) {
@@ -123,8 +127,10 @@ static void refused(void) {
     g = pairs, g.rmin = 0, g.rmax = 655;
     s = sized(g, TOP, below(LEVELS), 6 * below(LEVELS));
     zeros(&s, 5);
-    s = icotable_sizing(pairs, 0, NULL, 0, NULL, 0);
+    s = icotable_sizing(pairs, 0, NULL, 0, NULL, 0, 4294967296);
     zeros(&s, 6);
+    s = sized_with(pairs, SMALL, n, 6 * n, 4294967296);
+    zeros(&s, 23);
 }
 
 /* ---- lists of exactly these lengths */
@@ -198,6 +204,28 @@ static void pair_builds(uint64_t top) {
     freed(&l);
 }
 
+/* With a long-range tail: every slab set at the top level, and so many terms, reach the longest file; fewer do not. */
+static void tail_builds(uint64_t top) {
+    static const double numbers[3] = {1, 0.5, 2};
+    static const uint32_t powers[3] = {1, 6, 12};
+    size_t n = icotable_vertices(top), slabs = DISTANCES * OMEGAS;
+    icotable_size s = sized_with(pairs, top, meshes.neighbour_counts_count, meshes.neighbours_count, 3);
+    expect("the terms in the longest file", top, s.file - sized(pairs, top, meshes.neighbour_counts_count, meshes.neighbours_count).file, 12 + 3 * 20);
+    lists l = allocated(s.store, slabs, n * n, s.file);
+    size_t count[4] = {s.store, slabs, slabs, slabs};
+    icotable_builder b = icotable_fresh(pairs, top, LENT(l, count), ICOTABLE_MESHES(&meshes)).builder;
+    for (uint64_t slab = 0; slab < slabs; slab++)
+        b = icotable_set(b, LENT(l, count), slab / OMEGAS, slab % OMEGAS, l.energies, n * n).builder;
+    for (size_t terms = 0; terms <= 3; terms++) {
+        icotable_written w = icotable_write_tail(b, LENT(l, count), ICOTABLE_MESHES(&meshes), numbers, terms, numbers, 3, powers, 3, numbers, 1, l.output, s.file);
+        expect("write with terms", top, w.number, 0);
+        expect("its length", top, w.length, s.file - (terms == 0 ? 12 : 0) - 20 * (3 - terms));
+    }
+    expect("write with terms and a byte less", top,
+           icotable_write_tail(b, LENT(l, count), ICOTABLE_MESHES(&meshes), numbers, 3, numbers, 3, powers, 3, numbers, 1, l.output, s.file - 1).number, 12);
+    freed(&l);
+}
+
 static void atom_builds(uint64_t top) {
     size_t n = icotable_vertices(top);
     icotable_size s = atom_sized(atoms, top, meshes.neighbour_counts_count, meshes.neighbours_count);
@@ -257,7 +285,7 @@ int main(int count, char **names) {
         icotable_size s = sized(pairs, TOP, meshes.neighbour_counts_count, meshes.neighbours_count);
         locators(&s);
         for (uint64_t top = 0; top <= SMALL; top++)
-            pair_builds(top);
+            pair_builds(top), tail_builds(top);
         for (uint64_t top = 0; top < LEVELS; top++)
             atom_builds(top);
         printf("%d answers, of which %d differ\n", checks, differing);

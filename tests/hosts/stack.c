@@ -9,16 +9,16 @@
 #include <stdlib.h>
 #include <string.h>
 
-enum { TOP = 3, DISTANCES = 4, SLABS = 2 * DISTANCES, STACK = 1 << 20, KB = 1000, PAINT = 0xA5 };
+enum { TOP = 3, DISTANCES = 4, SLABS = 2 * DISTANCES, TAIL = 12 + 3 * 20, STACK = 1 << 20, KB = 1000, PAINT = 0xA5 };
 
 static const icotable_grid settings = {.rmin = 0, .rmax = DISTANCES, .dr = 1, .omega_step = 3, .threshold = 0.5, .beta = 1};
 static icotable_meshes meshes;
 static icotable_builder held;
 static double *store, *energies;
 static size_t store_count, room, length;
-static uint8_t kinds[SLABS], levels[SLABS], *file;
+static uint8_t kinds[SLABS], levels[SLABS], *file, *tail_file;
 static uint32_t values[SLABS];
-static icotable_table table;
+static icotable_table table, tail_table;
 static volatile double sink;
 
 /* Against an atom, a slab for each distance. */
@@ -64,12 +64,16 @@ static void settle(void) {
 }
 
 static void write_table(void) {
+    static const double numbers[3] = {1, 0.5, 2};
+    static const uint32_t powers[3] = {1, 6, 12};
+    sink = (double)icotable_write_tail(held, LISTS, ICOTABLE_MESHES(&meshes), numbers, 3, numbers, 3, powers, 3, numbers, 1, tail_file, room + TAIL).length;
     length = icotable_write(held, LISTS, ICOTABLE_MESHES(&meshes), file, room).length;
     atom_length = icotable_atom_write(atom_held, ATOM_LISTS, ICOTABLE_MESHES(&meshes), atom_file, ATOM_ROOM).length;
 }
 
 static void read_table(void) {
     table = icotable_read(file, length);
+    tail_table = icotable_read(tail_file, length + TAIL);
     atom_table = icotable_atom_read(atom_file, atom_length);
 }
 
@@ -85,13 +89,14 @@ static void reading(void) {
         double r = i % 5 - 0.25, omega = i * 0.1, x = i % 7 - 3, y = i % 11 - 5, z = i % 13 - 6.5;
         sink = icotable_reading(&table, file, length, ICOTABLE_LOCATORS(&meshes), r, omega, x, y, z, z, x, y).energy;
         sink = icotable_boltzmann(&table, file, length, ICOTABLE_LOCATORS(&meshes), r, omega, x, y, z, z, x, y, 1).energy;
+        sink = icotable_tail(&tail_table, tail_file, length + TAIL, r).energy;
         sink = icotable_atom_reading(&atom_table, atom_file, atom_length, ICOTABLE_LOCATORS(&meshes), r, x, y, z).energy;
         sink = icotable_atom_boltzmann(&atom_table, atom_file, atom_length, ICOTABLE_LOCATORS(&meshes), r, x, y, z, 1).energy;
     }
 }
 
 static void sizing(void) {
-    sink = (double)icotable_sizing(settings, TOP, meshes.neighbour_counts, meshes.neighbour_counts_count, meshes.neighbours, meshes.neighbours_count).file;
+    sink = (double)icotable_sizing(settings, TOP, meshes.neighbour_counts, meshes.neighbour_counts_count, meshes.neighbours, meshes.neighbours_count, 7).file;
     sink = (double)icotable_atom_sizing(atom_settings, TOP, meshes.neighbour_counts, meshes.neighbour_counts_count, meshes.neighbours, meshes.neighbours_count).file;
 }
 
@@ -105,6 +110,7 @@ static void search(void) {
 static void numbers(void) {
     for (int i = 0; i < 2000; i++) {
         double x = (double)(i - 500) * 1e-3, y = x * 1e-308;
+        sink = icotable_power(x, UINT32_MAX - (uint32_t)i);
         sink = icotable_root(x) + icotable_exp(x) + icotable_ln(x) + icotable_ln(y) + icotable_mul_add(x, y, x) + icotable_mul_add(y, y, y) + (double)icotable_narrow(y) + (double)icotable_narrow_case(y);
     }
     sink = (double)(icotable_vertices(15) + icotable_cells(15));
@@ -123,13 +129,13 @@ static const operation operations[] = {
     {"fresh", nothing, fresh, 2},
     {"set", nothing, set, 2},
     {"settle", set, settle, 88},
-    {"write", nothing, write_table, 2},
+    {"write, write_tail", nothing, write_table, 2},
     {"read", nothing, read_table, 2},
     {"locator", nothing, locator, 10},
-    {"reading, boltzmann", nothing, reading, 3},
+    {"reading, boltzmann, tail", nothing, reading, 3},
     {"sizing", nothing, sizing, 4},
     {"search", nothing, search, 2},
-    {"root, exp, ln, mul_add, narrow, narrow_case, vertices, cells", nothing, numbers, 2},
+    {"root, exp, ln, power, mul_add, narrow, narrow_case, vertices, cells", nothing, numbers, 2},
 };
 
 typedef struct run {
@@ -169,7 +175,8 @@ static void prepare(void) {
     store = calloc(store_count, sizeof *store);
     energies = calloc(n * n, sizeof *energies);
     file = calloc(room, 1);
-    if (store == NULL || energies == NULL || file == NULL || icotable_make_meshes(&meshes, TOP) != 0)
+    tail_file = calloc(room + TAIL, 1);
+    if (store == NULL || energies == NULL || file == NULL || tail_file == NULL || icotable_make_meshes(&meshes, TOP) != 0)
         exit(2);
 }
 
@@ -192,7 +199,7 @@ int main(int count, char **names) {
         seen |= 1u << kinds[s];
         atom_seen |= 1u << atom_kinds[s / 2];
     }
-    if (length == 0 || table.number != 0 || seen != 15 || atom_length == 0 || atom_table.number != 0 || atom_seen != 15)
+    if (length == 0 || table.number != 0 || tail_table.terms != 3 || seen != 15 || atom_length == 0 || atom_table.number != 0 || atom_seen != 15)
         wrong++;
     return wrong != 0;
 }

@@ -1,4 +1,4 @@
-/* Damaged copies of a small table file, of two molecules or against an atom (tests/damaged/make writes them): the file, then a line for each copy with its
+/* Damaged copies of a small table file, of two molecules, with a long-range tail or not, or against an atom (tests/damaged/make writes them): the file, then a line for each copy with its
  * length, three changes, each a place and the byte put there, and the number that read has to answer. The tools' own
  * walk over a refused file has to come to the same number, and to name a byte where something can be wrong: its field
  * is not wholly before the first change, or it is the count of a section that goes beyond the end of the copy. */
@@ -7,13 +7,14 @@
 
 #include <string.h>
 
-enum { ACCEPTED, SECTIONS, OTHER = 6 };
+/* With a tail `by 23` stands before what is by another number. */
+enum { ACCEPTED, SECTIONS, LAST = 6 };
 
 enum { ROOM = 2048, FIELD = 10, NO_PLACE = 0xFFFF };
 
 /* The undamaged file, and where its sections' counts begin and the last one ends. */
 typedef struct whole_file {
-    size_t count, section[6];
+    size_t count, section[7];
     uint8_t bytes[ROOM];
 } whole_file;
 
@@ -26,7 +27,7 @@ static size_t first_change(const whole_file *f, const uint8_t *copy, size_t coun
 }
 
 static bool section_cut(const whole_file *f, size_t byte, size_t length) {
-    for (int k = 0; k < 5; k++)
+    for (int k = 0; k < 6; k++)
         if (byte == f->section[k])
             return length < f->section[k + 1];
     return false;
@@ -59,7 +60,9 @@ static int kind_of(replay *r) {
     size_t at = r->at;
     uint64_t wanted = word(r, 2);
     r->at = at;
-    return wanted == 0 ? ACCEPTED : wanted >= 13 && wanted <= 17 ? SECTIONS + (int)wanted - 13 : OTHER;
+    if (wanted >= ICOTABLE_SECTIONS && wanted <= ICOTABLE_FILE_NAN)
+        return SECTIONS + (int)wanted - ICOTABLE_SECTIONS;
+    return wanted == 0 ? ACCEPTED : LAST + (r->tail && wanted != ICOTABLE_TERM);
 }
 
 static void replay_copy(replay *r, const whole_file *f) {
@@ -67,7 +70,7 @@ static void replay_copy(replay *r, const whole_file *f) {
     size_t length = read_copy(r, f, copy);
     int kind = kind_of(r);
     uint64_t ours = read_table(copy, length, r->atom).number;
-    place p = find_place(copy, length, r->atom);
+    place p = find_place(copy, length, r->atom, false);
     bool agrees = holds(r, kind, p.number == ours, "the tools' walk comes to another number than the library");
     agrees &= holds(r, kind, ours == 0 || can_be(f, &p, first_change(f, copy, length), length),
         "the tools' walk names a byte that cannot be");
@@ -75,15 +78,16 @@ static void replay_copy(replay *r, const whole_file *f) {
     counted(r, kind, agrees);
 }
 
-/* Each section goes by the one before it. */
+/* Each section goes by the one before it; the sixth ends with the prefactor. */
 void replay_damaged(replay *r) {
     static const size_t width[5] = {8, 4, 4, 10, 4};
-    whole_file f = {.count = r->atom ? 502 : 1272};
+    whole_file f = {.count = r->atom ? 502 : r->tail ? 1344 : 1272};
     for (size_t i = 0; i < f.count; i++)
         f.bytes[i] = (uint8_t)digits(r, 2);
     end_line(r);
     for (int k = 0; k < 5; k++)
         f.section[k + 1] = f.section[k] + 4 + width[k] * u32_of(f.bytes + f.section[k]);
+    f.section[6] = f.count;
     while (next_line(r)) {
         replay_copy(r, &f);
         end_line(r);

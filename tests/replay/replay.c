@@ -206,6 +206,29 @@ static kind_count damaged[] = {
     {.words = "by another number"},
     {0},
 };
+static kind_count damaged_tail[] = {
+    {.words = "copies to be accepted"},
+    {.words = "to be refused by 13"},
+    {.words = "by 14"},
+    {.words = "by 15"},
+    {.words = "by 16"},
+    {.words = "by 17"},
+    {.words = "by 23"},
+    {.words = "by another number"},
+    {0},
+};
+static kind_count tails[] = {
+    {.words = "writes, accepted"},
+    {.words = "writes, refused"},
+    {.words = "files read, accepted"},
+    {.words = "files read, refused"},
+    {.words = "tails, as the Rust"},
+    {.words = "tails, damaged or of a host's table"},
+    {.words = "tails, refused with 18"},
+    {.words = "tails, refused with 19"},
+    {.words = "powers"},
+    {0},
+};
 static kind_count sizes[] = {
     {.words = "sizings, accepted"},
     {.words = "stores"},
@@ -220,22 +243,40 @@ static kind_count sizes[] = {
     {.words = "refused with 7"},
     {0},
 };
+static kind_count sizes_tail[] = {
+    {.words = "sizings, accepted"},
+    {.words = "stores"},
+    {.words = "files"},
+    {.words = "numbers by level"},
+    {.words = "refused with 1"},
+    {.words = "refused with 2"},
+    {.words = "refused with 3"},
+    {.words = "refused with 4"},
+    {.words = "refused with 5"},
+    {.words = "refused with 6"},
+    {.words = "refused with 7"},
+    {.words = "refused with 23"},
+    {0},
+};
 
 static const struct {
     const char *name;
     kind_count *kinds;
     void (*run)(replay *);
-    bool atom;
+    bool atom, tail;
 } replays[] = {
-    {"searches", searches, replay_searches, false},
-    {"calls", calls, replay_calls, false},
-    {"calls_atom", calls, replay_calls, true},
-    {"readings", readings, replay_readings, false},
-    {"readings_atom", readings, replay_readings, true},
-    {"damaged", damaged, replay_damaged, false},
-    {"damaged_atom", damaged, replay_damaged, true},
-    {"sizes", sizes, replay_sizes, false},
-    {"sizes_atom", sizes, replay_sizes, true},
+    {"searches", searches, replay_searches, false, false},
+    {"calls", calls, replay_calls, false, false},
+    {"calls_atom", calls, replay_calls, true, false},
+    {"readings", readings, replay_readings, false, false},
+    {"readings_atom", readings, replay_readings, true, false},
+    {"damaged", damaged, replay_damaged, false, false},
+    {"damaged_atom", damaged, replay_damaged, true, false},
+    {"damaged_tail", damaged_tail, replay_damaged, false, true},
+    {"tails", tails, replay_tails, false, true},
+    {"sizes", sizes, replay_sizes, false, false},
+    {"sizes_atom", sizes, replay_sizes, true, false},
+    {"sizes_tail", sizes_tail, replay_sizes, false, true},
 };
 
 static char *letters_of(const char *name, size_t *count) {
@@ -260,7 +301,7 @@ int main(int count, char **words) {
     for (size_t i = 0; count == 3 && i < sizeof replays / sizeof replays[0]; i++) {
         if (strcmp(words[1], replays[i].name) != 0)
             continue;
-        replay r = {.name = words[2], .atom = replays[i].atom, .kinds = replays[i].kinds};
+        replay r = {.name = words[2], .atom = replays[i].atom, .tail = replays[i].tail, .kinds = replays[i].kinds};
         r.letters = letters_of(words[2], &r.count);
         if (r.letters == NULL) {
             perror(words[2]);
@@ -270,6 +311,9 @@ int main(int count, char **words) {
         free(r.letters);
         return report(&r);
     }
-    fputs("usage: replay searches|calls|calls_atom|readings|readings_atom|damaged|damaged_atom|sizes|sizes_atom FILE\n", stderr);
+    fputs("usage: replay NAME FILE, the names being\n", stderr);
+    for (size_t i = 0; i < sizeof replays / sizeof replays[0]; i++)
+        fprintf(stderr, " %s", replays[i].name);
+    fputc('\n', stderr);
     return 2;
 }

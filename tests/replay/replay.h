@@ -14,10 +14,10 @@ typedef struct kind_count {
 } kind_count;
 
 /* A data file: its letters, the place of the one that is read next, and what was counted so far; and whether it is of
- * tables against an atom. */
+ * tables against an atom, or has a long-range tail. */
 typedef struct replay {
     const char *name;
-    bool atom;
+    bool atom, tail;
     char *letters;
     size_t count, at;
     kind_count *kinds;
@@ -61,5 +61,6 @@ void replay_calls(replay *r);
 void replay_readings(replay *r);
 void replay_damaged(replay *r);
 void replay_sizes(replay *r);
+void replay_tails(replay *r);
 
 #endif

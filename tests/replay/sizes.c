@@ -1,5 +1,6 @@
 /* Sizings of builds (tests/sizes/make writes them): neighbour counts and neighbours of levels 0 to 2, then a line for each
- * sizing with its answer, the settings and top level, how much is lent of both lists, and an entry of each that is altered. */
+ * sizing with its answer, the settings and top level, how much is lent of both lists, an entry of each that is altered, and
+ * in sizes_tail the number of terms. */
 #include "replay.h"
 
 #include <string.h>
@@ -13,10 +14,11 @@ typedef struct links {
     uint16_t neighbours[6 * N];
 } links;
 
-static icotable_size sized(const replay *r, icotable_grid g, uint64_t top, const links *l, size_t counts, size_t neighbours) {
+static icotable_size sized(
+    const replay *r, icotable_grid g, uint64_t top, const links *l, size_t counts, size_t neighbours, uint64_t terms) {
     icotable_atom_grid atom = {.rmin = g.rmin, .rmax = g.rmax, .dr = g.dr, .threshold = g.threshold, .beta = g.beta, .n_r = g.n_r};
     return r->atom ? icotable_atom_sizing(atom, top, l->counts, counts, l->neighbours, neighbours)
-                   : icotable_sizing(g, top, l->counts, counts, l->neighbours, neighbours);
+                   : icotable_sizing(g, top, l->counts, counts, l->neighbours, neighbours, terms);
 }
 
 static uint64_t stamp(const icotable_size *s) {
@@ -40,8 +42,8 @@ static void one(replay *r, const links *whole) {
     links l = *whole;
     size_t answer = r->at;
     uint64_t wanted = word(r, 2);
-    if (wanted > ICOTABLE_MESH)
-        bad_data(r, "a number above 7");
+    if (wanted > ICOTABLE_MESH && (wanted != ICOTABLE_TERM || !r->tail))
+        bad_data(r, "a number that no sizing answers");
     word(r, 16), word(r, 16), word(r, 8);
     /* whatever counts are handed in */
     icotable_grid g = {.n_r = 77, .n_omega = 77};
@@ -58,11 +60,12 @@ static void one(replay *r, const links *whole) {
     uint16_t neighbour = (uint16_t)word(r, 4);
     if (at != NO_PLACE)
         l.neighbours[at] = neighbour;
+    uint64_t terms = r->tail ? word(r, 16) : 0;
     size_t end = r->at;
-    icotable_size s = sized(r, g, top, &l, counts, neighbours);
+    icotable_size s = sized(r, g, top, &l, counts, neighbours, terms);
     r->at = answer;
     if (wanted != 0) {
-        int kind = REFUSED + (int)wanted - 1;
+        int kind = REFUSED + (int)(wanted <= ICOTABLE_MESH ? wanted : ICOTABLE_MESH + 1) - 1;
         icotable_size none = {.number = s.number};
         bool agrees = holds(r, kind, s.number == 0 || memcmp(&s, &none, sizeof none) == 0, "a refused sizing is not 0 but for its number");
         agrees &= same(r, kind, 2, s.number);

@@ -2,6 +2,7 @@
     exact.py exp          writes the vectors of exp
     exact.py ln           writes those of ln, by the steps of document 02's paper 1
     exact.py narrow_case  writes those of narrow's case, by the two f32 around the number
+    exact.py power        writes those of the power, by the words of document 02's paper 9
     exact.py check FILE   works out root, mul_add, narrow, of_u64 and rem_tau of FILE's lines again, and names each line that differs"""
 import sys
 from fractions import Fraction
@@ -145,6 +146,24 @@ def ln(b):
     return rounded(step(e * value(LN2_HIGH)) + small)
 
 
+def product(a, b):
+    sign = (a ^ b) & TOP
+    if is_nan(a) or is_nan(b):
+        return NAN
+    if is_infinite(a) or is_infinite(b):
+        return NAN if 0 in (a & ~TOP, b & ~TOP) else sign | INFINITE
+    return rounded(abs(value(a) * value(b))) | sign
+
+
+def power(b, n):
+    """1 for n = 0; else that of half of n, rounded down, squared, and times the number where n is odd."""
+    if n == 0:
+        return 1023 << 52
+    h = power(b, n // 2)
+    square = product(h, h)
+    return product(square, b) if n % 2 else square
+
+
 def value32(p):
     """The number that the pattern of a non-negative f32 stands for; that of an infinity stands for the next number there would be."""
     field, digits = p >> 23, p & (1 << 23) - 1
@@ -268,6 +287,23 @@ def narrow_case_operands():
         yield random.bits()
 
 
+def power_operands():
+    """A number and an exponent: edges with every small exponent, powers of two and their neighbours and the largest; numbers beside 1 with any exponent; random ones."""
+    random = Random(0xBF58476D1CE4E5B9)
+    one = 1023 << 52
+    edges = (0, 1, (1 << 52) - 1, 1 << 52, one - 1, one, one + 1, one + (1 << 51), 1024 << 52, INFINITE - 1, INFINITE, NAN)
+    exponents = list(range(17)) + [(1 << j) + turn for j in range(5, 32) for turn in (-1, 0, 1)] + [(1 << 32) - 1]
+    for b in edges:
+        for n in exponents:
+            yield b, n
+            if n % 3 == 0 or n < 4:
+                yield b | TOP, n
+    for turn in range(800):
+        yield one + (random.bits() % (1 << 52) >> turn % 52), random.bits() % (1 << 32) >> turn % 32
+        yield random.float(-3, 4), random.bits() % 20
+        yield random.bits() % INFINITE | random.bits() & TOP, random.bits() % (1 << 32) >> turn % 32
+
+
 def check(path):
     again = {"root": root, "mul_add": mul_add, "narrow": narrow, "rem_tau": rem_tau, "of_u64": lambda n: rounded(Fraction(n))}
     bad = 0
@@ -282,7 +318,10 @@ def check(path):
 
 
 answers = {"exp": (exp, exp_operands, 16), "ln": (ln, ln_operands, 16), "narrow_case": (narrow_case, narrow_case_operands, 1)}
-if sys.argv[1] in answers:
+if sys.argv[1] == "power":
+    for b, n in dict.fromkeys(power_operands()):
+        print("power %016X %016X %016X" % (b, n, power(b, n)))
+elif sys.argv[1] in answers:
     answer, operands, width = answers[sys.argv[1]]
     for b in dict.fromkeys(operands()):
         print("%s %016X %0*X" % (sys.argv[1], b, width, answer(b)))

@@ -11,6 +11,7 @@ ghost use Rattle.float.specs.Order.{magnitude, larger, smaller, ordered, angle}
 ghost use Rattle.float.specs.Whole.{floored, ceiled};
 ghost use Rattle.float.specs.Exp.{exponential};
 ghost use Rattle.float.specs.Log.{logarithm};
+ghost use Rattle.float.specs.Power.{power};
 ghost use Rattle.float_c.specs.Narrows.{narrowedAll};
 
 #[no_mangle]
@@ -53,6 +54,13 @@ pub extern "C" fn float_ln(x: f64) -> f64
     ensures { λ r. ⌜ r ≡ logarithm x ⌝ }
 {
     float::ln(x)
+}
+
+#[no_mangle]
+pub extern "C" fn float_power(r: f64, n: u32) -> f64
+    ensures { λ x. ⌜ x ≡ power r n ⌝ }
+{
+    float::power(r, n)
 }
 
 #[no_mangle]

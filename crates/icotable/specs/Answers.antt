@@ -7,7 +7,8 @@ use Rattle.builder.specs.Calls.{BuiltValues, SettledValues}
 use Rattle.writer.specs.Write.{WrittenValues}
 use Rattle.table.specs.declared.Table.{Table}
 use Rattle.table.specs.Read.{ReadValues}
-use Rattle.reading.specs.Resolve.{ReadingValues}
+use Rattle.reading.specs.Resolve.{ReadingValues, noDistance}
+use Rattle.tail.specs.Reading.{TailValues}
 use Rattle.icotable.specs.declared.BuildAnswer.{BuildAnswer}
 use Rattle.icotable.specs.declared.SettleAnswer.{SettleAnswer}
 use Rattle.icotable.specs.declared.WriteAnswer.{WriteAnswer}
@@ -28,6 +29,10 @@ writtenIn a = record { number = a .number; length = a .length }
 unfoldable pub valueIn : ValueAnswer → ReadingValues
 valueIn a = record { number = a .number; energy = a .energy; distanceA = a .«distance_a»; distanceB = a .«distance_b» }
 
+-- a reading of the tail, in the same struct: it shows no distances
+unfoldable pub tailShown : TailValues → ReadingValues
+tailShown v = record { number = v .number; energy = v .energy; distanceA = noDistance; distanceB = noDistance }
+
 -- ---- read
 
 unfoldable pub tableWith : ℕ → Table → TableAnswer
@@ -38,7 +43,8 @@ tableWith n t =
       levels = t .levels;
       rows = t .rows;
       energies = t .energies;
-      start = t .«grid_start» ∷ (t .«bins_start» ∷ (t .«levels_start» ∷ (t .«rows_start» ∷ (t .«energies_start» ∷ []))));
+      terms = t .terms;
+      start = t .«grid_start» ∷ (t .«bins_start» ∷ (t .«levels_start» ∷ (t .«rows_start» ∷ (t .«energies_start» ∷ (t .«tail_start» ∷ [])))));
     }
 
 unfoldable pub tableAnswer : ReadValues → TableAnswer
@@ -54,9 +60,11 @@ tableFrom t =
       levels = t .levels;
       rows = t .rows;
       energies = t .energies;
+      terms = t .terms;
       «grid_start» = getD (t .start) 0 0;
       «bins_start» = getD (t .start) 1 0;
       «levels_start» = getD (t .start) 2 0;
       «rows_start» = getD (t .start) 3 0;
       «energies_start» = getD (t .start) 4 0;
+      «tail_start» = getD (t .start) 5 0;
     }

@@ -9,9 +9,11 @@ ghost use Rattle.ieee.specs.Narrow.{narrowed};
 ghost use Rattle.ieee.specs.Cases.{narrowCase};
 ghost use Rattle.float.specs.Exp.{exponential};
 ghost use Rattle.float.specs.Log.{logarithm};
+ghost use Rattle.float.specs.Power.{power};
 ghost use Rattle.builder.specs.Calls.{BuiltOut, SettleOut, builtValues, settledValues, noBuilder, freshOut, setOut, settleOut};
 ghost use Rattle.writer.specs.Write.{WriteOut, writtenValues, writeOut};
 ghost use Rattle.table.specs.Read.{readValues, readOut};
+ghost use Rattle.table.specs.View.{viewer, readOver};
 ghost use Rattle.locator.specs.Locator.{LocatorOut, locatorOut};
 ghost use Rattle.reading.specs.Resolve.{boltzmann, readingValues};
 ghost use Rattle.reading.specs.Reading.{readingBy, readingOut};
@@ -31,6 +33,7 @@ use writer::Written;
 
 mod atom;
 mod found;
+mod tails;
 
 // Of fresh and set.
 #[repr(C)]
@@ -53,7 +56,7 @@ pub struct WriteAnswer {
     pub length: u64,
 }
 
-// What a file holds; `start` has the byte after each section's count.
+// What a file holds; `start` has the byte after each section's count, and for a file without terms its length.
 #[repr(C)]
 pub struct TableAnswer {
     pub number: u64,
@@ -61,7 +64,8 @@ pub struct TableAnswer {
     pub levels: u64,
     pub rows: u64,
     pub energies: u64,
-    pub start: [u64; 5],
+    pub terms: u64,
+    pub start: [u64; 6],
 }
 
 // Of a reading; the distances are squared, and 0.0 but for a nearest reading.
@@ -146,12 +150,14 @@ fn table_with(number: u64, t: Table) -> TableAnswer
     let levels = t.levels;
     let rows = t.rows;
     let energies = t.energies;
+    let terms = t.terms;
     let start = [
         t.grid_start,
         t.bins_start,
         t.levels_start,
         t.rows_start,
         t.energies_start,
+        t.tail_start,
     ];
     TableAnswer {
         number,
@@ -159,6 +165,7 @@ fn table_with(number: u64, t: Table) -> TableAnswer
         levels,
         rows,
         energies,
+        terms,
         start,
     }
 }
@@ -174,7 +181,8 @@ fn table_answer(a: ReadAnswer) -> TableAnswer
             levels: 0,
             rows: 0,
             energies: 0,
-            start: [0; 5],
+            terms: 0,
+            start: [0; 6],
         },
     }
 }
@@ -187,17 +195,20 @@ fn table_from(t: TableAnswer) -> Table
     let levels = t.levels;
     let rows = t.rows;
     let energies = t.energies;
+    let terms = t.terms;
     let start = t.start;
     Table {
         grid,
         levels,
         rows,
         energies,
+        terms,
         grid_start: start[0],
         bins_start: start[1],
         levels_start: start[2],
         rows_start: start[3],
         energies_start: start[4],
+        tail_start: start[5],
     }
 }
 
@@ -344,6 +355,15 @@ pub extern "C" fn icotable_read(file: &[u8]) -> TableAnswer
     ensures { λ r. ⌜ r ≡ tableAnswer (readOut (now (file .entry))) ⌝ }
 {
     let a = table::read(file);
+    table_answer(a)
+}
+
+// The same for the viewer, which opens small tables alone.
+#[no_mangle]
+pub extern "C" fn icotable_view(file: &[u8]) -> TableAnswer
+    ensures { λ r. ⌜ r ≡ tableAnswer (readOver viewer (now (file .entry))) ⌝ }
+{
+    let a = table::view(file);
     table_answer(a)
 }
 
@@ -561,17 +581,18 @@ pub extern "C" fn icotable_boltzmann(
     )
 }
 
-// What a build of these settings needs.
+// What a build of these settings needs, with so many terms in its tail.
 #[no_mangle]
 pub extern "C" fn icotable_sizing(
     grid: Grid,
     top: u64,
     neighbour_counts: &[u8],
     neighbours: &[u16],
+    terms: u64,
 ) -> Size
-    ensures { λ r. ⌜ r ≡ sizingOut grid top (now («neighbour_counts» .entry)) (now (neighbours .entry)) ⌝ }
+    ensures { λ r. ⌜ r ≡ sizingOut grid top (now («neighbour_counts» .entry)) (now (neighbours .entry)) terms ⌝ }
 {
-    sizing::sizing(grid, top, neighbour_counts, neighbours)
+    sizing::sizing(grid, top, neighbour_counts, neighbours, terms)
 }
 
 // The vertices of a level; 0 above level 15.
@@ -616,6 +637,13 @@ pub extern "C" fn icotable_ln(x: f64) -> f64
     ensures { λ r. ⌜ r ≡ logarithm x ⌝ }
 {
     float::ln(x)
+}
+
+#[no_mangle]
+pub extern "C" fn icotable_power(r: f64, n: u32) -> f64
+    ensures { λ x. ⌜ x ≡ power r n ⌝ }
+{
+    float::power(r, n)
 }
 
 #[no_mangle]

@@ -29,7 +29,9 @@ use Rattle.table.proofs.Back.{All}
 use Rattle.table.proofs.Lengths.{bytes-length, section-length, below-length, entry-length}
 use Rattle.table.proofs.OfRows.{Good}
 use Rattle.table.proofs.Sound.{entries-length}
-use Rattle.writer.specs.Write.{fileFrom, writeRefusal, writeOut}
+use Rattle.writer.specs.Write.{fileFrom}
+use Rattle.writer.specs.Tailed.{TailLists, fullFileFrom, writeTailRefusal, writeTailOut}
+use Rattle.writer.proofs.OfTail.{tail-length}
 use Rattle.ledger.specs.Ledger.{Ledger, opened, ledger}
 use Rattle.ledger.specs.Promise.{History, fresh, ended, rows}
 use Rattle.ledger.specs.Packed.{LengthKnown, FileLength}
@@ -51,11 +53,11 @@ unfolding freshOut freshBuilder
 fresh-is g top m l e = rw e
 
 -- the length that an accepted write returns
-written-long : (b : Builder) (m : Mesh) (l : BuilderLists) (out : List ℕ) (x : Bool) → eqb (writeRefusal b m l (length out)) 0 ≡ x → writeOut b m l out .answer .number ≡ 0
-    → writeOut b m l out .answer .length ≡ length (fileFrom b l)
-unfolding writeOut
-written-long b m l out true d e = rw d refl
-written-long b m l out false d e = absurd (eqb-false _ 0 d (rw d at e))
+written-long : (b : Builder) (m : Mesh) (l : BuilderLists) (t : TailLists) (out : List ℕ) (x : Bool) → eqb (writeTailRefusal b m l t (length out)) 0 ≡ x
+    → writeTailOut b m l t out .answer .number ≡ 0 → writeTailOut b m l t out .answer .length ≡ length (fullFileFrom b l t)
+unfolding writeTailOut
+written-long b m l t out true d e = rw d refl
+written-long b m l t out false d e = absurd (eqb-false _ 0 d (rw d at e))
 
 -- ---- how long a file is
 
@@ -149,10 +151,11 @@ module _ (h : History) (begins : fresh h .answer .number ≡ 0) where
       record {
         packed = counted-packed;
         length = λ w.
-            written-long (ended h .builder) (h .meshes) (ended h .lists) (h .output) _ refl w
-            ∙ ap (λ (b : Builder). length (fileFrom b (ended h .lists))) (agree .same) ∙ ap length rows-written
+            written-long (ended h .builder) (h .meshes) (ended h .lists) (h .tail) (h .output) _ refl w
+            ∙ tail-length (ended h .builder) (h .meshes) (ended h .lists) (h .tail) _
+            (ap (λ (b : Builder). length (fileFrom b (ended h .lists))) (agree .same) ∙ ap length rows-written
             ∙ file-long g (suc (h .top)) (h .top) (last .rows) (agree .fit .good)
-            ∙ omega (arith, agree .fit .many, counted-packed);
+            ∙ omega (arith, agree .fit .many, counted-packed));
       }
 
 pub file-length : FileLength

@@ -33,7 +33,7 @@ use Rattle.builder.specs.Refusals.{meshedRefusal, setQuestion, setRefusal, sett
 use Rattle.builder.specs.declared.Builder.{Builder}
 use Rattle.settling.specs.declared.Verdict.{Verdict}
 use Rattle.builder.proofs.Laws.{Roomy}
-use Rattle.writer.specs.Write.{writeRefusal, writeOut}
+use Rattle.writer.specs.Tailed.{TailLists, writeTailRefusal, writeTailOut}
 use Rattle.table.proofs.OfRows.{Good}
 use Rattle.ledger.specs.Ledger.{Call, set-call, settle-call, write-call, State, called, run, Ledger, opened, ledgerSlice, ledgerQuestion, setEntered, settleEntered, entered, ledger}
 use Rattle.ledger.proofs.Store.{put-sets}
@@ -174,15 +174,15 @@ module _ (g : Grid) (top : ℕ) (m : Mesh) (base : Basis g top m) (v p : ℕ) (l
 
   -- write
 
-  write-step : (out : List ℕ) (x : Bool) → eqb (writeRefusal b m ls (length out)) 0 ≡ x → Agree g top (called m st (write-call out)) (entered g m bk (write-call out))
-  unfolding called entered writeOut
-  write-step out true d = rw d unchanged
-  write-step out false d = rw d unchanged
+  write-step : (t : TailLists) (out : List ℕ) (x : Bool) → eqb (writeTailRefusal b m ls t (length out)) 0 ≡ x → Agree g top (called m st (write-call t out)) (entered g m bk (write-call t out))
+  unfolding called entered writeTailOut
+  write-step t out true d = rw d unchanged
+  write-step t out false d = rw d unchanged
 
   step : (c : Call) → Agree g top (called m st c) (entered g m bk c)
   step (set-call ri oi e) = set-step ri oi e _ refl
   step (settle-call ri) = settle-step ri _ refl
-  step (write-call out) = write-step out _ refl
+  step (write-call t out) = write-step t out _ refl
 
 pub step-agrees : (g : Grid) (top : ℕ) (m : Mesh) → Basis g top m → (st : State) (b : Ledger) (c : Call) → Agree g top st b → Agree g top (called m st c) (entered g m b c)
 step-agrees g top m base st b c a =

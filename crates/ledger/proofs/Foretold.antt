@@ -40,7 +40,7 @@ all-reach beta (r ∷ rs) e =
 
 pub foretold : Foretold
 unfolding sized
-foretold h ri begins n q =
+foretold h ri k i begins n q =
     let b = ended h .builder in
     let g = counted (h .grid) in
     let a = agree h begins in
@@ -48,7 +48,7 @@ foretold h ri begins n q =
     let few : h .top ≤ 15 = yes-all h begins .asked .top-le in
     let all = all-reach (b .grid .beta) (sliceAt b (ended h .lists) ri) q ∙ slice-long _ _ _ _ _ in
     let omegas : b .grid .«n_omega» ≡ g .«n_omega» = ap (λ (x : Builder). x .grid .«n_omega») (a .same) in
-    reports b (h .meshes) (ended h .lists) ri ∙ rw (n, all, omegas, size-is h begins)
+    reports b (h .meshes) (ended h .lists) ri ∙ rw (n, all, omegas, size-is h begins k i)
     (sym (at-level (λ m. g .«n_omega» * (2 * vertexCount m * neighbourTotal (h .meshes .counts) m)) (suc (h .top)) (b .level) (omega (arith, low)) (omega (arith, few))))
 
 pub atom-foretold : AtomForetold

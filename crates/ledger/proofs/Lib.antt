@@ -9,6 +9,7 @@ pub mod Packed
 pub mod Comparisons
 pub mod Ends
 pub mod Readings
+pub mod Tails
 pub mod Admitted
 pub mod Theorem
 pub mod AtomFollows

@@ -30,16 +30,21 @@ use Rattle.builder.proofs.Laws.{asked}
 use Rattle.sizing.specs.Sizing.{sizingRefusal, sized, noSize, sizingOut}
 use Rattle.sizing.specs.declared.Size.{Size}
 use Rattle.sizing.proofs.Levels.{at-level}
+use Rattle.sizing.proofs.Sizes.{size-done}
+use Rattle.table.specs.Tail.{tailSize}
 use Rattle.table.specs.File.{energyCount}
 use Rattle.table.proofs.Back.{All}
 use Rattle.table.proofs.Sound.{all-append}
-use Rattle.writer.specs.Write.{WrittenValues, fileFrom, writeOut}
+use Rattle.table.proofs.OfTail.{tail-mono}
+use Rattle.writer.specs.Write.{WrittenValues}
+use Rattle.writer.specs.Tailed.{TailLists, tailedQuestion, fullFileFrom, writeTailOut}
 use Rattle.writer.specs.Internal.{heldBy, resolutions, total, Sure, writeQuestion}
 use Rattle.writer.proofs.Whole.{total-few}
-use Rattle.writer.proofs.Outcome.{sure, write-length, write-refused, write-short, write-done}
+use Rattle.writer.proofs.Outcome.{sure, write-length}
+use Rattle.writer.proofs.OfTail.{tail-asked, tailed-long, tailed-sure, tail-length, tail-refused, tail-short, tail-done}
 use Rattle.ledger.specs.Ledger.{Call, set-call, Ledger, opened, setEntered, entered, ledger}
 use Rattle.ledger.specs.Promise.{History, fresh, ended, lastWrite}
-use Rattle.ledger.specs.Longest.{sizeOf, NoLonger, Longest, Settable, everySlab, Reaches, Reached, Fits, Fitting}
+use Rattle.ledger.specs.Longest.{sizeOf, NoLonger, Longest, Settable, everySlab, Reaches, Handed, Reached, Fits, Fitting}
 use Rattle.ledger.proofs.Invariant.{Fit, rows-are, rows-known, room-held}
 use Rattle.ledger.proofs.Follows.{builderAt, meshed-yes}
 use Rattle.ledger.proofs.Ends.{basis, agree}
@@ -181,27 +186,35 @@ fits head n z top f h =
 
 -- ---- tables of two molecules
 
-abbrev most : Builder → ℕ
-most b = 52 + 4 * suc (b .top) + 10 * slabs (b .grid) + 4 * (slabs (b .grid) * per (b .top))
+-- with k terms
+abbrev most : ℕ → Builder → ℕ
+most k b = 52 + tailSize k + 4 * suc (b .top) + 10 * slabs (b .grid) + 4 * (slabs (b .grid) * per (b .top))
 
-module _ (b : Builder) (m : Mesh) (l : BuilderLists) (out : List ℕ) where
-  answers : Answers (writeQuestion b m l) (length (fileFrom b l)) (length out) (writeOut b m l out .answer)
+module _ (b : Builder) (m : Mesh) (l : BuilderLists) (t : TailLists) (out : List ℕ) where
+  answers : Answers (tailedQuestion b m l t) (length (fullFileFrom b l t)) (length out) (writeTailOut b m l t out .answer)
   answers =
       record {
-        refused = λ z. rw (write-refused b m l out (writeQuestion b m l) refl z) refl;
-        short = λ z e. rw (write-short b m l out z e) refl;
-        done = λ z e. rw (write-done b m l out z e) (refl, refl);
+        refused = λ z. rw (tail-refused b m l t out (tailedQuestion b m l t) refl z) refl;
+        short = λ z e. rw (tail-short b m l t out z e) refl;
+        done = λ z e. rw (tail-done b m l t out z e) (refl, refl);
       }
 
-  -- from any builder and lists
-  write-le : writeOut b m l out .answer .length ≤ most b
-  write-le = answer-le _ _ _ (most b) _ answers (λ z.
-      let s = sure b m l z .0 in
-      omega (arith, write-length b l _ s refl, total-few per (b .top) (l .rows) (slabs (b .grid)) (s .bounded)))
+  -- what is accepted is sure, and how long its file is
+  long : tailedQuestion b m l t ≡ 0 → Sure per (b .top) (slabs (b .grid)) l
+      × (length (fullFileFrom b l t) ≡ 56 + 4 * b .top + 10 * slabs (b .grid) + 4 * total per (resolutions (l .rows) 0 (slabs (b .grid))) + tailSize (length (t .coefficients)))
+  long z =
+      let s = sure b m l (tailed-sure b m l t z .0) .0 in
+      (s, tail-length b m l t _ (write-length b l _ s refl))
 
-  write-full : writeQuestion b m l ≡ 0 → total per (resolutions (l .rows) 0 (slabs (b .grid))) ≡ slabs (b .grid) * per (b .top) → most b ≤ length out
-      → (writeOut b m l out .answer .number ≡ 0) × (writeOut b m l out .answer .length ≡ most b)
-  write-full z e r = answer-full _ _ _ (most b) _ answers z (write-length b l _ (sure b m l z .0) (sym e) ∙ omega arith) r
+  -- from any builder and lists, with at most k terms
+  write-le : (k : ℕ) → length (t .coefficients) ≤ k → writeTailOut b m l t out .answer .length ≤ most k b
+  write-le k h = answer-le _ _ _ (most k b) _ answers (λ z.
+      let s = long z in
+      omega (arith, s .1, tail-mono (length (t .coefficients)) k h, total-few per (b .top) (l .rows) (slabs (b .grid)) (s .0 .bounded)))
+
+  write-full : (k : ℕ) → length (t .coefficients) ≡ k → tailedQuestion b m l t ≡ 0 → total per (resolutions (l .rows) 0 (slabs (b .grid))) ≡ slabs (b .grid) * per (b .top)
+      → most k b ≤ length out → (writeTailOut b m l t out .answer .number ≡ 0) × (writeTailOut b m l t out .answer .length ≡ most k b)
+  write-full k n z e r = answer-full _ _ _ (most k b) _ answers z (long z .1 ∙ rw n (omega (arith, e))) r
 
 some-each : (a b s : ℕ) → s < a * b → 0 < b
 some-each a zero s i = absurd (omega (arith, i, mul-zero a))
@@ -211,9 +224,13 @@ module _ (h : History) (begins : fresh h .answer .number ≡ 0) where
   abbrev g : Grid
   g = counted (h .grid)
 
-  pub size-is : sizeOf h ≡ sized 52 (slabs g) (per (h .top)) (h .top) (λ m. g .«n_omega» * (2 * vertexCount m * neighbourTotal (h .meshes .counts) m))
-  unfolding sizingOut freshQuestion
-  size-is = let a = basis h begins in rw (none-asked (question g (h .top) (h .top)) (h .top) (h .meshes) (a .asked) (a .held) (a .kept)) refl
+  pub size-is : (k : ℕ) → k ≤ 4294967295
+      → sizeOf h k ≡ sized (52 + tailSize k) (slabs g) (per (h .top)) (h .top) (λ m. g .«n_omega» * (2 * vertexCount m * neighbourTotal (h .meshes .counts) m))
+  unfolding freshQuestion
+  size-is k i =
+      let a = basis h begins in
+      size-done (h .grid) (h .top) (h .meshes .counts) (h .meshes .neighbours) k
+      (none-asked (question g (h .top) (h .top)) (h .top) (h .meshes) (a .asked) (a .held) (a .kept)) (le-leb k 4294967295 i)
 
   same-grid : ended h .builder .grid ≡ g
   same-grid = ap (λ (b : Builder). b .grid) (agree h begins .same)
@@ -221,13 +238,14 @@ module _ (h : History) (begins : fresh h .answer .number ≡ 0) where
   same-top : ended h .builder .top ≡ h .top
   same-top = ap (λ (b : Builder). b .top) (agree h begins .same)
 
-  most-is : most (ended h .builder) ≡ sizeOf h .file
+  most-is : (k : ℕ) → k ≤ 4294967295 → most k (ended h .builder) ≡ sizeOf h k .file
   unfolding sized
-  most-is = rw (same-grid, same-top, size-is) refl
+  most-is k i = rw (same-grid, same-top, size-is k i) refl
 
-  no-longer : NoLonger (sizeOf h) (lastWrite h .answer)
+  no-longer : (k : ℕ) → k ≤ 4294967295 → length (h .tail .coefficients) ≤ k → NoLonger (sizeOf h k) (lastWrite h .answer)
   unfolding sized
-  no-longer = record { sized = rw size-is refl; length = rw (← most-is) (write-le (ended h .builder) (h .meshes) (ended h .lists) (h .output)) }
+  no-longer k i n =
+      record { sized = rw (size-is k i) refl; length = rw (← most-is k i) (write-le (ended h .builder) (h .meshes) (ended h .lists) (h .tail) (h .output) k n) }
 
   module _ (e : ℕ → List Float) (calls : h .calls ≡ everySlab g e) (good : (s : ℕ) → s < slabs g → Settable (per (h .top)) (e s)) where
     -- slab s is accepted at the top level
@@ -272,22 +290,27 @@ module _ (h : History) (begins : fresh h .answer .number ≡ 0) where
     full : total per (resolutions (after .rows) 0 (slabs (ended h .builder .grid))) ≡ slabs (ended h .builder .grid) * per (ended h .builder .top)
     full = rw (same-grid, same-top) (full-total per (slabs g) (h .top) (after .store) (after .rows) (end .rows) (agree h begins .fit) all-full)
 
-    reaches : sizeOf h .file ≤ length (h .output) → Reaches (sizeOf h) (lastWrite h .answer)
-    reaches r =
-        let w = write-full (ended h .builder) (h .meshes) after (h .output) put-all full (rw most-is r) in
-        record { accepted = w .0; length = w .1 ∙ most-is }
+    reaches : (k : ℕ) → Handed k (h .tail) → sizeOf h k .file ≤ length (h .output) → Reaches (sizeOf h k) (lastWrite h .answer)
+    unfolding first
+    reaches k t r =
+        let i : k ≤ 4294967295 = rw (← t .many) (tail-asked (h .tail) (t .asked) .0) in
+        let yes : tailedQuestion (ended h .builder) (h .meshes) after (h .tail) ≡ 0 = tailed-long (ended h .builder) (h .meshes) after (h .tail) (t .long) ∙ rw (put-all, t .asked) refl in
+        let w = write-full (ended h .builder) (h .meshes) after (h .tail) (h .output) k (t .many) yes full (rw (most-is k i) r) in
+        record { accepted = w .0; length = w .1 ∙ most-is k i }
 
 pub longest : Longest
-longest h begins = no-longer h begins
+longest h k i begins n = no-longer h begins k i n
 
 pub reached : Reached
-reached h e begins calls good r = reaches h begins e calls good r
+reached h e k begins calls good t r = reaches h begins e calls good k t r
 
-fitting-by : (g : Grid) (top : ℕ) (counts neighbours : List ℕ) (x : Bool) → eqb (sizingRefusal (freshQuestion g top) top counts neighbours) 0 ≡ x
-    → sizingOut g top counts neighbours .number ≡ 0 → Fits (slabs (counted g)) (per top) top (sizingOut g top counts neighbours)
+fitting-by : (g : Grid) (top : ℕ) (counts neighbours : List ℕ) (k : ℕ) (x : Bool)
+    → eqb (first (sizingRefusal (freshQuestion g top) top counts neighbours) (ask (leb k 4294967295) 23 0)) 0 ≡ x
+    → sizingOut g top counts neighbours k .number ≡ 0 → Fits (slabs (counted g)) (per top) top (sizingOut g top counts neighbours k)
 unfolding sizingOut noSize sizingRefusal freshQuestion
-fitting-by g top counts neighbours true d e = rw d (fits 52 (slabs (counted g)) (per top) top _ (asked (counted g) top top (first-yes (eqb-true _ 0 d) .0) .top-le))
-fitting-by g top counts neighbours false d e = absurd (eqb-false _ 0 d (rw d at e))
+fitting-by g top counts neighbours k true d e =
+    rw d (fits (52 + tailSize k) (slabs (counted g)) (per top) top _ (asked (counted g) top top (first-yes (first-yes (eqb-true _ 0 d) .0) .0) .top-le))
+fitting-by g top counts neighbours k false d e = absurd (eqb-false _ 0 d (rw d at e))
 
 pub fitting : Fitting
-fitting g top counts neighbours e = fitting-by g top counts neighbours _ refl e
+fitting g top counts neighbours k e = fitting-by g top counts neighbours k _ refl e

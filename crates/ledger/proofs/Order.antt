@@ -10,7 +10,8 @@ use lib.Ieee.{Float}
 use borrow.Author.Tests.{eqb-true, eqb-false, eq-eqb, ne-eqb}
 use Rattle.lists.proofs.Counting.{and-no}
 use Rattle.mesh.specs.Mesh.{Mesh}
-use Rattle.writer.specs.Write.{WriteOut, writeOut}
+use Rattle.writer.specs.Write.{WriteOut}
+use Rattle.writer.specs.Tailed.{writeTailOut}
 use Rattle.ledger.specs.Ledger.{Call, set-call, settle-call, write-call, State, called, run}
 use Rattle.ledger.specs.Promise.{History, ended, lastWrite, file}
 use Rattle.ledger.specs.Replies.{Reply, number, replied, replies, begun}
@@ -54,7 +55,7 @@ accepted-moved nothing ri oi rs h = refl
 accepted-moved (same p) ri oi [] h = absurd (omega arith)
 accepted-moved (same {c = set-call rj oj e} p) ri oi (r ∷ rs) h = rw (accepted-moved p ri oi rs (omega arith)) refl
 accepted-moved (same {c = settle-call rj} p) ri oi (r ∷ rs) h = refl
-accepted-moved (same {c = write-call out} p) ri oi (r ∷ rs) h = refl
+accepted-moved (same {c = write-call t out} p) ri oi (r ∷ rs) h = refl
 accepted-moved exchanged ri oi [] h = absurd (omega arith)
 accepted-moved exchanged ri oi (x ∷ []) h = absurd (omega arith)
 accepted-moved (exchanged {ri = rj} {oi = oj} {rj = rk} {oj = ok} {cs = cs}) ri oi (x ∷ y ∷ rs) h =
@@ -78,7 +79,7 @@ once-moved nothing rs h = refl
 once-moved (same p) [] h = absurd (omega arith)
 once-moved (same {c = set-call ri oi e} p) (r ∷ rs) h = rw (accepted-moved p ri oi rs (omega arith), once-moved p rs (omega arith)) refl
 once-moved (same {c = settle-call ri} p) (r ∷ rs) h = once-moved p rs (omega arith)
-once-moved (same {c = write-call out} p) (r ∷ rs) h = once-moved p rs (omega arith)
+once-moved (same {c = write-call t out} p) (r ∷ rs) h = once-moved p rs (omega arith)
 once-moved exchanged [] h = absurd (omega arith)
 once-moved exchanged (x ∷ []) h = absurd (omega arith)
 once-moved (exchanged {ri = ri} {oi = oi} {rj = rj} {oj = oj} {cs = cs}) (x ∷ y ∷ rs) h =
@@ -114,7 +115,7 @@ module _ (m : Mesh) where
   unfolding once
   once-rest (set-call ri oi e) cs r rs h = and-eq-true-iff (not (eqb (number r) 0 && acceptedIn ri oi cs rs)) (once cs rs) .0 h .1
   once-rest (settle-call ri) cs r rs h = h
-  once-rest (write-call out) cs r rs h = h
+  once-rest (write-call t out) cs r rs h = h
 
   reorder : {cs ds : List Call} (p : Reordered cs ds) (st : State) → once cs (replies m st cs) ≡ true → (replies m st ds ≡ moved p (replies m st cs)) × (run m st ds ≡ run m st cs)
   unfolding moved once replies run
@@ -155,7 +156,7 @@ module _ (m : Mesh) where
   unfolding acceptedIn replies run
   later-run ri oi e [] st h = absurd (true≢false (sym h))
   later-run ri oi e (settle-call rj ∷ cs) st h = absurd (true≢false (sym h))
-  later-run ri oi e (write-call out ∷ cs) st h = absurd (true≢false (sym h))
+  later-run ri oi e (write-call t out ∷ cs) st h = absurd (true≢false (sym h))
   later-run ri oi e (set-call rj oj f ∷ cs) st h =
       let rb = replied-after m st ri oi e rj oj f in
       let r = later-step ri oi e rj oj f cs st _ refl (later-run ri oi e cs (called m st (set-call rj oj f))) (rw rb at h) in
@@ -172,7 +173,7 @@ writes : (h : History) (cs ds : List Call) → ended (withCalls h cs) ≡ ended 
     → (lastWrite (withCalls h cs) ≡ lastWrite (withCalls h ds)) × (file (withCalls h cs) ≡ file (withCalls h ds))
 unfolding file
 writes h cs ds e =
-    let w : lastWrite (withCalls h cs) ≡ lastWrite (withCalls h ds) = ap (λ (st : State). writeOut (st .builder) (h .meshes) (st .lists) (h .output)) e in
+    let w : lastWrite (withCalls h cs) ≡ lastWrite (withCalls h ds) = ap (λ (st : State). writeTailOut (st .builder) (h .meshes) (st .lists) (h .tail) (h .output)) e in
     (w, ap (λ (o : WriteOut). take (o .answer .length) (o .output)) w)
 
 pub any-order : AnyOrder

@@ -29,7 +29,7 @@ use Rattle.builder.specs.Refusals.{setRefusal, meshedRefusal, settleRefusal}
 use Rattle.builder.specs.declared.Builder.{Builder}
 use Rattle.builder.proofs.Laws.{Roomy, Set, accepted, asked, meshed}
 use Rattle.builder.proofs.Accepted.{ready}
-use Rattle.writer.specs.Write.{writeRefusal, writeOut}
+use Rattle.writer.specs.Tailed.{TailLists, writeTailRefusal, writeTailOut}
 use Rattle.table.proofs.OfRows.{Good}
 use Rattle.ledger.specs.Ledger.{Call, set-call, settle-call, write-call, State, called, run, Ledger, opened, entered, ledger}
 use Rattle.ledger.specs.Packed.{packedIn, PackedMoves}
@@ -108,16 +108,16 @@ module _ (m : Mesh) (st : State) (few : st .builder .packed < 2 ^ 64) where
   settle-moves ri true d = rw (settle-done ri d) (settle-accepted ri (eqb-true _ 0 d))
   settle-moves ri false d = rw (settle-refused ri d) unmoved
 
-  write-moves : (out : List ℕ) (x : Bool) → eqb (writeRefusal b m l (length out)) 0 ≡ x
-      → called m st (write-call out) .builder .packed ≡ packedAfter (b .packed) (packedIn st) (packedIn (called m st (write-call out)))
-  unfolding called writeOut
-  write-moves out true d = rw d unmoved
-  write-moves out false d = rw d unmoved
+  write-moves : (t : TailLists) (out : List ℕ) (x : Bool) → eqb (writeTailRefusal b m l t (length out)) 0 ≡ x
+      → called m st (write-call t out) .builder .packed ≡ packedAfter (b .packed) (packedIn st) (packedIn (called m st (write-call t out)))
+  unfolding called writeTailOut
+  write-moves t out true d = rw d unmoved
+  write-moves t out false d = rw d unmoved
 
 pub packed-moves : PackedMoves
 packed-moves m st (set-call ri oi e) few = set-moves m st few ri oi e _ refl
 packed-moves m st (settle-call ri) few = settle-moves m st few ri _ refl
-packed-moves m st (write-call out) few = write-moves m st few out _ refl
+packed-moves m st (write-call t out) few = write-moves m st few t out _ refl
 
 -- ---- from a fresh builder
 

@@ -24,16 +24,16 @@ use Rattle.locator.proofs.Laid.{nearest-at, locate-at}
 use Rattle.locator.proofs.Picked.{FaceBelow, nearest-vertex, located-face}
 use Rattle.builder.specs.BuilderLists.{slabs}
 use Rattle.lists.proofs.Places.{place}
-use Rattle.table.specs.File.{energiesIn, packedEnergies, entry, fileOf}
+use Rattle.table.specs.File.{energiesIn, packedEnergies, entry, fullFile}
 use Rattle.table.specs.declared.Table.{Table}
 use Rattle.table.proofs.Back.{All}
 use Rattle.table.proofs.Sound.{Fine}
 use Rattle.table.proofs.OfRows.{before}
 use Rattle.table.proofs.OfSections as OfSections
 use Rattle.table.proofs.OfSections.{Sized}
-use Rattle.table.specs.Tail.{noTail}
-use Rattle.table.proofs.OfTail.{none-tailable}
-use Rattle.table.proofs.OfFile.{Filable, gridIn, tableIn, sized, none-is}
+use Rattle.table.specs.Tail.{Tail}
+use Rattle.table.proofs.OfTail.{Tailable}
+use Rattle.table.proofs.OfFile.{Filable, gridIn, fullTableIn, sized}
 use Rattle.reading.specs.Resolve.{readingValues, Query, Way, wayValid, queryValid, outside, Resolved, unresolved, beyond, slabAt, resolve, Picks, unpicked, picked, Combination, combined, joint, pairPlace, nearestPick, facePick}
 use Rattle.reading.specs.Reading.{rowInside, energyInside, entryAt, energyAt, searchIn, picksBy, entryBy, slabBy, readEntry, readingBy}
 use Rattle.reading.proofs.Picked.{both-found}
@@ -209,22 +209,22 @@ module _ (top : ℕ) (m : Mesh) (l : Locator) (low : top ≤ 15) (held : meshLon
       (λ e. face-picks (vertexCount v) _ _ (located-face top m l low held kept roomy v h (unit (q .a))) (located-face top m l low held kept roomy v h (unit (q .b))))
       (nearest-picks (vertexCount v) _ _ (nearest-vertex top m l low held kept roomy v h (unit (q .a))) (nearest-vertex top m l low held kept roomy v h (unit (q .b))))
 
-  module _ (g : Grid) (rows : List (Row ℕ)) (ok : Filable g (suc top) rows) where
+  module _ (g : Grid) (rows : List (Row ℕ)) (tail : Tail) (ok : Filable g (suc top) rows) (tails : Tailable tail) where
     abbrev t : Table
-    t = tableIn g (suc top) rows
+    t = fullTableIn g (suc top) rows tail
 
-    table-laid : Laid per (suc top) rows (fileOf g (suc top) rows) t
-    table-laid = rw (← none-is g (suc top) rows) (laid (sized g (suc top) rows noTail ok none-tailable) (gridIn g (suc top) rows) (t .terms) (t .«tail_start»))
+    table-laid : Laid per (suc top) rows (fullFile g (suc top) rows tail) t
+    table-laid = laid (sized g (suc top) rows tail ok tails) (gridIn g (suc top) rows) (t .terms) (t .«tail_start»)
 
     grid-same : (valid : Bool) → resolve valid (gridIn g (suc top) rows) q ≡ resolve valid g q
     unfolding resolve outside
     grid-same valid = refl
 
-    pub reads : readingBy (fileOf g (suc top) rows) t (m .vertices) (locators top m l) way q ≡ ruledBy g rows m way q
+    pub reads : readingBy (fullFile g (suc top) rows tail) t (m .vertices) (locators top m l) way q ≡ ruledBy g rows m way q
     unfolding readingBy ruledBy readEntry
     reads =
         let n = some-bins g (suc top) (ok .held) in
         rw (grid-same (wayValid way))
         (ap readingValues
-        (slab-read per top rows (ok .fine) (fileOf g (suc top) rows) t table-laid (combined way) (searchIn (m .vertices) (locators top m l) q) (search m q) search-same search-below (resolve (wayValid way) g q)
+        (slab-read per top rows (ok .fine) (fullFile g (suc top) rows tail) t table-laid (combined way) (searchIn (m .vertices) (locators top m l) q) (search m q) search-same search-below (resolve (wayValid way) g q)
         (rw (ok .many) (resolve-below (wayValid way) g q (n .0) (n .1)))))

@@ -44,7 +44,7 @@ unfolding runs
 permuted-runs nothing = permuted-refl ([] ∷ [])
 permuted-runs (same {c = set-call ri oi e} p) = onto-permuted (set-call ri oi e) (permuted-runs p)
 permuted-runs (same {c = settle-call ri} p) = more List·Permᴰ·nil (more (Permᴰ·refl (settle-call ri ∷ [])) (permuted-runs p))
-permuted-runs (same {c = write-call out} p) = more List·Permᴰ·nil (more (Permᴰ·refl (write-call out ∷ [])) (permuted-runs p))
+permuted-runs (same {c = write-call t out} p) = more List·Permᴰ·nil (more (Permᴰ·refl (write-call t out ∷ [])) (permuted-runs p))
 permuted-runs (exchanged {ri = ri} {oi = oi} {rj = rj} {oj = oj} {e = e} {f = f} {cs = cs}) = onto-exchanged (set-call ri oi e) (set-call rj oj f) (runs cs)
 permuted-runs (then p q) = permuted-trans (permuted-runs p) (permuted-runs q)
 
@@ -61,7 +61,7 @@ behind (b ∷ bs) p = same (behind bs p)
 isSet : Call → Bool
 isSet (set-call ri oi e) = true
 isSet (settle-call ri) = false
-isSet (write-call out) = false
+isSet (write-call t out) = false
 
 abbrev Sets : List Call → Type 0
 Sets r = every isSet r ≡ true
@@ -70,9 +70,9 @@ two-sets : (a b : Call) (cs : List Call) → isSet a ≡ true → isSet b ≡ tr
 unfolding isSet
 two-sets (set-call ri oi e) (set-call rj oj f) cs h k = exchanged
 two-sets (set-call ri oi e) (settle-call rj) cs h k = absurd (true≢false (sym k))
-two-sets (set-call ri oi e) (write-call out) cs h k = absurd (true≢false (sym k))
+two-sets (set-call ri oi e) (write-call t out) cs h k = absurd (true≢false (sym k))
 two-sets (settle-call ri) b cs h k = absurd (true≢false (sym h))
-two-sets (write-call out) b cs h k = absurd (true≢false (sym h))
+two-sets (write-call t out) b cs h k = absurd (true≢false (sym h))
 
 -- every order of a run of set calls, whatever follows it
 any-order-of-run : {r q : List Call} → List·Permᴰ r q → Sets r → Sets q × ((cs : List Call) → Reordered (r ++ cs) (q ++ cs))
@@ -130,7 +130,7 @@ unfolding runs every
 cut-runs [] = (refl, tt)
 cut-runs (set-call ri oi e ∷ cs) = cut-onto ri oi e (runs cs) (cut-runs cs)
 cut-runs (settle-call ri ∷ cs) = (refl, (inr refl, cut-parts (runs cs) (cut-runs cs)))
-cut-runs (write-call out ∷ cs) = (refl, (inr refl, cut-parts (runs cs) (cut-runs cs)))
+cut-runs (write-call t out ∷ cs) = (refl, (inr refl, cut-parts (runs cs) (cut-runs cs)))
 
 joined : List (List Call) → List Call
 joined [] = []
@@ -146,7 +146,7 @@ unfolding runs joined
 joined-runs [] = refl
 joined-runs (set-call ri oi e ∷ cs) = joined-onto (set-call ri oi e) (runs cs) ∙ ap (λ (x : List Call). set-call ri oi e ∷ x) (joined-runs cs)
 joined-runs (settle-call ri ∷ cs) = ap (λ (x : List Call). settle-call ri ∷ x) (joined-runs cs)
-joined-runs (write-call out ∷ cs) = ap (λ (x : List Call). write-call out ∷ x) (joined-runs cs)
+joined-runs (write-call t out ∷ cs) = ap (λ (x : List Call). write-call t out ∷ x) (joined-runs cs)
 
 part-reordered : {r q : List Call} → List·Permᴰ r q → Part r → {cs ds : List Call} → Reordered cs ds → Reordered (r ++ cs) (q ++ ds)
 part-reordered {r} {q} p (inl h) {cs} {ds} d = then (any-order-of-run p h .1 cs) (behind q d)

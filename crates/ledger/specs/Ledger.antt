@@ -16,13 +16,14 @@ use Rattle.builder.specs.BuilderLists.{BuilderLists, slabs, slab}
 use Rattle.builder.specs.Calls.{setOut, settleOut}
 use Rattle.builder.specs.Refusals.{setQuestion}
 use Rattle.builder.specs.declared.Builder.{Builder}
-use Rattle.writer.specs.Write.{writeOut}
+use Rattle.writer.specs.Tailed.{TailLists, writeTailOut}
 
--- "lists of set, settle and write calls": set's bins and energies, settle's distance bin, write's output
+-- "lists of set, settle and write calls": set's bins and energies, settle's distance bin, write's tail and output. A write without terms is the plain write
+-- (`PlainWrite` of writer's specs/Tailed).
 pub data Call : Type 0 where
   set-call : ℕ → ℕ → List Float → Call
   settle-call : ℕ → Call
-  write-call : List ℕ → Call
+  write-call : TailLists → List ℕ → Call
 
 -- ---- running a list
 
@@ -39,8 +40,8 @@ called m st (set-call ri oi e) =
 called m st (settle-call ri) =
     let o = settleOut (st .builder) m (st .lists) ri in
     record { builder = o .answer .builder; lists = o .lists }
-called m st (write-call out) =
-    let o = writeOut (st .builder) m (st .lists) out in
+called m st (write-call t out) =
+    let o = writeTailOut (st .builder) m (st .lists) t out in
     record { builder = o .builder; lists = o .lists }
 
 -- S13.1
@@ -81,7 +82,7 @@ settleEntered g m b ri =
 unfoldable pub entered : Grid → Mesh → Ledger → Call → Ledger
 entered g m b (set-call ri oi e) = cond (eqb (setQuestion g (b .level) ri oi e) 0) (setEntered b (slab g ri oi) e) b
 entered g m b (settle-call ri) = cond (eqb (ledgerQuestion g b ri) 0) (settleEntered g m b ri) b
-entered g m b (write-call out) = b
+entered g m b (write-call t out) = b
 
 unfoldable pub ledger : Grid → Mesh → Ledger → List Call → Ledger
 ledger g m b [] = b

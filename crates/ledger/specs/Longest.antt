@@ -16,14 +16,15 @@ use Rattle.builder.specs.BuilderLists.{slabs, slabRoom}
 use Rattle.sizing.specs.Sizing.{sizingOut, atomSizingOut}
 use Rattle.sizing.specs.declared.Size.{Size}
 use Rattle.writer.specs.Write.{WrittenValues}
+use Rattle.writer.specs.Tailed.{TailLists, tailLong, tailQuestion}
 use Rattle.ledger.specs.Ledger.{Call, set-call}
 use Rattle.ledger.specs.AtomLedger.{AtomCall, set-call as atom-set-call}
 use Rattle.ledger.specs.Promise.{History, fresh, lastWrite}
 use Rattle.ledger.specs.AtomPromise.{AtomHistory, atomFresh, atomLastWrite}
 
--- the sizing of what is handed to fresh
-abbrev pub sizeOf : History → Size
-sizeOf h = sizingOut (h .grid) (h .top) (h .meshes .counts) (h .meshes .neighbours)
+-- the sizing of what is handed to fresh, with k terms
+abbrev pub sizeOf : History → ℕ → Size
+sizeOf h k = sizingOut (h .grid) (h .top) (h .meshes .counts) (h .meshes .neighbours) k
 
 abbrev pub atomSizeOf : AtomHistory → Size
 atomSizeOf h = atomSizingOut (h .grid) (h .top) (h .meshes .counts) (h .meshes .neighbours)
@@ -35,9 +36,10 @@ pub record NoLonger (size : Size) (write : WrittenValues) : Type 0 where
   pub sized : size .number ≡ 0
   pub length : write .length ≤ size .file
 
--- .. after every list of calls, refused ones included, from a fresh that is accepted (S19.4)
+-- .. after every list of calls, refused ones included, from a fresh that is accepted (S19.4). "its longest file .. is the longest among lists whose writes hand over
+-- at most that many" (S20.12)
 abbrev pub Longest : Type 0
-Longest = (h : History) → fresh h .answer .number ≡ 0 → NoLonger (sizeOf h) (lastWrite h .answer)
+Longest = (h : History) (k : ℕ) → k ≤ 4294967295 → fresh h .answer .number ≡ 0 → length (h .tail .coefficients) ≤ k → NoLonger (sizeOf h k) (lastWrite h .answer)
 
 abbrev pub AtomLongest : Type 0
 AtomLongest = (h : AtomHistory) → atomFresh h .answer .number ≡ 0 → NoLonger (atomSizeOf h) (atomLastWrite h .answer)
@@ -60,10 +62,17 @@ pub record Reaches (size : Size) (write : WrittenValues) : Type 0 where
   pub accepted : write .number ≡ 0
   pub length : write .length ≡ size .file
 
--- .. where the output has room for it (S19.5)
+-- k terms that 6, 22 and 23 let pass
+pub record Handed (k : ℕ) (t : TailLists) : Type 0 where
+  pub many : length (t .coefficients) ≡ k
+  pub long : tailLong t ≡ true
+  pub asked : tailQuestion t ≡ 0
+
+-- .. where the output has room for it (S19.5). ".. is reached by a write with that many terms" (S20.12)
 abbrev pub Reached : Type 0
-Reached = (h : History) (e : ℕ → List Float) → fresh h .answer .number ≡ 0 → h .calls ≡ everySlab (counted (h .grid)) e
-    → ((s : ℕ) → s < slabs (counted (h .grid)) → Settable (per (h .top)) (e s)) → sizeOf h .file ≤ length (h .output) → Reaches (sizeOf h) (lastWrite h .answer)
+Reached = (h : History) (e : ℕ → List Float) (k : ℕ) → fresh h .answer .number ≡ 0 → h .calls ≡ everySlab (counted (h .grid)) e
+    → ((s : ℕ) → s < slabs (counted (h .grid)) → Settable (per (h .top)) (e s)) → Handed k (h .tail) → sizeOf h k .file ≤ length (h .output)
+    → Reaches (sizeOf h k) (lastWrite h .answer)
 
 abbrev pub AtomReached : Type 0
 AtomReached = (h : AtomHistory) (e : ℕ → List Float) → atomFresh h .answer .number ≡ 0 → h .calls ≡ atomEverySlab (atomCounted (h .grid)) e
@@ -79,8 +88,8 @@ pub record Fits (n z top : ℕ) (size : Size) : Type 0 where
 
 -- S19.6
 abbrev pub Fitting : Type 0
-Fitting = (g : Grid) (top : ℕ) (counts neighbours : List ℕ) → sizingOut g top counts neighbours .number ≡ 0
-    → Fits (slabs (counted g)) (per top) top (sizingOut g top counts neighbours)
+Fitting = (g : Grid) (top : ℕ) (counts neighbours : List ℕ) (k : ℕ) → sizingOut g top counts neighbours k .number ≡ 0
+    → Fits (slabs (counted g)) (per top) top (sizingOut g top counts neighbours k)
 
 abbrev pub AtomFitting : Type 0
 AtomFitting = (g : AtomGrid) (top : ℕ) (counts neighbours : List ℕ) → atomSizingOut g top counts neighbours .number ≡ 0

@@ -41,7 +41,7 @@ unfoldable pub runs : List Call → List (List Call)
 runs [] = [] ∷ []
 runs (set-call ri oi e ∷ cs) = ontoFirst (set-call ri oi e) (runs cs)
 runs (settle-call ri ∷ cs) = [] ∷ (settle-call ri ∷ []) ∷ runs cs
-runs (write-call out ∷ cs) = [] ∷ (write-call out ∷ []) ∷ runs cs
+runs (write-call t out ∷ cs) = [] ∷ (write-call t out ∷ []) ∷ runs cs
 
 -- as many runs, each a permutation of its partner
 pub data Permuted : List (List Call) → List (List Call) → Type 0 where
@@ -60,7 +60,7 @@ acceptedIn ri oi [] rs = false
 acceptedIn ri oi (c ∷ cs) [] = false
 acceptedIn ri oi (set-call rj oj e ∷ cs) (r ∷ rs) = (eqb (number r) 0 && (eqb ri rj && eqb oi oj)) || acceptedIn ri oi cs rs
 acceptedIn ri oi (settle-call rj ∷ cs) (r ∷ rs) = false
-acceptedIn ri oi (write-call out ∷ cs) (r ∷ rs) = false
+acceptedIn ri oi (write-call t out ∷ cs) (r ∷ rs) = false
 
 -- of no set that is accepted is the slab accepted again in its run
 unfoldable pub once : List Call → List Reply → Bool
@@ -68,13 +68,13 @@ once [] rs = true
 once (c ∷ cs) [] = true
 once (set-call ri oi e ∷ cs) (r ∷ rs) = not (eqb (number r) 0 && acceptedIn ri oi cs rs) && once cs rs
 once (settle-call ri ∷ cs) (r ∷ rs) = once cs rs
-once (write-call out ∷ cs) (r ∷ rs) = once cs rs
+once (write-call t out ∷ cs) (r ∷ rs) = once cs rs
 
 -- ---- the theorem
 
 -- "after the same fresh": the same settings, top level, meshes and lent lists, and other calls after them
 abbrev pub withCalls : History → List Call → History
-withCalls h cs = record { grid = h .grid; top = h .top; meshes = h .meshes; lists = h .lists; calls = cs; output = h .output }
+withCalls h cs = record { grid = h .grid; top = h .top; meshes = h .meshes; lists = h .lists; calls = cs; tail = h .tail; output = h .output }
 
 abbrev pub answersOf : History → List Reply
 answersOf h = replies (h .meshes) (begun h) (h .calls)

@@ -1,10 +1,12 @@
 -- Document 02's paper 6, "Knowing the file's length while building": the number of packed energies in a builder. Definitions only.
 use mathlib.Core.Path.{_≡_}
 use Prim.Native.Nat.{ℕ, suc, _+_, _*_, _^_, _<_}
+use lib.ListN.{length as count}
 use Rattle.mesh.specs.Mesh.{Mesh}
 use Rattle.grid.specs.Settings.{counted}
 use Rattle.settling.specs.Settling.{packedRows, packedAfter}
 use Rattle.builder.specs.BuilderLists.{slabs, rowsFrom}
+use Rattle.table.specs.Tail.{tailSize}
 use Rattle.ledger.specs.Ledger.{Call, State, called, opened, ledger}
 use Rattle.ledger.specs.Promise.{History, fresh, ended, lastWrite}
 
@@ -22,8 +24,9 @@ PackedMoves = (m : Mesh) (st : State) (c : Call) → st .builder .packed < 2 ^ 6
 pub record LengthKnown (h : History) : Type 0 where
   -- the sum over the ledger's rows, and nothing wraps
   pub packed : ended h .builder .packed ≡ packedRows (ledger (counted (h .grid)) (h .meshes) (opened (counted (h .grid)) (h .top)) (h .calls) .rows)
-  -- the length of the file of an accepted write
-  pub length : lastWrite h .answer .number ≡ 0 → lastWrite h .answer .length ≡ 52 + 4 * suc (h .top) + 10 * slabs (counted (h .grid)) + 4 * ended h .builder .packed
+  -- the length of the file of an accepted write, which its tail adds to
+  pub length : lastWrite h .answer .number ≡ 0
+      → lastWrite h .answer .length ≡ 52 + 4 * suc (h .top) + 10 * slabs (counted (h .grid)) + 4 * ended h .builder .packed + tailSize (count (h .tail .coefficients))
 
 -- .. after every list of calls, refused ones included, from a fresh that is accepted (S6.7)
 abbrev pub FileLength : Type 0

@@ -4,7 +4,8 @@ use Prim.Native.Nat.{ℕ}
 use lib.Ieee.{Float}
 use Rattle.mesh.specs.Mesh.{Mesh}
 use Rattle.builder.specs.Calls.{setOut, settleOut}
-use Rattle.writer.specs.Write.{WriteOut, writeOut}
+use Rattle.writer.specs.Write.{WriteOut}
+use Rattle.writer.specs.Tailed.{writeTailOut}
 use Rattle.ledger.specs.Ledger.{Call, set-call, settle-call, write-call, State, called}
 use Rattle.ledger.specs.Promise.{History, fresh}
 
@@ -26,7 +27,7 @@ writeReply o = write-reply (o .answer .number) (o .answer .length) (o .output)
 unfoldable pub replied : Mesh → State → Call → Reply
 replied m st (set-call ri oi e) = set-reply (setOut (st .builder) (st .lists) ri oi e .answer .number)
 replied m st (settle-call ri) = let a = settleOut (st .builder) m (st .lists) ri .answer in settle-reply (a .number) (a .gradient) (a .comparisons)
-replied m st (write-call out) = writeReply (writeOut (st .builder) m (st .lists) out)
+replied m st (write-call t out) = writeReply (writeTailOut (st .builder) m (st .lists) t out)
 
 unfoldable pub replies : Mesh → State → List Call → List Reply
 replies m st [] = []

@@ -22,9 +22,11 @@ use Rattle.builder.specs.Refusals.{meshedRefusal, setRefusal, settleRefusal}
 use Rattle.builder.specs.declared.Builder.{Builder}
 use Rattle.builder.proofs.Laws.{meshed}
 use Rattle.builder.specs.Calls.{BuiltOut, SettleOut, freshBuilder, filledSlabs, freshOut, slabSet, setOut, settledLists, settleAccepted, settleOut}
-use Rattle.writer.specs.Write.{WriteOut, writeRefusal, writeOut}
+use Rattle.writer.specs.Write.{WriteOut}
+use Rattle.writer.specs.Tailed.{TailLists, writeTailRefusal, writeTailOut}
 use Rattle.table.specs.Read.{readOut}
 use Rattle.reading.specs.Reading.{readingBy}
+use Rattle.tail.specs.Reading.{tailOut}
 use Rattle.ledger.specs.Ledger.{Call, set-call, settle-call, write-call, State, called, run}
 use Rattle.ledger.specs.Promise.{ended, lastWrite, file}
 use Rattle.ledger.specs.Replies.{Reply, writeReply, replied, replies, begun}
@@ -62,9 +64,9 @@ module _ (rs : List RowRecord) where
   unfolding settleOut settleAccepted
   settle-long b m l ri h = chosen (λ (o : SettleOut). Long rs (o .lists .rows)) (eqb (settleRefusal b m l ri) 0) _ _ (λ _. settled-long (b .level) (l .rows) _ _ h) h
 
-  write-long : (b : Builder) (m : Mesh) (l : BuilderLists) (out : List ℕ) → Long rs (l .rows) → Long rs (writeOut b m l out .lists .rows)
-  unfolding writeOut
-  write-long b m l out h = chosen (λ (o : WriteOut). Long rs (o .lists .rows)) (eqb (writeRefusal b m l (length out)) 0) _ _ (λ _. h) h
+  write-long : (b : Builder) (m : Mesh) (l : BuilderLists) (t : TailLists) (out : List ℕ) → Long rs (l .rows) → Long rs (writeTailOut b m l t out .lists .rows)
+  unfolding writeTailOut
+  write-long b m l t out h = chosen (λ (o : WriteOut). Long rs (o .lists .rows)) (eqb (writeTailRefusal b m l t (length out)) 0) _ _ (λ _. h) h
 
   fresh-long : (g : Grid) (top : ℕ) (m : Mesh) (l : BuilderLists) → Long rs (l .rows) → Long rs (freshOut g top m l .lists .rows)
   unfolding freshOut filledSlabs meshedRefusal
@@ -96,13 +98,13 @@ module _ (m : Mesh) where
   unfolding called calledOver setLent settleLent
   over st l h (set-call ri oi e) = let k = set-long (st .rows) (st .builder) l ri oi e h in (left-as st _ _ k, left-long (st .rows) _ k)
   over st l h (settle-call ri) = let k = settle-long (st .rows) (st .builder) m l ri h in (left-as st _ _ k, left-long (st .rows) _ k)
-  over st l h (write-call out) = let k = write-long (st .rows) (st .builder) m l out h in (left-as st _ _ k, left-long (st .rows) _ k)
+  over st l h (write-call t out) = let k = write-long (st .rows) (st .builder) m l t out h in (left-as st _ _ k, left-long (st .rows) _ k)
 
   answered : (b : Builder) (l : BuilderLists) (c : Call) → repliedOver m b l c ≡ replied m (record { builder = b; lists = l }) c
   unfolding repliedOver replied setLent settleLent
   answered b l (set-call ri oi e) = refl
   answered b l (settle-call ri) = refl
-  answered b l (write-call out) = refl
+  answered b l (write-call t out) = refl
 
   runs : (st : LentState) (cs : List Call) → Long (st .rows) (st .work)
       → (asState (runLent m st cs) ≡ run m (asState st) cs) × (repliesLent m st cs ≡ replies m (asState st) cs) × Long (runLent m st cs .rows) (runLent m st cs .work)
@@ -147,7 +149,9 @@ module _ (h : LentHistory) (long : Long (h .start .rows) (h .start .work)) where
   ends = ran .0 ∙ ap (λ (t : State). run m t (h .calls)) begins
 
   writes : lastWriteLent h ≡ lastWrite (byValue h)
-  writes = ap (λ (l : BuilderLists). writeOut (endedLent h .builder) m l (h .output)) (same-lists (endedLent h) (ran .2)) ∙ ap (λ (t : State). writeOut (t .builder) m (t .lists) (h .output)) ends
+  writes =
+      ap (λ (l : BuilderLists). writeTailOut (endedLent h .builder) m l (h .tail) (h .output)) (same-lists (endedLent h) (ran .2))
+      ∙ ap (λ (t : State). writeTailOut (t .builder) m (t .lists) (h .tail) (h .output)) ends
 
   same-file : fileLent h ≡ file (byValue h)
   unfolding file
@@ -162,6 +166,7 @@ module _ (h : LentHistory) (long : Long (h .start .rows) (h .start .work)) where
         last-write = ap writeReply writes;
         bytes = same-file;
         readings = λ vertices l way q. ap (λ (f : List ℕ). readingBy f (readOut f .table) vertices l way q) same-file;
+        tails = λ r. ap (λ (f : List ℕ). tailOut f (readOut f .table) r) same-file;
       }
 
 pub either-form : EitherForm

@@ -12,10 +12,12 @@ use Rattle.search.specs.Search.{Locator}
 use Rattle.builder.specs.BuilderLists.{BuilderLists}
 use Rattle.builder.specs.declared.Builder.{Builder}
 use Rattle.builder.specs.Calls.{BuiltOut, freshOut}
-use Rattle.writer.specs.Write.{WriteOut, writeOut}
+use Rattle.writer.specs.Write.{WriteOut}
+use Rattle.writer.specs.Tailed.{TailLists, writeTailOut}
 use Rattle.table.specs.Read.{readOut}
 use Rattle.reading.specs.Resolve.{Query, Way}
 use Rattle.reading.specs.Reading.{readingBy}
+use Rattle.tail.specs.Reading.{tailOut}
 use Rattle.ledger.specs.Ledger.{Call, set-call, settle-call, write-call, State}
 use Rattle.ledger.specs.Promise.{History, fresh, ended, lastWrite, file}
 use Rattle.ledger.specs.Replies.{Reply, set-reply, settle-reply, writeReply, replies, begun}
@@ -46,12 +48,12 @@ leftIn st b l = record { builder = b; store = l .store; rows = gathered (l .rows
 unfoldable pub calledOver : Mesh → LentState → BuilderLists → Call → LentState
 calledOver m st l (set-call ri oi e) = let o = setLent (st .builder) l ri oi e in leftIn st (o .builder) (o .lists)
 calledOver m st l (settle-call ri) = let o = settleLent (st .builder) m l ri in leftIn st (o .builder) (o .lists)
-calledOver m st l (write-call out) = let o = writeOut (st .builder) m l out in leftIn st (o .builder) (o .lists)
+calledOver m st l (write-call t out) = let o = writeTailOut (st .builder) m l t out in leftIn st (o .builder) (o .lists)
 
 unfoldable pub repliedOver : Mesh → Builder → BuilderLists → Call → Reply
 repliedOver m b l (set-call ri oi e) = set-reply (setLent b l ri oi e .answer)
 repliedOver m b l (settle-call ri) = let a = settleLent b m l ri .answer in settle-reply (a .number) (a .gradient) (a .comparisons)
-repliedOver m b l (write-call out) = writeReply (writeOut b m l out)
+repliedOver m b l (write-call t out) = writeReply (writeTailOut b m l t out)
 
 abbrev pub calledLent : Mesh → LentState → Call → LentState
 calledLent m st c = calledOver m st (spreadLists st) c
@@ -71,11 +73,12 @@ pub record LentHistory : Type 0 where
   pub meshes : Mesh
   pub start : LentState
   pub calls : List Call
+  pub tail : TailLists
   pub output : List ℕ
 
 -- the same history by value, over number lists
 abbrev pub byValue : LentHistory → History
-byValue h = record { grid = h .grid; top = h .top; meshes = h .meshes; lists = asState (h .start) .lists; calls = h .calls; output = h .output }
+byValue h = record { grid = h .grid; top = h .top; meshes = h .meshes; lists = asState (h .start) .lists; calls = h .calls; tail = h .tail; output = h .output }
 
 abbrev pub freshLent : LentHistory → BuiltOut
 freshLent h = freshOut (h .grid) (h .top) (h .meshes) (spreadLists (h .start))
@@ -87,7 +90,7 @@ abbrev pub endedLent : LentHistory → LentState
 endedLent h = runLent (h .meshes) (begunLent h) (h .calls)
 
 abbrev pub lastWriteLent : LentHistory → WriteOut
-lastWriteLent h = writeOut (endedLent h .builder) (h .meshes) (spreadLists (endedLent h)) (h .output)
+lastWriteLent h = writeTailOut (endedLent h .builder) (h .meshes) (spreadLists (endedLent h)) (h .tail) (h .output)
 
 abbrev pub fileLent : LentHistory → List ℕ
 fileLent h = take (lastWriteLent h .answer .length) (lastWriteLent h .output)
@@ -107,7 +110,7 @@ pub record RowsAlike (rs : List RowRecord) : Type 0 where
   pub spread : (l : Rows) → Long rs l → spreadOut rs l ≡ record { answer = length rs; rows = columns rs }
   pub gather : (l : Rows) → Long rs l → columns (gathered l rs) ≡ l
 
--- answers, builder, store and rows, file and readings of a history
+-- answers, builder, store and rows, file, readings and the tail's readings of a history
 pub record CallsAlike (h : LentHistory) : Type 0 where
   pub fresh-answer : freshLent h .answer ≡ fresh (byValue h) .answer
   pub answers : repliesLent (h .meshes) (begunLent h) (h .calls) ≡ replies (h .meshes) (begun (byValue h)) (h .calls)
@@ -116,6 +119,7 @@ pub record CallsAlike (h : LentHistory) : Type 0 where
   pub bytes : fileLent h ≡ file (byValue h)
   pub readings : (vertices : List Float) (l : Locator) (way : Way) (q : Query) →
       readingBy (fileLent h) (readOut (fileLent h) .table) vertices l way q ≡ readingBy (file (byValue h)) (readOut (file (byValue h)) .table) vertices l way q
+  pub tails : (r : Float) → tailOut (fileLent h) (readOut (fileLent h) .table) r ≡ tailOut (file (byValue h)) (readOut (file (byValue h)) .table) r
 
 -- all calls, files and readings answer alike through either form
 abbrev pub EitherForm : Type 0

@@ -3,7 +3,7 @@ use mathlib.Core.Bool.{cond}
 use mathlib.Core.List.{List, [], _∷_}
 use Prim.Native.Nat.{ℕ, suc, _+_, _*_}
 use lib.ListN.{length, replicate}
-use lib.Dec.{eqb}
+use lib.Dec.{leb, eqb}
 use Rattle.lists.specs.Questions.{ask, first}
 use Rattle.lists.specs.Lists.{joined, put}
 use Rattle.mesh.specs.Levels.{vertexCount, per, gridSize, cellCount, verticesBelow}
@@ -13,6 +13,7 @@ use Rattle.grid.specs.Atom.{atomCounted, atomQuestion}
 use Rattle.grid.specs.declared.Grid.{Grid}
 use Rattle.grid.specs.declared.AtomGrid.{AtomGrid}
 use Rattle.builder.specs.BuilderLists.{slabs}
+use Rattle.table.specs.Tail.{tailSize}
 use Rattle.sizing.specs.declared.Size.{Size}
 
 -- "Questions 1 to 7 apply, 6 and 7 to the neighbour counts and lists alone": 1 to 5 were put before, as fresh puts them, and gave `asked` (S19.2)
@@ -56,12 +57,13 @@ sized head n z top compared =
       comparisons = byLevel levels compared;
     }
 
--- "with every slab filled and none Repulsive": a slice has n_omega slabs, and of each these are "2·n times the total of neighbours" (S19.3)
-unfoldable pub sizingOut : Grid → ℕ → List ℕ → List ℕ → Size
-sizingOut g top counts neighbours =
+-- "with every slab filled and none Repulsive": a slice has n_omega slabs, and of each these are "2·n times the total of neighbours" (S19.3).
+-- "The sizing of paper 8 is handed a number of terms as well (beyond a u32 count: 23, put last); its longest file grows by their section and the prefactor" (S20.9)
+unfoldable pub sizingOut : Grid → ℕ → List ℕ → List ℕ → ℕ → Size
+sizingOut g top counts neighbours terms =
     let c = counted g in
-    let r = sizingRefusal (freshQuestion g top) top counts neighbours in
-    cond (eqb r 0) (sized 52 (slabs c) (per top) top (λ m. c .«n_omega» * (2 * vertexCount m * neighbourTotal counts m))) (noSize r)
+    let r = first (sizingRefusal (freshQuestion g top) top counts neighbours) (ask (leb terms 4294967295) 23 0) in
+    cond (eqb r 0) (sized (52 + tailSize terms) (slabs c) (per top) top (λ m. c .«n_omega» * (2 * vertexCount m * neighbourTotal counts m))) (noSize r)
 
 -- "in a table against an atom the total once" (S19.7)
 unfoldable pub atomSizingOut : AtomGrid → ℕ → List ℕ → List ℕ → Size

@@ -100,7 +100,7 @@ fn by_neighbours(levels: u8, times: u64, more: u64, counts: &[u8]) -> [u64; 16]
 
 // Of so many slabs with `each` energies at the top level, in a file with `head` bytes besides vertex counts, rows and energies.
 fn sized(head: u64, slabs: u64, each: u64, top: u8, times: u64, more: u64, counts: &[u8]) -> Size
-    requires { ⌜ (head ≤ 52) × (slabs ≤ 4294836225) × (slabs * each ≤ 4294967295) × (top ≤ 15) × (times ≤ 131070) × (more ≤ 1) ⌝ }
+    requires { ⌜ (head ≤ 85899345964) × (slabs ≤ 4294836225) × (slabs * each ≤ 4294967295) × (top ≤ 15) × (times ≤ 131070) × (more ≤ 1) ⌝ }
     ensures { λ r. ⌜ r ≡ sized head slabs each top (λ m. (times * vertexCount m + more) * neighbourTotal (now (counts .entry)) m) ⌝ }
 {
     let levels = top + 1;
@@ -117,20 +117,24 @@ fn sized(head: u64, slabs: u64, each: u64, top: u8, times: u64, more: u64, count
     }
 }
 
-// What a build of these settings needs. The counts in the settings are ignored, as fresh ignores them.
-pub fn sizing(g: Grid, top: u64, counts: &[u8], neighbours: &[u16]) -> Size
-    ensures { λ r. ⌜ r ≡ sizingOut g top (now (counts .entry)) (now (neighbours .entry)) ⌝ }
+// What a build of these settings needs, with so many terms in its tail. The counts in the settings are ignored, as fresh ignores them.
+pub fn sizing(g: Grid, top: u64, counts: &[u8], neighbours: &[u16], terms: u64) -> Size
+    ensures { λ r. ⌜ r ≡ sizingOut g top (now (counts .entry)) (now (neighbours .entry)) terms ⌝ }
 {
     let no = refusal(grid::fresh_question(g, top), top, counts, neighbours);
     if no != 0 {
         return no_size(no);
     }
+    if 4294967295 < terms {
+        return no_size(23);
+    }
     let c = grid::counted(g);
     let n_r = c.n_r;
     let n_omega = c.n_omega;
     let m = top as u8;
+    let head = 52 + table::tail_size(terms as u32);
     sized(
-        52,
+        head,
         n_r * n_omega,
         mesh::per_level(m),
         m,

@@ -3,11 +3,12 @@ use mathlib.Core.Path.{_≡_, refl, sym, ap, _∙_}
 use mathlib.Core.Bool.{Bool, true, false, not, and-eq-true-iff}
 use mathlib.Core.List.{List}
 use Prim.Native.Nat.{ℕ, zero, suc, _+_, _*_, _-_, _≤_, _<_}
+use native.Mathlib.Nat.{mul-le-mul}
 use native.Mathlib.Omega.{arith}
 use lib.ListN.{length}
-use lib.Dec.{ltb, eqb}
+use lib.Dec.{leb, ltb, eqb}
 use lib.Ieee.{binary32, nanBits}
-use borrow.Author.Tests.{eqb-true, eqb-false, eq-eqb, ne-eqb}
+use borrow.Author.Tests.{leb-true, le-leb, eqb-true, eqb-false, eq-eqb, ne-eqb}
 use Rattle.lists.specs.Questions.{ask, first}
 use Rattle.lists.specs.Lists.{every}
 use Rattle.mesh.specs.Levels.{per}
@@ -18,6 +19,8 @@ use Rattle.grid.specs.declared.AtomGrid.{AtomGrid}
 use Rattle.grid.proofs.Laws.{Ranged, ranged, AtomRanged, atom-ranged}
 use Rattle.table.specs.Tail.{tailValid}
 use Rattle.table.specs.Read.{countAt, layout, laidOut, ended, tableLaidOut, tailAt, tableOf, rowItems, energyItems, tailIn, tableValid, entryValid, tiled, readValues, readRefusal, readOut}
+use Rattle.table.specs.View.{host, within, readRefusalOver, readOver, Smaller, AcceptedAlike, HostReads}
+use Rattle.table.specs.declared.Bound.{Bound}
 use Rattle.table.specs.Atom.{atomTableOf, atomReadValues, atomReadRefusal, atomReadOut}
 use Rattle.table.specs.Internal.{SectionsInside, Inside, TailInside, TableSections, tableQuestion, atomTableQuestion}
 use Rattle.table.specs.declared.Layout.{Layout}
@@ -123,30 +126,84 @@ rows-then true false d rest = refl
 rows-then true true false rest = refl
 rows-then true true true rest = refl
 
-module _ (file : List ℕ) where
-  pub read-unlaid : tableLaidOut file (layout file) ≡ false → readOut file ≡ readValues (NotRead 13)
-  unfolding readOut readRefusal ask
+module _ (b : Bound) (file : List ℕ) where
+  pub read-unlaid : tableLaidOut file (layout file) ≡ false → readOver b file ≡ readValues (NotRead 13)
+  unfolding readOver readRefusalOver ask
   read-unlaid h = rw h
 
-  module _ (h : tableLaidOut file (layout file) ≡ true) (n : ℕ) (e : n ≡ tableQuestion file (tableOf file (layout file))) where
-    asked : readRefusal file (layout file) (tableOf file (layout file)) ≡ n
-    unfolding readRefusal ask
+  module _ (h : tableLaidOut file (layout file) ≡ true) (n : ℕ) (e : n ≡ tableQuestion b file (tableOf file (layout file))) where
+    asked : readRefusalOver b file (layout file) (tableOf file (layout file)) ≡ n
+    unfolding readRefusalOver ask
     asked =
         let t = tableOf file (layout file) in
         rw h
-        (ap (λ (m : ℕ). ask (tableValid file t) 14 m)
+        (ap (λ (m : ℕ). ask (tableValid file t) 14 (ask (within b t) 24 m))
         (rows-then (every (entryValid (t .levels)) (rowItems file t)) (tiled per 0 (t .energies) (rowItems file t)) (every (λ x. not (nanBits binary32 x)) (energyItems file t))
         (ask (tailValid (tailIn file t)) 23 0))
         ∙ sym e)
 
-    pub read-refused : (n ≡ 0 → ⊥) → readOut file ≡ readValues (NotRead n)
-    unfolding readOut
+    pub read-refused : (n ≡ 0 → ⊥) → readOver b file ≡ readValues (NotRead n)
+    unfolding readOver
     read-refused z = rw (asked, ne-eqb n 0 z)
 
-    pub read-accepted : n ≡ 0 → readOut file ≡ readValues (Reads (tableOf file (layout file)))
-    unfolding readOut
+    pub read-accepted : n ≡ 0 → readOver b file ≡ readValues (Reads (tableOf file (layout file)))
+    unfolding readOver
     read-accepted z = rw (asked, eq-eqb n 0 z)
 
+-- ---- bounds
+
+-- 14 answered yes keeps the host's bound
+pub host-within : (file : List ℕ) (t : Table) → tableValid file t ≡ true → within host t ≡ true
+unfolding tableValid within
+host-within file t h =
+    let a = and-eq-true-iff (gridValid (t .grid) (t .levels)) _ .0 h in
+    let many = eqb-true (t .rows) (t .grid .«n_r» * t .grid .«n_omega») (and-eq-true-iff (eqb (t .rows) (t .grid .«n_r» * t .grid .«n_omega»)) _ .0 (a .1) .0) in
+    let r = held-ranged (t .grid) (t .levels) (a .0) in
+    rw (le-leb (t .levels) 16 (r .few), le-leb (t .rows) 4294836225 (omega (arith, many, mul-le-mul (r .distances) (r .dihedrals))))
+
+-- 13, 14, then 24, which was answered yes where these were
+no-bound : (a v w : Bool) (rest : ℕ) → (v ≡ true → w ≡ true) → ask a 13 (ask v 14 (ask w 24 rest)) ≡ ask a 13 (ask v 14 rest)
+unfolding ask
+no-bound a false w rest h = refl
+no-bound a true w rest h = rw (h refl)
+
+pub host-reads : HostReads
+unfolding readOver readOut readRefusalOver readRefusal
+host-reads file =
+    let p = layout file in
+    let t = tableOf file p in
+    rw (no-bound (tableLaidOut file p) (tableValid file t) (within host t) _ (host-within file t)) refl
+
+-- 24 answered yes under a bound is answered yes under a larger one
+within-larger : (b c : Bound) (t : Table) → Smaller b c → within b t ≡ true → within c t ≡ true
+unfolding within
+within-larger b c t s h =
+    let a = and-eq-true-iff (leb (t .levels) (b .levels)) (leb (t .rows) (b .rows)) .0 h in
+    let l = leb-true (t .levels) (b .levels) (a .0) in
+    let r = leb-true (t .rows) (b .rows) (a .1) in
+    rw (le-leb (t .levels) (c .levels) (omega (arith, l, s .levels)), le-leb (t .rows) (c .rows) (omega (arith, r, s .rows)))
+
+-- a file that is accepted: the questions of one bound are those of the other
+same-questions : (a v w x : Bool) (rest : ℕ) → (w ≡ true → x ≡ true) → ask a 13 (ask v 14 (ask w 24 rest)) ≡ 0 → ask a 13 (ask v 14 (ask x 24 rest)) ≡ ask a 13 (ask v 14 (ask w 24 rest))
+unfolding ask
+same-questions false v w x rest h e = refl
+same-questions true false w x rest h e = refl
+same-questions true true false x rest h e = absurd (omega (arith, e))
+same-questions true true true x rest h e = rw (h refl)
+
+accepted-by : (b c : Bound) → Smaller b c → (file : List ℕ) (x : Bool) → eqb (readRefusalOver b file (layout file) (tableOf file (layout file))) 0 ≡ x
+    → readOver b file .number ≡ 0 → readOver c file ≡ readOver b file
+unfolding readOver readRefusalOver
+accepted-by b c s file true d e =
+    let p = layout file in
+    let t = tableOf file p in
+    rw (same-questions (tableLaidOut file p) (tableValid file t) (within b t) (within c t) _ (within-larger b c t s) (eqb-true _ 0 d)) refl
+accepted-by b c s file false d e = absurd (eqb-false _ 0 d (rw d at e))
+
+pub accepted-alike : AcceptedAlike
+accepted-alike b c s file e = accepted-by b c s file _ refl e
+
+module _ (file : List ℕ) where
   -- against an atom
   pub atom-read-unlaid : laidOut 2 1 file (layout file) ≡ false → atomReadOut file ≡ atomReadValues (AtomNotRead 13)
   unfolding atomReadOut atomReadRefusal ask

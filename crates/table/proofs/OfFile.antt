@@ -22,10 +22,11 @@ use Rattle.table.specs.Bytes.{numberAt}
 use Rattle.table.specs.Tail.{Tail, noTail, tailBytes, tailValid}
 use Rattle.table.specs.File.{entryOf, entry, energiesIn, packedEnergies, fileOf, fullFile}
 use Rattle.table.specs.Read.{layout, tableLaidOut, gridOf, tableOf, tailIn, tableValid, ReadValues, readValues, readOut}
+use Rattle.table.specs.View.{host}
 use Rattle.table.specs.Internal.{tableQuestion}
 use Rattle.table.specs.declared.Table.{Table}
 use Rattle.table.specs.declared.ReadAnswer.the-variants.{Accepted as Reads}
-use Rattle.table.proofs.Accepted.{read-accepted}
+use Rattle.table.proofs.Accepted.{read-accepted, host-within, host-reads}
 use Rattle.table.proofs.Back.{All}
 use Rattle.table.proofs.Sound.{Fine}
 use Rattle.table.proofs.OfSections as OfSections
@@ -138,13 +139,13 @@ module _ (g : Grid) (levels : ℕ) (rows : List (Row ℕ)) (t : Tail) (ok : Fila
   tail-valid : tailValid (tailIn file (fullTableIn g levels rows t)) ≡ true
   tail-valid = tail-held t sized tails
 
-  asked : 0 ≡ tableQuestion file (tableOf file (layout file))
+  asked : 0 ≡ tableQuestion host file (tableOf file (layout file))
   unfolding ask first
-  asked = rw (table-is, held, rows-asked sized, tail-valid)
+  asked = rw (table-is, held, host-within file (fullTableIn g levels rows t) held, rows-asked sized, tail-valid)
 
   -- the reader accepts the file
   pub full-accepted : readOut (fullFile g levels rows t) ≡ readValues (Reads (fullTableIn g levels rows t))
-  full-accepted = read-accepted file laid-out 0 asked refl ∙ ap (λ (k : Table). readValues (Reads k)) table-is
+  full-accepted = sym (host-reads file) ∙ read-accepted host file laid-out 0 asked refl ∙ ap (λ (k : Table). readValues (Reads k)) table-is
 
   -- ---- what stands in it
 

@@ -1,20 +1,20 @@
 -- What follows the five sections of a written file: how long it is, what is read back from it, and that it is one to one. Assumes nothing.
 use mathlib.Core.Path.{_≡_, refl, sym, ap, _∙_}
-use mathlib.Core.Bool.{true, cond}
+use mathlib.Core.Bool.{Bool, true, false, cond}
 use mathlib.Core.List.{List, [], _∷_, _++_, append-assoc}
 use mathlib.Core.Logic.{⊎-elim}
-use Prim.Native.Nat.{ℕ, _+_, _*_, _^_, _<_}
+use Prim.Native.Nat.{ℕ, _+_, _*_, _^_, _≤_, _<_}
 use native.Mathlib.Omega.{arith}
 use lib.ListN.{length, take, drop, length-append}
 use lib.Seq.{take-at, drop-at, take-all}
 use lib.Dec.{T, eqb, lit<}
 use lib.Ieee.{Float, binary64, fits, toBits, ofBits}
 use lib.Ieee.Bits.{ofBits-toBits, toBits-lt}
-use borrow.Author.Tests.{lt-ltb, eq-eqb, ne-eqb}
+use borrow.Author.Tests.{lt-ltb, eq-eqb, ne-eqb, eqb-true, eqb-false}
 use Rattle.ieee.proofs.Pack.{le-or-lt}
 use Rattle.rows.specs.Rows.{Row}
 use Rattle.table.specs.Bytes.{bytesOf, numberOf, numberAt, section, items}
-use Rattle.table.specs.Tail.{Term, Tail, noTail, termBytes, termOf, sixth, tailBytes, tailValid}
+use Rattle.table.specs.Tail.{Term, Tail, noTail, termBytes, termOf, sixth, tailBytes, tailSize, tailValid}
 use Rattle.table.specs.File.{sectionsOf}
 use Rattle.table.specs.Read.{countAt, layout, ended, tailAt, f64At}
 use Rattle.table.specs.declared.Layout.{Layout}
@@ -78,9 +78,26 @@ some-length y ys x =
     length-append (section termBytes (y ∷ ys)) (bytesOf 8 (toBits binary64 x))
     ∙ omega (arith, section-length termBytes 20 term-length (y ∷ ys), bytes-length 8 (toBits binary64 x))
 
-pub sixth-length : (ts : List Term) (x : Float) → length (sixth ts x) ≡ cond (eqb (length ts) 0) 0 (length ts * 20 + 12)
+pub sixth-length : (ts : List Term) (x : Float) → length (sixth ts x) ≡ tailSize (length ts)
 sixth-length [] x = refl
 sixth-length (y ∷ ys) x = some-length y ys x ∙ rw (ne-eqb (length (y ∷ ys)) 0 (λ z. omega (arith, z)))
+
+small-by : (x : Bool) (k : ℕ) → k ≤ 4294967295 → cond x 0 (k * 20 + 12) ≤ 85899345912
+small-by true k h = omega arith
+small-by false k h = omega arith
+
+-- as many terms as a u32 can count
+pub tail-small : (k : ℕ) → k ≤ 4294967295 → tailSize k ≤ 85899345912
+tail-small k h = small-by (eqb k 0) k h
+
+mono-by : (x y : Bool) (j k : ℕ) → eqb j 0 ≡ x → eqb k 0 ≡ y → j ≤ k → cond x 0 (j * 20 + 12) ≤ cond y 0 (k * 20 + 12)
+mono-by true true j k d e h = omega arith
+mono-by true false j k d e h = omega arith
+mono-by false true j k d e h = absurd (eqb-false j 0 d (omega (arith, eqb-true k 0 e)))
+mono-by false false j k d e h = omega arith
+
+pub tail-mono : (j k : ℕ) → j ≤ k → tailSize j ≤ tailSize k
+tail-mono j k h = mono-by (eqb j 0) (eqb k 0) j k refl refl h
 
 module _ {each : ℕ → ℕ} {xs ns : List ℕ} {levels : ℕ} {rows : List (Row ℕ)} {file : List ℕ} (x : Float) where
   terms-count : (ts : List Term) (w : Sized each xs ns levels rows file (sixth ts x)) → length ts < 256 ^ 4 → countAt file (endsAt w) ≡ length ts

@@ -13,6 +13,8 @@ use Rattle.table.specs.Bytes.{numberOf, items}
 use Rattle.table.specs.Tail.{tailValid}
 use Rattle.table.specs.File.{entryOf}
 use Rattle.table.specs.Read.{countAt, tailIn, tableValid, entryValid, tiled}
+use Rattle.table.specs.View.{within}
+use Rattle.table.specs.declared.Bound.{Bound}
 use Rattle.table.specs.Atom.{atomTableValid}
 use Rattle.table.specs.declared.Layout.{Layout}
 use Rattle.table.specs.declared.Table.{Table}
@@ -59,11 +61,12 @@ rowsQuestion each file levels y rows z energies =
     (ask (tiled each 0 energies (items entryOf 10 file y rows)) 16
     (ask (every (λ x. not (nanBits binary32 x)) (items numberOf 4 file z energies)) 17 0))
 
--- 14 to 17, then 23, of a table whose sections are inside the file
-abbrev pub tableQuestion : List ℕ → Table → ℕ
-tableQuestion file t =
+-- 14, 24 under a bound, 15 to 17, then 23, of a table whose sections are inside the file
+abbrev pub tableQuestion : Bound → List ℕ → Table → ℕ
+tableQuestion b file t =
     ask (tableValid file t) 14
-    (first (rowsQuestion per file (t .levels) (t .«rows_start») (t .rows) (t .«energies_start») (t .energies)) (ask (tailValid (tailIn file t)) 23 0))
+    (ask (within b t) 24
+    (first (rowsQuestion per file (t .levels) (t .«rows_start») (t .rows) (t .«energies_start») (t .energies)) (ask (tailValid (tailIn file t)) 23 0)))
 
 abbrev pub atomTableQuestion : List ℕ → AtomTable → ℕ
 atomTableQuestion file t =

@@ -1,7 +1,7 @@
 -- The long-range tail of a table (document 02, paper 9), and its bytes. Definitions only.
-use mathlib.Core.Bool.{Bool, _&&_, _||_}
+use mathlib.Core.Bool.{Bool, cond, _&&_, _||_}
 use mathlib.Core.List.{List, [], _∷_, _++_}
-use Prim.Native.Nat.{ℕ}
+use Prim.Native.Nat.{ℕ, _+_, _*_}
 use lib.ListN.{length, take, drop}
 use lib.Dec.{leb, eqb}
 use lib.Ieee.{Float, binary64, ofBits, toBits}
@@ -40,6 +40,10 @@ sixth (y ∷ ys) x = section termBytes (y ∷ ys) ++ bytesOf 8 (toBits binary64 
 
 abbrev pub tailBytes : Tail → List ℕ
 tailBytes t = sixth (t .terms) (t .prefactor)
+
+-- the bytes of the sixth section of so many terms and of the prefactor behind it
+abbrev pub tailSize : ℕ → ℕ
+tailSize k = cond (eqb k 0) 0 (k * 20 + 12)
 
 -- 23, of a term: no value that is not finite, and no power that is too large
 unfoldable pub termValid : Term → Bool

@@ -11,6 +11,9 @@ pub use bytes::u32_from_le_bytes;
 pub use questions::energies_of;
 pub use reader::atom_read;
 pub use reader::read;
+pub use reader::read_over;
+pub use reader::view;
+pub use walk::tail_size;
 
 // Where each section after the first begins, with its count, and where the last one ends.
 pub struct Layout {
@@ -48,6 +51,12 @@ pub struct AtomTable {
     pub levels_start: u64,
     pub rows_start: u64,
     pub energies_start: u64,
+}
+
+// How much of a file a reader opens.
+pub struct Bound {
+    pub levels: u64,
+    pub rows: u64,
 }
 
 // What read answers.

@@ -1,4 +1,4 @@
-// The questions 14 to 17 and 23 that read puts to a file, each one loop over a section.
+// The questions 14 to 17, 23 and 24 that read puts to a file, each one loop over a section.
 ghost use mathlib.Core.Path.{_≡_};
 ghost use mathlib.Core.Bool.{not, _&&_};
 ghost use Prim.Native.Nat.{_+_, _*_, _≤_};
@@ -11,9 +11,11 @@ ghost use Rattle.table.specs.Bytes.{numberOf, numberAt, items};
 ghost use Rattle.table.specs.Tail.{termOf, termValid, tailValid};
 ghost use Rattle.table.specs.File.{entryOf};
 ghost use Rattle.table.specs.Read.{tableValid, tailIn, scalarValid, entryValid, tiled};
+ghost use Rattle.table.specs.View.{within};
 ghost use Rattle.table.specs.Atom.{atomTableValid};
 ghost use Rattle.table.specs.Internal.{TableInside, TailInside, AtomTableInside, eachOf, rowsQuestion, tableQuestion, atomTableQuestion, placedAt, nextPlace};
 use crate::AtomTable;
+use crate::Bound;
 use crate::Table;
 use crate::bytes::u32_in;
 use crate::bytes::u64_in;
@@ -284,10 +286,17 @@ fn tail_valid(file: &[u8], t: Table) -> bool
     ieee::is_finite(f64_in(file, start + terms * 20))
 }
 
-// Questions 14 to 17, then 23.
-pub(crate) fn table_question(file: &[u8], t: Table) -> u64
+// Question 24.
+fn within(bound: Bound, t: Table) -> bool
+    ensures { λ r. ⌜ r ≡ within bound t ⌝ }
+{
+    (t.levels <= bound.levels) & (t.rows <= bound.rows)
+}
+
+// Question 14, 24 under a bound, 15 to 17, then 23.
+pub(crate) fn table_question(bound: Bound, file: &[u8], t: Table) -> u64
     requires { ⌜ TableInside (now file) t ⌝ }
-    ensures { λ r. ⌜ r ≡ tableQuestion (now (file .entry)) t ⌝ }
+    ensures { λ r. ⌜ r ≡ tableQuestion bound (now (file .entry)) t ⌝ }
 {
     let rows = t.rows;
     let levels = t.levels;
@@ -296,6 +305,9 @@ pub(crate) fn table_question(file: &[u8], t: Table) -> u64
     let energies_start = t.energies_start;
     if !table_valid(file, t) {
         return 14;
+    }
+    if !within(bound, t) {
+        return 24;
     }
     let no = rows_question(
         file,

@@ -2,6 +2,7 @@
 ghost use mathlib.Core.Path.{_≡_};
 ghost use Prim.Native.Nat.{_+_, _*_, _≤_};
 ghost use lib.ListN.{length};
+ghost use Rattle.table.specs.Tail.{tailSize};
 ghost use Rattle.table.specs.Read.{countAt, past, layout, laidOut, ended, tableLaidOut, tailAt, f64At, gridOf, tableOf};
 ghost use Rattle.table.specs.Atom.{atomGridOf, atomTableOf};
 ghost use Rattle.table.specs.Internal.{SectionsInside, TailInside, TableSections};
@@ -70,6 +71,16 @@ pub(crate) fn table_laid_out(file: &[u8], p: Layout) -> bool
     let bins = p.bins;
     let end = p.end;
     (u32_at(file, 0) == 3) & ((u32_at(file, bins) == 2) & ended(file, end))
+}
+
+// The bytes of the sixth section of so many terms and of the prefactor behind it.
+pub fn tail_size(terms: u32) -> u64
+    ensures { λ r. ⌜ r ≡ tailSize terms ⌝ }
+{
+    if terms == 0 {
+        return 0;
+    }
+    terms as u64 * 20 + 12
 }
 
 // Where the terms start, behind the fifth section, which ends at byte `end`.

@@ -22,7 +22,7 @@ use Rattle.table.proofs.Items.{items-cons, items-many}
 use Rattle.table.proofs.OfTail.{Tailable, sixth-length}
 use Rattle.table.proofs.OfFile.{Filable, fileEnd, fullTableIn, full-length, tail-of}
 use Rattle.tail.specs.Rule.{termEnergy, sumFrom, tailRule}
-use Rattle.tail.specs.Reading.{tailValues, tailQuestion, tailOut}
+use Rattle.tail.specs.Reading.{tailValues, tailQuestion, tailOut, ruledTail}
 use Rattle.tail.specs.declared.TailAnswer.the-variants.{Energy, Refused}
 
 -- ---- the sum
@@ -80,22 +80,28 @@ nothing : (t : Tail) (r : Float) → length (t .terms) ≡ 0 → ofBits binary64
 unfolding tailRule
 nothing t r e = rw (eq-eqb (length (t .terms)) 0 e)
 
-module _ (g : Grid) (levels : ℕ) (rows : List (Row ℕ)) (t : Tail) (ok : Filable g levels rows) (tails : Tailable t) (r : Float) (h : isNan r ≡ false) where
-  asked : 0 < length (t .terms) → tailQuestion (fullFile g levels rows t) (fullTableIn g levels rows t) r ≡ 0
+module _ (g : Grid) (levels : ℕ) (rows : List (Row ℕ)) (t : Tail) (ok : Filable g levels rows) (tails : Tailable t) (r : Float) where
+  asked : isNan r ≡ false → 0 < length (t .terms) → tailQuestion (fullFile g levels rows t) (fullTableIn g levels rows t) r ≡ 0
   unfolding tailQuestion ask
-  asked l =
+  asked h l =
       let n = length (t .terms) in
       let some : eqb n 0 ≡ false = ne-eqb n 0 (λ z. omega (arith, z, l)) in
       let long : length (tailBytes t) ≡ n * 20 + 12 = rw some at (sixth-length (t .terms) (t .prefactor)) in
       let end = fileEnd g levels rows in
       rw (h, some, le-leb (end + 4 + n * 20 + 8) (length (fullFile g levels rows t)) (omega (arith, full-length g levels rows t ok tails, long)))
 
-  -- the tail of a written file reads as the rule over the terms and the prefactor that were handed over
-  pub tail-kept : tailOut (fullFile g levels rows t) (fullTableIn g levels rows t) r ≡ tailValues (Energy (tailRule t r))
-  tail-kept =
+  kept-by : (x : Bool) → isNan r ≡ x → tailOut (fullFile g levels rows t) (fullTableIn g levels rows t) r ≡ ruledTail t r
+  unfolding ruledTail
+  kept-by true h = rw h (no-distance (fullFile g levels rows t) (fullTableIn g levels rows t) r h)
+  kept-by false h =
       let file = fullFile g levels rows t in
       let k = fullTableIn g levels rows t in
-      ⊎-elim
+      rw h
+      (⊎-elim
       (λ l. let e : length (t .terms) ≡ 0 = omega (arith, l) in no-terms file k r h e ∙ ap (λ (x : Float). tailValues (Energy x)) (nothing t r e))
-      (λ l. answered file k r (asked l) ∙ ap (λ (x : Tail). tailValues (Energy (tailRule x r))) (tail-of g levels rows t ok tails l))
-      (le-or-lt (length (t .terms)) 0)
+      (λ l. answered file k r (asked h l) ∙ ap (λ (x : Tail). tailValues (Energy (tailRule x r))) (tail-of g levels rows t ok tails l))
+      (le-or-lt (length (t .terms)) 0))
+
+  -- the tail of a written file reads as the rule over the terms and the prefactor that were handed over
+  pub tail-kept : tailOut (fullFile g levels rows t) (fullTableIn g levels rows t) r ≡ ruledTail t r
+  tail-kept = kept-by _ refl

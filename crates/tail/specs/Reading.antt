@@ -6,6 +6,7 @@ use lib.ListN.{length}
 use lib.Dec.{leb, eqb}
 use lib.Ieee.{Float, binary64, ofBits, isNan}
 use Rattle.lists.specs.Questions.{ask}
+use Rattle.table.specs.Tail.{Tail}
 use Rattle.table.specs.Read.{tailIn}
 use Rattle.table.specs.declared.Table.{Table}
 use Rattle.tail.specs.Rule.{tailRule}
@@ -36,3 +37,7 @@ unfoldable pub tailOut : List ℕ → Table → Float → TailValues
 tailOut file t r =
     let n = tailQuestion file t r in
     cond (eqb n 0) (tailValues (Energy (tailRule (tailIn file t) r))) (tailValues (Refused n))
+
+-- what the rule gives for a tail and any distance: 18 is all that it asks (S20.8)
+unfoldable pub ruledTail : Tail → Float → TailValues
+ruledTail t r = cond (isNan r) (tailValues (Refused 18)) (tailValues (Energy (tailRule t r)))

@@ -29,9 +29,12 @@ use Rattle.builder.specs.BuilderLists.{BuilderLists, rowIn, rowsIn, listRoom, r
 use Rattle.builder.specs.Calls.{settledLists, setBuilder, freshBuilder, filledSlabs, freshOut, slabSet, setOut, settleAccepted, settleOut}
 use Rattle.builder.specs.Refusals.{meshedRefusal, setQuestion, setRefusal, settleRefusal}
 use Rattle.table.specs.Bytes.{bytesOf, numberOf, numberAt, packed, section, items}
-use Rattle.table.specs.File.{entryBytes, entryOf, entries, packedEnergies, fileOf}
+use Rattle.table.specs.Tail.{termBytes, termOf, termValid, tailValid}
+use Rattle.table.specs.File.{entryBytes, entryOf, entries, packedEnergies, fileOf, fullFile}
 use Rattle.writer.specs.Write.{fileFrom, writeRefusal, writeOut}
-use Rattle.table.specs.Read.{layout, laidOut, gridOf, tableOf, gridValid, tableValid, scalarValid, entryValid, tiled, readRefusal, readOut}
+use Rattle.writer.specs.Tailed.{TailLists, tailLists, termsFrom, tailQuestion, tailedQuestion, fullFileFrom, writeTailRefusal, writeTailOut}
+use Rattle.table.specs.Read as read
+use Rattle.table.specs.Read.{layout, laidOut, tableLaidOut, tailAt, gridOf, tableOf, gridValid, tableValid, scalarValid, entryValid, tiled, readRefusal, readOut}
 use Rattle.reading.specs.Resolve.{wayValid, queryValid, outside, resolve, joint, nearestPick, facePick, nineTerms, combined}
 use Rattle.reading.specs.Reading.{rowInside, energyInside, entryAt, energyAt, searchIn, readEntry, readingBy}
 use Rattle.reading.specs.Rule.{search, ruledBy}
@@ -68,13 +71,20 @@ lent n k =
     let nines : List ℕ = replicate (1 + k) 9 in
     (listsOf (replicate (1 + n) (f64 0x4000_0000_0000_0000)) nines nines nines)
 
+-- no terms and no prefactor
+abbrev pub noTerms : TailLists
+noTerms = tailLists [] [] [] []
+
 -- at level 0, one slab
+abbrev pub tailHistory : TailLists → List Call → History
+tailHistory t cs = record { grid = plain; top = 0; meshes = icosahedron; lists = lent 144 1; calls = cs; tail = t; output = replicate 700 7 }
+
 abbrev pub history : List Call → History
-history cs = record { grid = plain; top = 0; meshes = icosahedron; lists = lent 144 1; calls = cs; output = replicate 700 7 }
+history cs = tailHistory noTerms cs
 
 -- at levels 0 and 1, three distance bins (rmax 3)
 abbrev pub history₂ : List Call → History
-history₂ cs = record { grid = settings 0x4008_0000_0000_0000 0x4018_0000_0000_0000; top = 1; meshes = twoLevels; lists = lent 5292 3; calls = cs; output = [] }
+history₂ cs = record { grid = settings 0x4008_0000_0000_0000 0x4018_0000_0000_0000; top = 1; meshes = twoLevels; lists = lent 5292 3; calls = cs; tail = noTerms; output = [] }
 
 -- ---- the definitions opened, layer by layer; each of these is its argument
 
@@ -99,7 +109,7 @@ unfolding weight repulsive allRepulsive steeper alongNeighbours pairWeight gradi
 settling x = x
 
 unfoldable tables : {A : Type 0} → A → A
-unfolding bytesOf numberOf numberAt packed section items entryBytes entryOf entries packedEnergies fileOf fileFrom writeRefusal writeOut layout laidOut gridOf tableOf gridValid tableValid scalarValid entryValid tiled readRefusal readOut
+unfolding bytesOf numberOf numberAt packed section items entryBytes entryOf entries packedEnergies fileOf fileFrom writeRefusal writeOut termBytes termOf termValid tailValid fullFile termsFrom tailQuestion tailedQuestion fullFileFrom writeTailRefusal writeTailOut layout laidOut read.ended tableLaidOut tailAt gridOf tableOf gridValid tableValid scalarValid entryValid tiled readRefusal readOut
 tables x = x
 
 unfoldable readings : {A : Type 0} → A → A

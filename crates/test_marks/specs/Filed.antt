@@ -10,7 +10,7 @@ use Rattle.table.specs.Read.{readOut}
 use Rattle.ledger.specs.Ledger.{set-call, settle-call, write-call}
 use Rattle.ledger.specs.Promise.{ended, lastWrite, file}
 use Rattle.test_marks.specs.Icospheres.{icosahedron}
-use Rattle.test_marks.specs.Computed.{f64, history, computed}
+use Rattle.test_marks.specs.Computed.{f64, noTerms, history, computed}
 
 abbrev tens : List Float
 tens = replicate 144 (f64 0x4024_0000_0000_0000)
@@ -37,7 +37,7 @@ unfolding computed
 mesh-row = refl
 
 -- a write in the list, and refused calls, change nothing
-pub writes-nothing : computed (file (history (write-call (replicate 66 0) ∷ set-call 1 0 tens ∷ settle-call 9 ∷ write-call [] ∷ []))) ≡ computed plainFile
+pub writes-nothing : computed (file (history (write-call noTerms (replicate 66 0) ∷ set-call 1 0 tens ∷ settle-call 9 ∷ write-call noTerms [] ∷ []))) ≡ computed plainFile
 unfolding computed
 writes-nothing = refl
 

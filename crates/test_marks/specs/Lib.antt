@@ -11,4 +11,6 @@ pub mod Cased
 pub mod Ordered
 pub mod Atom
 pub mod Sized
+pub mod Tails
+pub mod Viewed
 pub mod Found

@@ -16,7 +16,11 @@ sizes x = x
 
 -- over neighbour counts and neighbours
 abbrev over : List ℕ → List ℕ → Size
-over counts neighbours = sizingOut plain 0 counts neighbours
+over counts neighbours = sizingOut plain 0 counts neighbours 0
+
+-- with k terms
+abbrev withTerms : ℕ → Size
+withTerms k = sizingOut plain 0 (icosahedron .counts) (icosahedron .neighbours) k
 
 abbrev size : Size
 size = over (icosahedron .counts) (icosahedron .neighbours)
@@ -51,3 +55,16 @@ four-neighbours = refl
 pub own-neighbour : computed (sizes (over (icosahedron .counts) (set (icosahedron .neighbours) 0 0) .number)) ≡ 7
 unfolding computed sizes
 own-neighbour = refl
+
+-- request 9: three terms add 72 bytes; as many as a u32 counts pass, and one more is 23
+pub three-terms : computed (sizes (withTerms 3 .file)) ≡ 714
+unfolding computed sizes
+three-terms = refl
+
+pub most-terms : computed (sizes (withTerms 4294967295 .number)) ≡ 0
+unfolding computed sizes
+most-terms = refl
+
+pub too-many-terms : computed (sizes (withTerms 4294967296 .number)) ≡ 23
+unfolding computed sizes
+too-many-terms = refl

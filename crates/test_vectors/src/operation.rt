@@ -43,7 +43,9 @@ pub const LN: usize = 17;
 
 pub const NARROW_CASE: usize = 18;
 
-pub const COUNT: usize = 19;
+pub const POWER: usize = 19;
+
+pub const COUNT: usize = 20;
 
 // The name, with blanks behind it.
 fn name(op: usize) -> [u8; 12] {
@@ -67,6 +69,7 @@ fn name(op: usize) -> [u8; 12] {
         EXP_LIST => *b"exp_list    ",
         LN => *b"ln          ",
         NARROW_CASE => *b"narrow_case ",
+        POWER => *b"power       ",
         _ => *b"            ",
     }
 }
@@ -108,7 +111,7 @@ pub fn operands(op: usize) -> usize
 {
     match op {
         MUL_ADD => 3,
-        TOTAL_ORDER | MAX | MIN => 2,
+        TOTAL_ORDER | MAX | MIN | POWER => 2,
         _ => 1,
     }
 }
@@ -150,7 +153,7 @@ fn bits_signed(n: i64) -> u64
     }
 }
 
-// The low 32 bits: a word of 8 digits has no others.
+// The low 32 bits: a word of 8 digits has no others, nor has an exponent.
 fn low(n: u64) -> u32 {
     (n % 0x1_0000_0000) as u32
 }
@@ -186,6 +189,7 @@ pub fn run(op: usize, a: u64, b: u64, c: u64) -> u64 {
         EXP_LIST => bits::bits64(exp_in_list(x)),
         LN => bits::bits64(float::ln(x)),
         NARROW_CASE => ieee::narrow_case(x),
+        POWER => bits::bits64(float::power(x, low(b))),
         _ => 0,
     }
 }

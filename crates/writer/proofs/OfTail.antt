@@ -17,12 +17,12 @@ use Rattle.builder.specs.BuilderLists.{BuilderLists, slabs, listsLong, meshesLo
 use Rattle.builder.specs.Refusals.{builderQuestion, meshedRefusal}
 use Rattle.builder.specs.declared.Builder.{Builder}
 use Rattle.table.specs.Bytes.{bytesOf, packed, section}
-use Rattle.table.specs.Tail.{Term, termBytes, sixth, tailBytes, termValid, tailValid}
+use Rattle.table.specs.Tail.{Term, termBytes, sixth, tailBytes, tailSize, termValid, tailValid}
 use Rattle.table.specs.File.{fullFile}
 use Rattle.table.proofs.Lengths.{bytes-length, packed-length}
 use Rattle.table.proofs.OfTail.{term-length, sixth-length}
 use Rattle.writer.specs.Write.{writtenValues, fileFrom, writeRefusal, writeOut}
-use Rattle.writer.specs.Tailed.{TailLists, termAt, termsFrom, handed, tailLong, tailQuestion, tailedQuestion, fullFileFrom, writeTailRefusal, writeTailOut}
+use Rattle.writer.specs.Tailed.{TailLists, termAt, termsFrom, handed, tailLong, tailQuestion, tailedQuestion, fullFileFrom, writeTailRefusal, writeTailOut, PlainWrite}
 use Rattle.writer.specs.Internal.{writeQuestion}
 use Rattle.writer.specs.declared.Written.the-variants.{Accepted as Writes, Refused as NotWritten}
 use Rattle.writer.proofs.Puts.{puts, puts-three}
@@ -74,10 +74,6 @@ pub sixth-some : (ts : List Term) (x : Float) → 0 < length ts → sixth ts x �
 sixth-some [] x h = absurd (omega arith)
 sixth-some (y ∷ ys) x h = refl
 
-pub tail-small : (x : Bool) (k : ℕ) → k ≤ 4294967295 → cond x 0 (k * 20 + 12) ≤ 85899345912
-tail-small true k h = omega arith
-tail-small false k h = omega arith
-
 -- ---- the questions
 
 module _ (q : ℕ) (k r : Bool) (x : ℕ) where
@@ -92,6 +88,18 @@ module _ (q : ℕ) (k r : Bool) (x : ℕ) where
       by false r = refl
       by true false = refl
       by true true = refl
+
+module _ (t : TailLists) where
+  pub tail-asked : tailQuestion t ≡ 0 → (length (t .coefficients) ≤ 4294967295) × (0 < length (t .coefficients) → 0 < length (t .prefactor)) × (tailValid (handed t) ≡ true)
+  unfolding tailQuestion
+  tail-asked h =
+      let n = length (t .coefficients) in
+      let q = ask-yes {q = eqb n 0 || ltb 0 (length (t .prefactor))} (lit< tt) h in
+      let fits = and-eq-true-iff (leb n 4294967295) (tailValid (handed t)) .0 (ask-yes {q = leb n 4294967295 && tailValid (handed t)} (lit< tt) (q .1) .0) in (
+        leb-true n 4294967295 (fits .0),
+        λ z. ltb-true 0 (length (t .prefactor)) (rw (ne-eqb n 0 (λ e. omega (arith, z, e))) at (q .0)),
+        fits .1,
+      )
 
 module _ (b : Builder) (m : Mesh) (l : BuilderLists) (t : TailLists) where
   pub tailed-short : tailLong t ≡ false → tailedQuestion b m l t ≡ first (builderQuestion b) 6
@@ -110,15 +118,8 @@ module _ (b : Builder) (m : Mesh) (l : BuilderLists) (t : TailLists) where
   unfolding tailedQuestion
   tailed-held h = and-eq-true-iff (tailLong t) _ .0 (ask-yes {q = tailLong t && (listsLong b l && meshesLong b m)} (lit< tt) (first-yes h .1) .0) .0
 
-  tail-asked : tailQuestion t ≡ 0 → (length (t .coefficients) ≤ 4294967295) × (0 < length (t .coefficients) → 0 < length (t .prefactor))
-  unfolding tailQuestion
-  tail-asked h =
-      let n = length (t .coefficients) in
-      let q = ask-yes {q = eqb n 0 || ltb 0 (length (t .prefactor))} (lit< tt) h in
-      let fits = ask-yes {q = leb n 4294967295 && tailValid (handed t)} (lit< tt) (q .1) .0 in (
-        leb-true n 4294967295 (and-eq-true-iff (leb n 4294967295) (tailValid (handed t)) .0 fits .0),
-        λ z. ltb-true 0 (length (t .prefactor)) (rw (ne-eqb n 0 (λ e. omega (arith, z, e))) at (q .0)),
-      )
+  pub tailed-tail : tailedQuestion b m l t ≡ 0 → tailQuestion t ≡ 0
+  tailed-tail h = first-yes (sym (tailed-long (tailed-held h)) ∙ h) .1
 
   pub tailed-sure : tailedQuestion b m l t ≡ 0
       → (writeQuestion b m l ≡ 0) × (length (t .coefficients) ≤ length (t .kappas)) × (length (t .coefficients) ≤ length (t .powers)) × (length (t .coefficients) ≤ 4294967295)
@@ -127,7 +128,7 @@ module _ (b : Builder) (m : Mesh) (l : BuilderLists) (t : TailLists) where
       let long = tailed-held h in
       let a = and-eq-true-iff (leb (length (t .coefficients)) (length (t .kappas))) _ .0 long in
       let f = first-yes (sym (tailed-long long) ∙ h) in
-      let q = tail-asked (f .1) in (
+      let q = tail-asked t (f .1) in (
         f .0,
         leb-true (length (t .coefficients)) (length (t .kappas)) (a .0),
         leb-true (length (t .coefficients)) (length (t .powers)) (a .1),
@@ -137,11 +138,11 @@ module _ (b : Builder) (m : Mesh) (l : BuilderLists) (t : TailLists) where
 
   -- ---- the file
 
-  full-is : fullFileFrom b l t ≡ fileFrom b l ++ tailBytes (handed t)
+  pub full-is : fullFileFrom b l t ≡ fileFrom b l ++ tailBytes (handed t)
   unfolding fullFileFrom fullFile fileFrom
   full-is = refl
 
-  pub tail-length : (n : ℕ) → length (fileFrom b l) ≡ n → length (fullFileFrom b l t) ≡ n + cond (eqb (length (t .coefficients)) 0) 0 (length (t .coefficients) * 20 + 12)
+  pub tail-length : (n : ℕ) → length (fileFrom b l) ≡ n → length (fullFileFrom b l t) ≡ n + tailSize (length (t .coefficients))
   tail-length n e =
       let many = terms-many (t .coefficients) (t .kappas) (t .powers) 0 (length (t .coefficients)) in
       ap length full-is ∙ length-append (fileFrom b l) (tailBytes (handed t)) ∙ rw (e, sixth-length (handed t .terms) (handed t .prefactor), many)
@@ -220,6 +221,9 @@ module _ (b : Builder) (m : Mesh) (l : BuilderLists) (t : TailLists) (e : length
       rw (tailed-long b m l t long-enough, asks-nothing, same-file)
       (last-by (meshedRefusal b m l) (ask (leb (length (fileFrom b l)) room) 12 0) _ (rowsKnown (b .top) (l .rows) 0 (slabs (b .grid))) refl)
 
-  pub writes-alike : (out : List ℕ) → writeTailOut b m l t out ≡ writeOut b m l out
+  writes-alike : (out : List ℕ) → writeTailOut b m l t out ≡ writeOut b m l out
   unfolding writeTailOut writeOut
   writes-alike out = rw (same-refusal (length out), same-file)
+
+pub plain-write : PlainWrite
+plain-write b m l t e out = writes-alike b m l t e out

@@ -1,4 +1,5 @@
 -- Write of a table with a long-range tail (document 02, paper 9): what it answers, and what it leaves in the output. Definitions only.
+use mathlib.Core.Path.{_≡_}
 use mathlib.Core.Bool.{Bool, cond, _&&_, _||_}
 use mathlib.Core.List.{List, [], _∷_, map}
 use Prim.Native.Nat.{ℕ, zero, suc}
@@ -14,7 +15,7 @@ use Rattle.builder.specs.BuilderLists.{BuilderLists, slabs, rowsFrom, listsLong
 use Rattle.builder.specs.Refusals.{builderQuestion}
 use Rattle.table.specs.Tail.{Term, Tail, tailValid}
 use Rattle.table.specs.File.{fullFile}
-use Rattle.writer.specs.Write.{WriteOut, writtenValues}
+use Rattle.writer.specs.Write.{WriteOut, writtenValues, writeOut}
 use Rattle.writer.specs.declared.Written.the-variants.{Accepted as Writes, Refused as NotWritten}
 
 -- the lists in which a tail is handed over: terms as many as coefficients, and a prefactor or none
@@ -73,3 +74,7 @@ writeTailOut b m l t out =
     cond (eqb r 0)
     (record { answer = writtenValues (Writes (length (fullFileFrom b l t))); builder = b; lists = l; output = put out 0 (fullFileFrom b l t) })
     (record { answer = writtenValues (NotWritten r); builder = b; lists = l; output = out })
+
+-- a write without terms is the plain write, whatever else is handed over: "No terms means no section and no stored prefactor"
+abbrev pub PlainWrite : Type 0
+PlainWrite = (b : Builder) (m : Mesh) (l : BuilderLists) (t : TailLists) → length (t .coefficients) ≡ 0 → (out : List ℕ) → writeTailOut b m l t out ≡ writeOut b m l out

@@ -1,9 +1,9 @@
 // Write of a table with a long-range tail: its questions, then the file with its sixth section.
 ghost use mathlib.Core.Path.{_≡_};
-ghost use mathlib.Core.Bool.{true, cond, _&&_};
+ghost use mathlib.Core.Bool.{true, _&&_};
 ghost use Prim.Native.Nat.{_+_, _*_, _≤_, _<_};
 ghost use lib.ListN.{length};
-ghost use lib.Dec.{leb, eqb};
+ghost use lib.Dec.{leb};
 ghost use Rattle.lists.specs.Lists.{put, every};
 ghost use Rattle.mesh.specs.Mesh.{meshOf};
 ghost use Rattle.builder.specs.BuilderLists.{listsOf};
@@ -179,17 +179,6 @@ fn put_sixth(
     put_f64(out, at + 4 + n * 20, prefactor[0]);
 }
 
-// The bytes of a sixth section of n terms.
-fn tail_size(n: u64) -> u64
-    requires { ⌜ n ≤ 4294967295 ⌝ }
-    ensures { λ r. ⌜ r ≡ cond (eqb n 0) 0 (n * 20 + 12) ⌝ }
-{
-    if n == 0 {
-        return 0;
-    }
-    n * 20 + 12
-}
-
 // Writes the table file of a builder with a long-range tail, whose terms are as many as coefficients; the list of the prefactor may be empty where
 // there are none.
 pub fn write_tail(
@@ -239,7 +228,7 @@ pub fn write_tail(
     let e = energy_total(true, kinds, levels, values, n);
     let k = coefficients.len() as u64;
     let at = 56 + 4 * top + 10 * n + 4 * e;
-    let size = at + tail_size(k);
+    let size = at + table::tail_size(k as u32);
     if (output.len() as u64) < size {
         return Written::Refused(12);
     }

@@ -33,6 +33,41 @@ static bool diff_grids(const icotable_table *a, const icotable_table *b) {
     return same;
 }
 
+static void print_term(const table_file *f, uint64_t i) {
+    if (i >= f->table.terms) {
+        fputs("none", stdout);
+        return;
+    }
+    term t = term_of(f, i);
+    printf("%.17g, %.17g, %u", t.coefficient, t.kappa, t.power);
+}
+
+static bool same_term(const table_file *f, const table_file *g, uint64_t i) {
+    return i < f->table.terms && i < g->table.terms && memcmp(f->bytes + f->table.start[5] + 20 * i, g->bytes + g->table.start[5] + 20 * i, 20) == 0;
+}
+
+/* Terms are equal by their bits, and prefactors where both tables have terms; one without terms has none. */
+static void diff_tails(const table_file *f, const table_file *g) {
+    uint64_t a = f->table.terms, b = g->table.terms, most = a > b ? a : b, differing = 0;
+    if (most == 0)
+        return;
+    for (uint64_t i = 0; i < most; i++)
+        differing += !same_term(f, g, i);
+    bool both = a > 0 && b > 0, factors = !both || same_bits(prefactor_of(f), prefactor_of(g));
+    puts(differing == 0 && factors ? "the long-range tails are equal" : "the long-range tails differ:");
+    count_differs("terms", a, b);
+    for (uint64_t i = 0; i < most; i++)
+        if (!same_term(f, g, i)) {
+            printf("  term %-7llu ", (unsigned long long)i);
+            print_term(f, i);
+            fputs(" and ", stdout);
+            print_term(g, i);
+            fputs(" (coefficient, kappa, power)\n", stdout);
+        }
+    if (both)
+        number_differs("prefactor", prefactor_of(f), prefactor_of(g));
+}
+
 static double apart(float x, float y) {
     return x == y ? 0 : fabs((double)x - (double)y);
 }
@@ -114,6 +149,7 @@ static int compare(const table_file *f, const table_file *g) {
         diff_rows(f, g);
     else
         puts("with other bin counts the slabs are not the same ones, and are not set side by side");
+    diff_tails(f, g);
     return FOUND;
 }
 

@@ -35,7 +35,8 @@ icotable_table read_table(const uint8_t *bytes, size_t count, bool atom) {
         .number = t.number, .grid = {.rmin = g->rmin, .rmax = g->rmax, .dr = g->dr, .n_r = g->n_r, .n_omega = t.number == 0},
         .levels = t.levels, .rows = t.rows, .energies = t.energies,
     };
-    memcpy(held.start, t.start, sizeof held.start);
+    memcpy(held.start, t.start, sizeof t.start);
+    held.start[5] = t.number == 0 ? count : 0;
     return held;
 }
 
@@ -43,6 +44,12 @@ icotable_table read_table(const uint8_t *bytes, size_t count, bool atom) {
 static void look_over(table_file *f) {
     f->atom = f->count >= 4 && u32_of(f->bytes) == 2;
     f->table = read_table(f->bytes, f->count, f->atom);
+}
+
+void view_table(table_file *f) {
+    f->atom = false;
+    f->viewer = true;
+    f->table = icotable_view(f->bytes, f->count);
 }
 
 int open_table(table_file *f, const char *name) {
@@ -104,6 +111,15 @@ uint64_t per_row(const table_file *f, const row *r) {
 
 float energy_of(const table_file *f, const row *r, uint64_t i) {
     return f32_of(u32_of(f->bytes + f->table.start[4] + 4 * (r->offset + i)));
+}
+
+term term_of(const table_file *f, uint64_t i) {
+    const uint8_t *b = f->bytes + f->table.start[5] + 20 * i;
+    return (term){f64_of(b), f64_of(b + 8), u32_of(b + 16)};
+}
+
+double prefactor_of(const table_file *f) {
+    return f64_of(f->bytes + f->table.start[5] + 20 * f->table.terms);
 }
 
 /* Whether the slabs of one table are those of the other: the kind and the bin counts are the same. */

@@ -4,7 +4,7 @@
 #include <math.h>
 #include <string.h>
 
-enum { LEVELS = 16, SHOWN = 400, ACROSS = 50 };
+enum { LEVELS = 16, SHOWN = 400, ACROSS = 50, TERMS = 20 };
 
 typedef struct tally {
     uint64_t kind[4], level[LEVELS][4], infinite;
@@ -50,6 +50,20 @@ static void print_rows(const table_file *f, const tally *t) {
     }
 }
 
+/* The long-range tail, where there is one: its first terms. */
+static void print_terms(const table_file *f) {
+    uint64_t terms = f->table.terms;
+    if (terms == 0)
+        return;
+    printf("terms       %llu, of prefactor %.17g times the sum of coefficient * exp(-kappa*r) / r^power:\n", (unsigned long long)terms, prefactor_of(f));
+    for (uint64_t i = 0; i < terms && i < TERMS; i++) {
+        term t = term_of(f, i);
+        printf("  coefficient %.17g, kappa %.17g, power %u\n", t.coefficient, t.kappa, t.power);
+    }
+    if (terms > TERMS)
+        printf("  and %llu more\n", (unsigned long long)(terms - TERMS));
+}
+
 static char letter(const row *r) {
     return r->kind == SCALAR ? '.' : r->kind == REPULSIVE ? '#' : r->kind == NEAREST ? (char)('a' + r->level) : (char)('A' + r->level);
 }
@@ -83,6 +97,7 @@ static void print_table(const table_file *f) {
     if (seen.infinite > 0)
         printf(", %llu infinite", (unsigned long long)seen.infinite);
     putchar('\n');
+    print_terms(f);
     if (t->grid.n_r <= SHOWN && t->grid.n_omega <= SHOWN)
         print_slabs(f);
 }

@@ -1,5 +1,5 @@
-/* Tools for table files: icotable inspect [--resolution] FILE, verify FILE.., diff A B, map [-o OUT] FILE [FILE],
- * size [--json] RMIN RMAX DR [STEP] TOP, --version. */
+/* Tools for table files: icotable inspect [--resolution] FILE, verify [--viewer] FILE.., diff A B, map [-o OUT] FILE [FILE],
+ * size [--json] [--terms N] RMIN RMAX DR [STEP] TOP, --version. */
 #include "tools.h"
 
 #include "environment.h"
@@ -21,12 +21,13 @@ static int version_tool(int count, char **names) {
 static const tool tools[] = {
     {"inspect", "inspect FILE            what a table holds, or what refuses it;\n"
                 "  icotable inspect --resolution FILE  how far the vertices of its levels lie", 1, 2, inspect_tool},
-    {"verify", "verify FILE..           accepted, or the number, its words and the byte", 1, 1 << 20, verify_tool},
+    {"verify", "verify FILE..           accepted, or the number, its words and the byte;\n"
+               "  icotable verify --viewer FILE..  the same under the bounds of a viewer: 4 levels, 4096 rows", 1, 1 << 20, verify_tool},
     {"diff", "diff FILE FILE          why two tables differ", 2, 2, diff_tool},
     {"map", "map [-o OUT] FILE       a picture of the slabs (SVG) to OUT or to standard output;\n"
             "  icotable map [-o OUT] FILE FILE  two tables side by side, the slabs that differ marked", 1, 4, map_tool},
-    {"size", "size [--json] RMIN RMAX DR STEP TOP  the memory, file and comparisons of a build;\n"
-             "  icotable size [--json] RMIN RMAX DR TOP  against an atom", 4, 6, size_tool},
+    {"size", "size [--json] [--terms N] RMIN RMAX DR STEP TOP  the memory, file and comparisons of a build;\n"
+             "  icotable size [--json] RMIN RMAX DR TOP  against an atom", 4, 8, size_tool},
     {"--version", "--version               the version", 0, 0, version_tool},
 };
 

@@ -1,10 +1,12 @@
-/* size [--json] RMIN RMAX DR [STEP] TOP: the memory and the file that a build needs at most, and the comparisons of its
- * settles, for a reservation; without a step, of a table against an atom. Threshold and beta decide nothing of this. The
+/* size [--json] [--terms N] RMIN RMAX DR [STEP] TOP: the memory and the file that a build needs at most, with so many terms
+ * in its long-range tail, and the comparisons of its settles, for a reservation; without a step, of a table against an
+ * atom, which has no terms. Threshold and beta decide nothing of this. The
  * lengths are the library's; bytes and seconds are worked out of them here. */
 #include "tools.h"
 
 #include "mesh.h"
 
+#include <errno.h>
 #include <stdlib.h>
 #include <string.h>
 
@@ -15,7 +17,7 @@ static const double NANOSECONDS = 2.4;
 typedef struct build {
     bool atom;
     icotable_grid grid;
-    uint64_t top, distances, slabs;
+    uint64_t top, terms, distances, slabs;
     icotable_size size;
     uint64_t store, rows, meshes, locators; /* bytes */
 } build;
@@ -26,7 +28,14 @@ static bool number_of(const char *word, double *x) {
     return end != word && *end == 0;
 }
 
-/* The words of the command line, or false. */
+static bool whole_of(const char *word, uint64_t *n) {
+    char *end;
+    errno = 0;
+    *n = strtoull(word, &end, 10);
+    return word[0] >= '0' && word[0] <= '9' && *end == 0 && errno == 0;
+}
+
+/* The numbers of the command line, or false. */
 static bool settings_of(build *b, int count, char **words) {
     double x[5];
     if (count != 4 && count != 5)
@@ -38,6 +47,8 @@ static bool settings_of(build *b, int count, char **words) {
     if (!(top >= 0 && top < 1e9 && top == (double)(uint64_t)top))
         return false;
     b->atom = count == 4;
+    if (b->atom && b->terms > 0)
+        return false;
     b->grid = (icotable_grid){.rmin = x[0], .rmax = x[1], .dr = x[2], .omega_step = b->atom ? 0 : x[3], .threshold = 0, .beta = 1};
     b->top = (uint64_t)top;
     return true;
@@ -52,7 +63,7 @@ static uint64_t ask(build *b, const icotable_meshes *m) {
         return size.number;
     b->distances = size.store / icotable_vertices(b->top);
     if (!b->atom)
-        size = icotable_sizing(*g, b->top, m->neighbour_counts, m->neighbour_counts_count, m->neighbours, m->neighbours_count);
+        size = icotable_sizing(*g, b->top, m->neighbour_counts, m->neighbour_counts_count, m->neighbours, m->neighbours_count, b->terms);
     b->size = size;
     if (size.number == 0)
         b->slabs = size.store / per_level(b->atom, b->top);
@@ -99,6 +110,8 @@ static void print_words(const build *b) {
     print_bytes("  output", b->size.file);
     print_bytes("locators", b->locators); /* for readings */
     print_bytes("file at most", b->size.file);
+    if (b->terms > 0)
+        printf("  with %llu terms of a long-range tail\n", (unsigned long long)b->terms);
     puts("comparisons of one settle, every slab filled and none Repulsive:");
     for (uint64_t m = 0; m <= b->top; m++) {
         printf("  level %-4llu%llu", (unsigned long long)m, (unsigned long long)b->size.comparisons[m]);
@@ -116,10 +129,10 @@ static void print_words(const build *b) {
 
 static void print_json(const build *b) {
     const icotable_size *s = &b->size;
-    printf("{\"kind\": \"%s\", \"top\": %llu, \"distances\": %llu, \"slabs\": %llu, \"store\": %llu, \"store_bytes\": %llu, \"row_bytes\": %llu, "
+    printf("{\"kind\": \"%s\", \"top\": %llu, \"terms\": %llu, \"distances\": %llu, \"slabs\": %llu, \"store\": %llu, \"store_bytes\": %llu, \"row_bytes\": %llu, "
            "\"mesh_bytes\": %llu, \"locator_bytes\": %llu, \"memory_bytes\": %llu, \"file_bytes\": %llu, \"levels\": [",
-           b->atom ? "atom" : "pair", (unsigned long long)b->top, (unsigned long long)b->distances, (unsigned long long)b->slabs,
-           (unsigned long long)s->store, (unsigned long long)b->store, (unsigned long long)b->rows, (unsigned long long)b->meshes,
+           b->atom ? "atom" : "pair", (unsigned long long)b->top, (unsigned long long)b->terms, (unsigned long long)b->distances,
+           (unsigned long long)b->slabs, (unsigned long long)s->store, (unsigned long long)b->store, (unsigned long long)b->rows, (unsigned long long)b->meshes,
            (unsigned long long)b->locators, (unsigned long long)memory_of(b), (unsigned long long)s->file);
     for (uint64_t m = 0; m <= b->top; m++) {
         printf("%s{\"level\": %llu, \"vertices\": %llu, \"cell_offsets\": %llu, \"cell_vertices\": %llu, \"face_offsets\": %llu, \"faces\": %llu, "
@@ -137,11 +150,23 @@ static void print_json(const build *b) {
     puts("}");
 }
 
+/* The options, and how many words they take; -1 where one is wrong. */
+static int options_of(build *b, bool *json, int count, char **words) {
+    int at = 0;
+    for (; at < count && strncmp(words[at], "--", 2) == 0; at++)
+        if (strcmp(words[at], "--json") == 0)
+            *json = true;
+        else if (strcmp(words[at], "--terms") != 0 || ++at == count || !whole_of(words[at], &b->terms))
+            return -1;
+    return at;
+}
+
 int size_tool(int count, char **names) {
     build b = {0};
-    bool json = count > 0 && strcmp(names[0], "--json") == 0;
-    if (!settings_of(&b, count - json, names + json)) {
-        fputs("icotable size: RMIN RMAX DR [STEP] TOP are numbers, and TOP is a whole one\n", stderr);
+    bool json = false;
+    int options = options_of(&b, &json, count, names);
+    if (options < 0 || !settings_of(&b, count - options, names + options)) {
+        fputs("icotable size: RMIN RMAX DR [STEP] TOP are numbers, TOP and the N of --terms whole ones; without STEP there are no terms\n", stderr);
         return TROUBLE;
     }
     icotable_meshes meshes = {0};

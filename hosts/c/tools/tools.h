@@ -10,13 +10,13 @@
 
 enum { GOOD = 0, FOUND = 1, TROUBLE = 2 };
 
-/* A file in memory, and what the library's reader for its kind answered. A table against an atom is held like one of two
- * molecules that has one dihedral bin; its step is 0. */
+/* A file in memory, and what the library's reader for its kind answered, or its reader for a viewer. A table against an atom
+ * is held like one of two molecules that has one dihedral bin and no terms; its step is 0. */
 typedef struct table_file {
     const char *name;
     uint8_t *bytes;
     size_t count;
-    bool atom;
+    bool atom, viewer;
     icotable_table table;
 } table_file;
 
@@ -28,6 +28,12 @@ typedef struct row {
     uint32_t offset, scalar;
 } row;
 
+/* A term of the long-range tail. */
+typedef struct term {
+    double coefficient, kappa;
+    uint32_t power;
+} term;
+
 /* Where and why a file is refused. */
 typedef struct place {
     uint64_t number;
@@ -38,6 +44,8 @@ typedef struct place {
 /* file.c: reads the whole file and has the library look it over, as a table against an atom where its first count is that
  * of one. TROUBLE, with a line to standard error, where it cannot be read; GOOD otherwise, whatever the verdict. */
 int open_table(table_file *f, const char *name);
+/* Looks an open file over once more, under a viewer's bounds: a viewer opens tables of two molecules alone. */
+void view_table(table_file *f);
 void close_table(table_file *f);
 /* What the reader of its kind answers; a table against an atom with one dihedral bin. */
 icotable_table read_table(const uint8_t *bytes, size_t count, bool atom);
@@ -46,6 +54,9 @@ uint32_t u32_of(const uint8_t *bytes);
 double f64_of(const uint8_t *bytes);
 float f32_of(uint32_t bits);
 row row_of(const table_file *f, uint64_t slab);
+term term_of(const table_file *f, uint64_t i);
+/* Where there are terms: what their sum is multiplied by. */
+double prefactor_of(const table_file *f);
 bool same_slabs(const table_file *f, const table_file *g);
 bool same_row(const table_file *f, const table_file *g, uint64_t slab);
 float energy_of(const table_file *f, const row *r, uint64_t i);
@@ -58,8 +69,8 @@ void print_row(FILE *out, const table_file *f, const row *r);
 void print_slab(FILE *out, const table_file *f, uint64_t slab);
 void print_bins(FILE *out, const table_file *f, uint64_t slab);
 
-/* walk.c: document 01's questions 13 to 17 once more, by the host, for the byte alone: a hint. */
-place find_place(const uint8_t *bytes, size_t count, bool atom);
+/* walk.c: the questions of read, 13 to 17, 23 and a viewer's 24, once more, by the host, for the byte alone: a hint. */
+place find_place(const uint8_t *bytes, size_t count, bool atom, bool viewer);
 /* The library's number in words, and the byte where the walk agrees with it. */
 void print_verdict(FILE *out, const table_file *f);
 

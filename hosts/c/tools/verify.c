@@ -1,11 +1,20 @@
-/* verify FILE..: the library's verdict on each file, for scripts. */
+/* verify [--viewer] FILE..: the library's verdict on each file, for scripts; with --viewer, under a viewer's bounds. */
 #include "tools.h"
+
+#include <string.h>
 
 int verify_tool(int count, char **names) {
     int status = GOOD;
-    for (int i = 0; i < count; i++) {
+    bool viewer = strcmp(names[0], "--viewer") == 0;
+    if (viewer && count == 1) {
+        fputs("icotable: verify --viewer: a file is missing\n", stderr);
+        return TROUBLE;
+    }
+    for (int i = viewer; i < count; i++) {
         table_file f;
         int opened = open_table(&f, names[i]);
+        if (opened == GOOD && viewer)
+            view_table(&f);
         if (opened == GOOD)
             print_verdict(stdout, &f);
         int verdict = opened != GOOD ? opened : f.table.number != 0 ? FOUND : GOOD;

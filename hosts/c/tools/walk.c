@@ -9,10 +9,11 @@
 static const double TAU = 6.283185307179586;
 static const uint32_t UNUSED = 0xFFFFFFFF;
 
-/* Where each section's items begin, and how many there are; and whose table it is taken for. */
+/* Where each section's items begin, and how many there are; whose table it is taken for, and for whom it is opened.
+ * Without a sixth section it has no items. */
 typedef struct sections {
-    bool atom;
-    size_t at[5], count[5];
+    bool atom, viewer;
+    size_t at[6], count[6];
 } sections;
 
 __attribute__((format(printf, 3, 4))) static place found(uint64_t number, size_t byte, const char *why, ...) {
@@ -25,6 +26,28 @@ __attribute__((format(printf, 3, 4))) static place found(uint64_t number, size_t
 }
 
 static const place nothing = {0};
+
+/* Behind the fifth section: nothing; or, of two molecules, at least one term and the prefactor. */
+static place walk_sixth(const uint8_t *bytes, size_t count, size_t at, sections *s) {
+    if (at == count)
+        return nothing;
+    if (s->atom)
+        return found(13, at, "%zu bytes follow the last section", count - at);
+    if (count - at < 4)
+        return found(13, at, "%zu bytes follow section 5 (energies), which are no count of section 6 (terms)", count - at);
+    size_t terms = u32_of(bytes + at), behind = at + 4 + 20 * terms;
+    if (terms == 0)
+        return found(13, at, "the count of section 6 (terms) is 0, where a table without terms has no section 6");
+    if ((count - at - 4) / 20 < terms)
+        return found(13, at, "section 6 (terms) has %zu items of 20 bytes by its count, and the file ends %zu bytes behind it", terms, count - at - 4);
+    if (count - behind < 8)
+        return found(13, behind, "%zu bytes follow section 6 (terms), where the prefactor has 8", count - behind);
+    if (count - behind > 8)
+        return found(13, behind + 8, "%zu bytes follow the prefactor", count - behind - 8);
+    s->at[5] = at + 4;
+    s->count[5] = terms;
+    return nothing;
+}
 
 static place walk_sections(const uint8_t *bytes, size_t count, sections *s) {
     static const size_t width[5] = {8, 4, 4, 10, 4};
@@ -49,11 +72,7 @@ static place walk_sections(const uint8_t *bytes, size_t count, sections *s) {
                                               width[k], count - at - 4);
         at += 4 + width[k] * items;
     }
-    if (second.number != 0)
-        return second;
-    if (at != count)
-        return found(13, at, "%zu bytes follow the last section", count - at);
-    return nothing;
+    return second.number != 0 ? second : walk_sixth(bytes, count, at, s);
 }
 
 /* To a u64: toward zero, saturating, a NaN to 0. */
@@ -110,6 +129,15 @@ static place walk_grid(const uint8_t *bytes, const sections *s) {
     return nothing;
 }
 
+static place walk_bound(const uint8_t *bytes, const sections *s) {
+    (void)bytes;
+    if (s->viewer && s->count[2] > 4)
+        return found(24, s->at[2] - 4, "%zu levels, where a viewer opens at most 4", s->count[2]);
+    if (s->viewer && s->count[3] > 4096)
+        return found(24, s->at[3] - 4, "%zu rows, where a viewer opens at most 4096", s->count[3]);
+    return nothing;
+}
+
 static bool is_nan(uint32_t bits) {
     return (bits & 0x7FFFFFFF) > 0x7F800000;
 }
@@ -163,9 +191,24 @@ static place walk_energies(const uint8_t *bytes, const sections *s) {
     return nothing;
 }
 
-place find_place(const uint8_t *bytes, size_t count, bool atom) {
-    static place (*const walks[])(const uint8_t *, const sections *) = {walk_grid, walk_rows, walk_tiling, walk_energies};
-    sections s = {.atom = atom};
+static place walk_terms(const uint8_t *bytes, const sections *s) {
+    static const char *const name[2] = {"coefficient", "kappa"};
+    size_t at = s->at[5];
+    for (size_t i = 0; i < s->count[5]; i++, at += 20) {
+        for (size_t k = 0; k < 2; k++)
+            if (!isfinite(f64_of(bytes + at + 8 * k)))
+                return found(23, at + 8 * k, "the %s of term %zu is %g", name[k], i, f64_of(bytes + at + 8 * k));
+        if (u32_of(bytes + at + 16) > 2147483647)
+            return found(23, at + 16, "the power of term %zu is %u, and 2147483647 is the largest", i, u32_of(bytes + at + 16));
+    }
+    if (s->count[5] > 0 && !isfinite(f64_of(bytes + at)))
+        return found(23, at, "the prefactor is %g", f64_of(bytes + at));
+    return nothing;
+}
+
+place find_place(const uint8_t *bytes, size_t count, bool atom, bool viewer) {
+    static place (*const walks[])(const uint8_t *, const sections *) = {walk_grid, walk_bound, walk_rows, walk_tiling, walk_energies, walk_terms};
+    sections s = {.atom = atom, .viewer = viewer};
     place p = walk_sections(bytes, count, &s);
     for (size_t k = 0; p.number == 0 && k < sizeof walks / sizeof walks[0]; k++)
         p = walks[k](bytes, &s);
@@ -175,11 +218,11 @@ place find_place(const uint8_t *bytes, size_t count, bool atom) {
 void print_verdict(FILE *out, const table_file *f) {
     uint64_t number = f->table.number;
     if (number == 0) {
-        fprintf(out, "%s: %s, accepted\n", f->name, table_words(f->atom));
+        fprintf(out, "%s: %s, accepted%s\n", f->name, table_words(f->atom), f->viewer ? " under a viewer's bounds" : "");
         return;
     }
     fprintf(out, "%s: refused with %llu as %s: %s\n", f->name, (unsigned long long)number, table_words(f->atom), icotable_words(number));
-    place p = find_place(f->bytes, f->count, f->atom);
+    place p = find_place(f->bytes, f->count, f->atom, f->viewer);
     if (p.number == number)
         fprintf(out, "%s: at byte %zu: %s\n", f->name, p.byte, p.why);
 }

@@ -5,6 +5,7 @@ use crate::lists::Lists;
 use crate::refusal::{answer, Refusal};
 use crate::sizing::sizing;
 use crate::sys::{self, Grid};
+use crate::tail::{self, Tail};
 use crate::Mesh;
 use std::sync::Arc;
 
@@ -60,6 +61,15 @@ impl Builder {
     pub fn write(&self) -> Result<Vec<u8>, Refusal> {
         let mut output = vec![0; self.file_length() as usize];
         let written = sys::write(self.held, self.lists.held(), self.mesh.lent(), &mut output);
+        output.truncate(written.length as usize);
+        answer(written.number, output)
+    }
+
+    /// The table file with a long-range tail, [`file_length`](Builder::file_length) and, where there are terms, 12 bytes and 20 a term long.
+    pub fn write_tail(&self, tail: &Tail) -> Result<Vec<u8>, Refusal> {
+        let mut output = vec![0; self.file_length() as usize + tail.length()];
+        let lists = tail::Lists::of(tail);
+        let written = sys::write_tail(self.held, self.lists.held(), self.mesh.lent(), lists.lent(), &mut output);
         output.truncate(written.length as usize);
         answer(written.number, output)
     }

@@ -3,8 +3,10 @@
 //!
 //! A safe wrapper over libicotable.a, whose functions are proved. [`Mesh`] holds the meshes and locators of all levels,
 //! [`Builder`] the lists that a table is built in, [`Table`] a table file; [`AtomBuilder`] and [`AtomTable`] are the same of
-//! one molecule against an atom; [`sizing`] says beforehand what a build needs; [`search`] finds a direction without a locator. What the library refuses is a [`Refusal`], with document 01's number and its words; a refused
-//! call alters nothing. The wrapper itself is not proved: it sizes the lists, hands them over and turns numbers into the enum.
+//! one molecule against an atom; [`Tail`] is what a host adds beyond a table's distances; [`sizing`] says beforehand what a build
+//! needs; [`search`] finds a direction without a locator. What the library refuses is a [`Refusal`], with document 01's number and
+//! its words; a refused call alters nothing. The wrapper itself is not proved: it sizes the lists, hands them over and turns
+//! numbers into the enum.
 //!
 //! The proofs speak of one floating-point environment; [`Builder::new`], [`Table::read`] and the atom's two ask whether the
 //! thread has it ([`FloatEnvironment`]), and calls of a thread that alters it afterwards are not asked again. Settling takes up
@@ -22,6 +24,7 @@ mod row;
 mod sizing;
 mod sys;
 mod table;
+mod tail;
 
 pub use atom::{AtomBuilder, AtomTable};
 pub use builder::{Builder, Settled};
@@ -31,9 +34,10 @@ pub use found::{search, Found};
 pub use mesh::{Level, Mesh};
 pub use refusal::Refusal;
 pub use row::{Kind, Row};
-pub use sizing::{atom_sizing, sizing, LevelSizing, Sizing};
+pub use sizing::{atom_sizing, sizing, sizing_with_terms, LevelSizing, Sizing};
 pub use sys::{AtomGrid, Grid};
 pub use table::{Reading, Table};
+pub use tail::{power, Tail, Term};
 
 /// Settings of a new table; the library works out the two bin counts.
 pub fn settings(rmin: f64, rmax: f64, dr: f64, omega_step: f64, threshold: f64, beta: f64) -> Grid {
@@ -63,6 +67,7 @@ mod tests {
         assert_eq!(sys::ln(5e-324).to_bits(), 0xC0874385446D71C3);
         assert_eq!(sys::ln(-0.0), f64::NEG_INFINITY);
         assert!(sys::ln(-1.0).is_nan());
+        assert_eq!([0, 1, 5].map(|n| sys::power(3.0, n)), [1.0, 3.0, 243.0]);
         assert_eq!(sys::mul_add(3.0, 4.0, -12.0), 0.0);
         assert_eq!(sys::narrow(16777217.0), 16777216.0);
         let cases = [f64::NAN, f64::INFINITY, -1e39, 1.0, 16777217.0, 16777219.0, 0.1].map(sys::narrow_case);

@@ -54,9 +54,12 @@ refusals! {
     16 Tiling "the rows' offsets do not tile the energies in row order",
     17 FileNan "an energy of the file is a NaN",
     18 Query "r is a NaN, omega not finite, or the length of a direction not finite or 0",
-    19 NotLent "a bin count is 0, a row's kind is unknown or its level not held, or a row, energy, cell or mesh entry that the reading touches is not inside what was lent, an end offset is below its start, or a vertex number not below n",
+    19 NotLent "a bin count is 0, a row's kind is unknown or its level not held, or a row, energy, term, cell or mesh entry that the reading touches is not inside what was lent, an end offset is below its start, or a vertex number not below n",
     20 EmptyCell "the cell that a direction falls into lists no vertex",
     21 ReadingBeta "a reading's own beta is not finite and above 0",
+    22 Prefactor "terms of a long-range tail are handed over without a prefactor",
+    23 Term "a coefficient, a kappa or the prefactor of a long-range tail is not finite, a power is above 2147483647, or there are more than 4294967295 terms",
+    24 ViewerBound "the file has more than 4 levels or 4096 rows, which the viewer does not open",
 }
 
 /// What an accepted call gives, or why it was refused.

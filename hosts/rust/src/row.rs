@@ -18,7 +18,7 @@ pub struct Row {
 
 impl Row {
     // Row s of a file whose sections begin at these places, a slab of a level having so many energies.
-    pub(crate) fn of(file: &[u8], start: &[u64; 5], s: u64, per: impl Fn(u64) -> usize) -> Row {
+    pub(crate) fn of(file: &[u8], start: &[u64], s: u64, per: impl Fn(u64) -> usize) -> Row {
         let word = |at: usize| u32::from_le_bytes([file[at], file[at + 1], file[at + 2], file[at + 3]]);
         let at = (start[3] + 10 * s) as usize;
         let (level, offset) = (file[at + 1], word(at + 2));

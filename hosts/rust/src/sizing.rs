@@ -11,7 +11,7 @@ pub struct Sizing {
     /// Doubles in the store.
     pub store: u64,
     /// Bytes of the longest file: no list of calls writes a longer one, and setting every slab at the top level without settling
-    /// writes one that long.
+    /// writes one that long; of [`sizing_with_terms`] with at most, and with, that many terms.
     pub file: u64,
     /// One entry for each level, from 0 to the top one.
     pub levels: Vec<LevelSizing>,
@@ -27,11 +27,16 @@ pub struct LevelSizing {
     pub comparisons: u64,
 }
 
-/// What a table of two molecules needs.
+/// What a table of two molecules needs that has no long-range tail.
 pub fn sizing(settings: Grid, mesh: &Mesh) -> Result<Sizing, Refusal> {
+    sizing_with_terms(settings, mesh, 0)
+}
+
+/// What a table of two molecules needs whose long-range tail has at most so many terms.
+pub fn sizing_with_terms(settings: Grid, mesh: &Mesh, terms: u64) -> Result<Sizing, Refusal> {
     let (counts, neighbours) = mesh.links();
     let n = sys::vertices(mesh.top());
-    of(sys::sizing(settings, mesh.top(), counts, neighbours), mesh.top(), n * n)
+    of(sys::sizing(settings, mesh.top(), counts, neighbours, terms), mesh.top(), n * n)
 }
 
 /// What a table of one molecule against an atom needs.

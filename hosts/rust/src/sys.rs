@@ -56,7 +56,8 @@ pub struct Table {
     pub levels: u64,
     pub rows: u64,
     pub energies: u64,
-    pub start: [u64; 5],
+    pub terms: u64,
+    pub start: [u64; 6],
 }
 
 #[repr(C)]
@@ -164,7 +165,15 @@ extern "C" {
         vertices: *const f64, e: usize, counts: *const u8, f: usize, neighbours: *const u16, g: usize, angles: *const f64, h: usize,
         output: *mut u8, i: usize,
     ) -> Written;
+    fn icotable_write_tail(
+        builder: Builder, store: *const f64, a: usize, kinds: *const u8, b: usize, levels: *const u8, c: usize, values: *const u32, d: usize,
+        vertices: *const f64, e: usize, counts: *const u8, f: usize, neighbours: *const u16, g: usize, angles: *const f64, h: usize,
+        coefficients: *const f64, i: usize, kappas: *const f64, j: usize, powers: *const u32, k: usize, prefactor: *const f64, l: usize,
+        output: *mut u8, m: usize,
+    ) -> Written;
     fn icotable_read(file: *const u8, a: usize) -> Table;
+    fn icotable_view(file: *const u8, a: usize) -> Table;
+    fn icotable_tail(table: *const Table, file: *const u8, a: usize, r: f64) -> Value;
     fn icotable_locator(
         level: u64, vertices: *const f64, a: usize, counts: *const u8, b: usize, neighbours: *const u16, c: usize, angles: *const f64, d: usize,
         cell_offsets: *mut u32, e: usize, cell_vertices: *mut u16, f: usize, face_offsets: *mut u32, g: usize, faces: *mut u16, h: usize,
@@ -203,7 +212,7 @@ extern "C" {
         table: *const AtomTable, file: *const u8, a: usize, vertices: *const f64, b: usize, cell_offsets: *const u32, c: usize, cell_vertices: *const u16, d: usize,
         face_offsets: *const u32, e: usize, faces: *const u16, f: usize, r: f64, x: f64, y: f64, z: f64, beta: f64,
     ) -> Energy;
-    fn icotable_sizing(grid: Grid, top: u64, counts: *const u8, a: usize, neighbours: *const u16, b: usize) -> Size;
+    fn icotable_sizing(grid: Grid, top: u64, counts: *const u8, a: usize, neighbours: *const u16, b: usize, terms: u64) -> Size;
     fn icotable_atom_sizing(grid: AtomGrid, top: u64, counts: *const u8, a: usize, neighbours: *const u16, b: usize) -> Size;
     fn icotable_search(
         level: u64, vertices: *const f64, a: usize, counts: *const u8, b: usize, neighbours: *const u16, c: usize, x: f64, y: f64, z: f64,
@@ -213,6 +222,7 @@ extern "C" {
     fn icotable_root(x: f64) -> f64;
     fn icotable_exp(y: f64) -> f64;
     fn icotable_ln(x: f64) -> f64;
+    fn icotable_power(r: f64, n: u32) -> f64;
     fn icotable_mul_add(a: f64, b: f64, c: f64) -> f64;
     fn icotable_narrow(x: f64) -> f32;
     fn icotable_narrow_case(x: f64) -> u64;
@@ -299,12 +309,12 @@ macro_rules! with_lists {
 
 #[rustfmt::skip]
 macro_rules! with_held {
-    ($call:ident, $b:expr, $l:expr, $m:expr, $output:expr) => {
+    ($call:ident, $b:expr, $l:expr, $m:expr, ($($before:expr),*), $output:expr) => {
         unsafe {
             $call(
                 $b, $l.store.as_ptr(), $l.store.len(), $l.kinds.as_ptr(), $l.kinds.len(), $l.levels.as_ptr(), $l.levels.len(),
                 $l.values.as_ptr(), $l.values.len(), $m.vertices.as_ptr(), $m.vertices.len(), $m.counts.as_ptr(), $m.counts.len(),
-                $m.neighbours.as_ptr(), $m.neighbours.len(), $m.angles.as_ptr(), $m.angles.len(), $output.as_mut_ptr(), $output.len(),
+                $m.neighbours.as_ptr(), $m.neighbours.len(), $m.angles.as_ptr(), $m.angles.len(), $($before,)* $output.as_mut_ptr(), $output.len(),
             )
         }
     };
@@ -336,11 +346,40 @@ pub fn settle(b: Builder, l: &mut Lists, m: Meshes, ri: u64) -> Settled {
 }
 
 pub fn write(b: Builder, l: Held, m: Meshes, output: &mut [u8]) -> Written {
-    with_held!(icotable_write, b, l, m, output)
+    with_held!(icotable_write, b, l, m, (), output)
+}
+
+// A long-range tail, as it is handed over.
+#[derive(Clone, Copy)]
+pub struct Tail<'a> {
+    pub coefficients: &'a [f64],
+    pub kappas: &'a [f64],
+    pub powers: &'a [u32],
+    pub prefactor: &'a [f64],
+}
+
+#[rustfmt::skip]
+pub fn write_tail(b: Builder, l: Held, m: Meshes, t: Tail, output: &mut [u8]) -> Written {
+    with_held!(
+        icotable_write_tail, b, l, m,
+        (
+            t.coefficients.as_ptr(), t.coefficients.len(), t.kappas.as_ptr(), t.kappas.len(), t.powers.as_ptr(), t.powers.len(),
+            t.prefactor.as_ptr(), t.prefactor.len()
+        ),
+        output
+    )
+}
+
+pub fn tail(table: &Table, file: &[u8], r: f64) -> Value {
+    unsafe { icotable_tail(table, file.as_ptr(), file.len(), r) }
 }
 
 pub fn read(file: &[u8]) -> Table {
     unsafe { icotable_read(file.as_ptr(), file.len()) }
+}
+
+pub fn view(file: &[u8]) -> Table {
+    unsafe { icotable_view(file.as_ptr(), file.len()) }
 }
 
 #[rustfmt::skip]
@@ -377,7 +416,7 @@ pub fn atom_settle(b: AtomBuilder, l: &mut Lists, m: Meshes, ri: u64) -> AtomSet
 }
 
 pub fn atom_write(b: AtomBuilder, l: Held, m: Meshes, output: &mut [u8]) -> Written {
-    with_held!(icotable_atom_write, b, l, m, output)
+    with_held!(icotable_atom_write, b, l, m, (), output)
 }
 
 pub fn atom_read(file: &[u8]) -> AtomTable {
@@ -393,8 +432,8 @@ pub fn atom_boltzmann(table: &AtomTable, l: Lent, r: f64, d: [f64; 3], beta: f64
 }
 
 // Of the meshes the neighbour lists alone are looked at.
-pub fn sizing(grid: Grid, top: u64, counts: &[u8], neighbours: &[u16]) -> Size {
-    unsafe { icotable_sizing(grid, top, counts.as_ptr(), counts.len(), neighbours.as_ptr(), neighbours.len()) }
+pub fn sizing(grid: Grid, top: u64, counts: &[u8], neighbours: &[u16], terms: u64) -> Size {
+    unsafe { icotable_sizing(grid, top, counts.as_ptr(), counts.len(), neighbours.as_ptr(), neighbours.len(), terms) }
 }
 
 pub fn atom_sizing(grid: AtomGrid, top: u64, counts: &[u8], neighbours: &[u16]) -> Size {
@@ -436,6 +475,10 @@ pub fn exp(y: f64) -> f64 {
 
 pub fn ln(x: f64) -> f64 {
     unsafe { icotable_ln(x) }
+}
+
+pub fn power(r: f64, n: u32) -> f64 {
+    unsafe { icotable_power(r, n) }
 }
 
 pub fn mul_add(a: f64, b: f64, c: f64) -> f64 {

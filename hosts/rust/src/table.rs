@@ -5,6 +5,7 @@ use crate::error::Error;
 use crate::refusal::{answer, Refusal};
 use crate::row::Row;
 use crate::sys::{self, Grid};
+use crate::tail::{Tail, Term};
 use crate::Mesh;
 use std::sync::Arc;
 
@@ -39,8 +40,18 @@ impl Table {
     /// Looks over a file, all of it. The mesh has to be the one that the table was built over, with at least its levels: a
     /// file does not hold it. A file of one molecule against an atom is refused.
     pub fn read(file: Vec<u8>, mesh: Arc<Mesh>) -> Result<Table, Error> {
+        Table::opened(sys::read, file, mesh)
+    }
+
+    /// The same under the bounds of a viewer: a file of more than 4 levels or 4,096 rows is refused (`Refusal::ViewerBound`). What it
+    /// accepts `read` accepts, as the same table.
+    pub fn view(file: Vec<u8>, mesh: Arc<Mesh>) -> Result<Table, Error> {
+        Table::opened(sys::view, file, mesh)
+    }
+
+    fn opened(reader: fn(&[u8]) -> sys::Table, file: Vec<u8>, mesh: Arc<Mesh>) -> Result<Table, Error> {
         FloatEnvironment::ask()?;
-        let held = sys::read(&file);
+        let held = reader(&file);
         Ok(answer(held.number, Table { file, held, mesh })?)
     }
 
@@ -65,6 +76,23 @@ impl Table {
     /// The weighted reading, and how far the vertices lie where it was read at the nearest ones.
     pub fn reading_boltzmann(&self, r: f64, omega: f64, a: [f64; 3], b: [f64; 3], beta: f64) -> Result<Reading, Refusal> {
         Reading::of(sys::boltzmann(&self.held, self.mesh.lent_with(&self.file), &sys::Query { r, omega, a, b }, beta))
+    }
+
+    /// The long-range tail at a distance: what a host adds where r is beyond rmax and `lookup` gives 0. It answers inside the table, too,
+    /// and is 0 without terms; at a NaN it is refused.
+    pub fn tail_energy(&self, r: f64) -> Result<f64, Refusal> {
+        let value = sys::tail(&self.held, &self.file, r);
+        answer(value.number, value.energy)
+    }
+
+    /// The long-range tail as the file has it; without terms it has no prefactor.
+    pub fn tail(&self) -> Tail {
+        Tail::of(&self.file, self.held.start[5], self.held.terms)
+    }
+
+    /// Its terms.
+    pub fn terms(&self) -> Vec<Term> {
+        self.tail().terms
     }
 
     /// The grid; rmax is the table's own, threshold and beta are 0.

@@ -1,5 +1,8 @@
 //! The wrapper, used as a host does.
-use icotable::{atom_settings, search, settings, sizing, vertex_count, AtomBuilder, AtomTable, Builder, Error, FloatEnvironment, Grid, Kind, Level, Mesh, Refusal, Table};
+use icotable::{
+    atom_settings, power, search, settings, sizing, sizing_with_terms, vertex_count, AtomBuilder, AtomTable, Builder, Error, FloatEnvironment, Grid, Kind, Level, Mesh,
+    Refusal, Table, Tail, Term,
+};
 use std::sync::Arc;
 
 fn mesh(top: u64) -> Arc<Mesh> {
@@ -37,7 +40,7 @@ fn refusals_are_the_headers() {
         assert_eq!(format!("{refusal:?}"), camel);
         found += 1;
     }
-    assert_eq!(found, 21);
+    assert_eq!(found, 24);
     assert_eq!(Refusal::ALL.len(), found);
 }
 
@@ -241,6 +244,86 @@ fn a_nearest_reading_shows_how_far_its_vertices_lie() {
     // another row, a Scalar one and a distance outside show none
     assert_eq!([1.0, 2.5].map(|r| shown(&t, r)), [Ok([0.0; 2]); 2]);
     assert_eq!(t.reading(0.0, 3.0, x, y).map(|v| [v.distance_a, v.distance_b]), Ok([0.0; 2]));
+}
+
+fn two_terms() -> Tail {
+    let terms = vec![Term { coefficient: -1.5, kappa: 0.0, power: 6 }, Term { coefficient: 2.0, kappa: 0.25, power: 1 }];
+    Tail { terms, prefactor: Some(4.0) }
+}
+
+#[test]
+fn a_long_range_tail_is_written_and_read() {
+    let mut b = builder(0);
+    b.set(0, 0, &smooth(0)).unwrap();
+    let (plain, tail) = (b.write().unwrap(), two_terms());
+    let file = b.write_tail(&tail).unwrap();
+    assert_eq!(file.len(), plain.len() + 12 + 2 * 20);
+    assert_eq!(sizing_with_terms(small(), b.mesh(), 2).unwrap().file, sizing(small(), b.mesh()).unwrap().file + 52);
+    let t = Table::read(file, b.mesh().clone()).unwrap();
+    assert_eq!((t.tail(), t.terms()), (tail.clone(), tail.terms));
+    // the table is as it was, and 0 beyond rmax; the tail stands for itself
+    let (x, y) = ([1.0, 2.0, 3.0], [-3.0, 1.0, 0.25]);
+    assert_eq!(t.lookup(5.0, 0.0, x, y), Ok(0.0));
+    let wanted = |r: f64| 4.0 * (-1.5 / r.powi(6) + 2.0 * (-0.25 * r).exp() / r);
+    for r in [0.5, 1.0, 2.0, 5.0, 20.0] {
+        let energy = t.tail_energy(r).unwrap();
+        assert!((energy - wanted(r)).abs() < 1e-12 * wanted(r).abs(), "{energy} at {r}");
+    }
+    assert_eq!(t.tail_energy(f64::NAN), Err(Refusal::Query));
+    assert!(t.tail_energy(f64::INFINITY).unwrap().is_nan()); // a kappa of 0, times infinity
+    // without terms nothing is stored
+    for prefactor in [None, Some(4.0), Some(f64::NAN)] {
+        assert_eq!(b.write_tail(&Tail { terms: Vec::new(), prefactor }).unwrap(), plain);
+    }
+    let t = Table::read(plain, b.mesh().clone()).unwrap();
+    assert_eq!((t.tail(), t.tail_energy(1.0)), (Tail::default(), Ok(0.0)));
+}
+
+#[test]
+fn a_long_range_tail_is_refused() {
+    let b = builder(0);
+    let with = |alter: &dyn Fn(&mut Tail)| {
+        let mut tail = two_terms();
+        alter(&mut tail);
+        b.write_tail(&tail).err()
+    };
+    assert_eq!(with(&|_| ()), None);
+    assert_eq!(with(&|t| t.prefactor = None), Some(Refusal::Prefactor));
+    assert_eq!(with(&|t| t.prefactor = Some(f64::INFINITY)), Some(Refusal::Term));
+    assert_eq!(with(&|t| t.terms[1].coefficient = f64::NAN), Some(Refusal::Term));
+    assert_eq!(with(&|t| t.terms[0].kappa = f64::NEG_INFINITY), Some(Refusal::Term));
+    assert_eq!(with(&|t| t.terms[0].power = 1 << 31), Some(Refusal::Term));
+    assert_eq!(with(&|t| t.terms[0].power = (1 << 31) - 1), None);
+    let file = b.write_tail(&two_terms()).unwrap();
+    let refusal = |file: &[u8]| Table::read(file.to_vec(), b.mesh().clone()).err();
+    assert_eq!(refusal(&file[..file.len() - 8]), Some(Error::Refused(Refusal::Sections)));
+    let mut power = file.clone();
+    power[file.len() - 9] = 0x80;
+    assert_eq!(refusal(&power), Some(Error::Refused(Refusal::Term)));
+    assert_eq!(sizing_with_terms(small(), b.mesh(), 1 << 32), Err(Refusal::Term));
+}
+
+#[test]
+fn powers_are_by_halves() {
+    assert_eq!(power(f64::NAN, 0), 1.0);
+    for n in 1..40 {
+        let half = power(1.1, n / 2);
+        assert_eq!(power(1.1, n), if n % 2 == 1 { half * half * 1.1 } else { half * half });
+    }
+}
+
+// At most 4 levels; the same table where both readers accept it.
+#[test]
+fn a_viewer_opens_small_tables() {
+    let small = builder(3).write().unwrap();
+    let viewed = Table::view(small.clone(), mesh(3)).expect("four levels");
+    let read = Table::read(small.clone(), mesh(3)).expect("four levels");
+    assert_eq!((viewed.levels(), viewed.file()), (4, read.file()));
+    assert_eq!(viewed.grid(), read.grid());
+    let large = builder(4).write().unwrap();
+    assert!(Table::read(large.clone(), mesh(4)).is_ok());
+    assert_eq!(Table::view(large, mesh(4)).unwrap_err(), Error::Refused(Refusal::ViewerBound));
+    assert_eq!(Table::view(small[1..].to_vec(), mesh(3)).unwrap_err(), Error::Refused(Refusal::Sections));
 }
 
 #[test]

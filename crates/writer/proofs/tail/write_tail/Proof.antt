@@ -3,16 +3,16 @@ use mathlib.Core.Path.{_≡_, refl, sym, _∙_}
 use Prim.Native.Nat.{_+_, _*_, _≤_, _<_}
 use native.Mathlib.Omega.{arith}
 use lib.ListN.{length}
-use lib.Dec.{eqb}
 use borrow.Author.Tests.{lt-leb, le-leb, ne-eqb}
 use borrow.Author.Needs.{needs}
 use Rattle.mesh.specs.Levels.{per}
 use Rattle.mesh.specs.Mesh.{Mesh, meshOf}
 use Rattle.builder.specs.BuilderLists.{BuilderLists, slabs, listsOf}
+use Rattle.table.proofs.OfTail.{tail-small}
 use Rattle.writer.specs.Tailed.{TailLists, tailLists, tailedQuestion, fullFileFrom}
 use Rattle.writer.specs.Internal.{Sure}
 use Rattle.writer.proofs.Outcome.{sure, write-length}
-use Rattle.writer.proofs.OfTail.{tailed-sure, tail-small, tail-length, tail-put, tail-refused, tail-short, tail-done}
+use Rattle.writer.proofs.OfTail.{tailed-sure, tail-length, tail-put, tail-refused, tail-short, tail-done}
 use Rattle.writer.proofs.tail.write_tail.Statement.{statement}
 use Rattle.writer.proofs.tail.write_tail.Tie as tie
 
@@ -80,15 +80,15 @@ add-at-3 c =
     let f = certain (c .before) .0 in
     omega (arith, f .slabs-le, f .top-le, f .few, c .energy-total .ensures)
 
-tail-size-requires : tie.Need-tail-size-requires
-tail-size-requires c κs = few (c .before)
+cast-tail-size : tie.Need-cast-tail-size
+cast-tail-size c = omega (arith, few (c .before))
 
 add-size : tie.Need-add-size
 add-size c =
     let e = c .before .before in
     let f = certain e .0 in
     let k = length ((e .before .before .before .before .before .before .before .before .before .before .before .before .before .before .before) .args .coefficients .now) in
-    omega (arith, f .slabs-le, f .top-le, f .few, c .before .energy-total .ensures, c .tail-size .ensures, tail-small (eqb k 0) k (few e))
+    omega (arith, f .slabs-le, f .top-le, f .few, c .before .energy-total .ensures, c .tail-size .ensures, tail-small k (few e))
 
 returns-2 : tie.Need-returns-2
 returns-2 c =
@@ -123,4 +123,4 @@ returns-3 c =
 pub write-tail-spec : {M : Type 1} → statement M
 write-tail-spec =
     tie.close
-    (tie.spec (λ c κs. search needs) returns mul-n energy-total-requires mul-at add-at mul-at-2 add-at-2 mul-at-3 add-at-3 tail-size-requires add-size returns-2 put-file-requires put-sixth-requires (λ c. search needs) returns-3)
+    (tie.spec (λ c κs. search needs) returns mul-n energy-total-requires mul-at add-at mul-at-2 add-at-2 mul-at-3 add-at-3 cast-tail-size (λ c κs. search needs) add-size returns-2 put-file-requires put-sixth-requires (λ c. search needs) returns-3)

@@ -1,9 +1,8 @@
 -- `tail_size` meets its contract. Assumes nothing.
-use native.Mathlib.Omega.{arith}
 use borrow.Author.Needs.{needs}
 use borrow.Author.Tests.{eq-eqb, ne-eqb}
-use Rattle.writer.proofs.tail.tail_size.Statement.{statement}
-use Rattle.writer.proofs.tail.tail_size.Tie as tie
+use Rattle.table.proofs.walk.tail_size.Statement.{statement}
+use Rattle.table.proofs.walk.tail_size.Tie as tie
 
 returns : tie.Need-returns
 returns c = rw (eq-eqb _ _ (c .if1 .taken))

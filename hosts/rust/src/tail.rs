@@ -1,0 +1,70 @@
+//! The long-range tail of a table: what a host adds beyond its distances.
+use crate::sys;
+
+/// coefficient · exp(-kappa·r) / r^power, as the Rust's `TailCorrectionTerm`.
+#[derive(Clone, Copy, Debug, PartialEq)]
+pub struct Term {
+    pub coefficient: f64,
+    pub kappa: f64,
+    /// At most 2147483647.
+    pub power: u32,
+}
+
+/// The prefactor times the sum of the terms. Without terms nothing of it is stored, and its energy is 0.
+#[derive(Clone, Debug, Default, PartialEq)]
+pub struct Tail {
+    pub terms: Vec<Term>,
+    /// None is refused where there are terms.
+    pub prefactor: Option<f64>,
+}
+
+// As the library takes it: a list for each part.
+pub(crate) struct Lists {
+    coefficients: Vec<f64>,
+    kappas: Vec<f64>,
+    powers: Vec<u32>,
+    prefactor: Option<f64>,
+}
+
+impl Lists {
+    pub(crate) fn of(tail: &Tail) -> Lists {
+        let terms = || tail.terms.iter();
+        Lists {
+            coefficients: terms().map(|t| t.coefficient).collect(),
+            kappas: terms().map(|t| t.kappa).collect(),
+            powers: terms().map(|t| t.power).collect(),
+            prefactor: tail.prefactor,
+        }
+    }
+
+    pub(crate) fn lent(&self) -> sys::Tail<'_> {
+        sys::Tail { coefficients: &self.coefficients, kappas: &self.kappas, powers: &self.powers, prefactor: self.prefactor.as_slice() }
+    }
+}
+
+impl Tail {
+    // The bytes by which a file is longer.
+    pub(crate) fn length(&self) -> usize {
+        match self.terms.len() {
+            0 => 0,
+            n => 12 + 20 * n,
+        }
+    }
+
+    // That of a file with so many terms from a byte on.
+    pub(crate) fn of(file: &[u8], start: u64, terms: u64) -> Tail {
+        let double = |at: usize| f64::from_le_bytes(file[at..at + 8].try_into().expect("eight bytes"));
+        let term = |i: u64| {
+            let at = (start + 20 * i) as usize;
+            let power = u32::from_le_bytes(file[at + 16..at + 20].try_into().expect("four bytes"));
+            Term { coefficient: double(at), kappa: double(at + 8), power }
+        };
+        Tail { terms: (0..terms).map(term).collect(), prefactor: (terms > 0).then(|| double((start + 20 * terms) as usize)) }
+    }
+}
+
+/// r to the power n as a tail has it: 1 for n = 0, else that of n/2, rounded down, squared, and times r where n is odd, each product
+/// rounded.
+pub fn power(r: f64, n: u32) -> f64 {
+    sys::power(r, n)
+}
