@@ -48,7 +48,7 @@
 /* The version, raised where a struct, a function or the table file changes (CHANGELOG.md). The pkg-config file and the
  * tool take it from here; a test compares it with hosts/rust. */
 #define ICOTABLE_VERSION_MAJOR 0
-#define ICOTABLE_VERSION_MINOR 15
+#define ICOTABLE_VERSION_MINOR 16
 #define ICOTABLE_VERSION_PATCH 0
 
 #define ICOTABLE_STRING_(x) #x
@@ -450,6 +450,30 @@ icotable_size icotable_atom_sizing(
     uint64_t top,
     const uint8_t *neighbour_counts, size_t neighbour_counts_count,
     const uint16_t *neighbours, size_t neighbours_count);
+
+/* ---- a search without a locator */
+
+/* vertex: the nearest one of the cell that the direction falls into, of equal ones the first. distance: the square of the
+ * distance to it from the direction, divided by its length. face: of the faces that the vertex is of the one that fits
+ * the direction best, its vertices ascending; weights: the direction's in it. Where no face fits, face and weights are
+ * 0. */
+typedef struct icotable_found {
+    uint64_t number, vertex;
+    double distance;
+    uint64_t face[3];
+    double weights[3];
+} icotable_found;
+
+/* Finds a direction of any length over one level's mesh, of which neither angles nor a locator are needed: for a host
+ * that searches a mesh a few times. The answer is that of a search with the mesh's locator, bit for bit. Every call
+ * looks over the whole mesh; docs/GUIDE.md has the number of searches from which a locator takes less time. Questions
+ * 2, 6, 7 without the angles, 18 of the direction, 20. */
+icotable_found icotable_search(
+    uint64_t level,
+    const double *vertices, size_t vertices_count,
+    const uint8_t *neighbour_counts, size_t neighbour_counts_count,
+    const uint16_t *neighbours, size_t neighbours_count,
+    double x, double y, double z);
 
 /* ---- sizes and numbers */
 

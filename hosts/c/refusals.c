@@ -1,4 +1,5 @@
-/* Every number that a call can be refused with, each given by an example, 1 to 21 by one against an atom, and 1 to 7 and 23 by a sizing:
+/* Every number that a call can be refused with, each given by an example, 1 to 21 by one against an atom, 1 to 7 and 23 by a
+ * sizing, and those of a search without a locator:
  * writes docs/REFUSALS.md, and the status is 1 where an example gives another number. The table has two distances, two
  * dihedral bins and two levels; that against an atom has two distances and two levels. */
 #include "mesh.h"
@@ -527,6 +528,49 @@ static const example size_examples[SIZED] = {
     {size_terms, "sizing with 4294967296 terms", 0},
 };
 
+/* ---- a search without a locator: 2, 6, 7 without the angles, 18, 20 */
+
+static uint64_t searched(uint64_t level, size_t vertices, double x) {
+    return icotable_search(level, held.vertices, vertices, held.neighbour_counts, 12, held.neighbours, 72, x, 0, 0).number;
+}
+
+static uint64_t search_level(void) {
+    return searched(16, 36, 1);
+}
+
+static uint64_t search_short(void) {
+    return searched(0, 35, 1);
+}
+
+static uint64_t search_mesh(void) {
+    double kept = held.vertices[35];
+    held.vertices[35] = INFINITY;
+    uint64_t number = searched(0, 36, 0);
+    held.vertices[35] = kept;
+    return number;
+}
+
+static uint64_t search_direction(void) {
+    return searched(0, 36, 0);
+}
+
+static uint64_t search_empty(void) {
+    static const double zeros[36];
+    return icotable_search(0, zeros, 36, held.neighbour_counts, 12, held.neighbours, 72, 1, 0, 0).number;
+}
+
+static const struct {
+    uint64_t number;
+    example e;
+} search_examples[] = {
+    {2, {search_level, "a search at level 16", 0}},
+    {6, {search_short, "a search with a coordinate less than level 0 has", 0}},
+    {7, {search_mesh, "a search over a mesh with an infinite coordinate, of a direction whose length is 0", 0}},
+    {18, {search_direction, "a search of a direction whose length is 0", 0}},
+    {20, {search_empty, "a search over a mesh whose vertices are all 0: no cell has one", 0}},
+};
+enum { SEARCHED = sizeof search_examples / sizeof search_examples[0] };
+
 int main(void) {
     int differing = 0;
     if (icotable_make_meshes(&held, TOP_LEVEL) != 0)
@@ -558,6 +602,13 @@ int main(void) {
         uint64_t number = size_numbers[i];
         printf("| %llu | %s | %s |\n", (unsigned long long)number, names[number], e->words);
         differing += differs(e, number);
+    }
+    puts("\n## Searching without a locator\n\n`icotable_search` puts 2, 6 and 7 to the vertices, the neighbour counts and the neighbours, then 18 to the\n"
+         "direction, then 20. It reads no list that a locator has, so that 19 cannot come of it.\n\n| number | name | an example |\n|---|---|---|");
+    for (size_t i = 0; i < SEARCHED; i++) {
+        uint64_t number = search_examples[i].number;
+        printf("| %llu | %s | %s |\n", (unsigned long long)number, names[number], search_examples[i].e.words);
+        differing += differs(&search_examples[i].e, number);
     }
     icotable_free_meshes(&held);
     return differing != 0;

@@ -1,7 +1,8 @@
 /* A host in C: an empty table of level 0 from its settings, written, printed and read back; a slab set and settled; calls
  * that are refused; the locator of the icosahedron; readings, also weighted and with locator lists that were altered; a
- * long-range tail; the bounds of a viewer; the same of a table against an atom; the sizing of a build; sizes and numbers. Every answer is
- * compared with what documents 01 and 02 say, and the status is 1 where one differs. */
+ * long-range tail; the bounds of a viewer; the same of a table against an atom; the sizing of a build; a search without a
+ * locator; sizes and numbers. Every answer is compared with what documents 01 and 02 say, and the status is 1 where one
+ * differs. */
 #include "icotable.h"
 
 #include <math.h>
@@ -200,6 +201,25 @@ static void sizing(void) {
     expect("its store", s.store, N);
     expect("its file", s.file, 40 + 4 + 10 + 4 * N);
     expect("its comparisons", s.comparisons[0], 60);
+}
+
+/* A direction inside face 0, 1, 4, most of it toward 4. */
+static void search(void) {
+    double d[3];
+    for (int k = 0; k < 3; k++)
+        d[k] = 2 * vertices[k] + vertices[3 + k] + 4 * vertices[12 + k];
+    icotable_found f = icotable_search(0, vertices, 3 * N, neighbour_counts, N, neighbours, 6 * N, d[0], d[1], d[2]);
+    expect("a search without a locator", f.number, 0);
+    expect("its vertex", f.vertex, 4);
+    expect("its distance is above 0 and below a quarter", f.distance > 0 && f.distance < 0.25, 1);
+    expect("its face, 0", f.face[0], 0);
+    expect("its face, 1", f.face[1], 1);
+    expect("its face, 4", f.face[2], 4);
+    expect("its weights", f.weights[1] > 0 && f.weights[0] > f.weights[1] && f.weights[2] > f.weights[0], 1);
+    f = icotable_search(0, vertices, 3 * N, neighbour_counts, N, neighbours, 6 * N, 0, 0, 0);
+    expect("a search of a direction without a length", f.number, 18);
+    expect("its vertex", f.vertex, 0);
+    expect("its weights are 0", f.weights[0] == 0 && f.weights[1] == 0 && f.weights[2] == 0, 1);
 }
 
 static void refused(void) {
@@ -751,6 +771,7 @@ int main(void) {
     empty_table();
     one_slab();
     sizing();
+    search();
     refused();
     locator();
     readings();

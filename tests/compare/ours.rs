@@ -48,6 +48,18 @@ extern "C" {
         y: f64,
         z: f64,
     ) -> Located;
+    fn search_mesh(
+        level: u64,
+        vertices: *const f64,
+        vertices_len: usize,
+        counts: *const u8,
+        counts_len: usize,
+        neighbours: *const u16,
+        neighbours_len: usize,
+        x: f64,
+        y: f64,
+        z: f64,
+    ) -> Located;
     fn search_locator(
         level: u64,
         vertices: *const f64,
@@ -139,6 +151,24 @@ pub fn locate(level: usize, lists: &Lists, vertices: &[f64], d: [f64; 3]) -> Loc
             lists.faces.len(),
             vertices.as_ptr(),
             vertices.len(),
+            d[0],
+            d[1],
+            d[2],
+        )
+    }
+}
+
+// The search without a locator: the mesh's angles are not lent.
+pub fn search_over(level: u64, mesh: &Lent, d: [f64; 3]) -> Located {
+    unsafe {
+        search_mesh(
+            level,
+            mesh.vertices.as_ptr(),
+            mesh.vertices.len(),
+            mesh.counts.as_ptr(),
+            mesh.counts.len(),
+            mesh.neighbours.as_ptr(),
+            mesh.neighbours.len(),
             d[0],
             d[1],
             d[2],

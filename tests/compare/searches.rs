@@ -1,4 +1,4 @@
-// Compares the search and the locator call of the static library with those of the Rust, on one input after another, and
+// Compares the searches and the locator call of the static library with those of the Rust, on one input after another, and
 // ends at the first difference with its input: searches SEED short|long. Any NaN is equal to any other. The Rust panics where a cell is empty; there the answer is to be 20. Over lists that are
 // damaged by hand the answers are those of the search read apart from document 01 (search.rs).
 mod arguments;
@@ -34,6 +34,33 @@ struct Tally {
     unfit: usize,
     strange: usize,
     tied: usize,
+    without: Without,
+}
+
+// The search without a locator. It puts question 7 to the whole mesh each time, so that of a large mesh's directions only some are put to it: one in 1 + n / `density`.
+#[derive(Default)]
+struct Without {
+    density: usize,
+    turn: usize,
+    levels: [usize; 16],
+    other: usize,
+    empty: usize,
+    lengthless: usize,
+    refused: usize,
+}
+
+impl Without {
+    fn due(&mut self, level: usize) -> bool {
+        self.turn += 1;
+        self.turn % (1 + vertex_count(level) / self.density) == 0
+    }
+
+    fn print(&self) {
+        let all: usize = self.levels.iter().sum();
+        println!("the search without a locator: {all} directions, of these {} on meshes that are shuffled or made by hand", self.other);
+        println!("  by level, from 0: {:?}", self.levels);
+        println!("  {} with an empty cell (20), {} without a length (18); {} refused calls", self.empty, self.lengthless, self.refused);
+    }
 }
 
 impl Tally {
@@ -54,6 +81,7 @@ impl Tally {
         }
         println!("  of these {} with an empty cell (20), {} with several nearest vertices,", self.empty, self.tied);
         println!("  {} where no face fits, {} with a weight that is infinite or a NaN", self.unfit, self.strange);
+        self.without.print();
         println!("find_nearest_vertex and locate over damaged lists: {} directions", self.damaged.values().sum::<usize>());
         for ((number, words), count) in &self.damaged {
             println!("  {count} answered {number}: {words}");
@@ -161,6 +189,22 @@ fn same(mesh: &Mesh, vertices: &[f64], lists: &Lists, d: [f64; 3], nearest: Near
     }
 }
 
+// The same direction without a locator; what the Rust's search answers, unless the direction has no length.
+fn without(mesh: &Mesh, lent: &Lent, d: [f64; 3], located: &Located, tally: &mut Without) {
+    let length = Vector3::from(d).dot(&Vector3::from(d)).sqrt();
+    let wanted = if length.is_finite() && length > 0.0 { *located } else { not_located(18) };
+    report::input();
+    let got = ours::search_over(mesh.level as u64, lent, d);
+    let compared = |a: &Located| (a.number, a.vertex, bits(a.distance), a.face, a.weights.map(bits));
+    if compared(&got) != compared(&wanted) {
+        differ(mesh, "the search without a locator", &words(&d), &located_words(&got), &located_words(&wanted));
+    }
+    tally.levels[mesh.level] += 1;
+    tally.other += (mesh.name != format!("icosphere of level {}", mesh.level)) as usize;
+    tally.empty += (got.number == 20) as usize;
+    tally.lengthless += (got.number == 18) as usize;
+}
+
 // A direction, as the Rust answers it.
 fn search(mesh: &Mesh, lent: &Lent, lists: &Lists, grid: &FaceGrid, kind: &'static str, d: [f64; 3], tally: &mut Tally) {
     let dir = Vector3::from(d);
@@ -187,6 +231,9 @@ fn search(mesh: &Mesh, lent: &Lent, lists: &Lists, grid: &FaceGrid, kind: &'stat
         tally.empty += 1;
     }
     same(mesh, &lent.vertices, lists, d, nearest, located);
+    if tally.without.due(mesh.level) {
+        without(mesh, lent, d, &located, &mut tally.without);
+    }
     let l = p.dot(&p);
     tally.direction(if l.is_finite() && l > 0.0 { kind } else { "with no length, or an infinite one, or a NaN" });
 }
@@ -396,6 +443,59 @@ fn refused(mesh: &Mesh, random: &mut Random, tally: &mut Tally) {
     }
 }
 
+// The questions 2, 6, 7 without the angles, and 18, in this order.
+fn refused_searches(mesh: &Mesh, tally: &mut Without) {
+    const LENGTHLESS: [[f64; 3]; 4] = [[0.0, -0.0, 0.0], [f64::NAN, 1.0, 0.0], [f64::INFINITY, 0.0, 0.0], [1e200, 1e200, 0.0]];
+    let mut expect = |what: &str, number: u64, level: u64, lent: &Lent| {
+        for d in LENGTHLESS.into_iter().chain([[0.3, -0.2, 0.1]]) {
+            report::input();
+            let got = ours::search_over(level, lent, d);
+            let wanted = not_located(number);
+            let compared = |a: &Located| (a.number, a.vertex, a.distance.to_bits(), a.face, a.weights.map(f64::to_bits));
+            if compared(&got) != compared(&wanted) {
+                differ(mesh, "a refused search without a locator", what, &located_words(&got), &format!("(document 02) {}", located_words(&wanted)));
+            }
+            tally.refused += 1;
+        }
+    };
+    let level = mesh.level as u64;
+    let n = mesh.vertices.len();
+    for beyond in [16, 17, 255, 256, 1 << 32, u64::MAX] {
+        let mut lent = mesh.lent();
+        expect("level beyond 15", 2, beyond, &lent);
+        lent.counts[0] = 9;
+        lent.vertices.pop();
+        expect("level beyond 15, a list one short, and a mesh against the rule", 2, beyond, &lent);
+    }
+    for list in 0..3 {
+        let mut lent = mesh.lent();
+        match list {
+            0 => drop(lent.vertices.pop()),
+            1 => drop(lent.counts.pop()),
+            _ => drop(lent.neighbours.pop()),
+        }
+        expect("a list one short", 6, level, &lent);
+        lent.counts[0] = 9;
+        expect("a list one short, and a mesh against the rule", 6, level, &lent);
+    }
+    for x in [f64::NAN, f64::INFINITY, f64::NEG_INFINITY] {
+        let mut lent = mesh.lent();
+        lent.vertices[3 * n - 1] = x;
+        expect("a vertex that is not finite", 7, level, &lent);
+    }
+    for count in [0, 4, 7, 255] {
+        let mut lent = mesh.lent();
+        lent.counts[n - 1] = count;
+        expect("a count against the rule", 7, level, &lent);
+    }
+    let stranger = (0..n as u16).find(|w| *w != 0 && !mesh.neighbours[0].contains(w));
+    for w in [0, n as u16, u16::MAX, mesh.lent().neighbours[1]].into_iter().chain(stranger) {
+        let mut lent = mesh.lent();
+        lent.neighbours[0] = w;
+        expect("a neighbour against the rule", 7, level, &lent);
+    }
+}
+
 // Every function once, with answers worked out by hand, so that no argument stands in another's place.
 fn signatures() {
     let mut lists = Lists {
@@ -420,7 +520,9 @@ fn signatures() {
     let a = ours::locate(0, &lists, &lent.vertices[..23], [2.0, 0.0, 0.0]);
     assert!((a.number, a.face, a.weights) == (19, [0; 3], [0.0; 3]), "{}", located_words(&a));
     assert_eq!(ours::locator(16, &lent, &mut lists), 2);
-    println!("signatures: find_nearest_vertex, locate and locator answer as worked out by hand");
+    let a = ours::search_over(0, &lent, [2.0, 0.0, 0.0]);
+    assert!((a.number, a.vertex, a.distance) == (0, 2, 0.0), "{}", located_words(&a));
+    println!("signatures: find_nearest_vertex, locate, locator and the search without a locator answer as worked out by hand");
 }
 
 // What has to have occurred over damaged lists.
@@ -443,6 +545,7 @@ fn main() {
     let (mut random, length) = arguments();
     let rounds = length.choose(1, 6);
     let mut tally = Tally::default();
+    tally.without.density = length.choose(100, 600);
     signatures();
     let spheres: Vec<Mesh> = (0..16).map(icosphere).collect();
     for mesh in &spheres {
@@ -457,6 +560,7 @@ fn main() {
         compare(mesh, 1000, &mut random, &mut tally);
         compare(&zeros(mesh), 50, &mut random, &mut tally);
         refused(mesh, &mut random, &mut tally);
+        refused_searches(mesh, &mut tally.without);
         damaged(mesh, 5000 * rounds, &mut random, &mut tally);
         for _ in 0..60 * rounds {
             for kind in 0..STRANGE {
@@ -467,6 +571,7 @@ fn main() {
     }
     for mesh in [&spheres[2], &spheres[3], &spheres[5], &spheres[15]] {
         refused(mesh, &mut random, &mut tally);
+        refused_searches(mesh, &mut tally.without);
         damaged(mesh, 200 * rounds, &mut random, &mut tally);
         for kind in 0..STRANGE {
             let base = mesh.shuffled(&mut random);

@@ -1,5 +1,5 @@
 #!/usr/bin/env python3
-"""The snippets of docs/GUIDE.md as one program, in the page's order: guide.py GUIDE > PROGRAM.c. What the page leaves to the host (lists, bins, a
+"""The snippets of docs/GUIDE.md as one program, in the page's order but for one: guide.py GUIDE > PROGRAM.c. What the page leaves to the host (lists, bins, a
 query, `check`) is declared here."""
 import sys
 
@@ -68,6 +68,9 @@ def main():
         HEAD,
         snippets(page, "What the library needs of the process", 4),
         snippets(page, "Reserving a job", 4),
+        "    {\n",
+        snippets(page, "Finding a direction without a locator", 4),
+        "    }\n",
         snippets(page, "Building a table", 7),
         snippets(page, "Beyond the table's distances", 4),
         BETWEEN,

@@ -100,6 +100,13 @@ static void sizing(void) {
     sink = (double)icotable_atom_sizing(atom_settings, TOP, meshes.neighbour_counts, meshes.neighbour_counts_count, meshes.neighbours, meshes.neighbours_count).file;
 }
 
+static void search(void) {
+    for (int i = 0; i < 200; i++) {
+        double x = i % 7 - 3, y = i % 11 - 5, z = i % 13 - 6.5;
+        sink = icotable_search(0, meshes.vertices, meshes.vertices_count, meshes.neighbour_counts, meshes.neighbour_counts_count, meshes.neighbours, meshes.neighbours_count, x, y, z).distance;
+    }
+}
+
 static void numbers(void) {
     for (int i = 0; i < 2000; i++) {
         double x = (double)(i - 500) * 1e-3, y = x * 1e-308;
@@ -127,6 +134,7 @@ static const operation operations[] = {
     {"locator", nothing, locator, 10},
     {"reading, boltzmann, tail", nothing, reading, 3},
     {"sizing", nothing, sizing, 4},
+    {"search", nothing, search, 2},
     {"root, exp, ln, power, mul_add, narrow, narrow_case, vertices, cells", nothing, numbers, 2},
 };
 

@@ -163,6 +163,7 @@ static kind_count searches[] = {
     {.words = "entries of their lists"},
     {.words = "find_nearest_vertex"},
     {.words = "locate"},
+    {.words = "search without a locator"},
     {0},
 };
 static kind_count calls[] = {

@@ -1,11 +1,12 @@
-/* Locator calls and searches (tests/compare/make.rs writes them). A mesh is a block: its level; vertices, neighbour
+/* Locator calls and searches, the latter without a locator, too (tests/compare/make.rs writes them). A mesh is a block: its level; vertices, neighbour
  * counts and neighbours; the locator call's answer and its four lists; then 100 directions, a line each. Every list has
  * the length that level 3 needs, and a call at a level below leaves what is beyond its own as it was. */
 #include "replay.h"
 
+#include <math.h>
 #include <string.h>
 
-enum { CALLS, ENTRIES, NEAREST, LOCATED };
+enum { CALLS, ENTRIES, NEAREST, LOCATED, FOUND };
 
 enum { N = 162, CELL_OFFSETS = 295, CELL_VERTICES = 27 * N, FACE_OFFSETS = N + 1, FACES = 45 * N, DIRECTIONS = 100 };
 
@@ -101,9 +102,31 @@ static void judge_numbers(replay *r, const uint16_t *list, size_t count) {
         counted(r, ENTRIES, same(r, ENTRIES, 4, list[i]));
 }
 
+/* The search of a direction without a locator, whose answer is that of the two with it. Over a mesh that the locator call
+ * refused it is refused with the same number, and with 18 where the direction has no length. */
+static void judge_found(replay *r, uint8_t level, uint64_t refused, const mesh *m, double x, double y, double z) {
+    icotable_found f = icotable_search(level, m->vertices, 3 * N, m->counts, N, m->neighbours, 6 * N, x, y, z);
+    double length = sqrt(x * x + y * y + z * z);
+    if (refused != 0 || !(isfinite(length) && length > 0)) {
+        bool told = f.number == (refused != 0 ? refused : 18);
+        counted(r, FOUND, holds(r, FOUND, told, "a search without a locator is not refused"));
+        return;
+    }
+    bool agrees = same(r, FOUND, 16, f.number);
+    agrees &= same(r, FOUND, 16, f.vertex);
+    agrees &= same(r, FOUND, 16, bits(f.distance));
+    agrees &= same(r, FOUND, 16, f.number);
+    for (int k = 0; k < 3; k++)
+        agrees &= same(r, FOUND, 16, f.face[k]);
+    for (int k = 0; k < 3; k++)
+        agrees &= same(r, FOUND, 16, bits(f.weights[k]));
+    counted(r, FOUND, agrees);
+}
+
 /* A direction's line: its coordinates; number, vertex and distance; number, face and weights. */
-static void judge_direction(replay *r, uint8_t level, const mesh *m, const locator *l) {
+static void judge_direction(replay *r, uint8_t level, uint64_t refused, const mesh *m, const locator *l) {
     double x = number(r), y = number(r), z = number(r);
+    size_t answers = r->at;
     nearest a = search_find_nearest_vertex(
         level, l->cell_offsets, CELL_OFFSETS, l->cell_vertices, CELL_VERTICES, m->vertices, 3 * N, x, y, z);
     bool agrees = same(r, NEAREST, 16, a.number);
@@ -122,6 +145,10 @@ static void judge_direction(replay *r, uint8_t level, const mesh *m, const locat
     bool on = b.vertex == passed.vertex && bits(b.distance) == bits(passed.distance);
     agrees &= holds(r, LOCATED, on, "the nearest vertex is not passed on");
     counted(r, LOCATED, agrees);
+    size_t end = r->at;
+    r->at = answers;
+    judge_found(r, level, refused, m, x, y, z);
+    r->at = end;
 }
 
 void replay_searches(replay *r) {
@@ -138,6 +165,6 @@ void replay_searches(replay *r) {
         judge_offsets(r, l.face_offsets, FACE_OFFSETS);
         judge_numbers(r, l.faces, FACES);
         for (int i = 0; i < DIRECTIONS; i++)
-            judge_direction(r, (uint8_t)level, &m, &l);
+            judge_direction(r, (uint8_t)level, answer, &m, &l);
     }
 }

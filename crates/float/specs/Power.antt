@@ -5,7 +5,7 @@ use lib.Dec.{eqb}
 use lib.Ieee.{Float, binary64, mul}
 use Rattle.float.specs.Exp.{bits}
 
--- one turn: p is "the power for half the exponent, rounded down, squared, and times r when the exponent is odd" (S2.17)
+-- one turn: p is "the power for half the exponent, rounded down, squared, and times r when the exponent is odd" (S2.18)
 unfoldable pub squaredTimes : Float → ℕ → Float → Float
 squaredTimes r n p = let s = mul binary64 p p in cond (eqb (n % 2) 1) (mul binary64 s r) s
 

@@ -32,6 +32,7 @@ use table::Table;
 use writer::Written;
 
 mod atom;
+mod found;
 mod tails;
 
 // Of fresh and set.

@@ -15,6 +15,7 @@ pub use rule::lists;
 pub use rule::mesh_keeps;
 pub use rule::mesh_room;
 pub use rule::neighbour;
+pub use rule::vertices_finite;
 pub use several::links_room;
 pub use several::meshes_keep;
 pub use several::meshes_linked;

@@ -174,7 +174,7 @@ fn angles_kept(n: u32, counts: &[u8], angles: &[f64]) -> bool
     true
 }
 
-fn vertices_finite(n: u32, vertices: &[f64]) -> bool
+pub fn vertices_finite(n: u32, vertices: &[f64]) -> bool
     ensures { λ r. ⌜ r ≡ verticesFinite n (now (vertices .entry)) ⌝ }
 {
     let end = 3 * n as usize;

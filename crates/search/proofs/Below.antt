@@ -18,7 +18,7 @@ use Rattle.search.specs.Search.{squared, notNearest, nearer, nearestFrom
 use Rattle.search.specs.declared.Vector3.{Vector3}
 use Rattle.search.specs.declared.Nearest.{Nearest}
 use Rattle.search.specs.declared.Located.{Located}
-use Rattle.search.specs.declared.faces.Fit.{Fit}
+use Rattle.search.specs.declared.Fit.{Fit}
 
 module _ (vs : List Float) (n : ℕ) (p : Vector3) where
   inside : (v : ℕ) → vertexInside vs n v ≡ true → v < n

@@ -21,7 +21,7 @@ use Rattle.search.specs.Internal.{spanOf, nearestOver, fitOver}
 use Rattle.search.specs.declared.Vector3.{Vector3}
 use Rattle.search.specs.declared.Nearest.{Nearest}
 use Rattle.search.specs.declared.cells.Span.{Span}
-use Rattle.search.specs.declared.faces.Fit.{Fit}
+use Rattle.search.specs.declared.Fit.{Fit}
 
 -- ---- the places between two offsets
 

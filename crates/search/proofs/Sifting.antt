@@ -29,7 +29,7 @@ use Rattle.search.specs.Internal.{limitOf, fitOver, sidesOf, past, pastF
 use Rattle.search.specs.declared.Vector3.{Vector3}
 use Rattle.search.specs.declared.Weights.{Weights}
 use Rattle.search.specs.declared.Nearest.{Nearest}
-use Rattle.search.specs.declared.faces.Fit.{Fit}
+use Rattle.search.specs.declared.Fit.{Fit}
 use Rattle.search.specs.declared.faces.Within.{Within}
 use Rattle.search.specs.declared.triangle.Sides.{Sides}
 use Rattle.search.proofs.Laws.{inside, three, stops}

@@ -16,7 +16,7 @@ use Rattle.search.specs.declared.Vector3.{Vector3}
 use Rattle.search.specs.declared.Nearest.{Nearest}
 use Rattle.search.specs.declared.Located.{Located}
 use Rattle.search.specs.declared.cells.Span.{Span}
-use Rattle.search.specs.declared.faces.Fit.{Fit}
+use Rattle.search.specs.declared.Fit.{Fit}
 use Rattle.search.specs.declared.faces.Within.{Within}
 use Rattle.search.specs.declared.triangle.Sides.{Sides}
 

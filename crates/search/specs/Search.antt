@@ -18,7 +18,7 @@ use Rattle.search.specs.declared.Vector3.{Vector3}
 use Rattle.search.specs.declared.Weights.{Weights}
 use Rattle.search.specs.declared.Nearest.{Nearest}
 use Rattle.search.specs.declared.Located.{Located}
-use Rattle.search.specs.declared.faces.Fit.{Fit}
+use Rattle.search.specs.declared.Fit.{Fit}
 
 -- ---- the nearest vertex (`nearest_in_cell`)
 

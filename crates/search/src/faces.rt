@@ -7,6 +7,7 @@ ghost use Rattle.mesh.specs.Faces.{face};
 ghost use Rattle.search.specs.Geometry.{vertexAt, projectedBarycentric};
 ghost use Rattle.search.specs.Search.{noFit, notLocated, better, locatedFit, locateIn, locatorOf};
 ghost use Rattle.search.specs.Internal.{fitOver, sifted, siftOver};
+use crate::Fit;
 use crate::Located;
 use crate::Nearest;
 use crate::Vector3;
@@ -21,13 +22,6 @@ use crate::triangle::is_past;
 use crate::triangle::projected_barycentric;
 use crate::triangle::sides_of;
 use mesh::Face;
-
-// The face that fits best so far, and the least of its weights.
-struct Fit {
-    face: Face,
-    weights: Weights,
-    least: f64,
-}
 
 fn face_of(a: usize, b: usize, c: usize) -> Face
     ensures { λ r. ⌜ r ≡ face a b c ⌝ }

@@ -49,6 +49,13 @@ pub struct Weights {
     pub c: f64,
 }
 
+// The face that fits a direction best so far, and the least of its weights.
+pub struct Fit {
+    pub face: Face,
+    pub weights: Weights,
+    pub least: f64,
+}
+
 // The nearest vertex of a cell and the square of its distance: number 0; or 19 or 20, and then nothing else counts.
 #[repr(C)]
 pub struct Nearest {

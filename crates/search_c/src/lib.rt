@@ -1,10 +1,12 @@
-// The search and the locator call for a caller in C or Rust. A direction is given by three numbers, and divided by its length here.
+// The searches and the locator call for a caller in C or Rust. A direction is given by three numbers, and divided by its length here.
 ghost use mathlib.Core.Path.{_≡_};
+ghost use mathlib.Core.List.{[]};
 ghost use Rattle.mesh.specs.Mesh.{meshOf};
 ghost use Rattle.mesh.specs.Levels.{vertexCount, gridSize};
 ghost use Rattle.search.specs.Geometry.{unit};
 ghost use Rattle.search.specs.Search.{nearestInCells, locateIn, locatorOf};
 ghost use Rattle.locator.specs.Locator.{LocatorOut, locatorOut};
+ghost use Rattle.mesh_search.specs.MeshSearch.{searchOut};
 use search::Located;
 use search::Nearest;
 use search::Vector3;
@@ -79,4 +81,20 @@ pub extern "C" fn search_locator(
         face_offsets,
         faces,
     )
+}
+
+// The search without a locator.
+#[no_mangle]
+pub extern "C" fn search_mesh(
+    level: u64,
+    vertices: &[f64],
+    counts: &[u8],
+    neighbours: &[u16],
+    x: f64,
+    y: f64,
+    z: f64,
+) -> Located
+    ensures { λ r. ⌜ r ≡ searchOut level (meshOf (now (vertices .entry)) (now (counts .entry)) (now (neighbours .entry)) []) (record { x = x; y = y; z = z }) ⌝ }
+{
+    mesh_search::search_mesh(level, vertices, counts, neighbours, Vector3 { x, y, z })
 }

@@ -13,3 +13,4 @@ pub mod Atom
 pub mod Sized
 pub mod Tails
 pub mod Viewed
+pub mod Found

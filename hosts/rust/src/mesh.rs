@@ -88,6 +88,13 @@ impl Mesh {
         (&self.counts, &self.neighbours)
     }
 
+    // A level's vertices, neighbour counts and neighbours; none above the top.
+    pub(crate) fn level_links(&self, level: u64) -> (&[f64], &[u8], &[u16]) {
+        let at: usize = (0..level.min(self.top + 1)).map(|m| sys::vertices(m) as usize).sum();
+        let end = if level > self.top { at } else { at + sys::vertices(level) as usize };
+        (&self.vertices[3 * at..3 * end], &self.counts[at..end], &self.neighbours[6 * at..6 * end])
+    }
+
     // What a reading of a file is lent.
     pub(crate) fn lent_with<'a>(&'a self, file: &'a [u8]) -> sys::Lent<'a> {
         sys::Lent {

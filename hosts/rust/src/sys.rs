@@ -136,6 +136,16 @@ pub struct Size {
     pub comparisons: [u64; 16],
 }
 
+#[repr(C)]
+#[derive(Clone, Copy, Debug, Default, PartialEq)]
+pub struct Found {
+    pub number: u64,
+    pub vertex: u64,
+    pub distance: f64,
+    pub face: [u64; 3],
+    pub weights: [f64; 3],
+}
+
 #[rustfmt::skip]
 extern "C" {
     fn icotable_fresh(
@@ -204,6 +214,9 @@ extern "C" {
     ) -> Energy;
     fn icotable_sizing(grid: Grid, top: u64, counts: *const u8, a: usize, neighbours: *const u16, b: usize, terms: u64) -> Size;
     fn icotable_atom_sizing(grid: AtomGrid, top: u64, counts: *const u8, a: usize, neighbours: *const u16, b: usize) -> Size;
+    fn icotable_search(
+        level: u64, vertices: *const f64, a: usize, counts: *const u8, b: usize, neighbours: *const u16, c: usize, x: f64, y: f64, z: f64,
+    ) -> Found;
     fn icotable_vertices(level: u64) -> u64;
     fn icotable_cells(level: u64) -> u64;
     fn icotable_root(x: f64) -> f64;
@@ -425,6 +438,23 @@ pub fn sizing(grid: Grid, top: u64, counts: &[u8], neighbours: &[u16], terms: u6
 
 pub fn atom_sizing(grid: AtomGrid, top: u64, counts: &[u8], neighbours: &[u16]) -> Size {
     unsafe { icotable_atom_sizing(grid, top, counts.as_ptr(), counts.len(), neighbours.as_ptr(), neighbours.len()) }
+}
+
+pub fn search(level: u64, vertices: &[f64], counts: &[u8], neighbours: &[u16], d: [f64; 3]) -> Found {
+    unsafe {
+        icotable_search(
+            level,
+            vertices.as_ptr(),
+            vertices.len(),
+            counts.as_ptr(),
+            counts.len(),
+            neighbours.as_ptr(),
+            neighbours.len(),
+            d[0],
+            d[1],
+            d[2],
+        )
+    }
 }
 
 pub fn vertices(level: u64) -> u64 {

@@ -1,5 +1,8 @@
 //! The wrapper, used as a host does.
-use icotable::{atom_settings, power, settings, sizing, sizing_with_terms, vertex_count, AtomBuilder, AtomTable, Builder, Error, FloatEnvironment, Grid, Kind, Level, Mesh, Refusal, Table, Tail, Term};
+use icotable::{
+    atom_settings, power, search, settings, sizing, sizing_with_terms, vertex_count, AtomBuilder, AtomTable, Builder, Error, FloatEnvironment, Grid, Kind, Level, Mesh,
+    Refusal, Table, Tail, Term,
+};
 use std::sync::Arc;
 
 fn mesh(top: u64) -> Arc<Mesh> {
@@ -408,4 +411,28 @@ fn a_build_is_sized_before_it_is_made() {
         assert_eq!((b.write().expect("write").len() as u64, b.share()), (size.file, 1.0));
     }
     assert_eq!(sizing(settings(0.0, 2.0, -1.0, 3.0, 0.1, 1.0), &mesh(1)), Err(Refusal::Settings));
+}
+
+#[test]
+fn a_direction_is_found_without_a_locator() {
+    let mesh = mesh(2);
+    for level in 0..=2 {
+        for (v, d) in mesh.directions(level).enumerate() {
+            let found = mesh.search(level, d.map(|x| 3.0 * x)).expect("search");
+            assert_eq!(found.vertex, v);
+            assert!(found.distance < 1e-30 && found.face.contains(&v), "{found:?}");
+            assert!((found.weights.iter().sum::<f64>() - 1.0).abs() < 1e-12, "{found:?}");
+        }
+        // a point of a face with most of one corner is found beside that corner, in that face
+        let at = mesh.search(level, [0.3, 0.5, 0.7]).expect("search");
+        let corners: Vec<[f64; 3]> = mesh.directions(level).collect();
+        let mixed = |k: usize| 0.5 * corners[at.face[0]][k] + 0.3 * corners[at.face[1]][k] + 0.2 * corners[at.face[2]][k];
+        let found = mesh.search(level, [mixed(0), mixed(1), mixed(2)]).expect("search");
+        assert_eq!((found.vertex, found.face), (at.face[0], at.face));
+        assert!(found.weights[0] > found.weights[1] && found.weights[1] > found.weights[2] && found.weights[2] > 0.0, "{found:?}");
+    }
+    assert_eq!(mesh.search(0, [0.0; 3]), Err(Refusal::Query));
+    assert_eq!(mesh.search(3, [1.0; 3]), Err(Refusal::ShortList));
+    assert_eq!(mesh.search(16, [1.0; 3]), Err(Refusal::Level));
+    assert_eq!(search(0, &[0.0; 36], &[5; 12], &[0; 72], [1.0; 3]), Err(Refusal::Mesh));
 }
