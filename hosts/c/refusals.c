@@ -587,7 +587,7 @@ int main(void) {
     puts("# Refusals\n\nA call that is refused answers the number of the first question that was answered no, and alters "
          "nothing: no list, no\nbuilder, no file. `include/icotable.h` has the table (`ICOTABLE_REFUSALS`, "
          "`icotable_words`), `hosts/rust` the same as\nan enum (`Refusal`); docs/SPEC.md has each question, S5.1 to S5.20 "
-         "and S5.24 to S5.27, and their order. Each example below\nis run by `hosts/c/refusals.c`, which writes this page; the gate "
+         "and S5.24 to S5.27, and their order. Each example\nbelow is run by `hosts/c/refusals.c`, which writes this page; the gate "
          "compares the page with what it writes.\n\n"
          "| number | name | what was answered no | an example |\n|---|---|---|---|");
     for (uint64_t number = 1; number <= NUMBERS; number++) {
