@@ -48,7 +48,7 @@
 /* The version, raised where a struct, a function or the table file changes (CHANGELOG.md). The pkg-config file and the
  * tool take it from here; a test compares it with hosts/rust. */
 #define ICOTABLE_VERSION_MAJOR 0
-#define ICOTABLE_VERSION_MINOR 16
+#define ICOTABLE_VERSION_MINOR 17
 #define ICOTABLE_VERSION_PATCH 0
 
 #define ICOTABLE_STRING_(x) #x
@@ -81,7 +81,8 @@
     X(21, READING_BETA, "a reading's own beta is not finite and above 0") \
     X(22, PREFACTOR, "terms of a long-range tail are handed over without a prefactor") \
     X(23, TERM, "a coefficient, a kappa or the prefactor of a long-range tail is not finite, a power is above 2147483647, or there are more than 4294967295 terms") \
-    X(24, VIEWER_BOUND, "the file has more than 4 levels or 4096 rows, which the viewer does not open")
+    X(24, VIEWER_BOUND, "the file has more than 4 levels or 4096 rows, which the viewer does not open") \
+    X(25, SLAB_PLACE, "a Mesh row of a loosely packed file has energies that do not end inside section 5")
 
 #define ICOTABLE_REFUSAL_(number, name, words) ICOTABLE_##name = number,
 enum icotable_refusal { ICOTABLE_REFUSALS(ICOTABLE_REFUSAL_) ICOTABLE_ACCEPTED = 0 };
@@ -142,6 +143,11 @@ typedef struct icotable_settled {
 typedef struct icotable_written {
     uint64_t number, length;
 } icotable_written;
+
+/* length: the packed file's, in bytes. moved: the rows whose offset is now another. */
+typedef struct icotable_repacked {
+    uint64_t number, length, moved;
+} icotable_repacked;
 
 /* What a file holds. start: for each of the six sections, grid, bins, levels, rows, energies and terms, the byte after
  * its count. A file without terms has no sixth section: terms is 0 and start[5] the file's length. */
@@ -239,6 +245,13 @@ icotable_table icotable_read(const uint8_t *file, size_t file_count);
 /* The same for a viewer, which opens tables of at most 4 levels and 4096 rows: what it accepts icotable_read accepts, with
  * the same answer. Questions 13, 14, 24, 15 to 17, 23. */
 icotable_table icotable_view(const uint8_t *file, size_t file_count);
+
+/* Packs a loosely packed file: one whose Mesh rows have their energies anywhere in section 5, with gaps, shared parts or in
+ * another order. Each row's energies are copied to their packed place in the output; all outside section 5, its count and the
+ * Mesh rows' offsets is unchanged, and every reading stays. icotable_read accepts the result, and a file that it accepts comes
+ * back byte for byte. Shared parts can make the result longer than the file; bytes of the output beyond it stay. Questions 13,
+ * 14, 15, 25 in the place of 16, 17 (gaps too), 23, and 12 last. */
+icotable_repacked icotable_repack(const uint8_t *file, size_t file_count, uint8_t *output, size_t output_count);
 
 /* The locator of one level's mesh. Questions 2, 6, 7. */
 uint64_t icotable_locator(

@@ -221,6 +221,14 @@ static uint64_t five_levels(void) {
     return icotable_read(file, length).number != 0 ? 100 : icotable_view(file, length).number;
 }
 
+/* The one Mesh row of the file has 1764 energies, and so has section 5. */
+static uint64_t place_beyond(void) {
+    static uint8_t packed[sizeof file];
+    size_t length = whole_file();
+    file[58] = 1;
+    return icotable_repack(file, length, packed, sizeof packed).number;
+}
+
 /* ---- against an atom */
 
 enum { ATOM_SLABS = 2, ATOM_STORE = ATOM_SLABS * N };
@@ -415,6 +423,7 @@ static const example examples[] = {
     {no_prefactor, "write with two terms and an empty list for the prefactor", 0},
     {large_power, "write with a term whose power is 2147483648", 0},
     {five_levels, "view of a file of five levels, which read accepts", 0},
+    {place_beyond, "repack of a file whose only Mesh row, of 1764 energies, has offset 1, where section 5 has 1764 energies", 0},
 };
 
 static const example atom_examples[] = {
@@ -451,7 +460,7 @@ static const char *const names[] = {
 enum { NUMBERS = sizeof names / sizeof names[0] - 1, EXAMPLES = sizeof examples / sizeof examples[0] };
 enum { ATOM_NUMBERS = sizeof atom_examples / sizeof atom_examples[0] };
 _Static_assert(NUMBERS == EXAMPLES, "an example for each number");
-_Static_assert(ATOM_NUMBERS == (int)ICOTABLE_READING_BETA, "one against an atom for each that is not of a long-range tail or a viewer");
+_Static_assert(ATOM_NUMBERS == (int)ICOTABLE_READING_BETA, "one against an atom for each that is not of a long-range tail, a viewer or repack");
 
 /* Whether the example of a number gives another one. */
 static int differs(const example *e, uint64_t number) {
@@ -578,7 +587,7 @@ int main(void) {
     puts("# Refusals\n\nA call that is refused answers the number of the first question that was answered no, and alters "
          "nothing: no list, no\nbuilder, no file. `include/icotable.h` has the table (`ICOTABLE_REFUSALS`, "
          "`icotable_words`), `hosts/rust` the same as\nan enum (`Refusal`); docs/SPEC.md has each question, S5.1 to S5.20 "
-         "and S5.24 to S5.27, and their order. Each example below\nis run by `hosts/c/refusals.c`, which writes this page; the gate "
+         "and S5.24 to S5.27, and their order. Each example\nbelow is run by `hosts/c/refusals.c`, which writes this page; the gate "
          "compares the page with what it writes.\n\n"
          "| number | name | what was answered no | an example |\n|---|---|---|---|");
     for (uint64_t number = 1; number <= NUMBERS; number++) {
@@ -587,8 +596,8 @@ int main(void) {
         differing += differs(e, number);
     }
     puts("\n## Against an atom\n\nThe calls of a table against an atom (`icotable_atom_fresh` and so on) have the same "
-         "numbers with the same words. What\nconcerns the step, the dihedral angle, the second direction, the long-range tail and a "
-         "viewer's bounds is\nnot asked there.\n\n| number | name | an example |\n|---|---|---|");
+         "numbers with the same words. What\nconcerns the step, the dihedral angle, the second direction, the long-range tail, a "
+         "viewer's bounds and repack is\nnot asked there.\n\n| number | name | an example |\n|---|---|---|");
     for (uint64_t number = 1; number <= ATOM_NUMBERS; number++) {
         const example *e = &atom_examples[number - 1];
         printf("| %llu | %s | %s |\n", (unsigned long long)number, names[number], e->words);

@@ -1,8 +1,8 @@
 /* A host in C: an empty table of level 0 from its settings, written, printed and read back; a slab set and settled; calls
  * that are refused; the locator of the icosahedron; readings, also weighted and with locator lists that were altered; a
- * long-range tail; the bounds of a viewer; the same of a table against an atom; the sizing of a build; a search without a
- * locator; sizes and numbers. Every answer is compared with what documents 01 and 02 say, and the status is 1 where one
- * differs. */
+ * long-range tail; the bounds of a viewer; loosely packed files; the same of a table against an atom; the sizing of a
+ * build; a search without a locator; sizes and numbers. Every answer is compared with what documents 01 and 02 say, and
+ * the status is 1 where one differs. */
 #include "icotable.h"
 
 #include <math.h>
@@ -726,6 +726,44 @@ static void viewer(void) {
     expect("view of a row of kind 4", icotable_view(large, length).number, 15);
 }
 
+/* A gap in front and one at the end, then energies that end behind section 5, a NaN in a gap, and an output that is too short. */
+static void loose_files(void) {
+    double energies[PER];
+    uint8_t packed[642], loose[654], output[700];
+    icotable_builder b = fresh(settings, 0).builder;
+    for (int i = 0; i < PER; i++)
+        energies[i] = i;
+    b = icotable_set(b, store, PER, kinds, 1, levels, 1, values, 1, 0, 0, energies, PER).builder;
+    expect("bytes of a packed file", written(b, packed, sizeof packed).length, 642);
+    memset(output, 7, sizeof output);
+    icotable_repacked r = icotable_repack(packed, 642, output, sizeof output);
+    expect("repack of a packed file", r.number, 0);
+    expect("its length", r.length, 642);
+    expect("rows that moved", r.moved, 0);
+    expect("bytes that differ", memcmp(output, packed, 642) != 0, 0);
+    expect("a byte beyond it", output[642], 7);
+    memcpy(loose, packed, 66), memset(loose + 66, 0, 8), memcpy(loose + 74, packed + 66, 576), memset(loose + 650, 0, 4);
+    loose[54] = 2, loose[62] = PER + 3;
+    expect("read of two energies in front and one behind", icotable_read(loose, 654).number, 16);
+    memset(output, 7, sizeof output);
+    r = icotable_repack(loose, 654, output, sizeof output);
+    expect("repack of them", r.number, 0);
+    expect("its length", r.length, 642);
+    expect("rows that moved", r.moved, 1);
+    expect("bytes that differ", memcmp(output, packed, 642) != 0, 0);
+    memset(output, 7, sizeof output);
+    expect("repack to 641 bytes", icotable_repack(loose, 654, output, 641).number, 12);
+    expect("the output's first byte after it", output[0], 7);
+    loose[68] = 0xC0, loose[69] = 0x7F;
+    expect("repack with a NaN in the gap", icotable_repack(loose, 654, output, sizeof output).number, 17);
+    loose[54] = 4;
+    r = icotable_repack(loose, 654, output, sizeof output);
+    expect("repack of energies that end behind section 5", r.number, 25);
+    expect("its length", r.length, 0);
+    expect("rows that moved", r.moved, 0);
+    expect("repack without the last byte", icotable_repack(loose, 653, output, sizeof output).number, 13);
+}
+
 static void sizes_and_numbers(void) {
     expect("vertices of level 15", icotable_vertices(15), 2562);
     expect("cell offsets of level 15", icotable_cells(15), 3751);
@@ -783,6 +821,7 @@ int main(void) {
     tail_refused();
     tail_damaged();
     viewer();
+    loose_files();
     empty_atom_table();
     atom_slab();
     atom_refused();

@@ -33,6 +33,7 @@ use writer::Written;
 
 mod atom;
 mod found;
+mod repacks;
 mod tails;
 
 // Of fresh and set.

@@ -48,7 +48,7 @@ grid-checked g levels h e =
 -- ---- the rows
 
 -- what 15 says of a row with energies
-mesh-held : (levels : ℕ) (r : Entry) → leb (r .kind) 1 ≡ false → entryValid levels r ≡ true → r .level < levels
+pub mesh-held : (levels : ℕ) (r : Entry) → leb (r .kind) 1 ≡ false → entryValid levels r ≡ true → r .level < levels
 unfolding entryValid
 mesh-held levels r k e =
     let n = leb-false (r .kind) 1 k in

@@ -13,3 +13,4 @@ pub mod OfTail
 pub mod OfFile
 pub mod AtomFile
 pub mod Checked
+pub mod OfLoose

@@ -1,6 +1,6 @@
 -- What only the code and the proofs need; a reader need not believe it. Definitions only.
 use mathlib.Core.Path.{_≡_}
-use mathlib.Core.Bool.{Bool, true, false, not, cond, _||_}
+use mathlib.Core.Bool.{Bool, true, false, not, cond, _&&_, _||_}
 use mathlib.Core.List.{List}
 use Prim.Native.Nat.{ℕ, _+_, _*_, _≤_, _<_}
 use lib.ListN.{length}
@@ -11,8 +11,9 @@ use Rattle.lists.specs.Lists.{every}
 use Rattle.mesh.specs.Levels.{vertexCount, per}
 use Rattle.table.specs.Bytes.{numberOf, items}
 use Rattle.table.specs.Tail.{tailValid}
-use Rattle.table.specs.File.{entryOf}
-use Rattle.table.specs.Read.{countAt, tailIn, tableValid, entryValid, tiled}
+use Rattle.table.specs.File.{Entry, entryOf}
+use Rattle.table.specs.Read.{countAt, rowItems, energyItems, tailIn, tableValid, entryValid, tiled}
+use Rattle.table.specs.Checks.{slabChecked}
 use Rattle.table.specs.View.{within}
 use Rattle.table.specs.declared.Bound.{Bound}
 use Rattle.table.specs.Atom.{atomTableValid}
@@ -71,6 +72,19 @@ tableQuestion b file t =
 abbrev pub atomTableQuestion : List ℕ → AtomTable → ℕ
 atomTableQuestion file t =
     ask (atomTableValid file t) 14 (rowsQuestion vertexCount file (t .levels) (t .«rows_start») (t .rows) (t .«energies_start») (t .energies))
+
+-- 25, of a row that 15 let pass in a table whose levels 14 let pass: it has no energies, or they are among the first n
+abbrev pub endsBelow : ℕ → Entry → Bool
+endsBelow n r = leb (r .kind) 1 || (not (eqb (r .offset) 0xFFFF_FFFF) && leb (per (r .level) + r .offset) n)
+
+-- 14, 15, 25, 17, then 23, of a table whose sections are inside the file
+abbrev pub looseQuestion : List ℕ → Table → ℕ
+looseQuestion file t =
+    ask (tableValid file t) 14
+    (ask (every (entryValid (t .levels)) (rowItems file t)) 15
+    (ask (every (slabChecked file t) (rowItems file t)) 25
+    (ask (every (λ x. not (nanBits binary32 x)) (energyItems file t)) 17
+    (ask (tailValid (tailIn file t)) 23 0))))
 
 -- a row has no energies, or they start at place o; and where those of the next row start
 abbrev pub placedAt : ℕ → ℕ → ℕ → Bool

@@ -1,4 +1,4 @@
--- A reader has to believe `Bytes`, `Tail`, `File`, `Read`, `View`, `Checks` and, of a table against an atom, `Atom`. Only the code and the proofs need `Internal`.
+-- A reader has to believe `Bytes`, `Tail`, `File`, `Read`, `View`, `Checks`, `Loose` and, of a table against an atom, `Atom`. Only the code and the proofs need `Internal`.
 pub mod Bytes
 pub mod Tail
 pub mod File
@@ -6,4 +6,5 @@ pub mod Read
 pub mod View
 pub mod Internal
 pub mod Checks
+pub mod Loose
 pub mod Atom

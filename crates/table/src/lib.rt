@@ -3,11 +3,13 @@ use grid::AtomGrid;
 use grid::Grid;
 
 mod bytes;
+mod loose;
 mod questions;
 mod reader;
 mod walk;
 
 pub use bytes::u32_from_le_bytes;
+pub use loose::read_loose;
 pub use questions::energies_of;
 pub use reader::atom_read;
 pub use reader::read;

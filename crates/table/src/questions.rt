@@ -37,7 +37,7 @@ fn levels_valid(file: &[u8], start: u64, levels: u64) -> bool
 }
 
 // Question 14.
-fn table_valid(file: &[u8], t: Table) -> bool
+pub(crate) fn table_valid(file: &[u8], t: Table) -> bool
     requires { ⌜ t .«levels_start» + t .levels * 4 ≤ length (now file) ⌝ }
     ensures { λ r. ⌜ r ≡ tableValid (now (file .entry)) t ⌝ }
 {
@@ -118,7 +118,7 @@ fn row_valid(file: &[u8], at: u64, n: u64) -> bool
 }
 
 // Question 15.
-fn rows_valid(file: &[u8], start: u64, rows: u64, levels: u64) -> bool
+pub(crate) fn rows_valid(file: &[u8], start: u64, rows: u64, levels: u64) -> bool
     requires { ⌜ start + rows * 10 ≤ length (now file) ⌝ }
     ensures { λ r. ⌜ r ≡ every (entryValid levels) (items entryOf 10 (now (file .entry)) start rows) ⌝ }
 {
@@ -199,7 +199,7 @@ fn pair_valid(file: &[u8], at: u64) -> bool
 }
 
 // Question 17. With no way out of the loop, so that it is compiled to many energies at a time.
-fn energies_valid(file: &[u8], start: u64, energies: u64) -> bool
+pub(crate) fn energies_valid(file: &[u8], start: u64, energies: u64) -> bool
     requires { ⌜ start + energies * 4 ≤ length (now file) ⌝ }
     ensures { λ r. ⌜ r ≡ every (λ x. not (nanBits binary32 x)) (items numberOf 4 (now (file .entry)) start energies) ⌝ }
 {
@@ -271,7 +271,7 @@ fn terms_valid(file: &[u8], start: u64, terms: u64) -> bool
 }
 
 // Question 23.
-fn tail_valid(file: &[u8], t: Table) -> bool
+pub(crate) fn tail_valid(file: &[u8], t: Table) -> bool
     requires { ⌜ TailInside (now file) (t .«tail_start») (t .terms) ⌝ }
     ensures { λ r. ⌜ r ≡ tailValid (tailIn (now (file .entry)) t) ⌝ }
 {

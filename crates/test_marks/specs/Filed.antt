@@ -12,7 +12,7 @@ use Rattle.ledger.specs.Promise.{ended, lastWrite, file}
 use Rattle.test_marks.specs.Icospheres.{icosahedron}
 use Rattle.test_marks.specs.Computed.{f64, noTerms, history, computed}
 
-abbrev tens : List Float
+abbrev pub tens : List Float
 tens = replicate 144 (f64 0x4024_0000_0000_0000)
 
 -- the 66 bytes, and a file with a Mesh row: 642 bytes

@@ -14,3 +14,4 @@ pub mod Sized
 pub mod Tails
 pub mod Viewed
 pub mod Found
+pub mod Repacked

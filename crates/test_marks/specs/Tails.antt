@@ -58,7 +58,7 @@ without-terms = refl
 
 -- ---- the file: the 66 bytes, then the section of one term and the prefactor
 
-abbrev lists : TailLists
+abbrev pub lists : TailLists
 lists = tailLists (f64 0x4000_0000_0000_0000 ∷ []) (f64 0 ∷ []) (1 ∷ []) (f64 0x4018_0000_0000_0000 ∷ [])
 
 abbrev tailed : List ℕ

@@ -1,5 +1,5 @@
 /* Tools for table files: icotable inspect [--resolution] FILE, verify [--viewer] FILE.., diff A B, map [-o OUT] FILE [FILE],
- * size [--json] [--terms N] RMIN RMAX DR [STEP] TOP, --version. */
+ * repack IN OUT, size [--json] [--terms N] RMIN RMAX DR [STEP] TOP, --version. */
 #include "tools.h"
 
 #include "environment.h"
@@ -26,6 +26,7 @@ static const tool tools[] = {
     {"diff", "diff FILE FILE          why two tables differ", 2, 2, diff_tool},
     {"map", "map [-o OUT] FILE       a picture of the slabs (SVG) to OUT or to standard output;\n"
             "  icotable map [-o OUT] FILE FILE  two tables side by side, the slabs that differ marked", 1, 4, map_tool},
+    {"repack", "repack IN OUT           a loosely packed table to OUT, packed; OUT must not be there yet", 2, 2, repack_tool},
     {"size", "size [--json] [--terms N] RMIN RMAX DR STEP TOP  the memory, file and comparisons of a build;\n"
              "  icotable size [--json] RMIN RMAX DR TOP  against an atom", 4, 8, size_tool},
     {"--version", "--version               the version", 0, 0, version_tool},

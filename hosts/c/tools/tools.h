@@ -82,6 +82,7 @@ int inspect_tool(int count, char **names);
 int verify_tool(int count, char **names);
 int diff_tool(int count, char **names);
 int map_tool(int count, char **names);
+int repack_tool(int count, char **names);
 int size_tool(int count, char **names);
 
 #endif

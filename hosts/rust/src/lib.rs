@@ -4,9 +4,9 @@
 //! A safe wrapper over libicotable.a, whose functions are proved. [`Mesh`] holds the meshes and locators of all levels,
 //! [`Builder`] the lists that a table is built in, [`Table`] a table file; [`AtomBuilder`] and [`AtomTable`] are the same of
 //! one molecule against an atom; [`Tail`] is what a host adds beyond a table's distances; [`sizing`] says beforehand what a build
-//! needs; [`search`] finds a direction without a locator. What the library refuses is a [`Refusal`], with document 01's number and
-//! its words; a refused call alters nothing. The wrapper itself is not proved: it sizes the lists, hands them over and turns
-//! numbers into the enum.
+//! needs; [`search`] finds a direction without a locator; [`repack`] packs a table file that was loosely packed. What the library
+//! refuses is a [`Refusal`], with document 01's number and its words; a refused call alters nothing. The wrapper itself is not
+//! proved: it sizes the lists, hands them over and turns numbers into the enum.
 //!
 //! The proofs speak of one floating-point environment; [`Builder::new`], [`Table::read`] and the atom's two ask whether the
 //! thread has it ([`FloatEnvironment`]), and calls of a thread that alters it afterwards are not asked again. Settling takes up
@@ -20,6 +20,7 @@ mod found;
 mod lists;
 mod mesh;
 mod refusal;
+mod repack;
 mod row;
 mod sizing;
 mod sys;
@@ -33,6 +34,7 @@ pub use error::Error;
 pub use found::{search, Found};
 pub use mesh::{Level, Mesh};
 pub use refusal::Refusal;
+pub use repack::{repack, Repacked};
 pub use row::{Kind, Row};
 pub use sizing::{atom_sizing, sizing, sizing_with_terms, LevelSizing, Sizing};
 pub use sys::{AtomGrid, Grid};

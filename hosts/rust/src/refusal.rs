@@ -60,6 +60,7 @@ refusals! {
     22 Prefactor "terms of a long-range tail are handed over without a prefactor",
     23 Term "a coefficient, a kappa or the prefactor of a long-range tail is not finite, a power is above 2147483647, or there are more than 4294967295 terms",
     24 ViewerBound "the file has more than 4 levels or 4096 rows, which the viewer does not open",
+    25 SlabPlace "a Mesh row of a loosely packed file has energies that do not end inside section 5",
 }
 
 /// What an accepted call gives, or why it was refused.

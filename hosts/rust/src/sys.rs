@@ -49,6 +49,14 @@ pub struct Written {
 }
 
 #[repr(C)]
+#[derive(Clone, Copy, Debug, PartialEq)]
+pub struct Repacked {
+    pub number: u64,
+    pub length: u64,
+    pub moved: u64,
+}
+
+#[repr(C)]
 #[derive(Clone, Copy, Debug, Default, PartialEq)]
 pub struct Table {
     pub number: u64,
@@ -173,6 +181,7 @@ extern "C" {
     ) -> Written;
     fn icotable_read(file: *const u8, a: usize) -> Table;
     fn icotable_view(file: *const u8, a: usize) -> Table;
+    fn icotable_repack(file: *const u8, a: usize, output: *mut u8, b: usize) -> Repacked;
     fn icotable_tail(table: *const Table, file: *const u8, a: usize, r: f64) -> Value;
     fn icotable_locator(
         level: u64, vertices: *const f64, a: usize, counts: *const u8, b: usize, neighbours: *const u16, c: usize, angles: *const f64, d: usize,
@@ -380,6 +389,10 @@ pub fn read(file: &[u8]) -> Table {
 
 pub fn view(file: &[u8]) -> Table {
     unsafe { icotable_view(file.as_ptr(), file.len()) }
+}
+
+pub fn repack(file: &[u8], output: &mut [u8]) -> Repacked {
+    unsafe { icotable_repack(file.as_ptr(), file.len(), output.as_mut_ptr(), output.len()) }
 }
 
 #[rustfmt::skip]

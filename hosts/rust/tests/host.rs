@@ -1,7 +1,7 @@
 //! The wrapper, used as a host does.
 use icotable::{
-    atom_settings, power, search, settings, sizing, sizing_with_terms, vertex_count, AtomBuilder, AtomTable, Builder, Error, FloatEnvironment, Grid, Kind, Level, Mesh,
-    Refusal, Table, Tail, Term,
+    atom_settings, power, repack, search, settings, sizing, sizing_with_terms, vertex_count, AtomBuilder, AtomTable, Builder, Error, FloatEnvironment, Grid, Kind,
+    Level, Mesh, Refusal, Repacked, Table, Tail, Term,
 };
 use std::sync::Arc;
 
@@ -40,7 +40,7 @@ fn refusals_are_the_headers() {
         assert_eq!(format!("{refusal:?}"), camel);
         found += 1;
     }
-    assert_eq!(found, 24);
+    assert_eq!(found, 25);
     assert_eq!(Refusal::ALL.len(), found);
 }
 
@@ -324,6 +324,39 @@ fn a_viewer_opens_small_tables() {
     assert!(Table::read(large.clone(), mesh(4)).is_ok());
     assert_eq!(Table::view(large, mesh(4)).unwrap_err(), Error::Refused(Refusal::ViewerBound));
     assert_eq!(Table::view(small[1..].to_vec(), mesh(3)).unwrap_err(), Error::Refused(Refusal::Sections));
+}
+
+// A gap in front, one at the end, and a part that two rows share; readings stay, and a packed file comes back as it is.
+#[test]
+fn loose_files_are_packed() {
+    let mut b = builder(0);
+    b.set(0, 0, &smooth(0)).unwrap();
+    b.set(0, 1, &smooth(0)).unwrap();
+    let file = b.write().unwrap();
+    assert_eq!(repack(&file), Ok(Repacked { file: file.clone(), moved: 0 }));
+    let put = |file: &mut Vec<u8>, at: usize, n: u32| file[at..at + 4].copy_from_slice(&n.to_le_bytes());
+    let count = |file: &[u8], at: usize| u32::from_le_bytes(file[at..at + 4].try_into().unwrap());
+    let rows = 48 + 4 * count(&file, 40) as usize;
+    let energies = rows + 10 * count(&file, rows - 4) as usize + 4;
+    let held = count(&file, energies - 4);
+    let mut gap = file.clone();
+    put(&mut gap, energies - 4, held + 3);
+    gap.splice(energies..energies, [0; 8]);
+    gap.extend([0; 4]);
+    put(&mut gap, rows + 2, 2);
+    put(&mut gap, rows + 12, 146);
+    assert_eq!(Table::read(gap.clone(), b.mesh().clone()).unwrap_err(), Error::Refused(Refusal::Tiling));
+    assert_eq!(repack(&gap), Ok(Repacked { file: file.clone(), moved: 2 }));
+    put(&mut gap, rows + 12, 148);
+    assert_eq!(repack(&gap), Err(Refusal::SlabPlace));
+    let mut shared = file[..file.len() - 4 * 144].to_vec();
+    put(&mut shared, energies - 4, held - 144);
+    put(&mut shared, rows + 12, 0);
+    let apart = repack(&shared).unwrap();
+    assert_eq!((apart.file.len(), apart.moved), (file.len(), 1));
+    let (old, new) = (Table::read(file, b.mesh().clone()).unwrap(), Table::read(apart.file, b.mesh().clone()).unwrap());
+    let (omega, a) = (0.1, [0.3, -0.2, 0.9]);
+    assert_eq!(old.lookup(0.5, omega, a, a).unwrap().to_bits(), new.lookup(0.5, omega, a, a).unwrap().to_bits());
 }
 
 #[test]
