@@ -48,7 +48,7 @@
 /* The version, raised where a struct, a function or the table file changes (CHANGELOG.md). The pkg-config file and the
  * tool take it from here; a test compares it with hosts/rust. */
 #define ICOTABLE_VERSION_MAJOR 0
-#define ICOTABLE_VERSION_MINOR 17
+#define ICOTABLE_VERSION_MINOR 18
 #define ICOTABLE_VERSION_PATCH 0
 
 #define ICOTABLE_STRING_(x) #x
@@ -75,14 +75,15 @@
     X(15, ROW, "a row has an unknown kind, a Mesh row a level above the top; or, in a file, an unused field that is used, or a scalar NaN other than 0x7FC00000") \
     X(16, TILING, "the rows' offsets do not tile the energies in row order") \
     X(17, FILE_NAN, "an energy of the file is a NaN") \
-    X(18, QUERY, "r is a NaN, omega not finite, or the length of a direction not finite or 0") \
+    X(18, QUERY, "r or an end of a span is a NaN, omega not finite, or the length of a direction not finite or 0") \
     X(19, NOT_LENT, "a bin count is 0, a row's kind is unknown or its level not held, or a row, energy, term, cell or mesh entry that the reading touches is not inside what was lent, an end offset is below its start, or a vertex number not below n") \
     X(20, EMPTY_CELL, "the cell that a direction falls into lists no vertex") \
     X(21, READING_BETA, "a reading's own beta is not finite and above 0") \
     X(22, PREFACTOR, "terms of a long-range tail are handed over without a prefactor") \
     X(23, TERM, "a coefficient, a kappa or the prefactor of a long-range tail is not finite, a power is above 2147483647, or there are more than 4294967295 terms") \
     X(24, VIEWER_BOUND, "the file has more than 4 levels or 4096 rows, which the viewer does not open") \
-    X(25, SLAB_PLACE, "a Mesh row of a loosely packed file has energies that do not end inside section 5")
+    X(25, SLAB_PLACE, "a Mesh row of a loosely packed file has energies that do not end inside section 5") \
+    X(26, SPAN, "the low end of a span of distances is above its high end, or an end is below rmin or above the table's own rmax")
 
 #define ICOTABLE_REFUSAL_(number, name, words) ICOTABLE_##name = number,
 enum icotable_refusal { ICOTABLE_REFUSALS(ICOTABLE_REFUSAL_) ICOTABLE_ACCEPTED = 0 };
@@ -308,6 +309,23 @@ icotable_value icotable_boltzmann(
  * at infinity. Question 18, put to r alone; then 19, where there are terms and they or the prefactor are not inside the
  * file. */
 icotable_value icotable_tail(const icotable_table *table, const uint8_t *file, size_t file_count, double r);
+
+/* Of the distances from low to high: the distance bins of both ends, the smallest and largest energy in the rows of these
+ * bins at the dihedral omega, and how many of the Scalar rows among them hold a NaN.
+ *
+ * Every distance of the span falls in the bins from first to last. A reading there, plain or weighted, is between the two
+ * energies where its row is Scalar, Repulsive (infinity) or read at the nearest vertices, and it is not a NaN. An
+ * interpolated row adds its energies too, but bounds no reading: weights below 0 can take the sum beyond them, and a
+ * weighted reading is another average. NaNs are passed over; where there is nothing else both energies are a NaN. Of
+ * equal energies (0.0 and -0.0) the first one is shown, in the order of rows, then of a row's energies. */
+typedef struct icotable_spanned {
+    uint64_t number, first, last;
+    double smallest, largest;
+    uint64_t scalar_nans;
+} icotable_spanned;
+
+/* Question 18, put to both ends and omega; then 26; then 19 of all rows and energies that it touches. */
+icotable_spanned icotable_span(const icotable_table *table, const uint8_t *file, size_t file_count, double low, double high, double omega);
 
 /* ---- one molecule against an atom */
 

@@ -229,6 +229,12 @@ static uint64_t place_beyond(void) {
     return icotable_repack(file, length, packed, sizeof packed).number;
 }
 
+/* The table's own rmax is 2, and 2.5 is above it. */
+static uint64_t span_beyond(void) {
+    icotable_table t = icotable_read(file, whole_file());
+    return icotable_span(&t, file, ROOM, 0.5, 2.5, 0).number;
+}
+
 /* ---- against an atom */
 
 enum { ATOM_SLABS = 2, ATOM_STORE = ATOM_SLABS * N };
@@ -424,6 +430,7 @@ static const example examples[] = {
     {large_power, "write with a term whose power is 2147483648", 0},
     {five_levels, "view of a file of five levels, which read accepts", 0},
     {place_beyond, "repack of a file whose only Mesh row, of 1764 energies, has offset 1, where section 5 has 1764 energies", 0},
+    {span_beyond, "a span of distances from 0.5 to 2.5, where the table's own rmax is 2", 0},
 };
 
 static const example atom_examples[] = {
@@ -450,17 +457,26 @@ static const example atom_examples[] = {
     {atom_no_beta, "a weighted reading with an infinite beta, at a distance outside the table", 0},
 };
 
-static const char *const names[] = {
-    "ACCEPTED",
-#define NAME(number, name, words) #name,
-    ICOTABLE_REFUSALS(NAME)
-#undef NAME
+static const struct {
+    uint64_t number;
+    const char *name;
+} refusals[] = {
+#define NAMED(number, name, words) {number, #name},
+    ICOTABLE_REFUSALS(NAMED)
+#undef NAMED
 };
 
-enum { NUMBERS = sizeof names / sizeof names[0] - 1, EXAMPLES = sizeof examples / sizeof examples[0] };
+enum { NUMBERS = sizeof refusals / sizeof refusals[0], EXAMPLES = sizeof examples / sizeof examples[0] };
 enum { ATOM_NUMBERS = sizeof atom_examples / sizeof atom_examples[0] };
 _Static_assert(NUMBERS == EXAMPLES, "an example for each number");
-_Static_assert(ATOM_NUMBERS == (int)ICOTABLE_READING_BETA, "one against an atom for each that is not of a long-range tail, a viewer or repack");
+_Static_assert(ATOM_NUMBERS == (int)ICOTABLE_READING_BETA, "one against an atom for each that is of its calls");
+
+static const char *name_of(uint64_t number) {
+    for (int i = 0; i < NUMBERS; i++)
+        if (refusals[i].number == number)
+            return refusals[i].name;
+    return "";
+}
 
 /* Whether the example of a number gives another one. */
 static int differs(const example *e, uint64_t number) {
@@ -586,21 +602,22 @@ int main(void) {
         return 1;
     puts("# Refusals\n\nA call that is refused answers the number of the first question that was answered no, and alters "
          "nothing: no list, no\nbuilder, no file. `include/icotable.h` has the table (`ICOTABLE_REFUSALS`, "
-         "`icotable_words`), `hosts/rust` the same as\nan enum (`Refusal`); docs/SPEC.md has each question, S5.1 to S5.20 "
-         "and S5.24 to S5.27, and their order. Each example\nbelow is run by `hosts/c/refusals.c`, which writes this page; the gate "
-         "compares the page with what it writes.\n\n"
+         "`icotable_words`), `hosts/rust` the same as\nan enum (`Refusal`); docs/SPEC.md has each question, S5.1 to "
+         "S5.20, S5.24 to S5.27 and S24.3, and their\norder. Each example below is run by `hosts/c/refusals.c`, which writes this "
+         "page; the gate compares the page with what\nit writes.\n\n"
          "| number | name | what was answered no | an example |\n|---|---|---|---|");
-    for (uint64_t number = 1; number <= NUMBERS; number++) {
-        const example *e = &examples[number - 1];
-        printf("| %llu | %s | %s | %s |\n", (unsigned long long)number, names[number], icotable_words(number), e->words);
+    for (int i = 0; i < NUMBERS; i++) {
+        const example *e = &examples[i];
+        uint64_t number = refusals[i].number;
+        printf("| %llu | %s | %s | %s |\n", (unsigned long long)number, refusals[i].name, icotable_words(number), e->words);
         differing += differs(e, number);
     }
     puts("\n## Against an atom\n\nThe calls of a table against an atom (`icotable_atom_fresh` and so on) have the same "
          "numbers with the same words. What\nconcerns the step, the dihedral angle, the second direction, the long-range tail, a "
-         "viewer's bounds and repack is\nnot asked there.\n\n| number | name | an example |\n|---|---|---|");
+         "viewer's bounds, repack and spans\nof distances is not asked there.\n\n| number | name | an example |\n|---|---|---|");
     for (uint64_t number = 1; number <= ATOM_NUMBERS; number++) {
         const example *e = &atom_examples[number - 1];
-        printf("| %llu | %s | %s |\n", (unsigned long long)number, names[number], e->words);
+        printf("| %llu | %s | %s |\n", (unsigned long long)number, name_of(number), e->words);
         differing += differs(e, number);
     }
     puts("\n## Sizing a build\n\n`icotable_sizing` and `icotable_atom_sizing` are refused as fresh is, before any list of a build is "
@@ -609,14 +626,14 @@ int main(void) {
     for (int i = 0; i < SIZED; i++) {
         const example *e = &size_examples[i];
         uint64_t number = size_numbers[i];
-        printf("| %llu | %s | %s |\n", (unsigned long long)number, names[number], e->words);
+        printf("| %llu | %s | %s |\n", (unsigned long long)number, name_of(number), e->words);
         differing += differs(e, number);
     }
     puts("\n## Searching without a locator\n\n`icotable_search` puts 2, 6 and 7 to the vertices, the neighbour counts and the neighbours, then 18 to the\n"
          "direction, then 20. It reads no list that a locator has, so that 19 cannot come of it.\n\n| number | name | an example |\n|---|---|---|");
     for (size_t i = 0; i < SEARCHED; i++) {
         uint64_t number = search_examples[i].number;
-        printf("| %llu | %s | %s |\n", (unsigned long long)number, names[number], search_examples[i].e.words);
+        printf("| %llu | %s | %s |\n", (unsigned long long)number, name_of(number), search_examples[i].e.words);
         differing += differs(&search_examples[i].e, number);
     }
     icotable_free_meshes(&held);

@@ -1,8 +1,8 @@
 /* A host in C: an empty table of level 0 from its settings, written, printed and read back; a slab set and settled; calls
  * that are refused; the locator of the icosahedron; readings, also weighted and with locator lists that were altered; a
- * long-range tail; the bounds of a viewer; loosely packed files; the same of a table against an atom; the sizing of a
- * build; a search without a locator; sizes and numbers. Every answer is compared with what documents 01 and 02 say, and
- * the status is 1 where one differs. */
+ * long-range tail; the bounds of a viewer; loosely packed files; spans of distances; the same of a table against an atom;
+ * the sizing of a build; a search without a locator; sizes and numbers. Every answer is compared with what documents 01
+ * and 02 say, and the status is 1 where one differs. */
 #include "icotable.h"
 
 #include <math.h>
@@ -804,6 +804,86 @@ static void sizes_and_numbers(void) {
     expect("a NaN is in no case", icotable_narrow_case(NAN), 0);
 }
 
+/* ---- spans of distances */
+
+static uint8_t *put(uint8_t *at, size_t bytes, uint64_t number) {
+    for (size_t i = 0; i < bytes; i++)
+        *at++ = (uint8_t)(number >> 8 * i);
+    return at;
+}
+
+static uint8_t *put_row(uint8_t *at, uint8_t kind, uint32_t offset, uint32_t scalar) {
+    return put(put(put(put(at, 1, kind), 1, 0), 4, offset), 4, scalar);
+}
+
+/* Five distances from 0 to 5, one dihedral bin: Scalar 2, Scalar NaN, Repulsive, Mesh nearest with energies from -3 on, Scalar -0. */
+static void spanned_file(void) {
+    static const uint64_t head[] = {0, 0x3FF0000000000000, 0x4018000000000000};
+    uint8_t *at = put(file, 4, 3);
+    for (int i = 0; i < 3; i++)
+        at = put(at, 8, head[i]);
+    at = put(put(put(at, 4, 2), 4, 5), 4, 1);
+    at = put(put(put(at, 4, 1), 4, N), 4, 5);
+    at = put_row(put_row(put_row(at, 0, UINT32_MAX, 0x40000000), 0, UINT32_MAX, 0x7FC00000), 1, UINT32_MAX, 0);
+    at = put(put_row(put_row(at, 2, 0, 0), 0, UINT32_MAX, 0x80000000), 4, PER);
+    for (int i = 0; i < PER; i++) {
+        float e = (float)(i - 3);
+        uint32_t bits;
+        memcpy(&bits, &e, sizeof bits);
+        at = put(at, 4, bits);
+    }
+    file_count = (size_t)(at - file);
+    table = icotable_read(file, file_count);
+}
+
+static icotable_spanned span(double low, double high, double omega) {
+    return icotable_span(&table, file, file_count, low, high, omega);
+}
+
+static void spans(void) {
+    spanned_file();
+    expect("read of five distances", table.number, 0);
+    icotable_spanned s = span(0, 5, 0);
+    expect("span of all distances", s.number, 0);
+    expect("its bins", s.first == 0 && s.last == 4, 1);
+    expect("its energies, a Mesh row's first and infinity", s.smallest == -3 && s.largest == INFINITY, 1);
+    expect("its scalars that are a NaN", s.scalar_nans, 1);
+    s = span(0, 0.4, 100);
+    expect("span within a bin", s.first == 0 && s.last == 0 && s.smallest == 2 && s.largest == 2, 1);
+    s = span(1, 1, 0);
+    expect("span of the NaN's row", s.number == 0 && s.scalar_nans == 1 && isnan(s.smallest) && isnan(s.largest), 1);
+    s = span(2.5, 3.5, -7);
+    expect("span of two rows", s.first == 3 && s.last == 4 && s.smallest == -3 && s.largest == 140, 1);
+    s = span(3.5, 5, 0);
+    expect("span of the last row, -0", s.first == 4 && signbit(s.smallest) && signbit(s.largest), 1);
+    expect("span with an end that is a NaN", span(NAN, 9, 0).number, 18);
+    expect("span with another", span(9, NAN, 0).number, 18);
+    expect("span at an infinite dihedral angle", span(9, 8, INFINITY).number, 18);
+    expect("span from 2 to 1", span(2, 1, 0).number, 26);
+    expect("span from below rmin", span(-0.5, 1, 0).number, 26);
+    expect("span to beyond the table's rmax", span(1, 5.000001, 0).number, 26);
+    expect("span to infinity", span(1, INFINITY, 0).number, 26);
+    s = span(2, 1, 0);
+    expect("refused, all other fields are 0", s.first == 0 && s.last == 0 && s.smallest == 0 && s.largest == 0 && s.scalar_nans == 0, 1);
+    icotable_table whole = table;
+    table.grid.rmax = 1;
+    expect("span of a table in which the host put another rmax", span(0, 5, 0).number, 0);
+    table.rows = 4;
+    expect("span with a row less, which it touches", span(3, 5, 0).number, 19);
+    expect("and which it does not", span(1, 3, 0).number, 0);
+    table = whole, table.energies = PER - 1;
+    expect("span with an energy less", span(3, 3, 0).number, 19);
+    table = whole, table.levels = 0;
+    expect("span with a level that is not held", span(2, 3, 0).number, 19);
+    table = whole, table.grid.n_omega = 0;
+    expect("span without dihedral bins", span(2, 3, 0).number, 19);
+    table.grid.n_omega = UINT64_MAX;
+    expect("span with as many as there can be", span(2, 3, 0).number, 19);
+    table = whole, table.start[3] = UINT64_MAX;
+    expect("span with rows at the last byte of all", span(2, 3, 0).number, 19);
+    table = whole;
+}
+
 int main(void) {
     mesh();
     empty_table();
@@ -822,6 +902,7 @@ int main(void) {
     tail_damaged();
     viewer();
     loose_files();
+    spans();
     empty_atom_table();
     atom_slab();
     atom_refused();

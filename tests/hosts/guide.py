@@ -40,7 +40,7 @@ BETWEEN = """    printf("tail %g of %llu terms\\n", tail.energy, (unsigned long 
         uint8_t *file = output;
         size_t length = w.length;
 """
-ATOM = """        printf("energy %g, weighted %g\\n", v.energy, x.energy);
+ATOM = """        printf("energy %g, weighted %g, between %g and %g\\n", v.energy, x.energy, s.smallest, s.largest);
         icotable_free_meshes(&m);
     }
     double x = 1, y = 2, z = 3;
@@ -76,6 +76,7 @@ def main():
         BETWEEN,
         snippets(page, "Reading in a simulation", 4),
         snippets(page, "Readings weighted by temperature", 4),
+        snippets(page, "Distances known within a span", 4),
         ATOM,
         snippets(page, "One molecule against an atom", 7),
         TAIL,

@@ -90,6 +90,7 @@ static void reading(void) {
         sink = icotable_reading(&table, file, length, ICOTABLE_LOCATORS(&meshes), r, omega, x, y, z, z, x, y).energy;
         sink = icotable_boltzmann(&table, file, length, ICOTABLE_LOCATORS(&meshes), r, omega, x, y, z, z, x, y, 1).energy;
         sink = icotable_tail(&tail_table, tail_file, length + TAIL, r).energy;
+        sink = icotable_span(&table, file, length, i % 3, DISTANCES - 0.5, omega).smallest;
         sink = icotable_atom_reading(&atom_table, atom_file, atom_length, ICOTABLE_LOCATORS(&meshes), r, x, y, z).energy;
         sink = icotable_atom_boltzmann(&atom_table, atom_file, atom_length, ICOTABLE_LOCATORS(&meshes), r, x, y, z, 1).energy;
     }
@@ -132,7 +133,7 @@ static const operation operations[] = {
     {"write, write_tail", nothing, write_table, 2},
     {"read", nothing, read_table, 2},
     {"locator", nothing, locator, 10},
-    {"reading, boltzmann, tail", nothing, reading, 3},
+    {"reading, boltzmann, tail, span", nothing, reading, 3},
     {"sizing", nothing, sizing, 4},
     {"search", nothing, search, 2},
     {"root, exp, ln, power, mul_add, narrow, narrow_case, vertices, cells", nothing, numbers, 2},

@@ -229,6 +229,14 @@ static kind_count tails[] = {
     {.words = "powers"},
     {0},
 };
+static kind_count spans[] = {
+    {.words = "accepted"},
+    {.words = "accepted, nothing but NaNs"},
+    {.words = "refused with 18"},
+    {.words = "refused with 26"},
+    {.words = "refused with 19"},
+    {0},
+};
 static kind_count sizes[] = {
     {.words = "sizings, accepted"},
     {.words = "stores"},
@@ -274,6 +282,7 @@ static const struct {
     {"damaged_atom", damaged, replay_damaged, true, false},
     {"damaged_tail", damaged_tail, replay_damaged, false, true},
     {"tails", tails, replay_tails, false, true},
+    {"spans", spans, replay_spans, false, false},
     {"sizes", sizes, replay_sizes, false, false},
     {"sizes_atom", sizes, replay_sizes, true, false},
     {"sizes_tail", sizes_tail, replay_sizes, false, true},

@@ -62,5 +62,6 @@ void replay_readings(replay *r);
 void replay_damaged(replay *r);
 void replay_sizes(replay *r);
 void replay_tails(replay *r);
+void replay_spans(replay *r);
 
 #endif

@@ -13,6 +13,7 @@ def walks():
         Look('icotable', 'lib', 'icotable_reading'),
         Look('icotable', 'lib', 'icotable_boltzmann'),
         Look('icotable', 'tails', 'icotable_tail'),
+        Look('icotable', 'spans', 'icotable_span'),
         Look('icotable', 'atom', 'icotable_atom_reading'),
         Look('icotable', 'atom', 'icotable_atom_boltzmann'),
         Lend('lent', 'calls', 'set_lent'),

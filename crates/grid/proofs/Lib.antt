@@ -3,3 +3,4 @@ pub mod Laws
 pub mod Tables
 pub mod Reaches
 pub mod Short
+pub mod Rises

@@ -17,7 +17,7 @@ use Rattle.grid.specs.Bins.{nearestBin, distanceCount}
 use Rattle.grid.specs.Settings.{above}
 
 -- no number above 0
-abbrev Low : Float → Type 0
+abbrev pub Low : Float → Type 0
 Low nan = Unit {0}
 Low (inf s) = s ≡ true
 Low (fin s m e) = (s ≡ true) ⊎ (m ≡ 0)
@@ -41,7 +41,7 @@ round-below f n d =
     let u = d * 2 ^ k in
     units-low f (nearest (p / u) (compare (p % u * 2) u)) k
 
-round-low : (n d : ℕ) → Low (round binary64 true n d)
+pub round-low : (n d : ℕ) → Low (round binary64 true n d)
 round-low n d = round-below binary64 n d
 
 zero-low : (s : Bool) → Low (round binary64 s 0 1)
@@ -49,7 +49,7 @@ unfolding round
 zero-low true = inl refl
 zero-low false = inr refl
 
-nought : (s : Bool) (d : ℕ) → 0 < d → Low (round binary64 s 0 d)
+pub nought : (s : Bool) (d : ℕ) → 0 < d → Low (round binary64 s 0 d)
 nought s d h = rw (round-same binary64 s 0 d 0 1 h (omega arith) (omega arith)) (zero-low s)
 
 -- a difference that is 0 or below it
@@ -93,7 +93,7 @@ above-no : (t : Bool) → above (inf t) ≡ true → ⊥
 unfolding above finite
 above-no t e = not-finite e
 
-div-is : (s : Bool) (m : ℕ) (e : ℤ) (n : ℕ) (d : ℤ) → 0 < n → div binary64 (fin s m e) (fin false n d) ≡ round binary64 (unlike s false) (m * up e * down d) (n * up d * down e)
+pub div-is : (s : Bool) (m : ℕ) (e : ℤ) (n : ℕ) (d : ℤ) → 0 < n → div binary64 (fin s m e) (fin false n d) ≡ round binary64 (unlike s false) (m * up e * down d) (n * up d * down e)
 unfolding div
 div-is s m e n d h = rw (ne-eqb n 0 (λ z. omega arith))
 
@@ -153,7 +153,7 @@ low-cut (fin true m e) l = refl
 low-cut (fin false m e) (inl l) = not-finite l
 low-cut (fin false m e) (inr l) = rw (half-cut m (up e) (down e) (omega (arith, ap (λ (k : ℕ). k * up e * 2) l)) (down-pos e))
 
-half-sum : (z : Float) → Low z → toUnsigned 64 (add binary64 z (fin false 1 (negsuc 0))) ≡ 0
+pub half-sum : (z : Float) → Low z → toUnsigned 64 (add binary64 z (fin false 1 (negsuc 0))) ≡ 0
 unfolding add sum
 half-sum nan l = low-cut nan tt
 half-sum (inf s) l = low-cut (inf s) l

@@ -60,7 +60,7 @@ module _ (p M c Y g : ℕ) (P : 0 < p) (C : 0 < c) (room : M ≤ g * 2 ^ (p - 1)
           le-of-mul-le-mul-right (le-trans (le-of-eq o) (le-trans t (omega (arith, suc-mul q u, div-mul-le-self M u, digit-le k d l, e)))) C
 
 -- ---- sums of values over one denominator
-add-at : (x y : Float) (s t : Bool) (a b c : ℕ) → 0 < c → HasValue x s a c → HasValue y t b c → add binary64 x y ≡ sum binary64 s a t b c
+pub add-at : (x y : Float) (s t : Bool) (a b c : ℕ) → 0 < c → HasValue x s a c → HasValue y t b c → add binary64 x y ≡ sum binary64 s a t b c
 unfolding add
 add-at (fin s' m e) (fin t' n d) s t a b c C hx hy =
     ap (λ (v : Bool). sum binary64 v (m * up e * down d) t' (n * up d * down e) (down e * down d)) (hx .0)

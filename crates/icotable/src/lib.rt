@@ -34,6 +34,7 @@ use writer::Written;
 mod atom;
 mod found;
 mod repacks;
+mod spans;
 mod tails;
 
 // Of fresh and set.

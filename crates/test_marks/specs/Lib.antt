@@ -15,3 +15,4 @@ pub mod Tails
 pub mod Viewed
 pub mod Found
 pub mod Repacked
+pub mod Spans

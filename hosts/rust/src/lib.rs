@@ -38,7 +38,7 @@ pub use repack::{repack, Repacked};
 pub use row::{Kind, Row};
 pub use sizing::{atom_sizing, sizing, sizing_with_terms, LevelSizing, Sizing};
 pub use sys::{AtomGrid, Grid};
-pub use table::{Reading, Table};
+pub use table::{Reading, Span, Table};
 pub use tail::{power, Tail, Term};
 
 /// Settings of a new table; the library works out the two bin counts.

@@ -53,7 +53,7 @@ refusals! {
     15 Row "a row has an unknown kind, a Mesh row a level above the top; or, in a file, an unused field that is used, or a scalar NaN other than 0x7FC00000",
     16 Tiling "the rows' offsets do not tile the energies in row order",
     17 FileNan "an energy of the file is a NaN",
-    18 Query "r is a NaN, omega not finite, or the length of a direction not finite or 0",
+    18 Query "r or an end of a span is a NaN, omega not finite, or the length of a direction not finite or 0",
     19 NotLent "a bin count is 0, a row's kind is unknown or its level not held, or a row, energy, term, cell or mesh entry that the reading touches is not inside what was lent, an end offset is below its start, or a vertex number not below n",
     20 EmptyCell "the cell that a direction falls into lists no vertex",
     21 ReadingBeta "a reading's own beta is not finite and above 0",
@@ -61,6 +61,7 @@ refusals! {
     23 Term "a coefficient, a kappa or the prefactor of a long-range tail is not finite, a power is above 2147483647, or there are more than 4294967295 terms",
     24 ViewerBound "the file has more than 4 levels or 4096 rows, which the viewer does not open",
     25 SlabPlace "a Mesh row of a loosely packed file has energies that do not end inside section 5",
+    26 Span "the low end of a span of distances is above its high end, or an end is below rmin or above the table's own rmax",
 }
 
 /// What an accepted call gives, or why it was refused.

@@ -77,6 +77,17 @@ pub struct Value {
     pub distance_b: f64,
 }
 
+#[repr(C)]
+#[derive(Clone, Copy, Debug, Default, PartialEq)]
+pub struct Spanned {
+    pub number: u64,
+    pub first: u64,
+    pub last: u64,
+    pub smallest: f64,
+    pub largest: f64,
+    pub scalar_nans: u64,
+}
+
 /// The settings of a table of one molecule against an atom, and the bin count that they give.
 #[repr(C)]
 #[derive(Clone, Copy, Debug, Default, PartialEq)]
@@ -183,6 +194,7 @@ extern "C" {
     fn icotable_view(file: *const u8, a: usize) -> Table;
     fn icotable_repack(file: *const u8, a: usize, output: *mut u8, b: usize) -> Repacked;
     fn icotable_tail(table: *const Table, file: *const u8, a: usize, r: f64) -> Value;
+    fn icotable_span(table: *const Table, file: *const u8, a: usize, low: f64, high: f64, omega: f64) -> Spanned;
     fn icotable_locator(
         level: u64, vertices: *const f64, a: usize, counts: *const u8, b: usize, neighbours: *const u16, c: usize, angles: *const f64, d: usize,
         cell_offsets: *mut u32, e: usize, cell_vertices: *mut u16, f: usize, face_offsets: *mut u32, g: usize, faces: *mut u16, h: usize,
@@ -381,6 +393,10 @@ pub fn write_tail(b: Builder, l: Held, m: Meshes, t: Tail, output: &mut [u8]) ->
 
 pub fn tail(table: &Table, file: &[u8], r: f64) -> Value {
     unsafe { icotable_tail(table, file.as_ptr(), file.len(), r) }
+}
+
+pub fn span(table: &Table, file: &[u8], low: f64, high: f64, omega: f64) -> Spanned {
+    unsafe { icotable_span(table, file.as_ptr(), file.len(), low, high, omega) }
 }
 
 pub fn read(file: &[u8]) -> Table {

@@ -36,6 +36,20 @@ impl Reading {
     }
 }
 
+/// What the distances of a span have in common.
+#[derive(Clone, Copy, Debug, PartialEq)]
+pub struct Span {
+    /// The distance bin of the low end, and of the high end: every distance between them falls in one from the first to the last.
+    pub first: u64,
+    pub last: u64,
+    /// The smallest and the largest energy in the rows of these bins, at the given dihedral angle: both a NaN where there is none. A reading
+    /// there lies between them, unless it is a NaN or its row is interpolated.
+    pub smallest: f64,
+    pub largest: f64,
+    /// How many Scalar rows among them hold a NaN.
+    pub scalar_nans: u64,
+}
+
 impl Table {
     /// Looks over a file, all of it. The mesh has to be the one that the table was built over, with at least its levels: a
     /// file does not hold it. A file of one molecule against an atom is refused.
@@ -83,6 +97,13 @@ impl Table {
     pub fn tail_energy(&self, r: f64) -> Result<f64, Refusal> {
         let value = sys::tail(&self.held, &self.file, r);
         answer(value.number, value.energy)
+    }
+
+    /// The bins and the energies of all distances from `low` to `high` at a dihedral angle. Refused (`Refusal::Span`) where `low` is above `high`
+    /// or an end is outside the table's distances.
+    pub fn span(&self, low: f64, high: f64, omega: f64) -> Result<Span, Refusal> {
+        let sys::Spanned { number, first, last, smallest, largest, scalar_nans } = sys::span(&self.held, &self.file, low, high, omega);
+        answer(number, Span { first, last, smallest, largest, scalar_nans })
     }
 
     /// The long-range tail as the file has it; without terms it has no prefactor.

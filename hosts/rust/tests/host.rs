@@ -1,7 +1,7 @@
 //! The wrapper, used as a host does.
 use icotable::{
     atom_settings, power, repack, search, settings, sizing, sizing_with_terms, vertex_count, AtomBuilder, AtomTable, Builder, Error, FloatEnvironment, Grid, Kind,
-    Level, Mesh, Refusal, Repacked, Table, Tail, Term,
+    Level, Mesh, Refusal, Repacked, Span, Table, Tail, Term,
 };
 use std::sync::Arc;
 
@@ -40,7 +40,7 @@ fn refusals_are_the_headers() {
         assert_eq!(format!("{refusal:?}"), camel);
         found += 1;
     }
-    assert_eq!(found, 25);
+    assert_eq!(found, 26);
     assert_eq!(Refusal::ALL.len(), found);
 }
 
@@ -277,6 +277,38 @@ fn a_long_range_tail_is_written_and_read() {
     }
     let t = Table::read(plain, b.mesh().clone()).unwrap();
     assert_eq!((t.tail(), t.tail_energy(1.0)), (Tail::default(), Ok(0.0)));
+}
+
+#[test]
+fn readings_of_a_span_lie_between_its_energies() {
+    let mut b = builder(0);
+    b.set(0, 0, &smooth(0)).unwrap();
+    let mut file = b.write().unwrap();
+    let read = |file: &[u8]| Table::read(file.to_vec(), b.mesh().clone()).unwrap();
+    // the rows of two distances: a Mesh row and Scalar 0
+    let (whole, largest) = (read(&file).span(0.0, 2.0, 0.0).unwrap(), f64::from(0.05f32));
+    assert_eq!(whole, Span { first: 0, last: 1, smallest: 0.0, largest, scalar_nans: 0 });
+    assert_eq!(read(&file).span(0.75, 2.0, 0.0).unwrap(), Span { first: 1, last: 1, smallest: 0.0, largest: 0.0, scalar_nans: 0 });
+    assert_eq!(read(&file).span(0.0, 2.0, 3.0).unwrap(), Span { first: 0, last: 1, smallest: 0.0, largest: 0.0, scalar_nans: 0 });
+    // read at the nearest vertices, every reading is between them
+    assert_eq!(read(&file).row(0, 0).unwrap().kind, Kind::Mesh { level: 0, interpolate: true });
+    let at = file.len() - 4 * 144 - 4 - 4 * 10;
+    assert_eq!(file[at], 3);
+    file[at] = 2;
+    let t = read(&file);
+    for i in 0..200 {
+        let (k, r) = (f64::from(i), 2.0 * f64::from(i) / 200.0);
+        let (x, y) = ([k.sin(), k.cos(), 0.3], [0.1, (3.0 * k).sin(), (2.0 * k).cos()]);
+        for energy in [t.lookup(r, 0.0, x, y), t.lookup_boltzmann(r, 0.0, x, y, 2.0)] {
+            assert!((whole.smallest..=whole.largest).contains(&energy.unwrap()));
+        }
+    }
+    for (low, high) in [(1.0, 0.5), (-0.1, 1.0), (0.0, 2.1), (f64::NEG_INFINITY, 1.0)] {
+        assert_eq!(t.span(low, high, 0.0), Err(Refusal::Span));
+    }
+    for (low, high, omega) in [(f64::NAN, 1.0, 0.0), (2.0, f64::NAN, 0.0), (2.0, 1.0, f64::INFINITY)] {
+        assert_eq!(t.span(low, high, omega), Err(Refusal::Query));
+    }
 }
 
 #[test]
