@@ -22,3 +22,5 @@ pub mod Order
 pub mod Longest
 pub mod AtomLongest
 pub mod Foretold
+pub mod Agreeing
+pub mod Words

@@ -9,3 +9,4 @@ pub mod AtomLedger
 pub mod AtomPromise
 pub mod Longest
 pub mod Foretold
+pub mod Words
