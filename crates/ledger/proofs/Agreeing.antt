@@ -2,12 +2,15 @@
 use mathlib.Core.Path.{_≡_, refl, sym, ap, _∙_}
 use mathlib.Core.List.{List, [], _∷_}
 use mathlib.Core.Option.{Option, none, some}
-use Prim.Native.Nat.{ℕ, zero, suc, _+_, _*_, _≤_, _<_}
+use mathlib.Core.Logic.{⊎-elim}
+use Prim.Native.Nat.{ℕ, zero, suc, _+_, _*_, _≤_, _<_, zero-le}
+use native.Mathlib.Nat.{add-zero}
 use native.Mathlib.Omega.{arith}
-use lib.ListN.{length, getD, set, replicate, length-set}
-use lib.Seq.{getD-set-same, getD-set-other}
+use lib.ListN.{length, getD, set, drop, replicate, length-set, length-replicate}
+use lib.Seq.{getD-set-same, getD-set-other, getD-drop}
 use lib.Ieee.{Float}
 use borrow.Author.Tests.{le-leb}
+use Rattle.ieee.proofs.Pack.{le-or-lt}
 use Rattle.lists.specs.Lists.{allUpTo, put}
 use Rattle.rows.specs.declared.SlabResolution.{SlabResolution}
 use Rattle.rows.specs.Rows.{Rows, kindOf, levelOf, valueOf, resolutionAt, replaced, rowKnown, rowRoom}
@@ -20,6 +23,7 @@ use Rattle.builder.specs.BuilderLists.{BuilderLists, rowIn, rowsIn, rowsKnown}
 use Rattle.builder.specs.Calls.{settledLists, filledSlabs}
 use Rattle.builder.proofs.Laws.{Roomy}
 use Rattle.ledger.specs.Words.{RowsAgree, ListsAgree, Moved}
+use Rattle.ledger.proofs.Store.{put-after}
 use Rattle.ledger.proofs.Invariant.{filled-at, filled-wide}
 
 -- ---- read
@@ -97,18 +101,26 @@ module _ {m n : ℕ} where
   settled-both c s [] i h = h
   settled-both c s (v ∷ vs) i h = settled-both c (suc s) vs (omega arith) (by-both s (omega arith) (newRow c v) h)
 
-pub filled-both : (n z : ℕ) {l k : BuilderLists} → Long n (l .rows) → Long n (k .rows) → ListsAgree n l k → ListsAgree n (filledSlabs n z l) (filledSlabs n z k)
+-- fresh fills c slabs, and what stands behind them stays
+fill-same : (c : ℕ) (d e : List ℕ) (s : ℕ) → getD d s 0 ≡ getD e s 0 → getD (put d 0 (replicate c 0)) s 0 ≡ getD (put e 0 (replicate c 0)) s 0
+fill-same c d e s z = ⊎-elim (λ i. stays d i ∙ z ∙ sym (stays e i)) (λ i. filled-at d c s i ∙ sym (filled-at e c s i)) (le-or-lt c s)
+  where
+    stays : (d : List ℕ) → c ≤ s → getD (put d 0 (replicate c 0)) s 0 ≡ getD d s 0
+    stays d i =
+        let at : (l : List ℕ) → getD (drop s l) 0 0 ≡ getD l s 0 = λ l. getD-drop s l 0 0 ∙ ap (λ (t : ℕ). getD l t 0) (add-zero s) in
+        sym (at (put d 0 (replicate c 0))) ∙ ap (λ (l : List ℕ). getD l 0 0) (put-after d 0 (replicate c 0) s zero-le (omega (arith, length-replicate {A = ℕ} c 0))) ∙ at d
+
+pub filled-agree : {c n : ℕ} {l k : BuilderLists} (z : ℕ) → Long c (l .rows) → Long c (k .rows) → ListsAgree n l k → ListsAgree n (filledSlabs c z l) (filledSlabs c z k)
 unfolding filledSlabs
-filled-both n z {l} {k} h i a =
-    let zeros : (d e : List ℕ) (s : ℕ) → s < n → getD (put d 0 (replicate n 0)) s 0 ≡ getD (put e 0 (replicate n 0)) s 0 = λ d e s j. filled-at d n s j ∙ sym (filled-at e n s j) in
-    let wide : (d : List ℕ) → n ≤ length d → length (put d 0 (replicate n 0)) ≡ length d = λ d j. filled-wide d n 0 j in
+filled-agree {c} {n} {l} {k} z h i a =
+    let wide : (d : List ℕ) → c ≤ length d → length (put d 0 (replicate c 0)) ≡ length d = λ d j. filled-wide d c 0 j in
     record {
-      store = ap (λ (d : List Float). put d 0 (replicate (n * z) nought)) (a .store);
+      store = ap (λ (d : List Float). put d 0 (replicate (c * z) nought)) (a .store);
       rows = record {
         room = rw (wide (l .rows .kinds) (h .kinds), wide (l .rows .levels) (h .levels), wide (l .rows .values) (h .values), wide (k .rows .kinds) (i .kinds), wide (k .rows .levels) (i .levels), wide (k .rows .values) (i .values)) (a .rows .room);
-        kinds = zeros (l .rows .kinds) (k .rows .kinds);
-        levels = zeros (l .rows .levels) (k .rows .levels);
-        values = zeros (l .rows .values) (k .rows .values);
+        kinds = λ s j. fill-same c (l .rows .kinds) (k .rows .kinds) s (a .rows .kinds s j);
+        levels = λ s j. fill-same c (l .rows .levels) (k .rows .levels) s (a .rows .levels s j);
+        values = λ s j. fill-same c (l .rows .values) (k .rows .values) s (a .rows .values s j);
       };
     }
 

@@ -2,7 +2,7 @@
 use mathlib.Core.Path.{_≡_, refl, sym, ap, subst, _∙_}
 use mathlib.Core.Bool.{Bool, true, false, cond}
 use mathlib.Core.List.{List, [], _∷_}
-use Prim.Native.Nat.{ℕ, _+_, _*_, _≤_, zero-le}
+use Prim.Native.Nat.{ℕ, _*_, zero-le}
 use native.Mathlib.Omega.{arith}
 use lib.ListN.{length, take, length-map}
 use lib.Dec.{leb, eqb, ltb, lit<}
@@ -20,13 +20,12 @@ use Rattle.rows.specs.declared.SlabResolution.the-variants.{Mesh as OnMesh}
 use Rattle.rows.specs.Rows.{Rows, Row, rowRoom}
 use Rattle.rows.specs.Words.{wordRows}
 use Rattle.settling.specs.Settling.{verdicts}
-use Rattle.settling.specs.declared.Verdict.{Verdict}
-use Rattle.builder.specs.BuilderLists.{BuilderLists, slabs, slab, rowsFrom, sliceAt, listRoom, listsLong}
+use Rattle.builder.specs.BuilderLists.{BuilderLists, slabs, slab, sliceAt, listRoom, listsLong}
 use Rattle.builder.specs.Calls.{BuiltOut, SettleOut, BuiltValues, SettledValues, builtValues, freshBuilder, freshOut, slabSet, setBuilder, setOut, settleAccepted, settleOut}
 use Rattle.builder.specs.Refusals.{meshedRefusal, setQuestion, setRefusal, settleRefusal}
 use Rattle.builder.specs.declared.Builder.{Builder}
 use Rattle.builder.specs.declared.Built.the-variants.{Accepted as Builds}
-use Rattle.builder.proofs.Laws.{Set, accepted, Meshed, meshed}
+use Rattle.builder.proofs.Laws.{Set, accepted, meshed}
 use Rattle.table.specs.Read.{readOut}
 use Rattle.writer.specs.Write.{WriteOut, writtenValues}
 use Rattle.writer.specs.Tailed.{TailLists, tailLists, tailedQuestion, fullFileFrom, writeTailRefusal, writeTailOut}
@@ -37,10 +36,10 @@ use Rattle.tail.specs.Reading.{tailOut}
 use Rattle.ledger.specs.Ledger.{Call, set-call, settle-call, write-call, State, called, run}
 use Rattle.ledger.specs.Promise.{History, startLists, fresh, ended, lastWrite, file}
 use Rattle.ledger.specs.Replies.{Reply, set-reply, settle-reply, write-reply, writeReply, replied, replies, begun}
-use Rattle.ledger.specs.Words.{RowsAgree, ListsAgree, StillAgree, WritesAgree, CallsAgree, listsFresh, listsBegun, listsEnded, listsLastWrite, listsFile, HistoriesAgree, AsLists}
+use Rattle.ledger.specs.Words.{RowsAgree, ListsAgree, StillAgree, WritesAgree, CallsAgree, startWith, listsFresh, listsBegun, listsEnded, listsLastWrite, listsFile, HistoriesAgree, AsLists}
 use Rattle.ledger.proofs.Follows.{in-rows, slice-in}
 use Rattle.ledger.proofs.Foretold.{slice-long}
-use Rattle.ledger.proofs.Agreeing.{known-same, rows-known-same, row-same, rows-same, Long, long, Both, replaced-both, settled-both, filled-both, moved-agree}
+use Rattle.ledger.proofs.Agreeing.{known-same, rows-known-same, row-same, rows-same, Long, long, replaced-both, settled-both, filled-agree, moved-agree}
 
 -- ---- one call, from any builder
 
@@ -150,14 +149,14 @@ module _ (b : Builder) (m : Mesh) (l k : BuilderLists) (a : ListsAgree (slabs (b
 -- ---- fresh
 
 pub fresh-agrees : (g : Grid) (top : ℕ) (m : Mesh) (l k : BuilderLists) → ListsAgree (slabs (counted g)) l k → (x : Bool) → eqb (meshedRefusal (freshBuilder g top) m l) 0 ≡ x
-    → let o = freshOut g top m l in let p = freshOut g top m k in (o .answer ≡ p .answer) × ListsAgree (slabs (counted g)) (o .lists) (p .lists)
+    → let o = freshOut g top m l in let p = freshOut g top m k in (o .answer ≡ p .answer) × StillAgree l k (o .lists) (p .lists)
 unfolding freshOut freshBuilder
 fresh-agrees g top m l k a true d =
     let b = freshBuilder g top in
     let e = meshed-same b m l k a in
     let h = eqb-true _ 0 d in
-    rw (← e, d) (refl, filled-both (slabs (counted g)) (per top) (meshed-long b m l k a l h) (meshed-long b m l k a k (sym e ∙ h)) a)
-fresh-agrees g top m l k a false d = rw (← meshed-same (freshBuilder g top) m l k a, d) (refl, a)
+    rw (← e, d) (refl, λ n i. filled-agree (per top) (meshed-long b m l k a l h) (meshed-long b m l k a k (sym e ∙ h)) i)
+fresh-agrees g top m l k a false d = rw (← meshed-same (freshBuilder g top) m l k a, d) (refl, λ n i. i)
 
 -- ---- a list of calls
 
@@ -238,26 +237,22 @@ fileIn (settle-reply n x k) = []
 fileIn (write-reply n k out) = take k out
 
 module _ (h : History) (r : Rows) (a : RowsAgree (slabs (counted (h .grid))) (wordRows (h .words)) r) where
-  abbrev n : ℕ
-  n = slabs (counted (h .grid))
+  abbrev handed : ListsAgree (slabs (counted (h .grid))) (startLists h) (startWith h r)
+  handed = record { store = refl; rows = a }
 
-  abbrev start : BuilderLists
-  start = record { store = h .store; rows = r }
+  begins : (fresh h .answer ≡ listsFresh h r .answer) × StillAgree (startLists h) (startWith h r) (fresh h .lists) (listsFresh h r .lists)
+  begins = fresh-agrees (h .grid) (h .top) (h .meshes) (startLists h) (startWith h r) handed _ refl
 
-  begins : (fresh h .answer ≡ listsFresh h r .answer) × ListsAgree n (fresh h .lists) (listsFresh h r .lists)
-  begins = fresh-agrees (h .grid) (h .top) (h .meshes) (startLists h) start (record { store = refl; rows = a }) _ refl
-
-  begun-agree : StatesAgree n (begun h) (listsBegun h r)
-  begun-agree =
-      record { builder = ap (λ (v : BuiltValues). v .builder) (begins .0); own = own-slabs (h .grid) (h .top) (h .meshes) (startLists h) _ _ _ refl (begins .1); lists = begins .1 }
-
-  ran : (replies (h .meshes) (begun h) (h .calls) ≡ replies (h .meshes) (listsBegun h r) (h .calls)) × StatesAgree n (ended h) (listsEnded h r)
+  ran : (n : ℕ) → ListsAgree n (startLists h) (startWith h r)
+      → (replies (h .meshes) (begun h) (h .calls) ≡ replies (h .meshes) (listsBegun h r) (h .calls)) × StatesAgree n (ended h) (listsEnded h r)
   unfolding ended
-  ran = runs-agree n (h .meshes) (begun h) (listsBegun h r) (h .calls) begun-agree
+  ran n i =
+      runs-agree n (h .meshes) (begun h) (listsBegun h r) (h .calls)
+      (record { builder = ap (λ (v : BuiltValues). v .builder) (begins .0); own = own-slabs (h .grid) (h .top) (h .meshes) (startLists h) _ _ _ refl (begins .1 _ handed); lists = begins .1 n i })
 
   last : writeReply (lastWrite h) ≡ writeReply (listsLastWrite h r)
   unfolding replied
-  last = step-agrees n (h .meshes) (ended h) (listsEnded h r) (write-call (h .tail) (h .output)) (ran .1) .0
+  last = step-agrees _ (h .meshes) (ended h) (listsEnded h r) (write-call (h .tail) (h .output)) (ran _ handed .1) .0
 
   same-file : file h ≡ listsFile h r
   unfolding file
@@ -267,9 +262,9 @@ module _ (h : History) (r : Rows) (a : RowsAgree (slabs (counted (h .grid))) (wo
   histories-agree =
       record {
         fresh-answer = begins .0;
-        answers = ran .0;
-        builder = ran .1 .builder;
-        lists = ran .1 .lists;
+        answers = ran _ handed .0;
+        builder = ran _ handed .1 .builder;
+        lists = λ n i. ran n i .1 .lists;
         last-write = last;
         bytes = same-file;
         readings = λ vertices l way q. ap (λ (f : List ℕ). readingBy f (readOut f .table) vertices l way q) same-file;

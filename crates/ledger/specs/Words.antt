@@ -21,13 +21,13 @@ use Rattle.reading.specs.Resolve.{Query, Way}
 use Rattle.reading.specs.Reading.{readingBy}
 use Rattle.tail.specs.Reading.{tailOut}
 use Rattle.ledger.specs.Ledger.{State, run}
-use Rattle.ledger.specs.Promise.{History, fresh, ended, lastWrite, file}
+use Rattle.ledger.specs.Promise.{History, startLists, fresh, ended, lastWrite, file}
 use Rattle.ledger.specs.Replies.{writeReply, replies, begun}
 
 -- ---- rows kept in two ways
 
--- the rows of n slabs are the same: 6 has one answer for both, and so has each slab each of its numbers, known kinds or not. The lists may be of other lengths,
--- and beyond the slabs they may hold anything.
+-- the rows of n slabs are the same: 6 has one answer for both, and each slab the same kind, known or not, level and value. The lists may be of different lengths,
+-- and behind the slabs they may hold anything.
 pub record RowsAgree (n : ℕ) (r q : Rows) : Type 0 where
   pub room : rowRoom n (length (r .kinds)) (length (r .levels)) (length (r .values)) ≡ rowRoom n (length (q .kinds)) (length (q .levels)) (length (q .values))
   pub kinds : (s : ℕ) → s < n → getD (r .kinds) s 0 ≡ getD (q .kinds) s 0
@@ -48,7 +48,7 @@ pub record Moved (n : ℕ) (r : Rows) (ws : List ℕ) : Type 0 where
 
 -- ---- one call
 
--- what a call left of l and k: they agree as far as they did before
+-- what calls left of l and k: the same store, and rows that agree as far as they did
 abbrev pub StillAgree : BuilderLists → BuilderLists → BuilderLists → BuilderLists → Type 0
 StillAgree l k left kept = (n : ℕ) → ListsAgree n l k → ListsAgree n left kept
 
@@ -68,8 +68,11 @@ pub record CallsAgree (b : Builder) (m : Mesh) (l k : BuilderLists) : Type 0 whe
 -- ---- a list of calls
 
 -- a history over three lists r in the place of its words
+abbrev pub startWith : History → Rows → BuilderLists
+startWith h r = record { store = h .store; rows = r }
+
 abbrev pub listsFresh : History → Rows → BuiltOut
-listsFresh h r = freshOut (h .grid) (h .top) (h .meshes) (record { store = h .store; rows = r })
+listsFresh h r = freshOut (h .grid) (h .top) (h .meshes) (startWith h r)
 
 abbrev pub listsBegun : History → Rows → State
 listsBegun h r = record { builder = listsFresh h r .answer .builder; lists = listsFresh h r .lists }
@@ -88,7 +91,7 @@ pub record HistoriesAgree (h : History) (r : Rows) : Type 0 where
   pub fresh-answer : fresh h .answer ≡ listsFresh h r .answer
   pub answers : replies (h .meshes) (begun h) (h .calls) ≡ replies (h .meshes) (listsBegun h r) (h .calls)
   pub builder : ended h .builder ≡ listsEnded h r .builder
-  pub lists : ListsAgree (slabs (counted (h .grid))) (ended h .lists) (listsEnded h r .lists)
+  pub lists : StillAgree (startLists h) (startWith h r) (ended h .lists) (listsEnded h r .lists)
   pub last-write : writeReply (lastWrite h) ≡ writeReply (listsLastWrite h r)
   pub bytes : file h ≡ listsFile h r
   pub readings : (vertices : List Float) (l : Locator) (way : Way) (q : Query) →
@@ -103,7 +106,7 @@ pub record AsLists : Type 0 where
   pub moved : (n : ℕ) (r : Rows) (ws : List ℕ) → Moved n r ws → RowsAgree n (wordRows ws) r
   -- fresh, on as many slabs as the settings have
   pub fresh : (g : Grid) (top : ℕ) (m : Mesh) (l k : BuilderLists) → ListsAgree (slabs (counted g)) l k → let o = freshOut g top m l in let p = freshOut g top m k in
-      (o .answer ≡ p .answer) × ListsAgree (slabs (counted g)) (o .lists) (p .lists)
+      (o .answer ≡ p .answer) × StillAgree l k (o .lists) (p .lists)
   -- the calls after it, on as many as the builder's own grid has
   pub calls : (b : Builder) (m : Mesh) (l k : BuilderLists) → ListsAgree (slabs (b .grid)) l k → CallsAgree b m l k
   -- every history over words, and the same over lists
