@@ -105,12 +105,7 @@ pub fn fresh(
     let n_r = made.grid.n_r;
     let n_omega = made.grid.n_omega;
     let most = made.top;
-    copies::clear_slabs(
-        n_r * n_omega,
-        mesh::per_level(most as u8),
-        store,
-        words,
-    );
+    copies::clear_slabs(n_r * n_omega, mesh::per_level(most as u8), store, words);
     Built::Accepted(made)
 }
 
@@ -146,14 +141,7 @@ pub fn set(
         (record { answer = builtValues b r; lists = wordLists (now (store .exit)) (now (words .exit)) })
         (setOut b (wordLists (now (store .entry)) (now (words .entry))) ri oi (now (energies .entry))) ⌝ }
 {
-    let no = questions::set_refusal(
-        b,
-        store.len() as u64,
-        words,
-        ri,
-        oi,
-        energies,
-    );
+    let no = questions::set_refusal(b, store.len() as u64, words, ri, oi, energies);
     if no != 0 {
         return Built::Refused(no);
     }
@@ -189,28 +177,11 @@ pub fn settle(
         (settleOut b (meshOf (now (vertices .entry)) (now (counts .entry)) (now (neighbours .entry)) (now (angles .entry)))
         (wordLists (now (store .entry)) (now (words .entry))) ri) ⌝ }
 {
-    let no = questions::settle_refusal(
-        b,
-        store,
-        words,
-        vertices,
-        counts,
-        neighbours,
-        angles,
-        ri,
-    );
+    let no = questions::settle_refusal(b, store, words, vertices, counts, neighbours, angles, ri);
     if no != 0 {
         return Settled::Refused(no);
     }
-    let t = slices::settle_slice(
-        b,
-        ri,
-        store,
-        counts,
-        neighbours,
-        angles,
-        words,
-    );
+    let t = slices::settle_slice(b, ri, store, counts, neighbours, angles, words);
     let comparisons = slices::compared(b, t, counts);
     Settled::Accepted(slices::dropped(b, t), t.gradient, comparisons)
 }
