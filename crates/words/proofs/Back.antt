@@ -1,19 +1,19 @@
 -- What a move leaves by the answers to its questions, and that what is moved and moved back is unchanged. Assumes nothing.
-use mathlib.Core.Path.{_≡_, refl, sym, ap, _∙_}
-use mathlib.Core.Bool.{Bool, true, false, _&&_, and-eq-true-iff}
-use mathlib.Core.List.{List, _++_, map}
+use mathlib.Core.Path.{_≡_, _∙_}
+use mathlib.Core.Bool.{true, false, _&&_, and-eq-true-iff}
+use mathlib.Core.List.{List, map}
 use Prim.Native.Nat.{ℕ, _+_, _≤_}
 use native.Mathlib.Omega.{arith}
 use lib.ListN.{length, take, drop, length-map, take-append-drop}
 use lib.Dec.{leb}
 use lib.Seq.{length-take-le, take-at}
-use borrow.Author.Tests.{leb-true, le-leb}
+use borrow.Author.Tests.{leb-true}
 use Rattle.lists.specs.Questions.{ask}
 use Rattle.lists.specs.Lists.{every, put}
 use Rattle.lists.proofs.Written.{length-put}
-use Rattle.rows.specs.Rows.{Rows, rowsOf, rowRoom}
+use Rattle.rows.specs.Rows.{Rows, rowRoom}
 use Rattle.rows.specs.Words.{wordKind, wordLevel, wordValue, wordRows}
-use Rattle.words.specs.Moves.{wordsOf, firstRows, putRows, moveRoom, restClear, restsClear, ToWords, toWordsQuestion, rowsToWords, ToRows, toRowsQuestion, wordsToRows, rowsFit, Unchanged}
+use Rattle.words.specs.Moves.{wordsOf, firstRows, putRows, moveRoom, restsClear, toWordsQuestion, rowsToWords, toRowsQuestion, wordsToRows, rowsFit, Unchanged}
 use Rattle.words.proofs.Zipped.{words-many, words-rows, rows-words}
 
 -- ---- the outcome
