@@ -11,9 +11,11 @@ HEAD = """#include "environment.h"
 
 enum { top = 1, slabs = 32 * 12, n = 42, store_count = slabs * n * n, output_count = 60 + 10 * slabs + 4 * store_count };
 static double store[store_count], energies[n * n];
-static uint8_t kinds[slabs], levels[slabs], output[output_count];
-static uint32_t values[slabs];
+static uint64_t words[slabs];
+static uint8_t output[output_count];
 enum { distances = 48 };
+static uint8_t kinds[distances], levels[distances];
+static uint32_t values[distances];
 
 static void check(const char *what, uint64_t number) {
     if (number != 0) {
