@@ -3,10 +3,11 @@
 //!
 //! A safe wrapper over libicotable.a, whose functions are proved. [`Mesh`] holds the meshes and locators of all levels,
 //! [`Builder`] the lists that a table is built in, [`Table`] a table file; [`AtomBuilder`] and [`AtomTable`] are the same of
-//! one molecule against an atom; [`Tail`] is what a host adds beyond a table's distances; [`sizing`] says beforehand what a build
-//! needs; [`search`] finds a direction without a locator; [`repack`] packs a table file that was loosely packed; [`rows_to_words`] and
-//! [`words_to_rows`] move rows between a builder's words and three lists. What the library refuses is a [`Refusal`], with document 01's number and its words; a refused call alters nothing. The wrapper itself is not
-//! proved: it sizes the lists, hands them over and turns numbers into the enum.
+//! one molecule against an atom; [`Tail`] is what a host adds beyond a table's distances; [`sizing`] says beforehand what a
+//! build needs; [`search`] finds a direction without a locator; [`repack`] packs a table file that was loosely packed;
+//! [`rows_to_words`] and [`words_to_rows`] move rows between a builder's words and three lists. What the library refuses is a
+//! [`Refusal`], with document 01's number and its words; a refused call alters nothing. The wrapper itself is not proved: it
+//! sizes the lists, hands them over and turns numbers into the enum.
 //!
 //! The proofs speak of one floating-point environment; [`Builder::new`], [`Table::read`] and the atom's two ask whether the
 //! thread has it ([`FloatEnvironment`]), and calls of a thread that alters it afterwards are not asked again. Settling takes up
