@@ -100,7 +100,7 @@ pub record HistoriesAgree (h : History) (r : Rows) : Type 0 where
 
 -- ---- the theorem
 
--- of all settings, builders (damaged ones too), meshes, lists and calls, accepted or refused (S25.4)
+-- of all settings, builders (damaged ones too), meshes, lists and calls, accepted or refused (S25.7)
 pub record AsLists : Type 0 where
   -- the words that rows moved to agree with these rows
   pub moved : (n : ℕ) (r : Rows) (ws : List ℕ) → Moved n r ws → RowsAgree n (wordRows ws) r
