@@ -19,7 +19,7 @@ use Rattle.ledger.specs.Ledger.{Call, set-call, settle-call, write-call, State,
 use Rattle.ledger.specs.Promise.{History, ended, file, rows, tailOf, Accepted, Same}
 use Rattle.ledger.proofs.Theorem.{promise}
 use Rattle.test_marks.specs.Icospheres.{twoLevels}
-use Rattle.test_marks.specs.Computed.{f64, lent, noTerms, tailHistory, history, history₂, computed}
+use Rattle.test_marks.specs.Computed.{f64, lent, nines, noTerms, tailHistory, history, history₂, computed}
 use Rattle.test_marks.specs.Settled.{tens, nearly, lowered, after, lowers}
 
 -- lists over the same settings are the same where their ledgers are
@@ -112,7 +112,7 @@ files-differ e =
 -- ---- three slabs at levels 0 and 1
 
 abbrev deep : List Call → History
-deep cs = record { grid = history₂ [] .grid; top = 1; meshes = twoLevels; lists = lent 5292 3; calls = cs; tail = noTerms; output = replicate 14202 7 }
+deep cs = record { grid = history₂ [] .grid; top = 1; meshes = twoLevels; store = lent 5292 3 .store; words = nines 3; calls = cs; tail = noTerms; output = replicate 14202 7 }
 
 -- calls that lower the level; and after them a settle of each slice that was set, which 11 refuses, and a write
 abbrev later : List Call

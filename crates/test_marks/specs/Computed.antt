@@ -23,6 +23,7 @@ use Rattle.grid.specs.Bins.{distanceBin, dihedralBin}
 use Rattle.grid.specs.Settings.{above, question, inRange, levelsValid, countsValid, ownCount, slabsFit, counted}
 use Rattle.grid.specs.declared.Grid.{Grid}
 use Rattle.rows.specs.Rows.{resolutionOf, resolutionAt, replaced, known, rowRoom}
+use Rattle.rows.specs.Words.{wordOf, wordValue, wordLevel, wordKind, wordRows}
 use Rattle.settling.specs.Gradient.{weight, repulsive, allRepulsive, steeper, alongNeighbours, pairWeight, gradientOf, gradient, comparisons, sumFrom, meanNarrowed}
 use Rattle.settling.specs.Settling.{byGradient, verdict, verdicts, settledRows, largestFrom, someSettle, drops, settledSlice, packedRows, packedAfter, comparisonsFor, comparisonsIn}
 use Rattle.builder.specs.BuilderLists.{BuilderLists, rowIn, rowsIn, listRoom, rowsKnown, listsOf}
@@ -71,20 +72,24 @@ lent n k =
     let nines : List ℕ = replicate (1 + k) 9 in
     (listsOf (replicate (1 + n) (f64 0x4000_0000_0000_0000)) nines nines nines)
 
+-- .. and rows in words, of the same numbers
+abbrev pub nines : ℕ → List ℕ
+nines k = replicate (1 + k) 0x909_0000_0009
+
 -- no terms and no prefactor
 abbrev pub noTerms : TailLists
 noTerms = tailLists [] [] [] []
 
 -- at level 0, one slab
 abbrev pub tailHistory : TailLists → List Call → History
-tailHistory t cs = record { grid = plain; top = 0; meshes = icosahedron; lists = lent 144 1; calls = cs; tail = t; output = replicate 700 7 }
+tailHistory t cs = record { grid = plain; top = 0; meshes = icosahedron; store = lent 144 1 .store; words = nines 1; calls = cs; tail = t; output = replicate 700 7 }
 
 abbrev pub history : List Call → History
 history cs = tailHistory noTerms cs
 
 -- at levels 0 and 1, three distance bins (rmax 3)
 abbrev pub history₂ : List Call → History
-history₂ cs = record { grid = settings 0x4008_0000_0000_0000 0x4018_0000_0000_0000; top = 1; meshes = twoLevels; lists = lent 5292 3; calls = cs; tail = noTerms; output = [] }
+history₂ cs = record { grid = settings 0x4008_0000_0000_0000 0x4018_0000_0000_0000; top = 1; meshes = twoLevels; store = lent 5292 3 .store; words = nines 3; calls = cs; tail = noTerms; output = [] }
 
 -- ---- the definitions opened, layer by layer; each of these is its argument
 
@@ -101,7 +106,7 @@ unfolding dot norm unit difference vertexAt cubeFaceProject cubeFace cubeProject
 searches x = x
 
 unfoldable calls : {A : Type 0} → A → A
-unfolding distanceBin dihedralBin above question counted inRange levelsValid countsValid ownCount slabsFit resolutionOf resolutionAt replaced known rowRoom rowIn rowsIn settledLists listRoom rowsKnown meshedRefusal freshBuilder packedRows packedAfter setBuilder filledSlabs freshOut setQuestion setRefusal slabSet setOut settleRefusal settleAccepted settleOut
+unfolding distanceBin dihedralBin above question counted inRange levelsValid countsValid ownCount slabsFit wordOf wordValue wordLevel wordKind wordRows resolutionOf resolutionAt replaced known rowRoom rowIn rowsIn settledLists listRoom rowsKnown meshedRefusal freshBuilder packedRows packedAfter setBuilder filledSlabs freshOut setQuestion setRefusal slabSet setOut settleRefusal settleAccepted settleOut
 calls x = x
 
 unfoldable settling : {A : Type 0} → A → A
