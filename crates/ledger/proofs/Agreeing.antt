@@ -1,21 +1,22 @@
 -- Rows kept in two ways: what reads them reads the same, and what writes both keeps them so. Assumes nothing.
 use mathlib.Core.Path.{_≡_, refl, sym, ap, _∙_}
+use mathlib.Core.Bool.{false}
 use mathlib.Core.List.{List, [], _∷_}
 use mathlib.Core.Option.{Option, none, some}
 use mathlib.Core.Logic.{⊎-elim}
-use Prim.Native.Nat.{ℕ, zero, suc, _+_, _*_, _≤_, _<_, zero-le}
+use Prim.Native.Nat.{ℕ, zero, suc, _+_, _*_, _^_, _≤_, _<_, zero-le}
 use native.Mathlib.Nat.{add-zero}
 use native.Mathlib.Omega.{arith}
 use lib.ListN.{length, getD, set, drop, replicate, length-set, length-replicate}
 use lib.Seq.{getD-set-same, getD-set-other, getD-drop}
 use lib.Ieee.{Float}
-use borrow.Author.Tests.{le-leb}
+use borrow.Author.Tests.{le-leb, lt-leb}
 use Rattle.ieee.proofs.Pack.{le-or-lt}
 use Rattle.lists.specs.Lists.{allUpTo, put}
 use Rattle.rows.specs.declared.SlabResolution.{SlabResolution}
-use Rattle.rows.specs.Rows.{Rows, kindOf, levelOf, valueOf, resolutionAt, replaced, rowKnown, rowRoom}
-use Rattle.rows.specs.Words.{wordRows}
-use Rattle.rows.proofs.InWords.{word-kind, word-level, word-value, kind-at, level-at, value-at, kinds-long, levels-long, values-long}
+use Rattle.rows.specs.Rows.{Rows, kindOf, levelOf, valueOf, resolutionAt, replaced, known, rowKnown, rowRoom}
+use Rattle.rows.specs.Words.{wordKind, wordRows}
+use Rattle.rows.proofs.InWords.{word-kind, word-level, word-value, kind-at, level-at, value-at, known-in, kinds-long, levels-long, values-long}
 use Rattle.settling.specs.Gradient.{zero as nought}
 use Rattle.settling.specs.Settling.{newRow, replacedBy}
 use Rattle.settling.specs.declared.Verdict.{Verdict}
@@ -135,3 +136,11 @@ moved-agree n r ws h =
       levels = λ s i. level-at ws s ∙ rw (h .words s i) (word-level _ _ _ (h .levels s i) (h .values s i));
       values = λ s i. value-at ws s ∙ rw (h .words s i) (word-value _ _ _ (h .values s i));
     }
+
+-- .. and a word with a rest: its kind is 256 at least
+pub rest-unknown : (top : ℕ) (ws : List ℕ) (s : ℕ) → 2 ^ 48 ≤ getD ws s 0 → rowKnown top (wordRows ws) s ≡ false
+unfolding known wordKind
+rest-unknown top ws s h =
+    let k = wordKind (getD ws s 0) in
+    let large : 3 < k = omega (arith, h) in
+    known-in top ws s ∙ rw (lt-leb k 1 (omega (arith, large)), lt-leb k 3 large)

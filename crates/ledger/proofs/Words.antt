@@ -39,7 +39,7 @@ use Rattle.ledger.specs.Replies.{Reply, set-reply, settle-reply, write-r
 use Rattle.ledger.specs.Words.{RowsAgree, ListsAgree, StillAgree, WritesAgree, CallsAgree, startWith, listsFresh, listsBegun, listsEnded, listsLastWrite, listsFile, HistoriesAgree, AsLists}
 use Rattle.ledger.proofs.Follows.{in-rows, slice-in}
 use Rattle.ledger.proofs.Foretold.{slice-long}
-use Rattle.ledger.proofs.Agreeing.{known-same, rows-known-same, row-same, rows-same, Long, long, replaced-both, settled-both, filled-agree, moved-agree}
+use Rattle.ledger.proofs.Agreeing.{known-same, rows-known-same, row-same, rows-same, Long, long, replaced-both, settled-both, filled-agree, moved-agree, rest-unknown}
 
 -- ---- one call, from any builder
 
@@ -275,6 +275,7 @@ pub as-lists : AsLists
 as-lists =
     record {
       moved = moved-agree;
+      rests = rest-unknown;
       fresh = λ g top m l k a. fresh-agrees g top m l k a _ refl;
       calls = calls-agree;
       histories = histories-agree;

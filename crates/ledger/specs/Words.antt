@@ -1,14 +1,14 @@
 -- Document 02's paper 11, "A row in a word": "all calls, files and readings answer as with the lists". Definitions only.
-use mathlib.Core.Bool.{true}
+use mathlib.Core.Bool.{true, false}
 use mathlib.Core.Path.{_≡_}
 use mathlib.Core.List.{List}
-use Prim.Native.Nat.{ℕ, _≤_, _<_}
+use Prim.Native.Nat.{ℕ, _^_, _≤_, _<_}
 use lib.ListN.{length, getD, take}
 use lib.Ieee.{Float}
 use Rattle.mesh.specs.Mesh.{Mesh}
 use Rattle.grid.specs.Settings.{counted}
 use Rattle.grid.specs.declared.Grid.{Grid}
-use Rattle.rows.specs.Rows.{Rows, rowRoom}
+use Rattle.rows.specs.Rows.{Rows, rowKnown, rowRoom}
 use Rattle.rows.specs.Words.{wordOf, wordRows}
 use Rattle.search.specs.Search.{Locator}
 use Rattle.builder.specs.BuilderLists.{BuilderLists, slabs}
@@ -100,10 +100,12 @@ pub record HistoriesAgree (h : History) (r : Rows) : Type 0 where
 
 -- ---- the theorem
 
--- of all settings, builders (damaged ones too), meshes, lists and calls, accepted or refused (S25.4)
+-- of all settings, builders (damaged ones too), meshes, lists and calls, accepted or refused (S25.7)
 pub record AsLists : Type 0 where
   -- the words that rows moved to agree with these rows
   pub moved : (n : ℕ) (r : Rows) (ws : List ℕ) → Moved n r ws → RowsAgree n (wordRows ws) r
+  -- "A word whose rest is not 0 counts as an unknown kind": 15 refuses what touches its row
+  pub rests : (top : ℕ) (ws : List ℕ) (s : ℕ) → 2 ^ 48 ≤ getD ws s 0 → rowKnown top (wordRows ws) s ≡ false
   -- fresh, on as many slabs as the settings have
   pub fresh : (g : Grid) (top : ℕ) (m : Mesh) (l k : BuilderLists) → ListsAgree (slabs (counted g)) l k → let o = freshOut g top m l in let p = freshOut g top m k in
       (o .answer ≡ p .answer) × StillAgree l k (o .lists) (p .lists)
