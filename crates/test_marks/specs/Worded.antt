@@ -1,82 +1,111 @@
--- Checks of rows in words (document 02, paper 11) by computation. Not in the starred table.
+-- Checks of rows in words by computation: document 02, paper 11. Not in the starred table.
 use mathlib.Core.Path.{_≡_, refl}
-use mathlib.Core.Bool.{true, false}
-use mathlib.Core.List.{List, [], _∷_}
+use mathlib.Core.Bool.{false}
+use mathlib.Core.List.{[], _∷_}
 use Prim.Native.Nat.{ℕ}
 use lib.ListN.{replicate}
-use Rattle.grid.specs.Settings.{counted}
-use Rattle.rows.specs.Rows.{Rows, rowsOf, rowKnown, resolutionAt}
-use Rattle.rows.specs.declared.SlabResolution.the-variants.{Mesh}
+use Rattle.rows.specs.Rows.{Rows, rowsOf, rowKnown}
 use Rattle.rows.specs.Words.{wordOf, wordRows}
-use Rattle.words.specs.Moves.{ToWords, ToRows, wordsOf, restsClear, toWordsQuestion, toRowsQuestion, rowsToWords, wordsToRows}
 use Rattle.builder.specs.BuilderLists.{wordLists}
 use Rattle.builder.specs.Calls.{setOut, settleOut}
-use Rattle.builder.specs.declared.Builder.{Builder}
 use Rattle.writer.specs.Write.{writeOut}
+use Rattle.words.specs.Moves.{wordsOf, restsClear, toWordsQuestion, rowsToWords, toRowsQuestion, wordsToRows}
+use Rattle.ledger.specs.Promise.{ended}
 use Rattle.test_marks.specs.Icospheres.{icosahedron}
-use Rattle.test_marks.specs.Computed.{f64, settings, computed}
+use Rattle.test_marks.specs.Computed.{lentStore, history, computed}
+use Rattle.test_marks.specs.Settled.{tens}
 
-unfoldable pub moves : {A : Type 0} → A → A
-unfolding wordsOf restsClear toWordsQuestion toRowsQuestion rowsToWords wordsToRows
-moves x = x
+-- the moves opened as well
+unfoldable pub moving : {A : Type 0} → A → A
+unfolding computed wordsOf restsClear toWordsQuestion rowsToWords toRowsQuestion wordsToRows
+moving x = x
 
--- ---- a word
+-- ---- "scalar or offset .. in the low 32 bits, level in the next eight, kind in the eight above"
 
--- 1.0 at a Scalar row, and a nearest row of level 3
-pub scalar-one : computed (wordOf 0 0 0x3F80_0000) ≡ 0x3F80_0000
-scalar-one = refl
+pub interpolated : moving (wordOf 3 4 0) ≡ 0x0304_0000_0000
+unfolding moving
+interpolated = refl
 
-pub nearest-three : computed (wordOf 2 3 0) ≡ 0x203_0000_0000
-nearest-three = refl
+pub minus-zero : moving (wordOf 0 0 0x8000_0000) ≡ 0x8000_0000
+unfolding moving
+minus-zero = refl
 
-pub read-three : computed (resolutionAt (wordRows (0x303_0000_0000 ∷ [])) 0) ≡ Mesh 3 true
-read-three = refl
+pub repulsive : moving (wordOf 1 0 0) ≡ 0x0100_0000_0000
+unfolding moving
+repulsive = refl
 
--- the same with a rest is of no known kind, a Scalar row too
-pub rest-mesh : computed (rowKnown 15 (wordRows (0x1_0303_0000_0000 ∷ [])) 0) ≡ false
-rest-mesh = refl
+pub parts : moving (wordRows (0x0304_0000_0000 ∷ 0xC8FF_FFFF_FFFF ∷ [])) ≡ rowsOf (3 ∷ 200 ∷ []) (4 ∷ 255 ∷ []) (0 ∷ 0xFFFF_FFFF ∷ [])
+unfolding moving
+parts = refl
 
-pub rest-scalar : computed (rowKnown 15 (wordRows (0x8000_0000_0000_0000 ∷ [])) 0) ≡ false
-rest-scalar = refl
+-- ---- "A word whose rest is not 0 counts as an unknown kind"
 
-pub no-rest : computed (rowKnown 15 (wordRows (0x303_0000_0000 ∷ [])) 0) ≡ true
-no-rest = refl
+-- a Scalar row but for its highest bit; and one but for the lowest of the rest
+abbrev topBit : ℕ
+topBit = 0x8000_0000_0000_0000
 
--- ---- the calls, with one slab at level 0
+abbrev lowBit : ℕ
+lowBit = 0x0001_0000_0000_0000
 
-abbrev one : Builder
-one = record { grid = counted (settings 0x3FF0_0000_0000_0000 0x4018_0000_0000_0000); top = 0; level = 0; packed = 0 }
+pub top-unknown : moving (rowKnown 15 (wordRows (topBit ∷ [])) 0) ≡ false
+unfolding moving
+top-unknown = refl
 
-pub set-rest : computed (setOut one (wordLists (replicate 144 (f64 0)) (0x1_0000_0000_0000 ∷ [])) 0 0 (replicate 144 (f64 0)) .answer .number) ≡ 15
+pub low-unknown : moving (rowKnown 15 (wordRows (lowBit ∷ [])) 0) ≡ false
+unfolding moving
+low-unknown = refl
+
+-- one slab, and a word with a rest
+pub set-rest : moving (setOut (ended (history []) .builder) (wordLists (lentStore 144) (lowBit ∷ [])) 0 0 tens .answer .number) ≡ 15
+unfolding moving
 set-rest = refl
 
-pub settle-rest : computed (settleOut one icosahedron (wordLists (replicate 144 (f64 0)) (0x1_0000_0000_0000 ∷ [])) 0 .answer .number) ≡ 15
+pub settle-rest : moving (settleOut (ended (history []) .builder) icosahedron (wordLists (lentStore 144) (lowBit ∷ [])) 0 .answer .number) ≡ 15
+unfolding moving
 settle-rest = refl
 
-pub write-rest : computed (writeOut one icosahedron (wordLists (replicate 144 (f64 0)) (0x1_0000_0000_0000 ∷ [])) [] .answer .number) ≡ 15
+pub write-rest : moving (writeOut (ended (history []) .builder) icosahedron (wordLists (lentStore 144) (lowBit ∷ [])) (replicate 66 0) .answer .number) ≡ 15
+unfolding moving
 write-rest = refl
 
--- a rest beyond the slabs is not asked for
-pub write-beyond : computed (writeOut one icosahedron (wordLists (replicate 144 (f64 0)) (0 ∷ 0x1_0000_0000_0000 ∷ [])) [] .answer .number) ≡ 12
-write-beyond = refl
+-- ---- moves
 
--- ---- the moves
+-- two rows, one of a kind that nobody knows; and lists of different lengths
+abbrev two : Rows
+two = rowsOf (3 ∷ 200 ∷ 7 ∷ []) (4 ∷ 255 ∷ []) (0 ∷ 0xFFFF_FFFF ∷ [])
 
-abbrev old : Rows
-old = rowsOf (200 ∷ 7 ∷ []) (255 ∷ 7 ∷ []) (0xFFFF_FFFF ∷ 7 ∷ [])
+-- "Any row of the old lists moves to its word"; what is beyond stays
+pub to-words : moving (rowsToWords 2 two (5 ∷ 5 ∷ 5 ∷ [])) ≡ record { number = 0; words = 0x0304_0000_0000 ∷ 0xC8FF_FFFF_FFFF ∷ 5 ∷ [] }
+unfolding moving
+to-words = refl
 
-pub kind-moves : moves (computed (rowsToWords 1 old (5 ∷ 5 ∷ []))) ≡ record { number = 0; words = 0xC8FF_FFFF_FFFF ∷ 5 ∷ [] }
-kind-moves = refl
+pub to-words-none : moving (rowsToWords 0 two []) ≡ record { number = 0; words = [] }
+unfolding moving
+to-words-none = refl
 
-pub kind-back : moves (computed (wordsToRows 1 (0xC8FF_FFFF_FFFF ∷ []) (rowsOf (0 ∷ 7 ∷ []) (0 ∷ 7 ∷ []) (0 ∷ 7 ∷ [])))) ≡ record { number = 0; rows = old }
-kind-back = refl
+-- a row more than two of the lists have; a word less
+pub rows-short : moving (rowsToWords 3 two (5 ∷ 5 ∷ 5 ∷ [])) ≡ record { number = 6; words = 5 ∷ 5 ∷ 5 ∷ [] }
+unfolding moving
+rows-short = refl
 
--- 15 of a rest among the rows that are moved, after 6
-pub rest-stays : moves (computed (wordsToRows 2 (0 ∷ 0x1_0000_0000_0000 ∷ []) old)) ≡ record { number = 15; rows = old }
-rest-stays = refl
+pub words-short : moving (rowsToWords 2 two (5 ∷ [])) ≡ record { number = 6; words = 5 ∷ [] }
+unfolding moving
+words-short = refl
 
-pub rest-behind : moves (computed (wordsToRows 1 (0 ∷ 0x1_0000_0000_0000 ∷ []) old .number)) ≡ 0
-rest-behind = refl
+-- ".. and back unchanged": a rest behind the two words is not asked
+abbrev nines : Rows
+nines = rowsOf (9 ∷ 9 ∷ 9 ∷ []) (9 ∷ 9 ∷ []) (9 ∷ 9 ∷ [])
 
-pub short-first : moves (computed (wordsToRows 3 (0x1_0000_0000_0000 ∷ []) old)) ≡ record { number = 6; rows = old }
+pub to-rows : moving (wordsToRows 2 (0x0304_0000_0000 ∷ 0xC8FF_FFFF_FFFF ∷ topBit ∷ []) nines)
+    ≡ record { number = 0; rows = rowsOf (3 ∷ 200 ∷ 9 ∷ []) (4 ∷ 255 ∷ []) (0 ∷ 0xFFFF_FFFF ∷ []) }
+unfolding moving
+to-rows = refl
+
+-- "moving it to the lists is refused by 15, after 6"
+pub rest-refused : moving (wordsToRows 2 (0x0304_0000_0000 ∷ lowBit ∷ []) nines) ≡ record { number = 15; rows = nines }
+unfolding moving
+rest-refused = refl
+
+pub short-first : moving (wordsToRows 3 (topBit ∷ topBit ∷ topBit ∷ []) nines) ≡ record { number = 6; rows = nines }
+unfolding moving
 short-first = refl
