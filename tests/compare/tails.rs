@@ -513,6 +513,7 @@ fn lists(world: &mut World, count: u64, many: u64, random: &mut Random, tally: &
 fn needed() -> Vec<String> {
     let mut words = Vec::new();
     words.extend([1, 2, 3, 4, 5, 6, 7, 12, 15, 22, 23].map(|n| format!("write_tail, refused with {n}")));
+    words.push("write_tail, refused with 15, a word having a rest".to_string());
     words.extend(["0, with", "0, no", "13, no", "23, no"].map(|case| format!("read, answered {case} terms")));
     words.extend(["18", "0, no terms", "0, a NaN", "0, infinite", "0, -0", "0, 0", "0, subnormal", "0, a number"].map(|case| format!("tail, as the Rust, answered {case}")));
     words.extend([0, 18, 19].map(|n| format!("tail, of a damaged file, answered {n}")));
