@@ -140,7 +140,7 @@ impl Sink for Written {
         line.put(40, 16, answer.comparisons);
         line.put(57, 8, stamp(&lists.store));
         for i in 0..12 {
-            line.put(66 + 15 * i, 2, lists.kinds[i] as u64);
+            line.put(66 + 15 * i, 2, lists.kinds[i] as u64 & 0xff);
             line.put(69 + 15 * i, 2, lists.levels[i] as u64);
             line.put(72 + 15 * i, 8, lists.values[i] as u64);
         }
