@@ -1,4 +1,5 @@
 -- Laws of records and lists of numbers.
 pub mod Entries
-pub mod Columns
-pub mod Alike
+
+-- pub mod Columns
+-- pub mod Alike
