@@ -1,5 +1,4 @@
 -- Laws of records and lists of numbers.
 pub mod Entries
-
--- pub mod Columns
--- pub mod Alike
+pub mod Columns
+pub mod Alike
