@@ -16,13 +16,12 @@ use Rattle.mesh.specs.Levels.{vertexCount, per}
 use Rattle.mesh.specs.Mesh.{Mesh, meshesKeep}
 use Rattle.mesh.proofs.Sizes.{count-mono, per-mono}
 use Rattle.grid.proofs.Laws.{slab-energies-le}
-use Rattle.rows.proofs.InWords.{kinds-long, levels-long, values-long}
 use Rattle.builder.specs.BuilderLists.{BuilderLists, wordLists, slabs, listRoom, meshesLong, rowsKnown}
 use Rattle.builder.specs.Refusals.{builderQuestion, meshedRefusal}
 use Rattle.builder.specs.Atom.{atomMeshedRefusal}
 use Rattle.builder.specs.declared.Builder.{Builder}
 use Rattle.builder.specs.declared.AtomBuilder.{AtomBuilder}
-use Rattle.builder.proofs.Laws.{meshed, atom-meshed}
+use Rattle.builder.proofs.Laws.{meshed, atom-meshed, words-long}
 use Rattle.table.specs.File.{fileOf}
 use Rattle.table.specs.Atom.{atomFileOf}
 use Rattle.writer.specs.Write.{writtenValues, fileFrom, writeRefusal, writeOut}
@@ -64,7 +63,7 @@ module _ (m x : ℕ) (r : Bool) where
 pub meshed-words : (b : Builder) (m : Mesh) (store : List Float) (words : List ℕ) → let n = length words in
     meshedRefusal b m (wordLists store words) ≡ first (builderQuestion b) (ask (listRoom (b .grid) (b .top) (length store) n n n && meshesLong b m) 6 (ask (meshesKeep (b .top) m) 7 0))
 unfolding meshedRefusal
-meshed-words b m store words = rw (kinds-long words, levels-long words, values-long words)
+meshed-words b m store words = rw (words-long b store words)
 
 -- ---- what the answers say
 

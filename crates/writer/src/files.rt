@@ -53,13 +53,10 @@ pub(crate) fn write_question(
     let n_r = b.grid.n_r;
     let n_omega = b.grid.n_omega;
     let top = b.top;
-    let n = words.len() as u64;
     let no = builder::meshed_refusal(
         b,
         store.len() as u64,
-        n,
-        n,
-        n,
+        words.len() as u64,
         vertices,
         counts,
         neighbours,
