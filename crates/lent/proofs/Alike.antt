@@ -24,6 +24,7 @@ use Rattle.rows.specs.declared.SlabResolution.the-variants.{Scalar, Mesh as OnM
 use Rattle.rows.specs.Rows.{Rows, Row, scalar, repulsive, mesh, kindOf, levelOf, valueOf, replaced}
 use Rattle.rows.specs.Words.{wordOf, wordKind, wordRows}
 use Rattle.rows.proofs.InWords.{word-kind, word-parts, kinds-long, replaced-in}
+use Rattle.words.specs.Moves.{wordsOf}
 use Rattle.settling.specs.Gradient.{allRepulsive, meanNarrowed}
 use Rattle.settling.specs.Settling.{verdict, byGradient, verdictOf, verdicts, newRow, replacedBy}
 use Rattle.settling.specs.declared.Verdict.{Verdict}
@@ -43,7 +44,7 @@ use Rattle.ledger.specs.Replies.{Reply, writeReply, replied, replies, begun}
 use Rattle.lent.specs.declared.RowRecord.{RowRecord}
 use Rattle.lent.specs.Calls.{setLent, settleLent}
 use Rattle.lent.specs.Records.{wordIn, wordsIn, gathered, SpreadOut}
-use Rattle.lent.specs.Forms.{LentState, asState, spreadLists, wordsFrom, wordsOf, leftIn, calledOver, repliedOver, calledLent, runLent, repliesLent, LentHistory, byValue, begunLent, endedLent, lastWriteLent, fileLent, Held, CallsAlike, EitherForm}
+use Rattle.lent.specs.Forms.{LentState, asState, spreadLists, wordsLeft, leftIn, calledOver, repliedOver, calledLent, runLent, repliesLent, LentHistory, byValue, begunLent, endedLent, lastWriteLent, fileLent, Held, CallsAlike, EitherForm}
 use Rattle.lent.proofs.Columns.{Clear, spread-words, gather-words, long-gathered, held-clear, rows-alike}
 
 -- ---- rows that a list of n words without a rest stands for
@@ -154,16 +155,16 @@ module _ {n : ℕ} where
 -- ---- a state of records as one of words
 
 -- the words that a call leaves are those that stand for the rows of its outcome
-pub words-back : (ws : List ℕ) → wordsOf (wordRows ws) ≡ ws
-unfolding wordRows wordsFrom
+pub words-back : (ws : List ℕ) → wordsLeft (wordRows ws) ≡ ws
+unfolding wordRows wordsOf
 words-back [] = refl
 words-back (w ∷ ws) = rw (word-parts w) (ap (_∷_ w) (words-back ws))
 
 module _ (rs : List RowRecord) (r : Rows) (h : Worded (length rs) r) where
-  left-words : wordsOf r ≡ h .words
-  left-words = ap wordsOf (h .stand) ∙ words-back (h .words)
+  left-words : wordsLeft r ≡ h .words
+  left-words = ap wordsLeft (h .stand) ∙ words-back (h .words)
 
-  left-rows : wordRows (wordsIn (gathered (wordsOf r) rs)) ≡ r
+  left-rows : wordRows (wordsIn (gathered (wordsLeft r) rs)) ≡ r
   left-rows = ap (λ (ws : List ℕ). wordRows (wordsIn (gathered ws rs))) left-words ∙ ap wordRows (gather-words rs (h .words) (h .long) (h .clear)) ∙ sym (h .stand)
 
 -- as many words as records, and records that such words were made of
@@ -180,10 +181,10 @@ left-as st b l h = ap (λ (r : Rows). record { builder = b; lists = record { sto
 left-kept : (st : LentState) (b : Builder) (l : BuilderLists) → Worded (length (st .rows)) (l .rows) → Kept (leftIn st b l)
 left-kept st b l h =
     let rs = st .rows in
-    let long = sym (long-gathered rs (wordsOf (l .rows))) in
+    let long = sym (long-gathered rs (wordsLeft (l .rows))) in
     record {
       work = ap length (left-words rs (l .rows) h) ∙ h .long ∙ long;
-      rows = subst (λ (k : ℕ). Worded k (wordRows (wordsIn (gathered (wordsOf (l .rows)) rs)))) long (subst (Worded (length rs)) (sym (left-rows rs (l .rows) h)) h);
+      rows = subst (λ (k : ℕ). Worded k (wordRows (wordsIn (gathered (wordsLeft (l .rows)) rs)))) long (subst (Worded (length rs)) (sym (left-rows rs (l .rows) h)) h);
     }
 
 -- ---- one call, and a list of them

@@ -1,23 +1,23 @@
 -- Records and the words that they stand for, a whole list at a time. Assumes nothing.
 use mathlib.Core.Path.{_≡_, refl, sym, ap, subst, _∙_}
-use mathlib.Core.Bool.{true}
-use mathlib.Core.List.{List, map}
+use mathlib.Core.Bool.{Bool, true, false}
+use mathlib.Core.List.{List, [], _∷_, map}
 use mathlib.Core.Logic.{⊎-elim}
 use Prim.Native.Nat.{ℕ, zero, suc, _<_, _≤_}
 use native.Mathlib.Omega.{arith}
 use lib.ListN.{length, getD, length-map, List·getD-map}
 use lib.Seq.{ext-getD, getD-set-same, getD-set-other}
-use lib.Dec.{leb}
-use borrow.Author.Tests.{le-leb, lt-leb}
+use borrow.Author.Tests.{le-leb, lt-ltb}
 use Rattle.ieee.proofs.Pack.{le-or-lt}
-use Rattle.lists.specs.Lists.{forEach, allUpTo}
+use Rattle.lists.specs.Lists.{forEach, every}
 use Rattle.lists.specs.Questions.{ask}
-use Rattle.lists.proofs.Counting.{all-fails}
 use Rattle.rows.specs.Rows.{rowsOf, resolutionAt}
 use Rattle.rows.specs.Words.{wordKind, wordLevel, wordValue, wordRows}
 use Rattle.rows.proofs.InWords.{word-kind, word-level, word-value, kind-at, level-at, value-at, words-of, kinds-long, levels-long, values-long, map-set, replaced-in}
+use Rattle.words.specs.Moves.{restsClear}
+use Rattle.words.proofs.Zipped.{kind-fits}
 use Rattle.lent.specs.declared.RowRecord.{RowRecord}
-use Rattle.lent.specs.Records.{columns, recordAt, recordOf, wordIn, wordsIn, restsClear, gatherNumber, spreadNumber, taken, copied, gathered, spreadOut}
+use Rattle.lent.specs.Records.{columns, recordAt, recordOf, wordIn, wordsIn, gatherNumber, spreadNumber, taken, copied, gathered, spreadOut}
 use Rattle.lent.specs.Forms.{Held, RowsAlike}
 use Rattle.lent.proofs.Entries.{none, read, word-read, length-copied}
 
@@ -51,9 +51,10 @@ unfolding spreadNumber ask
 spread-zero n k h = rw (le-leb n k h)
 
 all-clear : (n : ℕ) (ws : List ℕ) → Clear ws → restsClear n ws ≡ true
-unfolding restsClear allUpTo
+unfolding restsClear every
 all-clear zero ws h = refl
-all-clear (suc n) ws h = rw (all-clear n ws h, le-leb (wordKind (getD ws n 0)) 255 (h n))
+all-clear (suc n) [] h = refl
+all-clear (suc n) (w ∷ ws) h = rw (lt-ltb (wordKind w) 256 (omega (arith, h 0))) (all-clear n ws (λ s. h (suc s)))
 
 gather-zero : (n : ℕ) (ws : List ℕ) → n ≤ length ws → Clear ws → gatherNumber n ws ≡ 0
 unfolding gatherNumber ask
@@ -79,9 +80,13 @@ pub long-gathered : (rs : List RowRecord) (ws : List ℕ) → length (gathered w
 long-gathered rs ws = length-copied (taken (gatherNumber (length rs) ws) (length rs)) (recordAt (wordRows ws)) rs
 
 -- a rest is refused
+not-clear : (n : ℕ) (ws : List ℕ) (s : ℕ) → n ≤ length ws → s < n → 255 < wordKind (getD ws s 0) → (q : Bool) → restsClear n ws ≡ q → q ≡ false
+not-clear n ws s h k r true e = absurd (omega (arith, r, kind-fits n ws s e k h))
+not-clear n ws s h k r false e = refl
+
 fifteen : (n : ℕ) (ws : List ℕ) (s : ℕ) → n ≤ length ws → s < n → 255 < wordKind (getD ws s 0) → gatherNumber n ws ≡ 15
-unfolding gatherNumber restsClear ask
-fifteen n ws s h k r = rw (le-leb n (length ws) h, all-fails (λ i. leb (wordKind (getD ws i 0)) 255) s n k (lt-leb (wordKind (getD ws s 0)) 255 r))
+unfolding gatherNumber ask
+fifteen n ws s h k r = rw (le-leb n (length ws) h, not-clear n ws s h k r (restsClear n ws) refl)
 
 rest-left : (rs : List RowRecord) (ws : List ℕ) → gatherNumber (length rs) ws ≡ 15 → gathered ws rs ≡ rs
 unfolding taken forEach

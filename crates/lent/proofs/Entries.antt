@@ -8,14 +8,16 @@ use lib.ListN.{length, getD, set, length-set, List·getD-map, List·getD-eq-defa
 use lib.Seq.{set-out}
 use lib.Dec.{T as Holds, ltb, leb, eqb, nltb→le}
 use borrow.Author.Tests.{leb-true, eqb-true}
-use Rattle.lists.specs.Lists.{forEach, allUpTo}
+use Rattle.lists.specs.Lists.{forEach}
 use Rattle.lists.specs.Questions.{ask}
-use Rattle.lists.proofs.Counting.{chosen, all-at}
+use Rattle.lists.proofs.Counting.{chosen}
 use Rattle.lists.proofs.Asking.{ask-yes}
 use Rattle.lists.proofs.Loops.{each-turn}
 use Rattle.rows.specs.Words.{wordOf, wordKind}
+use Rattle.words.specs.Moves.{restsClear}
+use Rattle.words.proofs.Zipped.{kind-fits}
 use Rattle.lent.specs.declared.RowRecord.{RowRecord}
-use Rattle.lent.specs.Records.{columns, recordAt, wordIn, wordsIn, restsClear, gatherNumber, spreadNumber, taken, copied}
+use Rattle.lent.specs.Records.{columns, recordAt, wordIn, wordsIn, gatherNumber, spreadNumber, taken, copied}
 
 abbrev pub none : RowRecord
 none = record { kind = 0; level = 0; value = 0 }
@@ -65,11 +67,10 @@ pub spread-low : (n k : ℕ) → let m = taken (spreadNumber n k) n in (m ≤ n)
 spread-low n k = (taken-le (spreadNumber n k) n n (λ e. omega arith), taken-le (spreadNumber n k) n k (spread-asked n k))
 
 pub gather-clear : (n : ℕ) (ws : List ℕ) (i : ℕ) → i < taken (gatherNumber n ws) n → wordKind (getD ws i 0) ≤ 255
-unfolding taken restsClear
+unfolding taken
 gather-clear n ws i =
     chosen (λ (m : ℕ). i < m → wordKind (getD ws i 0) ≤ 255) (eqb (gatherNumber n ws) 0) n 0
-    (λ e h. leb-true _ 255 (all-at (λ s. leb (wordKind (getD ws s 0)) 255) i n h (gather-asked n ws (eqb-true _ 0 e) .1)))
-    (λ h. omega (arith, h))
+    (λ e h. let a = gather-asked n ws (eqb-true _ 0 e) in omega (arith, kind-fits n ws i (a .1) h (a .0))) (λ h. omega (arith, h))
 
 -- ---- the first n entries copied
 

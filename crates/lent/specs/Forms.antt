@@ -8,7 +8,8 @@ use Rattle.mesh.specs.Mesh.{Mesh}
 use Rattle.grid.specs.declared.Grid.{Grid}
 use Rattle.rows.specs.declared.SlabResolution.{SlabResolution}
 use Rattle.rows.specs.Rows.{Rows, levelOf, valueOf, resolutionOf, resolutionAt, replaced}
-use Rattle.rows.specs.Words.{wordOf, wordKind, wordRows}
+use Rattle.rows.specs.Words.{wordKind, wordRows}
+use Rattle.words.specs.Moves.{wordsOf}
 use Rattle.search.specs.Search.{Locator}
 use Rattle.builder.specs.BuilderLists.{BuilderLists, wordLists}
 use Rattle.builder.specs.declared.Builder.{Builder}
@@ -43,17 +44,11 @@ abbrev pub spreadLists : LentState → BuilderLists
 spreadLists st = wordLists (st .store) (spreadOut (st .rows) (st .work) .words)
 
 -- the words that a call leaves: its contract says that they stand for the rows of its outcome, and no others do
-unfoldable pub wordsFrom : List ℕ → List ℕ → List ℕ → List ℕ
-wordsFrom [] ls vs = []
-wordsFrom (k ∷ ks) [] vs = []
-wordsFrom (k ∷ ks) (l ∷ ls) [] = []
-wordsFrom (k ∷ ks) (l ∷ ls) (v ∷ vs) = wordOf k l v ∷ wordsFrom ks ls vs
-
-abbrev pub wordsOf : Rows → List ℕ
-wordsOf r = wordsFrom (r .kinds) (r .levels) (r .values)
+abbrev pub wordsLeft : Rows → List ℕ
+wordsLeft r = wordsOf (r .kinds) (r .levels) (r .values)
 
 abbrev pub leftIn : LentState → Builder → BuilderLists → LentState
-leftIn st b l = record { builder = b; store = l .store; rows = gathered (wordsOf (l .rows)) (st .rows); work = wordsOf (l .rows) }
+leftIn st b l = record { builder = b; store = l .store; rows = gathered (wordsLeft (l .rows)) (st .rows); work = wordsLeft (l .rows) }
 
 -- a call, and its answer, over the words that the records were spread over
 unfoldable pub calledOver : Mesh → LentState → BuilderLists → Call → LentState
@@ -136,6 +131,6 @@ pub record CallsAlike (h : LentHistory) : Type 0 where
       readingBy (fileLent h) (readOut (fileLent h) .table) vertices l way q ≡ readingBy (file (byValue h)) (readOut (file (byValue h)) .table) vertices l way q
   pub tails : (r : Float) → tailOut (fileLent h) (readOut (fileLent h) .table) r ≡ tailOut (file (byValue h)) (readOut (file (byValue h)) .table) r
 
--- all calls, files and readings answer alike through either form; `wordsOf` gives back the words that stand for rows
+-- all calls, files and readings answer alike through either form; and words can be had from the rows that they stand for
 abbrev pub EitherForm : Type 0
-EitherForm = ((ws : List ℕ) → wordsOf (wordRows ws) ≡ ws) × ((rs : List RowRecord) → Held rs → RowsAlike rs) × ((h : LentHistory) → Held (h .start .rows) → length (h .start .work) ≡ length (h .start .rows) → CallsAlike h)
+EitherForm = ((ws : List ℕ) → wordsLeft (wordRows ws) ≡ ws) × ((rs : List RowRecord) → Held rs → RowsAlike rs) × ((h : LentHistory) → Held (h .start .rows) → length (h .start .work) ≡ length (h .start .rows) → CallsAlike h)

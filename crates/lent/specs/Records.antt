@@ -1,14 +1,15 @@
 -- Rows as a list of records, and the words that they stand for. Definitions only.
-use mathlib.Core.Bool.{Bool, cond}
+use mathlib.Core.Bool.{cond}
 use mathlib.Core.List.{List, map}
 use Prim.Native.Nat.{ℕ}
 use lib.ListN.{length, getD, set}
 use lib.Dec.{leb, eqb}
-use Rattle.lists.specs.Lists.{forEach, allUpTo}
+use Rattle.lists.specs.Lists.{forEach}
 use Rattle.lists.specs.Questions.{ask}
 use Rattle.rows.specs.declared.SlabResolution.{SlabResolution}
 use Rattle.rows.specs.Rows.{Rows, kindOf, levelOf, valueOf, rowsOf}
-use Rattle.rows.specs.Words.{wordOf, wordKind, wordRows}
+use Rattle.rows.specs.Words.{wordOf, wordRows}
+use Rattle.words.specs.Moves.{restsClear}
 use Rattle.lent.specs.declared.RowRecord.{RowRecord}
 
 -- "one lent list of row records": the numbers that it stands for
@@ -33,11 +34,7 @@ wordsIn rs = map wordIn rs
 
 -- ---- the bridge
 
--- none of the first n words has a rest: a record has eight bits for a kind, and no place for what stands above
-unfoldable pub restsClear : ℕ → List ℕ → Bool
-restsClear n words = allUpTo n (λ s. leb (wordKind (getD words s 0)) 255)
-
--- what refuses it. Document 02's paper 11, of a word with a rest: "refused by 15, after 6"
+-- what refuses it: a record has eight bits for a kind, and no place for a rest. Document 02's paper 11: "refused by 15, after 6" (S25.6)
 unfoldable pub gatherNumber : ℕ → List ℕ → ℕ
 gatherNumber n words = ask (leb n (length words)) 6 (ask (restsClear n words) 15 0)
 

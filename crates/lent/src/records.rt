@@ -5,7 +5,7 @@ ghost use lib.Dec.{ltb};
 ghost use lib.ListN.{length, getD, set};
 ghost use Rattle.rows.specs.Rows.{resolutionOf};
 ghost use Rattle.rows.specs.Words.{wordKind, wordRows};
-ghost use Rattle.lent.specs.Records.{columns, recordAt, recordOf, wordIn, restsClear, gatherNumber, spreadNumber, taken, gathered, SpreadOut, spreadOut};
+ghost use Rattle.lent.specs.Records.{columns, recordAt, recordOf, wordIn, gatherNumber, spreadNumber, taken, gathered, SpreadOut, spreadOut};
 use crate::RowRecord;
 use rows::SlabResolution;
 
@@ -53,28 +53,14 @@ pub fn replace_row(rows: &mut [RowRecord], s: usize, r: RowRecord) -> bool
     }
 }
 
-// Has none of the first n words a rest? A record has no place for it.
-fn rests_clear(n: usize, words: &[u64]) -> bool
-    requires { ⌜ n ≤ length (now words) ⌝ }
-    ensures { λ r. ⌜ r ≡ restsClear n (now (words .entry)) ⌝ }
-{
-    let mut clear = true;
-    let mut i = 0;
-    while i < n {
-        clear = clear & (rows::word_kind(words[i]) <= 255);
-        i += 1;
-    }
-    clear
-}
-
-// What refuses a bridge: 6 where there are fewer words than records, then, from words, 15 where one of them has a rest.
+// What refuses a bridge: 6 where there are fewer words than records, then 15 where a word that goes to a record has a rest.
 fn gather_question(n: usize, words: &[u64]) -> u64
     ensures { λ r. ⌜ r ≡ gatherNumber n (now (words .entry)) ⌝ }
 {
     if words.len() < n {
         return 6;
     }
-    if !rests_clear(n, words) {
+    if !words::rests_clear(words, n as u64) {
         return 15;
     }
     0
