@@ -1,14 +1,14 @@
 -- All calls, files and readings answer alike through either form. Assumes nothing.
 use mathlib.Core.Path.{_≡_, refl, sym, ap, subst, _∙_}
-use mathlib.Core.Bool.{true, false}
+use mathlib.Core.Bool.{Bool, true, false, cond}
 use mathlib.Core.List.{List, [], _∷_, _++_, map}
 use mathlib.Core.Option.{Option, none, some}
-use Prim.Native.Nat.{ℕ, zero, suc, _≤_}
+use Prim.Native.Nat.{ℕ, zero, suc, _+_, _≤_}
 use native.Mathlib.Omega.{arith}
-use lib.ListN.{length, getD, set, replicate, take, length-set, length-map, length-replicate}
+use lib.ListN.{length, getD, set, replicate, take, drop, length-set, length-map, length-replicate}
 use lib.Seq.{getD-drop}
 use lib.Dec.{eqb}
-use lib.Ieee.{Float, binary32}
+use lib.Ieee.{Float, binary32, binary64, ofBits, div, lt}
 use lib.Ieee.Bits.{toBits-lt}
 use borrow.Author.Tests.{eqb-true}
 use Rattle.lists.specs.Lists.{put}
@@ -25,9 +25,10 @@ use Rattle.rows.specs.Rows.{Rows, Row, scalar, repulsive, mesh, kindOf, levelOf
 use Rattle.rows.specs.Words.{wordOf, wordKind, wordRows}
 use Rattle.rows.proofs.InWords.{word-kind, word-parts, kinds-long, replaced-in}
 use Rattle.words.specs.Moves.{wordsOf}
-use Rattle.settling.specs.Gradient.{allRepulsive, meanNarrowed}
+use Rattle.settling.specs.Gradient.{allRepulsive, gradient, meanNarrowed}
 use Rattle.settling.specs.Settling.{verdict, byGradient, verdictOf, verdicts, newRow, replacedBy}
 use Rattle.settling.specs.declared.Verdict.{Verdict}
+use Rattle.settling.specs.declared.Verdict.the-variants.{Blocked as blocked, Isotropic as isotropic, Smooth as smooth, Rough as rough}
 use Rattle.builder.specs.BuilderLists.{BuilderLists, wordLists, slabs, slab, sliceAt}
 use Rattle.builder.specs.Refusals.{meshedRefusal, setRefusal, settleRefusal}
 use Rattle.builder.specs.declared.Builder.{Builder}
@@ -81,7 +82,9 @@ zeros-clear (suc n) ws h (suc t) = zeros-clear n ws h t
 
 filled-clear : (n : ℕ) (ws : List ℕ) → Clear ws → Clear (put ws 0 (replicate n 0))
 unfolding put
-filled-clear n ws h = zeros-clear n _ (λ s. subst (λ (w : ℕ). wordKind w ≤ 255) (sym (getD-drop _ ws s 0)) (h _))
+filled-clear n ws h =
+    let k = 0 + length (replicate {A = ℕ} n 0) in
+    zeros-clear n (drop k ws) (λ s. subst (λ (w : ℕ). wordKind w ≤ 255) (sym (getD-drop k ws s 0)) (h (k + s)))
 
 -- ---- every call leaves such rows
 
@@ -90,14 +93,19 @@ value-few : (e : List Float) → valueOf (Scalar (meanNarrowed e)) ≤ 429496729
 unfolding meanNarrowed
 value-few e = omega (arith, toBits-lt binary32 (meanNarrowed e) (narrowed-fits _))
 
+gradient-fits : (c : ℕ) → c ≤ 255 → (e : List Float) (x : Float) (p q : Bool) → Fits (newRow c (cond p (isotropic (meanNarrowed e)) (cond q (smooth x) (rough x))))
+gradient-fits c h e x true q = (omega arith, value-few e)
+gradient-fits c h e x false true = (h, omega arith)
+gradient-fits c h e x false false = tt
+
 verdict-fits : (c : ℕ) → c ≤ 255 → (threshold beta : Float) (m : Mesh) (k : ℕ) (x : Row Float) → Fits (newRow c (verdictOf threshold beta m k x))
 unfolding verdict byGradient
 verdict-fits c h threshold beta m k (scalar x) = tt
 verdict-fits c h threshold beta m k repulsive = tt
 verdict-fits c h threshold beta m k (mesh v b e) =
-    let P : Verdict → Type 0 = λ v. Fits (newRow c v) in
-    chosen P (allRepulsive beta e) _ _ (λ _. (omega arith, omega arith))
-    (chosen P _ _ _ (λ _. (omega arith, value-few e)) (chosen P _ _ _ (λ _. (h, omega arith)) tt))
+    let x = gradient m k beta e in
+    chosen (λ (v : Verdict). Fits (newRow c v)) (allRepulsive beta e) blocked (byGradient threshold e x) (λ _. (omega arith, omega arith))
+    (gradient-fits c h e x (lt x (div binary64 threshold (ofBits binary64 0x4024_0000_0000_0000))) (lt x threshold))
 
 module _ {n : ℕ} where
   replaced-worded : {r : Rows} (s : ℕ) (x : Option SlabResolution) → Fits x → Worded n r → Worded n (replacedBy r s x)

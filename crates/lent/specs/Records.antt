@@ -34,7 +34,7 @@ wordsIn rs = map wordIn rs
 
 -- ---- the bridge
 
--- what refuses it: a record has eight bits for a kind, and no place for a rest. Document 02's paper 11: "refused by 15, after 6" (S25.6)
+-- what refuses it: a record has eight bits for a kind, and no place for a rest. Document 02's paper 11: "refused by 15, after 6" (S15.2)
 unfoldable pub gatherNumber : ℕ → List ℕ → ℕ
 gatherNumber n words = ask (leb n (length words)) 6 (ask (restsClear n words) 15 0)
 

@@ -139,6 +139,23 @@ fn replace(rows: [u64; 2]) {
     say(b"row 1, replaced by Repulsive", word_of(b), words[1]);
 }
 
+// Words into records that hold Repulsive, beside the move of the same words to three lists that do.
+fn gather(what: &[u8], words: [u64; 2]) {
+    let r = lent::record_of(SlabResolution::Repulsive);
+    let g = through::gather_through([r, r], &words);
+    let mut kinds: [u8; 2] = [1; 2];
+    let mut levels: [u8; 2] = [0; 2];
+    let mut values: [u32; 2] = [0; 2];
+    let number = words::words_to_rows(2, &words, &mut kinds, &mut levels, &mut values);
+    let a = g.rows[0];
+    say(what, g.number, number);
+    say(
+        b"  row 0 after it",
+        word_of(a),
+        rows::word_of(kinds[0], levels[0], values[0]),
+    );
+}
+
 // rmin 0, rmax 1, dr 1, two dihedral bins, top level 1: a slice of two slabs.
 fn settings() -> Grid {
     Grid {
@@ -174,7 +191,7 @@ fn accepted(a: Built) -> Builder {
 }
 
 // A slice with one slab set; a settle of a bin beyond, which is refused; one that is accepted, and drops the level; a
-// record replaced.
+// record replaced; words into records, without and with a rest.
 fn main() {
     let mut store = [1.0; 3528];
     let mut words: [u64; 2] = [18446744073709551615; 2];
@@ -198,4 +215,6 @@ fn main() {
     let settled = settle_by_value(c, 0, &store, words);
     compare(b"settle", settle_lent(c, 0, &store, words), settled);
     replace(words);
+    gather(b"gather", words);
+    gather(b"gather, a word with a rest", [words[0], 281474976710656]);
 }
