@@ -1,26 +1,38 @@
 -- All calls, files and readings answer alike through either form. Assumes nothing.
 use mathlib.Core.Path.{_≡_, refl, sym, ap, subst, _∙_}
-use Rattle.lists.proofs.Counting.{chosen}
-use mathlib.Core.List.{List, [], _∷_}
+use mathlib.Core.Bool.{Bool, true, false, cond}
+use mathlib.Core.List.{List, [], _∷_, _++_, map}
 use mathlib.Core.Option.{Option, none, some}
-use Prim.Native.Nat.{ℕ, suc, _≤_}
+use Prim.Native.Nat.{ℕ, zero, suc, _+_, _≤_}
 use native.Mathlib.Omega.{arith}
-use lib.ListN.{length, replicate, take, length-set, length-map, length-replicate}
+use lib.ListN.{length, getD, set, replicate, take, drop, length-set, length-map, length-replicate}
+use lib.Seq.{getD-drop}
 use lib.Dec.{eqb}
-use lib.Ieee.{Float}
+use lib.Ieee.{Float, binary32, binary64, ofBits, div, lt}
+use lib.Ieee.Bits.{toBits-lt}
 use borrow.Author.Tests.{eqb-true}
 use Rattle.lists.specs.Lists.{put}
-use Rattle.mesh.specs.Mesh.{Mesh}
+use Rattle.lists.proofs.Asking.{first-yes}
+use Rattle.lists.proofs.Counting.{chosen}
 use Rattle.lists.proofs.Written.{length-put}
+use Rattle.ieee.proofs.Fields.{narrowed-fits}
+use Rattle.mesh.specs.Levels.{per}
+use Rattle.mesh.specs.Mesh.{Mesh}
 use Rattle.grid.specs.declared.Grid.{Grid}
 use Rattle.rows.specs.declared.SlabResolution.{SlabResolution}
-use Rattle.rows.specs.Rows.{Rows, kindOf, levelOf, valueOf, replaced}
-use Rattle.settling.specs.Settling.{newRow, replacedBy}
+use Rattle.rows.specs.declared.SlabResolution.the-variants.{Scalar, Mesh as OnMesh, Repulsive}
+use Rattle.rows.specs.Rows.{Rows, Row, scalar, repulsive, mesh, kindOf, levelOf, valueOf, replaced}
+use Rattle.rows.specs.Words.{wordOf, wordKind, wordRows}
+use Rattle.rows.proofs.InWords.{word-kind, word-parts, kinds-long, replaced-in}
+use Rattle.words.specs.Moves.{wordsOf}
+use Rattle.settling.specs.Gradient.{allRepulsive, gradient, meanNarrowed}
+use Rattle.settling.specs.Settling.{verdict, byGradient, verdictOf, verdicts, newRow, replacedBy}
 use Rattle.settling.specs.declared.Verdict.{Verdict}
-use Rattle.builder.specs.BuilderLists.{BuilderLists, slabs}
+use Rattle.settling.specs.declared.Verdict.the-variants.{Blocked as blocked, Isotropic as isotropic, Smooth as smooth, Rough as rough}
+use Rattle.builder.specs.BuilderLists.{BuilderLists, wordLists, slabs, slab, sliceAt}
 use Rattle.builder.specs.Refusals.{meshedRefusal, setRefusal, settleRefusal}
 use Rattle.builder.specs.declared.Builder.{Builder}
-use Rattle.builder.proofs.Laws.{meshed}
+use Rattle.builder.proofs.Laws.{asked, meshed, filled-words}
 use Rattle.builder.specs.Calls.{BuiltOut, SettleOut, freshBuilder, filledSlabs, freshOut, slabSet, setOut, settledLists, settleAccepted, settleOut}
 use Rattle.writer.specs.Write.{WriteOut}
 use Rattle.writer.specs.Tailed.{TailLists, writeTailRefusal, writeTailOut}
@@ -32,73 +44,166 @@ use Rattle.ledger.specs.Promise.{ended, lastWrite, file}
 use Rattle.ledger.specs.Replies.{Reply, writeReply, replied, replies, begun}
 use Rattle.lent.specs.declared.RowRecord.{RowRecord}
 use Rattle.lent.specs.Calls.{setLent, settleLent}
-use Rattle.lent.specs.Records.{columns, gathered, SpreadOut}
-use Rattle.lent.specs.Forms.{LentState, asState, spreadLists, leftIn, calledOver, repliedOver, calledLent, runLent, repliesLent, LentHistory, byValue, begunLent, endedLent, lastWriteLent, fileLent, Long, CallsAlike, EitherForm}
-use Rattle.lent.proofs.Columns.{spread-columns, gather-columns, long-gathered, rows-alike}
+use Rattle.lent.specs.Records.{wordIn, wordsIn, gathered, SpreadOut}
+use Rattle.lent.specs.Forms.{LentState, asState, spreadLists, wordsLeft, leftIn, calledOver, repliedOver, calledLent, runLent, repliesLent, LentHistory, byValue, begunLent, endedLent, lastWriteLent, fileLent, Held, CallsAlike, EitherForm}
+use Rattle.lent.proofs.Columns.{Clear, spread-words, gather-words, long-gathered, held-clear, rows-alike}
 
--- ---- every call leaves lists of the length that they had
+-- ---- rows that a list of n words without a rest stands for
 
-module _ (rs : List RowRecord) where
-  columns-long : Long rs (columns rs)
-  columns-long = record { kinds = length-map rs (λ (r : RowRecord). r .kind); levels = length-map rs (λ (r : RowRecord). r .level); values = length-map rs (λ (r : RowRecord). r .value) }
+record Worded (n : ℕ) (r : Rows) : Type 0 where
+  words : List ℕ
+  long : length words ≡ n
+  clear : Clear words
+  stand : r ≡ wordRows words
 
-  replaced-long : (l : Rows) (s : ℕ) (x : SlabResolution) → Long rs l → Long rs (replaced l s x)
-  unfolding replaced
-  replaced-long l s x h =
-      record { kinds = length-set (l .kinds) s (kindOf x) ∙ h .kinds; levels = length-set (l .levels) s (levelOf x) ∙ h .levels; values = length-set (l .values) s (valueOf x) ∙ h .values }
+-- the numbers of a row fit in a word
+abbrev Fits : Option SlabResolution → Type 0
+Fits none = Unit {0}
+Fits (some x) = (levelOf x ≤ 255) × (valueOf x ≤ 4294967295)
 
-  set-long : (b : Builder) (l : BuilderLists) (ri oi : ℕ) (e : List Float) → Long rs (l .rows) → Long rs (setOut b l ri oi e .lists .rows)
-  unfolding setOut slabSet
-  set-long b l ri oi e h = chosen (λ (o : BuiltOut). Long rs (o .lists .rows)) (eqb (setRefusal b l ri oi e) 0) _ _ (λ _. replaced-long (l .rows) _ _ h) h
+set-clear : (ws : List ℕ) (s v : ℕ) → wordKind v ≤ 255 → Clear ws → Clear (set ws s v)
+set-clear [] s v e h t = h t
+set-clear (w ∷ ws) zero v e h zero = e
+set-clear (w ∷ ws) zero v e h (suc t) = h (suc t)
+set-clear (w ∷ ws) (suc s) v e h zero = h zero
+set-clear (w ∷ ws) (suc s) v e h (suc t) = set-clear ws s v e (λ i. h (suc i)) t
 
-  by-verdict-long : (l : Rows) (s : ℕ) (x : Option SlabResolution) → Long rs l → Long rs (replacedBy l s x)
-  by-verdict-long l s none h = h
-  by-verdict-long l s (some x) h = replaced-long l s x h
+kind-few : (x : SlabResolution) → kindOf x ≤ 255
+kind-few (Scalar x) = omega arith
+kind-few (OnMesh v true) = omega arith
+kind-few (OnMesh v false) = omega arith
+kind-few Repulsive = omega arith
 
-  settled-long : (c : ℕ) (l : Rows) (s : ℕ) (vs : List Verdict) → Long rs l → Long rs (settledLists c l s vs)
+zeros-clear : (n : ℕ) (ws : List ℕ) → Clear ws → Clear (replicate n 0 ++ ws)
+unfolding wordKind
+zeros-clear zero ws h t = h t
+zeros-clear (suc n) ws h zero = omega arith
+zeros-clear (suc n) ws h (suc t) = zeros-clear n ws h t
+
+filled-clear : (n : ℕ) (ws : List ℕ) → Clear ws → Clear (put ws 0 (replicate n 0))
+unfolding put
+filled-clear n ws h =
+    let k = 0 + length (replicate {A = ℕ} n 0) in
+    zeros-clear n (drop k ws) (λ s. subst (λ (w : ℕ). wordKind w ≤ 255) (sym (getD-drop k ws s 0)) (h (k + s)))
+
+-- ---- every call leaves such rows
+
+-- what settling makes of a row fits: its level is the builder's, its scalar narrowed
+value-few : (e : List Float) → valueOf (Scalar (meanNarrowed e)) ≤ 4294967295
+unfolding meanNarrowed
+value-few e = omega (arith, toBits-lt binary32 (meanNarrowed e) (narrowed-fits _))
+
+gradient-fits : (c : ℕ) → c ≤ 255 → (e : List Float) (x : Float) (p q : Bool) → Fits (newRow c (cond p (isotropic (meanNarrowed e)) (cond q (smooth x) (rough x))))
+gradient-fits c h e x true q = (omega arith, value-few e)
+gradient-fits c h e x false true = (h, omega arith)
+gradient-fits c h e x false false = tt
+
+verdict-fits : (c : ℕ) → c ≤ 255 → (threshold beta : Float) (m : Mesh) (k : ℕ) (x : Row Float) → Fits (newRow c (verdictOf threshold beta m k x))
+unfolding verdict byGradient
+verdict-fits c h threshold beta m k (scalar x) = tt
+verdict-fits c h threshold beta m k repulsive = tt
+verdict-fits c h threshold beta m k (mesh v b e) =
+    let x = gradient m k beta e in
+    chosen (λ (v : Verdict). Fits (newRow c v)) (allRepulsive beta e) blocked (byGradient threshold e x) (λ _. (omega arith, omega arith))
+    (gradient-fits c h e x (lt x (div binary64 threshold (ofBits binary64 0x4024_0000_0000_0000))) (lt x threshold))
+
+module _ {n : ℕ} where
+  replaced-worded : {r : Rows} (s : ℕ) (x : Option SlabResolution) → Fits x → Worded n r → Worded n (replacedBy r s x)
+  replaced-worded s none f h = h
+  replaced-worded s (some x) f h =
+      let w = wordOf (kindOf x) (levelOf x) (valueOf x) in
+      let few : wordKind w ≤ 255 = subst (λ (k : ℕ). k ≤ 255) (sym (word-kind (kindOf x) (levelOf x) (valueOf x) (f .0) (f .1))) (kind-few x) in
+      record {
+        words = set (h .words) s w;
+        long = length-set (h .words) s w ∙ h .long;
+        clear = set-clear (h .words) s w few (h .clear);
+        stand = ap (λ (r : Rows). replaced r s x) (h .stand) ∙ sym (replaced-in (h .words) s x (f .0) (f .1));
+      }
+
+  set-worded : (b : Builder) (l : BuilderLists) (ri oi : ℕ) (e : List Float) → Worded n (l .rows) → Worded n (setOut b l ri oi e .lists .rows)
+  unfolding setOut slabSet setRefusal
+  set-worded b l ri oi e h =
+      chosen (λ (o : BuiltOut). Worded n (o .lists .rows)) (eqb (setRefusal b l ri oi e) 0) _ _
+      (λ q. let a = asked (b .grid) (b .top) (b .level) (first-yes (eqb-true (setRefusal b l ri oi e) 0 q) .0) in
+      replaced-worded (slab (b .grid) ri oi) (some (OnMesh (b .level) true)) (omega (arith, a .top-le, a .level-le), omega arith) h) h
+
+  settled-worded : (c : ℕ) (f : Row Float → Verdict) → ((x : Row Float) → Fits (newRow c (f x))) → {r : Rows} (s : ℕ) (xs : List (Row Float)) → Worded n r → Worded n (settledLists c r s (map f xs))
   unfolding settledLists
-  settled-long c l s [] h = h
-  settled-long c l s (v ∷ vs) h = settled-long c (replacedBy l s (newRow c v)) (suc s) vs (by-verdict-long l s (newRow c v) h)
+  settled-worded c f each s [] h = h
+  settled-worded c f each s (x ∷ xs) h = settled-worded c f each (suc s) xs (replaced-worded s (newRow c (f x)) (each x) h)
 
-  settle-long : (b : Builder) (m : Mesh) (l : BuilderLists) (ri : ℕ) → Long rs (l .rows) → Long rs (settleOut b m l ri .lists .rows)
-  unfolding settleOut settleAccepted
-  settle-long b m l ri h = chosen (λ (o : SettleOut). Long rs (o .lists .rows)) (eqb (settleRefusal b m l ri) 0) _ _ (λ _. settled-long (b .level) (l .rows) _ _ h) h
+  settle-worded : (b : Builder) (m : Mesh) (l : BuilderLists) (ri : ℕ) → Worded n (l .rows) → Worded n (settleOut b m l ri .lists .rows)
+  unfolding settleOut settleAccepted settleRefusal meshedRefusal verdicts
+  settle-worded b m l ri h =
+      chosen (λ (o : SettleOut). Worded n (o .lists .rows)) (eqb (settleRefusal b m l ri) 0) _ _
+      (λ q. let a = asked (b .grid) (b .top) (b .level) (first-yes (first-yes (eqb-true (settleRefusal b m l ri) 0 q) .0) .0) in
+      settled-worded (b .level) _ (verdict-fits (b .level) (omega (arith, a .top-le, a .level-le)) _ _ _ _) _ (sliceAt b l ri) h) h
 
-  write-long : (b : Builder) (m : Mesh) (l : BuilderLists) (t : TailLists) (out : List ℕ) → Long rs (l .rows) → Long rs (writeTailOut b m l t out .lists .rows)
+  write-worded : (b : Builder) (m : Mesh) (l : BuilderLists) (t : TailLists) (out : List ℕ) → Worded n (l .rows) → Worded n (writeTailOut b m l t out .lists .rows)
   unfolding writeTailOut
-  write-long b m l t out h = chosen (λ (o : WriteOut). Long rs (o .lists .rows)) (eqb (writeTailRefusal b m l t (length out)) 0) _ _ (λ _. h) h
+  write-worded b m l t out h = chosen (λ (o : WriteOut). Worded n (o .lists .rows)) (eqb (writeTailRefusal b m l t (length out)) 0) _ _ (λ _. h) h
 
-  fresh-long : (g : Grid) (top : ℕ) (m : Mesh) (l : BuilderLists) → Long rs (l .rows) → Long rs (freshOut g top m l .lists .rows)
-  unfolding freshOut filledSlabs meshedRefusal
-  fresh-long g top m l h =
+  fresh-worded : (g : Grid) (top : ℕ) (m : Mesh) (l : BuilderLists) → Worded n (l .rows) → Worded n (freshOut g top m l .lists .rows)
+  unfolding freshOut meshedRefusal
+  fresh-worded g top m l h =
       let b = freshBuilder g top in
-      let n = slabs (b .grid) in
-      let wide : (d : List ℕ) → n ≤ length d → length (put d 0 (replicate n 0)) ≡ length d = λ d k. length-put d 0 (replicate n 0) (omega (arith, length-replicate {A = ℕ} n 0, k)) in
-      chosen (λ (o : BuiltOut). Long rs (o .lists .rows)) (eqb (meshedRefusal b m l) 0) _ _
+      let c = slabs (b .grid) in
+      let ws = h .words in
+      let z = per (b .top) in
+      chosen (λ (o : BuiltOut). Worded n (o .lists .rows)) (eqb (meshedRefusal b m l) 0) _ _
       (λ e. let r = meshed b m (length (l .store)) (length (l .rows .kinds)) (length (l .rows .levels)) (length (l .rows .values)) (eqb-true _ 0 e) .room in
-      record { kinds = wide (l .rows .kinds) (r .kinds-le) ∙ h .kinds; levels = wide (l .rows .levels) (r .levels-le) ∙ h .levels; values = wide (l .rows .values) (r .values-le) ∙ h .values }) h
+      let room : c ≤ length ws = subst (λ (k : ℕ). c ≤ k) (ap (λ (r : Rows). length (r .kinds)) (h .stand) ∙ kinds-long ws) (r .kinds-le) in
+      record {
+        words = put ws 0 (replicate c 0);
+        long = length-put ws 0 (replicate c 0) (omega (arith, length-replicate {A = ℕ} c 0, room)) ∙ h .long;
+        clear = filled-clear c ws (h .clear);
+        stand = ap (λ (r : Rows). filledSlabs c z (record { store = l .store; rows = r }) .rows) (h .stand) ∙ sym (ap (λ (k : BuilderLists). k .rows) (filled-words c z (l .store) ws));
+      }) h
 
--- ---- a state of records as one of number lists
+-- ---- a state of records as one of words
 
-same-lists : (st : LentState) → Long (st .rows) (st .work) → spreadLists st ≡ asState st .lists
-same-lists st h = ap (λ (o : SpreadOut). record { store = st .store; rows = o .rows }) (spread-columns (st .rows) (st .work) h)
+-- the words that a call leaves are those that stand for the rows of its outcome
+pub words-back : (ws : List ℕ) → wordsLeft (wordRows ws) ≡ ws
+unfolding wordRows wordsOf
+words-back [] = refl
+words-back (w ∷ ws) = rw (word-parts w) (ap (_∷_ w) (words-back ws))
 
-left-as : (st : LentState) (b : Builder) (l : BuilderLists) → Long (st .rows) (l .rows) → asState (leftIn st b l) ≡ record { builder = b; lists = l }
-left-as st b l h = ap (λ (r : Rows). record { builder = b; lists = record { store = l .store; rows = r } }) (gather-columns (st .rows) (l .rows) h)
+module _ (rs : List RowRecord) (r : Rows) (h : Worded (length rs) r) where
+  left-words : wordsLeft r ≡ h .words
+  left-words = ap wordsLeft (h .stand) ∙ words-back (h .words)
 
-left-long : (rs : List RowRecord) (l : Rows) → Long rs l → Long (gathered l rs) l
-left-long rs l h = let e = sym (long-gathered rs l) in record { kinds = h .kinds ∙ e; levels = h .levels ∙ e; values = h .values ∙ e }
+  left-rows : wordRows (wordsIn (gathered (wordsLeft r) rs)) ≡ r
+  left-rows = ap (λ (ws : List ℕ). wordRows (wordsIn (gathered ws rs))) left-words ∙ ap wordRows (gather-words rs (h .words) (h .long) (h .clear)) ∙ sym (h .stand)
+
+-- as many words as records, and records that such words were made of
+record Kept (st : LentState) : Type 0 where
+  work : length (st .work) ≡ length (st .rows)
+  rows : Worded (length (st .rows)) (wordRows (wordsIn (st .rows)))
+
+same-lists : (st : LentState) → length (st .work) ≡ length (st .rows) → spreadLists st ≡ asState st .lists
+same-lists st h = ap (λ (o : SpreadOut). wordLists (st .store) (o .words)) (spread-words (st .rows) (st .work) h)
+
+left-as : (st : LentState) (b : Builder) (l : BuilderLists) → Worded (length (st .rows)) (l .rows) → asState (leftIn st b l) ≡ record { builder = b; lists = l }
+left-as st b l h = ap (λ (r : Rows). record { builder = b; lists = record { store = l .store; rows = r } }) (left-rows (st .rows) (l .rows) h)
+
+left-kept : (st : LentState) (b : Builder) (l : BuilderLists) → Worded (length (st .rows)) (l .rows) → Kept (leftIn st b l)
+left-kept st b l h =
+    let rs = st .rows in
+    let long = sym (long-gathered rs (wordsLeft (l .rows))) in
+    record {
+      work = ap length (left-words rs (l .rows) h) ∙ h .long ∙ long;
+      rows = subst (λ (k : ℕ). Worded k (wordRows (wordsIn (gathered (wordsLeft (l .rows)) rs)))) long (subst (Worded (length rs)) (sym (left-rows rs (l .rows) h)) h);
+    }
 
 -- ---- one call, and a list of them
 
 module _ (m : Mesh) where
-  -- over number lists as long as the list of records
-  over : (st : LentState) (l : BuilderLists) → Long (st .rows) (l .rows) → (c : Call)
-      → (asState (calledOver m st l c) ≡ called m (record { builder = st .builder; lists = l }) c) × Long (calledOver m st l c .rows) (calledOver m st l c .work)
+  over : (st : LentState) (l : BuilderLists) → Worded (length (st .rows)) (l .rows) → (c : Call)
+      → (asState (calledOver m st l c) ≡ called m (record { builder = st .builder; lists = l }) c) × Kept (calledOver m st l c)
   unfolding called calledOver setLent settleLent
-  over st l h (set-call ri oi e) = let k = set-long (st .rows) (st .builder) l ri oi e h in (left-as st _ _ k, left-long (st .rows) _ k)
-  over st l h (settle-call ri) = let k = settle-long (st .rows) (st .builder) m l ri h in (left-as st _ _ k, left-long (st .rows) _ k)
-  over st l h (write-call t out) = let k = write-long (st .rows) (st .builder) m l t out h in (left-as st _ _ k, left-long (st .rows) _ k)
+  over st l h (set-call ri oi e) = let k = set-worded (st .builder) l ri oi e h in (left-as st _ _ k, left-kept st _ _ k)
+  over st l h (settle-call ri) = let k = settle-worded (st .builder) m l ri h in (left-as st _ _ k, left-kept st _ _ k)
+  over st l h (write-call t out) = let k = write-worded (st .builder) m l t out h in (left-as st _ _ k, left-kept st _ _ k)
 
   answered : (b : Builder) (l : BuilderLists) (c : Call) → repliedOver m b l c ≡ replied m (record { builder = b; lists = l }) c
   unfolding repliedOver replied setLent settleLent
@@ -106,14 +211,14 @@ module _ (m : Mesh) where
   answered b l (settle-call ri) = refl
   answered b l (write-call t out) = refl
 
-  runs : (st : LentState) (cs : List Call) → Long (st .rows) (st .work)
-      → (asState (runLent m st cs) ≡ run m (asState st) cs) × (repliesLent m st cs ≡ replies m (asState st) cs) × Long (runLent m st cs .rows) (runLent m st cs .work)
+  runs : (st : LentState) (cs : List Call) → Kept st
+      → (asState (runLent m st cs) ≡ run m (asState st) cs) × (repliesLent m st cs ≡ replies m (asState st) cs) × Kept (runLent m st cs)
   unfolding run runLent replies repliesLent
   runs st [] h = (refl, refl, h)
   runs st (c ∷ cs) h =
-      let e = same-lists st h in
+      let e = same-lists st (h .work) in
       let at : BuilderLists → State = λ l. record { builder = st .builder; lists = l } in
-      let k : Long (st .rows) (spreadLists st .rows) = subst (λ (l : BuilderLists). Long (st .rows) (l .rows)) (sym e) (columns-long (st .rows)) in
+      let k : Worded (length (st .rows)) (spreadLists st .rows) = subst (λ (l : BuilderLists). Worded (length (st .rows)) (l .rows)) (sym e) (h .rows) in
       let o = over st (spreadLists st) k c in
       let s : asState (calledLent m st c) ≡ called m (asState st) c = o .0 ∙ ap (λ (l : BuilderLists). called m (at l) c) e in
       let a : repliedOver m (st .builder) (spreadLists st) c ≡ replied m (asState st) c = answered (st .builder) (spreadLists st) c ∙ ap (λ (l : BuilderLists). replied m (at l) c) e in
@@ -125,7 +230,7 @@ module _ (m : Mesh) where
 
 -- ---- a history
 
-module _ (h : LentHistory) (long : Long (h .start .rows) (h .start .work)) where
+module _ (h : LentHistory) (held : Held (h .start .rows)) (long : length (h .start .work) ≡ length (h .start .rows)) where
   abbrev m : Mesh
   m = h .meshes
 
@@ -135,14 +240,19 @@ module _ (h : LentHistory) (long : Long (h .start .rows) (h .start .work)) where
   spread-is : spreadLists (h .start) ≡ asState (h .start) .lists
   spread-is = same-lists (h .start) long
 
-  fresh-kept : Long (h .start .rows) (freshOut (h .grid) (h .top) m (spreadLists (h .start)) .lists .rows)
-  fresh-kept = fresh-long (h .start .rows) (h .grid) (h .top) m (spreadLists (h .start)) (subst (λ (l : BuilderLists). Long (h .start .rows) (l .rows)) (sym spread-is) (columns-long (h .start .rows)))
+  start-worded : Worded (length (h .start .rows)) (spreadLists (h .start) .rows)
+  start-worded =
+      let rs = h .start .rows in
+      record { words = wordsIn rs; long = length-map rs wordIn; clear = held-clear rs held; stand = ap (λ (l : BuilderLists). l .rows) spread-is }
+
+  fresh-kept : Worded (length (h .start .rows)) (freshOut (h .grid) (h .top) m (spreadLists (h .start)) .lists .rows)
+  fresh-kept = fresh-worded (h .grid) (h .top) m (spreadLists (h .start)) start-worded
 
   begins : asState (begunLent h) ≡ begun (byValue h)
   begins = left-as (h .start) _ _ fresh-kept ∙ ap fresh-state spread-is
 
-  ran : (asState (endedLent h) ≡ run m (asState (begunLent h)) (h .calls)) × (repliesLent m (begunLent h) (h .calls) ≡ replies m (asState (begunLent h)) (h .calls)) × Long (endedLent h .rows) (endedLent h .work)
-  ran = runs m (begunLent h) (h .calls) (left-long (h .start .rows) _ fresh-kept)
+  ran : (asState (endedLent h) ≡ run m (asState (begunLent h)) (h .calls)) × (repliesLent m (begunLent h) (h .calls) ≡ replies m (asState (begunLent h)) (h .calls)) × Kept (endedLent h)
+  ran = runs m (begunLent h) (h .calls) (left-kept (h .start) _ _ fresh-kept)
 
   ends : asState (endedLent h) ≡ ended (byValue h)
   unfolding ended
@@ -150,7 +260,7 @@ module _ (h : LentHistory) (long : Long (h .start .rows) (h .start .work)) where
 
   writes : lastWriteLent h ≡ lastWrite (byValue h)
   writes =
-      ap (λ (l : BuilderLists). writeTailOut (endedLent h .builder) m l (h .tail) (h .output)) (same-lists (endedLent h) (ran .2))
+      ap (λ (l : BuilderLists). writeTailOut (endedLent h .builder) m l (h .tail) (h .output)) (same-lists (endedLent h) (ran .2 .work))
       ∙ ap (λ (t : State). writeTailOut (t .builder) m (t .lists) (h .tail) (h .output)) ends
 
   same-file : fileLent h ≡ file (byValue h)
@@ -170,4 +280,4 @@ module _ (h : LentHistory) (long : Long (h .start .rows) (h .start .work)) where
       }
 
 pub either-form : EitherForm
-either-form = (rows-alike, calls-alike)
+either-form = (words-back, rows-alike, calls-alike)

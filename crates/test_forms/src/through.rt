@@ -1,10 +1,11 @@
 // The lent forms behind plain signatures: a caller that holds a builder or records in a local lends them from such a function, whose proof is a walk by hand.
 ghost use mathlib.Core.Path.{_≡_};
 ghost use mathlib.Core.Bool.{true};
-ghost use lib.ListN.{set};
+ghost use lib.ListN.{length, set};
 ghost use Rattle.mesh.specs.Mesh.{meshOf};
-ghost use Rattle.builder.specs.BuilderLists.{listsOf};
+ghost use Rattle.builder.specs.BuilderLists.{wordLists};
 ghost use Rattle.lent.specs.Calls.{LentOut, LentValues, lentValues, lentNumbered, settleLent};
+ghost use Rattle.lent.specs.Records.{gatherNumber, gathered};
 use builder::Builder;
 use lent::LentSettled;
 use lent::RowRecord;
@@ -15,12 +16,16 @@ pub(crate) struct SettleLeft {
     pub(crate) answer: LentSettled,
 }
 
+// The records, and the number that the bridge answered.
+pub(crate) struct Gathered {
+    pub(crate) rows: [RowRecord; 2],
+    pub(crate) number: u64,
+}
+
 pub(crate) fn settle_through(
     b: Builder,
     store: &[f64],
-    kinds: &mut [u8],
-    levels: &mut [u8],
-    values: &mut [u32],
+    words: &mut [u64],
     vertices: &[f64],
     counts: &[u8],
     neighbours: &[u16],
@@ -28,17 +33,15 @@ pub(crate) fn settle_through(
     ri: u64,
 ) -> SettleLeft
     ensures { λ r. ⌜ (lentNumbered (r .answer) ≡ true) × _≡_ {A = LentOut LentValues}
-        (record { answer = lentValues (r .answer); builder = r .builder; lists = listsOf (now (store .entry)) (now (kinds .exit)) (now (levels .exit)) (now (values .exit)) })
+        (record { answer = lentValues (r .answer); builder = r .builder; lists = wordLists (now (store .entry)) (now (words .exit)) })
         (settleLent b (meshOf (now (vertices .entry)) (now (counts .entry)) (now (neighbours .entry)) (now (angles .entry)))
-        (listsOf (now (store .entry)) (now (kinds .entry)) (now (levels .entry)) (now (values .entry))) ri) ⌝ }
+        (wordLists (now (store .entry)) (now (words .entry))) ri) ⌝ }
 {
     let mut c = b;
     let answer = lent::settle_lent(
         &mut c,
         store,
-        kinds,
-        levels,
-        values,
+        words,
         vertices,
         counts,
         neighbours,
@@ -54,4 +57,12 @@ pub(crate) fn with_row(rows: [RowRecord; 2], s: usize, r: RowRecord) -> [RowReco
     let mut t = rows;
     lent::replace_row(&mut t, s, r);
     t
+}
+
+pub(crate) fn gather_through(rows: [RowRecord; 2], words: &[u64]) -> Gathered
+    ensures { λ r. ⌜ (r .number ≡ gatherNumber (length rows) (now (words .entry))) × (r .rows ≡ gathered (now (words .entry)) rows) ⌝ }
+{
+    let mut t = rows;
+    let number = lent::gather(&mut t, words);
+    Gathered { rows: t, number }
 }
