@@ -1,6 +1,7 @@
 #!/usr/bin/env python3
 """The table of docs/GUIDE.md by level, beside what icotable inspect --resolution prints for a table of 16 levels, and its means beside those of
-tests/hosts/distances.c: resolution.py GUIDE TOLD MEANS. The status is 1 where a row differs, a mean by more than a twentieth."""
+tests/hosts/distances.c: resolution.py GUIDE TOLD MEANS. The status is 1 where a row differs, a mean, which the
+page has to two digits and which is drawn anew each time, by more than a tenth."""
 import sys
 
 
@@ -19,7 +20,7 @@ def main():
     for level, n, apart, farthest, squared, average in rows(page):
         _, vertices, _, _, low, high, angle, square = lines[level]
         wanted = [vertices, low if low == high else f"{low} to {high}", angle, square]
-        if [n, apart, farthest, squared] != wanted or abs(float(average) / float(mean[level]) - 1) > 0.05:
+        if [n, apart, farthest, squared] != wanted or abs(float(average) / float(mean[level]) - 1) > 0.1:
             print(f"docs/GUIDE.md has {n}, {apart}, {farthest}, {squared}, {average} at level {level}; found were {wanted}, {mean[level]}")
             wrong += 1
     print(f"resolution: {len(rows(page))} levels of docs/GUIDE.md, {wrong} differ; {len(lines)} levels told")
