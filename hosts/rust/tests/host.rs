@@ -183,11 +183,11 @@ fn a_builders_rows_are_words() {
 
 #[test]
 fn rows_move_to_words_and_back() {
-    let numbers = |k: u64| [0, 1, 3, 127, 200, 255][(k % 6) as usize];
+    let numbers = |k: u32| [0u32, 1, 3, 127, 200, 255][k as usize % 6];
     let lists = RowLists {
         kinds: (0..216).map(numbers).map(|n| n as u8).collect(),
         levels: (0..216).map(|k| numbers(k / 6) as u8).collect(),
-        values: (0..216).map(|k| (numbers(k / 36) * 0x0101_0101) as u32).collect(),
+        values: (0..216).map(|k| numbers(k / 36) * 0x0101_0101).collect(),
     };
     let words = rows_to_words(&lists).unwrap();
     for (i, &word) in words.iter().enumerate() {
