@@ -7,5 +7,5 @@ use Rattle.test_builds.proofs.accident.other_rows.Tie as tie
 pub other-rows-spec : {M : Type 1} → statement M
 other-rows-spec =
     tie.close
-    (tie.spec (λ a b n₀ i₀ n i. i ≤ 12) (λ a b n₀ i₀ n i. 12 - i) (λ c. search needs) (λ c. search needs) (λ c. search needs) (λ c κs. search needs)
-    (λ c. search needs) (λ c. search needs) (λ c. search needs) (λ c. search needs))
+    (tie.spec (λ a b n₀ i₀ n i. i ≤ 12) (λ a b n₀ i₀ n i. 12 - i) (λ c. search needs) (λ c. search needs) (λ c. search needs) (λ c. search needs)
+    (λ c. search needs) (λ c κs. search needs) (λ c. search needs) (λ c. search needs) (λ c. search needs) (λ c. search needs))
