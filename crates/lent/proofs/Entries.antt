@@ -1,12 +1,12 @@
 -- One record of a list, the numbers and the word that it stands for, and what the bridge takes over. Assumes nothing.
 use mathlib.Core.Path.{_≡_, refl, sym, _∙_, ap}
 use mathlib.Core.Bool.{Bool, true, false, not}
-use mathlib.Core.List.{List, map}
+use mathlib.Core.List.{List}
 use Prim.Native.Nat.{ℕ, zero, suc, _<_, _≤_, _+_, _*_, _^_, zero-le}
 use native.Mathlib.Omega.{arith}
 use lib.ListN.{length, getD, set, length-set, List·getD-map, List·getD-eq-default}
 use lib.Seq.{set-out}
-use lib.Dec.{T as Holds, ltb, leb, eqb, nltb→le}
+use lib.Dec.{T as Holds, ltb, eqb, nltb→le}
 use borrow.Author.Tests.{leb-true, eqb-true}
 use Rattle.lists.specs.Lists.{forEach}
 use Rattle.lists.specs.Questions.{ask}

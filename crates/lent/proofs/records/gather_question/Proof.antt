@@ -1,5 +1,4 @@
 -- `gather_question` meets its contract. Assumes nothing.
-use native.Mathlib.Omega.{arith}
 use borrow.Author.Tests.{lt-leb, le-leb}
 use borrow.Author.Needs.{needs}
 use Rattle.lists.specs.Questions.{ask}
