@@ -25,7 +25,7 @@ DONE = 'le-antisymm (i .1) (nltb→le (i .0) m %s)' % LOW
 class Bridge(Parted):
     """fits, bounds: the laws that the question's number fits, and that the count is at most each length; asked: what
     the question is asked of the list of numbers; filled: the list that is filled; between: the labels of the tokens at
-    the loop."""
+    the loop; following: the number of the statement after the loop."""
     kinds = (Slice, Slice), ()
 
     def __init__(self, crate, module, name, opens, none, fits, bounds):

@@ -26,5 +26,5 @@ def walks():
                'getD (wordsIn (rows .now)) %s 0', 'word-read (rows .now) %s'),
         Through('test_forms', 'through', 'settle_through'),
         Through('test_forms', 'through', 'with_row', 'e .1'),
-        Through('test_forms', 'through', 'gather_through'),
+        Through('test_forms', 'through', 'with_words', 'e .1'),
     ]

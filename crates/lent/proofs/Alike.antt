@@ -1,5 +1,6 @@
 -- All calls, files and readings answer alike through either form. Assumes nothing.
 use mathlib.Core.Path.{_≡_, refl, sym, ap, subst, _∙_}
+use mathlib.Core.Bool.{true}
 use mathlib.Core.List.{List, [], _∷_}
 use Prim.Native.Nat.{ℕ}
 use lib.ListN.{length, take, length-map}
@@ -7,7 +8,7 @@ use Rattle.mesh.specs.Mesh.{Mesh}
 use Rattle.rows.specs.Rows.{Rows}
 use Rattle.rows.specs.Words.{wordRows}
 use Rattle.rows.proofs.InWords.{word-parts}
-use Rattle.words.specs.Moves.{wordsOf}
+use Rattle.words.specs.Moves.{wordsOf, rowsFit}
 use Rattle.builder.specs.BuilderLists.{BuilderLists, wordLists}
 use Rattle.builder.specs.declared.Builder.{Builder}
 use Rattle.builder.specs.Calls.{freshOut}
@@ -21,9 +22,9 @@ use Rattle.ledger.specs.Promise.{ended, lastWrite, file}
 use Rattle.ledger.specs.Replies.{Reply, writeReply, replied, replies, begun}
 use Rattle.lent.specs.declared.RowRecord.{RowRecord}
 use Rattle.lent.specs.Calls.{setLent, settleLent}
-use Rattle.lent.specs.Records.{wordIn, wordsIn, gathered, SpreadOut}
-use Rattle.lent.specs.Forms.{LentState, asState, spreadLists, wordsLeft, leftIn, calledOver, repliedOver, calledLent, runLent, repliesLent, LentHistory, byValue, begunLent, endedLent, lastWriteLent, fileLent, Held, CallsAlike, EitherForm}
-use Rattle.lent.proofs.Columns.{spread-words, gather-words, long-gathered, held-clear, rows-alike}
+use Rattle.lent.specs.Records.{columns, wordIn, wordsIn, gathered, SpreadOut}
+use Rattle.lent.specs.Forms.{LentState, asState, spreadLists, wordsLeft, leftIn, calledOver, repliedOver, calledLent, runLent, repliesLent, LentHistory, byValue, begunLent, endedLent, lastWriteLent, fileLent, CallsAlike, EitherForm}
+use Rattle.lent.proofs.Columns.{spread-words, gather-words, long-gathered, fit-clear, rows-alike}
 use Rattle.lent.proofs.Worded.{Worded, set-worded, settle-worded, write-worded, fresh-worded}
 
 -- ---- a state of records as one of words
@@ -96,7 +97,7 @@ module _ (m : Mesh) where
 
 -- ---- a history
 
-module _ (h : LentHistory) (held : Held (h .start .rows)) (long : length (h .start .work) ≡ length (h .start .rows)) where
+module _ (h : LentHistory) (fits : rowsFit (columns (h .start .rows)) ≡ true) (long : length (h .start .work) ≡ length (h .start .rows)) where
   abbrev m : Mesh
   m = h .meshes
 
@@ -109,7 +110,7 @@ module _ (h : LentHistory) (held : Held (h .start .rows)) (long : length (h .sta
   start-worded : Worded (length (h .start .rows)) (spreadLists (h .start) .rows)
   start-worded =
       let rs = h .start .rows in
-      record { words = wordsIn rs; long = length-map rs wordIn; clear = held-clear rs held; stand = ap (λ (l : BuilderLists). l .rows) spread-is }
+      record { words = wordsIn rs; long = length-map rs wordIn; clear = fit-clear rs fits; stand = ap (λ (l : BuilderLists). l .rows) spread-is }
 
   fresh-kept : Worded (length (h .start .rows)) (freshOut (h .grid) (h .top) m (spreadLists (h .start)) .lists .rows)
   fresh-kept = fresh-worded (h .grid) (h .top) m (spreadLists (h .start)) start-worded

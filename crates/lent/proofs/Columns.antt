@@ -1,24 +1,25 @@
 -- Records and the words that they stand for, a whole list at a time. Assumes nothing.
 use mathlib.Core.Path.{_≡_, refl, sym, ap, subst, _∙_}
-use mathlib.Core.Bool.{Bool, true, false}
+use mathlib.Core.Bool.{Bool, true, false, _&&_, and-eq-true-iff}
 use mathlib.Core.List.{List, [], _∷_}
 use mathlib.Core.Logic.{⊎-elim}
-use Prim.Native.Nat.{ℕ, zero, suc, _<_, _≤_}
+use Prim.Native.Nat.{ℕ, zero, suc, _<_, _≤_, zero-le}
 use native.Mathlib.Omega.{arith}
 use lib.ListN.{length, getD, length-map}
 use lib.Seq.{ext-getD, getD-set-same, getD-set-other}
-use borrow.Author.Tests.{le-leb, lt-ltb}
+use lib.Dec.{leb}
+use borrow.Author.Tests.{le-leb, leb-true, lt-ltb}
 use Rattle.ieee.proofs.Pack.{le-or-lt}
 use Rattle.lists.specs.Lists.{forEach, every}
 use Rattle.lists.specs.Questions.{ask}
 use Rattle.rows.specs.Rows.{rowsOf, resolutionAt}
 use Rattle.rows.specs.Words.{wordKind, wordLevel, wordValue, wordRows}
 use Rattle.rows.proofs.InWords.{word-kind, word-level, word-value, kind-at, level-at, value-at, words-of, kinds-long, levels-long, values-long, map-set, replaced-in}
-use Rattle.words.specs.Moves.{restsClear}
+use Rattle.words.specs.Moves.{restsClear, rowsFit}
 use Rattle.words.proofs.Zipped.{kind-fits}
 use Rattle.lent.specs.declared.RowRecord.{RowRecord}
 use Rattle.lent.specs.Records.{columns, recordAt, recordOf, wordIn, wordsIn, gatherNumber, spreadNumber, taken, copied, gathered, spreadOut}
-use Rattle.lent.specs.Forms.{Held, RowsAlike}
+use Rattle.lent.specs.Forms.{RowsAlike}
 use Rattle.lent.proofs.Entries.{none, read, word-read, length-copied}
 
 -- no word has a rest
@@ -92,17 +93,32 @@ rest-left : (rs : List RowRecord) (ws : List ℕ) → gatherNumber (length rs) w
 unfolding taken forEach
 rest-left rs ws e = rw e
 
--- ---- the numbers of records that are held
+-- ---- the numbers of records, where they fit
 
-module _ (rs : List RowRecord) (h : Held rs) where
+at-most : (k : ℕ) (l : List ℕ) → every (λ x. leb x k) l ≡ true → (s : ℕ) → getD l s 0 ≤ k
+unfolding every
+at-most k [] e s = zero-le
+at-most k (x ∷ l) e zero = leb-true x k (and-eq-true-iff (leb x k) (every (λ y. leb y k) l) .0 e .0)
+at-most k (x ∷ l) e (suc s) = at-most k l (and-eq-true-iff (leb x k) (every (λ y. leb y k) l) .0 e .1) s
+
+module _ (rs : List RowRecord) (h : rowsFit (columns rs) ≡ true) where
+  fit : (s : ℕ) → let r = recordAt (columns rs) s in (r .kind ≤ 255) × (r .level ≤ 255) × (r .value ≤ 4294967295)
+  fit s =
+      let ks = every (λ k. leb k 255) (columns rs .kinds) in
+      let ls = every (λ l. leb l 255) (columns rs .levels) in
+      let vs = every (λ v. leb v 4294967295) (columns rs .values) in
+      let a = and-eq-true-iff ks (ls && vs) .0 h in
+      let b = and-eq-true-iff ls vs .0 (a .1) in
+      (at-most 255 (columns rs .kinds) (a .0) s, at-most 255 (columns rs .levels) (b .0) s, at-most 4294967295 (columns rs .values) (b .1) s)
+
   word-at : (s : ℕ) → getD (wordsIn rs) s 0 ≡ wordIn (recordAt (columns rs) s)
   word-at s = sym (word-read rs s) ∙ ap wordIn (read rs s)
 
   kind-in : (s : ℕ) → wordKind (getD (wordsIn rs) s 0) ≡ recordAt (columns rs) s .kind
-  kind-in s = ap wordKind (word-at s) ∙ word-kind _ _ _ (h .levels s) (h .values s)
+  kind-in s = ap wordKind (word-at s) ∙ word-kind _ _ _ (fit s .1) (fit s .2)
 
-  pub held-clear : Clear (wordsIn rs)
-  held-clear s = subst (λ (k : ℕ). k ≤ 255) (sym (kind-in s)) (h .kinds s)
+  pub fit-clear : Clear (wordsIn rs)
+  fit-clear s = subst (λ (k : ℕ). k ≤ 255) (sym (kind-in s)) (fit s .0)
 
   column-words : (ns ms : List ℕ) → length ns ≡ length (wordsIn rs) → length ms ≡ length rs → ((s : ℕ) → getD ns s 0 ≡ getD ms s 0) → ns ≡ ms
   column-words ns ms i j each = ext-getD 0 ns ms (i ∙ length-map rs wordIn ∙ sym j) (λ s _. each s)
@@ -112,14 +128,14 @@ module _ (rs : List RowRecord) (h : Held rs) where
       let ws = wordsIn rs in
       let k = column-words (wordRows ws .kinds) (columns rs .kinds) (kinds-long ws) (length-map rs (λ (r : RowRecord). r .kind)) (λ s. kind-at ws s ∙ kind-in s) in
       let l = column-words (wordRows ws .levels) (columns rs .levels) (levels-long ws) (length-map rs (λ (r : RowRecord). r .level))
-      (λ s. level-at ws s ∙ ap wordLevel (word-at s) ∙ word-level _ _ _ (h .levels s) (h .values s)) in
+      (λ s. level-at ws s ∙ ap wordLevel (word-at s) ∙ word-level _ _ _ (fit s .1) (fit s .2)) in
       let v = column-words (wordRows ws .values) (columns rs .values) (values-long ws) (length-map rs (λ (r : RowRecord). r .value))
-      (λ s. value-at ws s ∙ ap wordValue (word-at s) ∙ word-value _ _ _ (h .values s)) in
+      (λ s. value-at ws s ∙ ap wordValue (word-at s) ∙ word-value _ _ _ (fit s .2)) in
       ap (λ (x : List ℕ). rowsOf x (wordRows ws .levels) (wordRows ws .values)) k ∙ ap (λ (x : List ℕ). rowsOf (columns rs .kinds) x (wordRows ws .values)) l ∙ ap (rowsOf (columns rs .kinds) (columns rs .levels)) v
 
 -- ---- one row
 
-pub rows-alike : (rs : List RowRecord) → Held rs → RowsAlike rs
+pub rows-alike : (rs : List RowRecord) → rowsFit (columns rs) ≡ true → RowsAlike rs
 unfolding resolutionAt
 rows-alike rs h =
     record {

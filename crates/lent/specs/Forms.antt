@@ -1,5 +1,6 @@
 -- The same calls by value over words, and with the builder lent over row records; and what it is that they answer alike. Definitions only.
 use mathlib.Core.Path.{_≡_}
+use mathlib.Core.Bool.{true}
 use mathlib.Core.List.{List, [], _∷_}
 use Prim.Native.Nat.{ℕ, _≤_, _<_}
 use lib.ListN.{length, getD, set, take}
@@ -9,7 +10,7 @@ use Rattle.grid.specs.declared.Grid.{Grid}
 use Rattle.rows.specs.declared.SlabResolution.{SlabResolution}
 use Rattle.rows.specs.Rows.{Rows, levelOf, valueOf, resolutionOf, resolutionAt, replaced}
 use Rattle.rows.specs.Words.{wordKind, wordRows}
-use Rattle.words.specs.Moves.{wordsOf}
+use Rattle.words.specs.Moves.{wordsOf, rowsFit}
 use Rattle.search.specs.Search.{Locator}
 use Rattle.builder.specs.BuilderLists.{BuilderLists, wordLists}
 use Rattle.builder.specs.declared.Builder.{Builder}
@@ -103,12 +104,6 @@ fileLent h = take (lastWriteLent h .answer .length) (lastWriteLent h .output)
 
 -- ---- alike
 
--- the records hold numbers of eight, eight and 32 bits: those of a list that code can lend do
-pub record Held (rs : List RowRecord) : Type 0 where
-  pub kinds : (s : ℕ) → recordAt (columns rs) s .kind ≤ 255
-  pub levels : (s : ℕ) → recordAt (columns rs) s .level ≤ 255
-  pub values : (s : ℕ) → recordAt (columns rs) s .value ≤ 4294967295
-
 -- "read one, replace one": one row, and the bridge both ways
 pub record RowsAlike (rs : List RowRecord) : Type 0 where
   -- the words of records stand for the records' numbers
@@ -131,6 +126,7 @@ pub record CallsAlike (h : LentHistory) : Type 0 where
       readingBy (fileLent h) (readOut (fileLent h) .table) vertices l way q ≡ readingBy (file (byValue h)) (readOut (file (byValue h)) .table) vertices l way q
   pub tails : (r : Float) → tailOut (fileLent h) (readOut (fileLent h) .table) r ≡ tailOut (file (byValue h)) (readOut (file (byValue h)) .table) r
 
--- all calls, files and readings answer alike through either form; and words can be had from the rows that they stand for
+-- all calls, files and readings answer alike through either form, the records being of numbers that their types can hold;
+-- and words can be had from the rows that they stand for
 abbrev pub EitherForm : Type 0
-EitherForm = ((ws : List ℕ) → wordsLeft (wordRows ws) ≡ ws) × ((rs : List RowRecord) → Held rs → RowsAlike rs) × ((h : LentHistory) → Held (h .start .rows) → length (h .start .work) ≡ length (h .start .rows) → CallsAlike h)
+EitherForm = ((ws : List ℕ) → wordsLeft (wordRows ws) ≡ ws) × ((rs : List RowRecord) → rowsFit (columns rs) ≡ true → RowsAlike rs) × ((h : LentHistory) → rowsFit (columns (h .start .rows)) ≡ true → length (h .start .work) ≡ length (h .start .rows) → CallsAlike h)

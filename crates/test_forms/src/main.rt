@@ -142,15 +142,14 @@ fn replace(rows: [u64; 2]) {
 // Words into records that hold Repulsive, beside the move of the same words to three lists that do.
 fn gather(what: &[u8], words: [u64; 2]) {
     let r = lent::record_of(SlabResolution::Repulsive);
-    let g = through::gather_through([r, r], &words);
+    let records = through::with_words([r, r], &words);
     let mut kinds: [u8; 2] = [1; 2];
     let mut levels: [u8; 2] = [0; 2];
     let mut values: [u32; 2] = [0; 2];
-    let number = words::words_to_rows(2, &words, &mut kinds, &mut levels, &mut values);
-    let a = g.rows[0];
-    say(what, g.number, number);
+    words::words_to_rows(2, &words, &mut kinds, &mut levels, &mut values);
+    let a = records[0];
     say(
-        b"  row 0 after it",
+        what,
         word_of(a),
         rows::word_of(kinds[0], levels[0], values[0]),
     );
@@ -215,6 +214,9 @@ fn main() {
     let settled = settle_by_value(c, 0, &store, words);
     compare(b"settle", settle_lent(c, 0, &store, words), settled);
     replace(words);
-    gather(b"gather", words);
-    gather(b"gather, a word with a rest", [words[0], 281474976710656]);
+    gather(b"row 0, gathered over Repulsive", words);
+    gather(
+        b"row 0, where word 1 has a rest",
+        [words[0], 281474976710656],
+    );
 }

@@ -1,11 +1,11 @@
 // The lent forms behind plain signatures: a caller that holds a builder or records in a local lends them from such a function, whose proof is a walk by hand.
 ghost use mathlib.Core.Path.{_≡_};
 ghost use mathlib.Core.Bool.{true};
-ghost use lib.ListN.{length, set};
+ghost use lib.ListN.{set};
 ghost use Rattle.mesh.specs.Mesh.{meshOf};
 ghost use Rattle.builder.specs.BuilderLists.{wordLists};
 ghost use Rattle.lent.specs.Calls.{LentOut, LentValues, lentValues, lentNumbered, settleLent};
-ghost use Rattle.lent.specs.Records.{gatherNumber, gathered};
+ghost use Rattle.lent.specs.Records.{gathered};
 use builder::Builder;
 use lent::LentSettled;
 use lent::RowRecord;
@@ -14,12 +14,6 @@ use lent::RowRecord;
 pub(crate) struct SettleLeft {
     pub(crate) builder: Builder,
     pub(crate) answer: LentSettled,
-}
-
-// The records, and the number that the bridge answered.
-pub(crate) struct Gathered {
-    pub(crate) rows: [RowRecord; 2],
-    pub(crate) number: u64,
 }
 
 pub(crate) fn settle_through(
@@ -59,10 +53,10 @@ pub(crate) fn with_row(rows: [RowRecord; 2], s: usize, r: RowRecord) -> [RowReco
     t
 }
 
-pub(crate) fn gather_through(rows: [RowRecord; 2], words: &[u64]) -> Gathered
-    ensures { λ r. ⌜ (r .number ≡ gatherNumber (length rows) (now (words .entry))) × (r .rows ≡ gathered (now (words .entry)) rows) ⌝ }
+pub(crate) fn with_words(rows: [RowRecord; 2], words: &[u64]) -> [RowRecord; 2]
+    ensures { λ t. ⌜ t ≡ gathered (now (words .entry)) rows ⌝ }
 {
     let mut t = rows;
-    let number = lent::gather(&mut t, words);
-    Gathered { rows: t, number }
+    lent::gather(&mut t, words);
+    t
 }

@@ -1,4 +1,4 @@
--- `gather_through` meets its contract: a walk of its MIR, written by tools/walks. Assumes nothing.
+-- `with_words` meets its contract: a walk of its MIR, written by tools/walks. Assumes nothing.
 -- The first parameter is copied to a local, which is lent for a lifetime that the walk makes; `gather` is called with
 -- the loan; the lifetime is ended, and the local is back as the callee left it. The numbers of `move` and `look` are
 -- places in the context.
@@ -45,22 +45,19 @@ use denote.Triple.Table.{entered, cited}
 use denote.Triple.Walked.{says, Stays, stay-none, stay-none-slice, walkOf, AllGo, goes-none, goes-none-slice, Walks, ends-at, walked, walk-meets}
 use denote.Exit.{yes}
 use denote.Struct.Laws as LL
-use Rattle.lent.specs.Records.{gatherNumber, gathered}
+use Rattle.lent.specs.Records.{gathered, gatherNumber}
 use Rattle.test_forms.proofs.Arrays.{two, R, vals, machs, arrTy, refTy, room-two, typed, apart, together}
 use Rattle.lent.specs.declared.RowRecord.{RowRecord}
 use Rattle.lent.proofs.RowRecord as T
 use Rattle.lent.proofs.RowRecord.Laws as T′
-use Rattle.test_forms.specs.declared.through.Gathered.{Gathered}
-use Rattle.test_forms.proofs.through.Gathered as N
-use Rattle.test_forms.proofs.through.Gathered.Laws as N′
 use Rattle.lent.proofs.gather as callee
 use Rattle.lent.proofs.gather.Symbol as callee-def
 use Rattle.lent.proofs.gather.Symbol.{name as #lent·gather}
 use Rattle.lent.proofs.gather.Met as callee-thm
-use Rattle.test_forms.proofs.through.gather_through.Key.{name as #test-forms·gather-through}
-use Rattle.test_forms.proofs.through.gather_through as fn
-use Rattle.test_forms.proofs.through.gather_through.Statement as statement
-use Rattle.test_forms.proofs.through.gather_through.Code as code
+use Rattle.test_forms.proofs.through.with_words.Key.{name as #test-forms·with-words}
+use Rattle.test_forms.proofs.through.with_words as fn
+use Rattle.test_forms.proofs.through.with_words.Statement as statement
+use Rattle.test_forms.proofs.through.with_words.Code as code
 
 abbrev stayed : Stays (fn.ended .signature .params) (fn.ended .kept)
 stayed = (stay-none (λ _. R) yes, (stay-none-slice (0 ∷ []) tt (plain (λ _. u64)) yes, tt))
@@ -71,9 +68,6 @@ Callee 𝓤 H A mem run = tripleOf 𝓤 H A callee.signature (callee.spec 𝓤 H
 
 abbrev mach : RowRecord → Val
 mach x = LL.val T.the-type T′.the-laws x
-
-abbrev mach-N : Gathered → Val
-mach-N x = LL.val N.the-type N′.the-laws x
 
 module _ {M : Type 1} (𝓤 : URA M) (H : Heap 𝓤) (A : Atoms 𝓤) (W : Given 𝓤 H A) (at-mem : Memory → SProp 𝓤) (run : Routine → Fun 𝓤) (κ : Lft) (q : Share) (rows : List RowRecord) (words : RefT (List ℕ))
     (g-rows : Is R rows (machs rows ∷ [])) (many-rows : length rows ≡ two) (g-words : Room u64 (length (words .now))) where
@@ -103,15 +97,15 @@ module _ {M : Type 1} (𝓤 : URA M) (H : Heap 𝓤) (A : Atoms 𝓤) (W : Given
   Left = Toks ∷ ‵ Own-words ∷ []
 
   -- what is ensured
-  abbrev Said : Gathered → Type 0
-  Said r = (r .number ≡ gatherNumber (length rows) (words .now)) × (r .rows ≡ gathered (words .now) rows)
+  abbrev Said : List RowRecord → Type 0
+  Said t = t ≡ gathered (words .now) rows
 
-  exits : (r : Gathered) → Said r → Is N.the-row r (mach-N r ∷ []) → ent 𝓤 (⋆ 𝓤 H A Left) (Post (mach-N r))
-  exits r e g =
+  exits : (t : List RowRecord) → Said t → Is R t (machs t ∷ []) → ent 𝓤 (⋆ 𝓤 H A Left) (Post (machs t))
+  exits t e g =
       qed W Left ∵
-      suffices ! _ (ends-at 𝓤 H A fn.ended stayed (fn.clauses 𝓤 H A at-mem run) W bound (mach-N r) r (tt, (tt, tt)) (tt, (tt, tt))) $ says ! e $ frame ! $ nothing ! $ move ! (1 ∷ 0 ∷ []) $ fjoin ! $
-      owned ! R (Is R) (array-makes 𝓤 H A W T.the-row (LL.makes T.the-type T′.the-plain 𝓤 H A) two) rows _ g-rows $ fjoin ! $ owned ! N.the-row (Is N.the-row) (LL.makes N.the-type N′.the-plain 𝓤 H A) r _ g $
-      move ! (1 ∷ 0 ∷ []) $ done !
+      suffices ! _ (ends-at 𝓤 H A fn.ended stayed (fn.clauses 𝓤 H A at-mem run) W bound (machs t) t (tt, (tt, tt)) (tt, (tt, tt))) $ says ! e $ frame ! $ nothing ! $ move ! (1 ∷ 0 ∷ []) $ fjoin ! $
+      owned ! R (Is R) (array-makes 𝓤 H A W T.the-row (LL.makes T.the-type T′.the-plain 𝓤 H A) two) rows _ g-rows $ fjoin ! $
+      owned ! R (Is R) (array-makes 𝓤 H A W T.the-row (LL.makes T.the-type T′.the-plain 𝓤 H A) two) t _ g $ move ! (1 ∷ 0 ∷ []) $ done !
 
   -- the loan of the local at l
   abbrev lent : ℕ → GName → RefT (List RowRecord)
@@ -119,10 +113,6 @@ module _ {M : Type 1} (𝓤 : URA M) (H : Heap 𝓤) (A : Atoms 𝓤) (W : Given
 
   abbrev Loan : ℕ → ℕ → GName → Fml
   Loan l α γ = MutSlice (named 0) (α ∷ []) T.the-row .own (lent l γ) (sliceVal (l, 0) (length rows) ∷ [])
-
-  -- the result, of its two parts
-  abbrev made : List RowRecord → ℕ → Gathered
-  made z-loan r = record { rows = z-loan; number = r }
 
   -- what goes to `gather`
   abbrev callee-args : ℕ → ℕ → GName → RefT (List RowRecord) × (RefT (List ℕ) × (Unit {0}))
@@ -148,37 +138,34 @@ module _ {M : Type 1} (𝓤 : URA M) (H : Heap 𝓤) (A : Atoms 𝓤) (W : Given
     walk =
         qed W (Toks ∷ ‵ (owns (R ∷ ShrSlice (named 0) κ u64 ∷ []) a at) ∷ []) ∵
         enter ! (𝓣 .C) (𝓣 .Λ) code.function (machs rows ∷ v-words ∷ []) _ $
-        alloc1 ! (λ m0. alloc1 ! (λ m1. alloc1 ! (λ m2. alloc1 ! (λ m3. alloc1 ! (λ m4. alloc1 ! (λ m5. alloc1 ! (λ m6. alloc1 ! (λ m7. alloc0 ! $ params1 ! $
-        pass1 ! (init ! 12 refl (typed 𝓤 H A W rows g-rows)) $ pass1 ! (init ! 10 refl (tt, (tt, (record { fits = g-words .0 }, tt)))) $ pass0 ! $ move ! (17 ∷ []) $ fsplit ! $ drop ! $ fsplit ! $
+        alloc1 ! (λ m0. alloc1 ! (λ m1. alloc1 ! (λ m2. alloc1 ! (λ m3. alloc1 ! (λ m4. alloc1 ! (λ m5. alloc1 ! (λ m6. alloc0 ! $ params1 ! $ pass1 ! (init ! 10 refl (typed 𝓤 H A W rows g-rows)) $
+        pass1 ! (init ! 8 refl (tt, (tt, (record { fits = g-words .0 }, tt)))) $ pass0 ! $ move ! (15 ∷ []) $ fsplit ! $ drop ! $ fsplit ! $
         use1 W (‵ Own-words ⊛ ‵ Own-words) (shr-slice-copy 𝓤 H A W (named 0) κ u64 .twice words (v-words ∷ [])) $ split ! $ move ! (2 ∷ []) $ drop ! $
         -- the copy in the local, its address, and each `&mut` list borrowed again
-        assigns ! (of-opd ! (load ! (from ! (stop !)) (look ! 14 refl))) (from ! (stop !)) (init ! 10 refl (typed 𝓤 H A W rows g-rows)) $
-        assigns ! (addr ! (from ! (stop !))) (from ! (stop !)) (init ! 6 refl (tt, tt)) $
-        assigns ! (agg ! (and-then ! (load ! (from ! (stop !)) (look ! 6 refl)) (and-then ! (lit ! tt) (no-more !)))) (from ! (stop !)) (init ! 4 refl (tt, (tt, (record { fits = lit< tt }, tt)))) $
-        rewrite ! 4 (λ (j : ℕ). ‵ (fat fullShare (refTy mut) m6 0 (sliceVal (m3, 0) j))) (sym many-rows) refl $
+        assigns ! (of-opd ! (load ! (from ! (stop !)) (look ! 12 refl))) (from ! (stop !)) (init ! 8 refl (typed 𝓤 H A W rows g-rows)) $
+        assigns ! (addr ! (from ! (stop !))) (from ! (stop !)) (init ! 4 refl (tt, tt)) $
+        assigns ! (agg ! (and-then ! (load ! (from ! (stop !)) (look ! 4 refl)) (and-then ! (lit ! tt) (no-more !)))) (from ! (stop !)) (init ! 2 refl (tt, (tt, (record { fits = lit< tt }, tt)))) $
+        rewrite ! 2 (λ (j : ℕ). ‵ (fat fullShare (refTy mut) m6 0 (sliceVal (m3, 0) j))) (sym many-rows) refl $
         -- the local is lent for a lifetime α, and the call
-        owned ! R (Is R) (array-makes 𝓤 H A W T.the-row (LL.makes T.the-type T′.the-plain 𝓤 H A) two) rows _ g-rows $ move ! (11 ∷ 0 ∷ []) $
+        owned ! R (Is R) (array-makes 𝓤 H A W T.the-row (LL.makes T.the-type T′.the-plain 𝓤 H A) two) rows _ g-rows $ move ! (9 ∷ 0 ∷ []) $
         use2 W (‵ (cells (mem T.the-row) rows m3 0)) (apart 𝓤 H A W rows m3) $ lft-new ! tt (λ α. move ! (1 ∷ []) $
         use1 W (later (some (λ (γ : GName). ‵ (Loan m3 α γ) ⊛ ‵ (flent (α ∷ []) (Held T.the-row (length rows) m3 0 γ))))) (lends-slice 𝓤 H A W T.the-row (named 0) (α ∷ []) rows m3 0 (room-two rows many-rows)) $
-        await ! tt $ pick ! (λ γ. split ! $ move ! (2 ∷ 20 ∷ []) $ join ! $ move ! (0 ∷ 1 ∷ 3 ∷ []) $ use3 W (raw (Callee 𝓤 H A at-mem run .pre (to-callee m3 α γ))) (into-callee m3 α γ) $
-        calls-at ! (fmOf 𝓤 H (W .laws) 𝓣) (Callee 𝓤 H A at-mem run) callee-known (to-callee m3 α γ) (and-then ! (load ! (from ! (stop !)) (look ! 5 refl)) (and-then ! (load ! (from ! (stop !)) (look ! 12 refl)) (no-more !))) (λ w.
+        await ! tt $ pick ! (λ γ. split ! $ move ! (2 ∷ 18 ∷ []) $ join ! $ move ! (0 ∷ 1 ∷ 3 ∷ []) $ use3 W (raw (Callee 𝓤 H A at-mem run .pre (to-callee m3 α γ))) (into-callee m3 α γ) $
+        calls-at ! (fmOf 𝓤 H (W .laws) 𝓣) (Callee 𝓤 H A at-mem run) callee-known (to-callee m3 α γ) (and-then ! (load ! (from ! (stop !)) (look ! 3 refl)) (and-then ! (load ! (from ! (stop !)) (look ! 10 refl)) (no-more !))) (λ w.
         use1 W (later (some (λ (r : ℕ). ((‵ (flft (α ∷ []) fullShare) ⊛ Toks) ⊛ ‵ (u64 .own r (w ∷ []))) ⊛ raw (ensured 𝓤 H A callee.ended (callee.clauses 𝓤 H A at-mem run) (α ∷ [], (κ, tt)) (callee-args m3 α γ) tt r)))) (id⊢ 𝓤 _) $
         await ! tt $ pick ! (λ r. split ! $ move ! (1 ∷ []) $
         use1 W (some (λ (zs : List RowRecord × (Unit {0} × (Unit {0}))). ‵ (lasts callee.ended (α ∷ [], (κ, tt)) (callee-args m3 α γ) zs) ⊛ raw (fact 𝓤 (callee-said r (zs .0))))) (id⊢ 𝓤 _) $ pick ! (λ zs.
         split ! $ move ! (1 ∷ []) $ heard ! (callee-said r (zs .0)) (λ e. fsplit ! $ fsplit ! $ move ! (1 ∷ []) $ feqL ! (λ l-loan. move ! (1 ∷ []) $ fsplit ! $ drop ! $ drop ! $ move ! (1 ∷ []) $ split ! $
-        move ! (1 ∷ []) $ peeks ! u64 (Is u64) (shows 𝓤 H A u64) r (w ∷ []) (λ is. land ! (from ! (stop !)) (init ! 11 refl (uint-lawful 𝓤 H A W w64 .typed r _ is .0)) $
-        rewrite ! 11 (λ (u : Val). ‵ (fat fullShare (tyInt w64) m4 0 u)) (ap only (is .0)) refl $
+        move ! (1 ∷ []) $ peeks ! u64 (Is u64) (shows 𝓤 H A u64) r (w ∷ []) (λ is. land ! (from ! (stop !)) (init ! 9 refl (uint-lawful 𝓤 H A W w64 .typed r _ is .0)) $
+        rewrite ! 9 (λ (u : Val). ‵ (fat fullShare (tyInt w64) m4 0 u)) (ap only (is .0)) refl $
         -- the lifetime is ended, and the local is back
         move ! (1 ∷ []) $ split ! $ lft-end ! tt $ move ! (0 ∷ 4 ∷ 3 ∷ []) $
         use3 W (later (‵ (Arr (mem T.the-row) (length rows) .lies (zs .0) m3 0))) (slice-back 𝓤 H A W T.the-row (α ∷ []) γ (zs .0) (length rows) m3 0) $ await ! tt $ fsplit ! $ drop ! $
         use1 W (‵ (fat fullShare arrTy m3 0 (machs (zs .0))) ⊛ ‵ (R .own (zs .0) (machs (zs .0) ∷ []))) (together 𝓤 H A W (zs .0) m3 (l-loan ∙ many-rows)) $ split ! $ move ! (1 ∷ []) $
-        peeks ! R (Is R) (shows 𝓤 H A R) (zs .0) (machs (zs .0) ∷ []) (λ g.
-        let known = LL.owes N.the-type N′.the-laws (made (zs .0) r) (g, ((refl, is .1), tt)) in
-        assigns ! (of-opd ! (load ! (from ! (stop !)) (look ! 1 refl))) (from ! (stop !)) (init ! 5 refl (typed 𝓤 H A W (zs .0) g)) $
-        assigns ! (agg ! (and-then ! (load ! (from ! (stop !)) (look ! 5 refl)) (and-then ! (load ! (from ! (stop !)) (look ! 11 refl)) (no-more !)))) (from ! (stop !)) (init ! 18 refl (LL.lawful N.the-type N′.the-laws 𝓤 H A W .typed (made (zs .0) r) _ known .0)) $
-        returns ! (look ! 18 refl) $ forget ! 18 refl $ forget ! 16 refl $ forget ! 14 refl $ forget ! 1 refl $ forget ! 11 refl $ forget ! 9 refl $ forget ! 7 refl $ forget ! 5 refl $ move ! (18 ∷ 19 ∷ []) $
-        free1 ! $ move ! (16 ∷ 17 ∷ []) $ free1 ! $ move ! (14 ∷ 15 ∷ []) $ free1 ! $ move ! (1 ∷ 13 ∷ []) $ free1 ! $ move ! (10 ∷ 11 ∷ []) $ free1 ! $ move ! (8 ∷ 9 ∷ []) $ free1 ! $ move ! (6 ∷ 7 ∷ []) $
-        free1 ! $ move ! (4 ∷ 5 ∷ []) $ free1 ! $ free0 ! $ keep ! (1 ∷ 3 ∷ []) $ by ! (exits (made (zs .0) r) e known))))))))))))))))))
+        peeks ! R (Is R) (shows 𝓤 H A R) (zs .0) (machs (zs .0) ∷ []) (λ g. assigns ! (of-opd ! (load ! (from ! (stop !)) (look ! 1 refl))) (from ! (stop !)) (init ! 16 refl (typed 𝓤 H A W (zs .0) g)) $
+        returns ! (look ! 16 refl) $ forget ! 16 refl $ forget ! 14 refl $ forget ! 12 refl $ forget ! 1 refl $ forget ! 9 refl $ forget ! 7 refl $ forget ! 5 refl $ move ! (16 ∷ 17 ∷ []) $ free1 ! $
+        move ! (14 ∷ 15 ∷ []) $ free1 ! $ move ! (12 ∷ 13 ∷ []) $ free1 ! $ move ! (1 ∷ 11 ∷ []) $ free1 ! $ move ! (8 ∷ 9 ∷ []) $ free1 ! $ move ! (6 ∷ 7 ∷ []) $ free1 ! $ move ! (4 ∷ 5 ∷ []) $ free1 ! $
+        free0 ! $ keep ! (1 ∷ 3 ∷ []) $ by ! (exits (zs .0) (e .1) g)))))))))))))))))
 
 module _ {M : Type 1} (𝓤 : URA M) (H : Heap 𝓤) (A : Atoms 𝓤) (W : Given 𝓤 H A) (mem : Memory → SProp 𝓤) (run : Routine → Fun 𝓤) where
   walks : (𝓣 : Tables 𝓤 H) → Triple 𝓤 (𝓣 .C #lent·gather) (Callee 𝓤 H A mem run) → Walks 𝓤 H A fn.ended stayed (WpFn 𝓤 H (𝓣 .C) (𝓣 .Λ) code.function) (fn.clauses 𝓤 H A mem run)
@@ -198,10 +185,10 @@ meets 𝓤 H A W mem run 𝓣 callee-known =
     walk-meets 𝓤 H A fn.ended stayed W (go 𝓤 H A W mem run) (fn.clauses 𝓤 H A mem run)
     (WpFn 𝓤 H (𝓣 .C) (𝓣 .Λ) code.function) (WpFn-mono 𝓤 H (W .laws) 𝓣 code.function) (walks 𝓤 H A W mem run 𝓣 callee-known)
 
-pub gather-through-spec : {M : Type 1} → statement.statement M
+pub with-words-spec : {M : Type 1} → statement.statement M
 unfolding code.routine tablesOf
-gather-through-spec 𝓤 H 𝓜 𝓖 𝓡 =
+with-words-spec 𝓤 H 𝓜 𝓖 𝓡 =
     entered 𝓤 H (tripleOf 𝓤 H (𝓖 .A) fn.signature (fn.spec 𝓤 H (𝓖 .A) (𝓜 .mem) (𝓡 .run)))
-    (tables 𝓤 H 𝓜 𝓡 code.env .C) (tables 𝓤 H 𝓜 𝓡 code.env .Λ) #test-forms·gather-through code.function (code.unfolded 𝓤 H 𝓜 𝓡)
+    (tables 𝓤 H 𝓜 𝓡 code.env .C) (tables 𝓤 H 𝓜 𝓡 code.env .Λ) #test-forms·with-words code.function (code.unfolded 𝓤 H 𝓜 𝓡)
     (meets 𝓤 H (𝓖 .A) (givenOf 𝓤 H 𝓜 𝓖) (𝓜 .mem) (𝓡 .run) (tablesOf 𝓤 H 𝓜 (tables 𝓤 H 𝓜 𝓡 code.env))
     (cited 𝓤 H (Callee 𝓤 H (𝓖 .A) (𝓜 .mem) (𝓡 .run)) 𝓜 𝓡 code.env #lent·gather callee-def.routine code.calls-lent·gather (callee-thm.met 𝓤 H 𝓜 𝓖 𝓡)))
