@@ -56,8 +56,9 @@ pub fn slice(top: usize, slabs: usize, rounds: usize, random: &mut Random) -> [[
         let settled = (rust.finish_r_slice(ri).to_bits(), rust.current_level);
         assert_eq!((a.settle(ri), b.settle(ri)), (settled, settled));
     }
+    let (landed_kinds, new_kinds) = (a.rows().0, b.rows().0);
     for (s, row) in rust.slab_res.iter().enumerate() {
-        assert!(matches!(row, SlabResolution::Mesh { interpolate: true, .. }) && (a.kinds()[s], b.kinds()[s]) == (3, 3));
+        assert!(matches!(row, SlabResolution::Mesh { interpolate: true, .. }) && (landed_kinds[s], new_kinds[s]) == (3, 3));
         assert!(rust.slab_data[s].as_deref() == Some(&b.store()[s * per..(s + 1) * per]));
     }
     let mut in_rust = || (0..n_r).for_each(|ri| used(black_box(&mut rust).finish_r_slice(ri)));
@@ -79,7 +80,8 @@ pub fn file(top: usize, n_r: usize, n_omega: usize, rounds: usize, random: &mut 
     }
     let length = 20 + 8 * HEADS[0] + 4 * HEADS[1] + 4 * (top + 1) + 10 * slabs + 4 * slabs * per;
     let mut files = [(); 3].map(|_| vec![0u8; length]);
-    let (g, store, kinds, levels, values) = (b.grid(), b.store().to_vec(), b.kinds().to_vec(), b.levels().to_vec(), b.values().to_vec());
+    let (g, store, (kinds, levels, values)) = (b.grid(), b.store().to_vec(), b.rows());
+    let kinds: Vec<u8> = kinds.iter().map(|&k| k as u8).collect();
     let held = plain::Held {
         rmin: g.rmin,
         dr: g.dr,

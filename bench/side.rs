@@ -1,8 +1,9 @@
 // What is timed of one library. Compiled for the library of this tree and, by bench/run, once more for the one that landed, each over its own declarations (hosts/rust/src/sys.rs,
-// tests/compare/ours.rs) and with lists of its own, so that no side finds in the cache what another has read.
+// tests/compare/ours.rs) and with lists of its own, rows in the form that it takes (word_rows.rs, list_rows.rs there), so that no side finds in the cache what another has read.
 use super::calls::{self, Builder, Grid, Table, Value};
 use super::icotable::{self, Lent, Locator, Meshes, Query};
 use super::ours;
+use super::rows::{self, Rows};
 use crate::meshes;
 use crate::reader;
 use crate::shape::{per, slice_bins};
@@ -22,17 +23,16 @@ fn lent(m: &meshes::Lent) -> Meshes<'_> {
     Meshes { vertices: &m.vertices, counts: &m.counts, neighbours: &m.neighbours, angles: &m.angles }
 }
 
-// The lists of a builder.
+// The lists of a builder, rows in the library's own form.
 struct Own {
     store: Vec<f64>,
-    kinds: Vec<u8>,
-    levels: Vec<u8>,
-    values: Vec<u32>,
+    rows: Rows,
+    slabs: usize,
 }
 
 impl Own {
-    fn lent(&mut self) -> icotable::Lists<'_> {
-        icotable::Lists { store: &mut self.store, kinds: &mut self.kinds, levels: &mut self.levels, values: &mut self.values }
+    fn lent(&mut self) -> rows::Lists<'_> {
+        self.rows.lent(&mut self.store, [self.slabs; 3])
     }
 }
 
@@ -48,7 +48,8 @@ impl<'a> Building<'a> {
         let omega_step = std::f64::consts::TAU / n_omega as f64;
         let grid = calls::grid([0.0, n_r as f64, 1.0, omega_step, 1e-9, 1.0], [0, 0]);
         let slabs = n_r * n_omega;
-        let mut own = Own { store: vec![0.0; slabs * per(top as u64)], kinds: vec![0; slabs], levels: vec![0; slabs], values: vec![0; slabs] };
+        let rows = Rows::of(&vec![0; slabs], &vec![0; slabs], &vec![0; slabs]);
+        let mut own = Own { store: vec![0.0; slabs * per(top as u64)], rows, slabs };
         let a = calls::fresh(grid, top as u64, &mut own.lent(), lent(meshes));
         assert_eq!(a.number, 0);
         Building { meshes, builder: a.builder, own }
@@ -78,16 +79,9 @@ impl<'a> Building<'a> {
         (a.gradient.to_bits(), a.builder.level as usize)
     }
 
-    pub fn kinds(&self) -> &[u8] {
-        &self.own.kinds
-    }
-
-    pub fn levels(&self) -> &[u8] {
-        &self.own.levels
-    }
-
-    pub fn values(&self) -> &[u32] {
-        &self.own.values
+    // Kinds, levels and values.
+    pub fn rows(&self) -> (Vec<u32>, Vec<u8>, Vec<u32>) {
+        self.own.rows.numbers()
     }
 
     pub fn store(&self) -> &[f64] {

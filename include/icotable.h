@@ -18,14 +18,20 @@
  *
  * Sizes. Level m has n = 10*(m+1)*(m+1)+2 vertices, m from 0 to 15. A slab is one distance bin and one dihedral bin,
  * slab (ri, oi) is number ri*n_omega+oi, and a slab at a level holds n*n energies. A builder with S slabs and top level
- * T needs: store, S times n*n of level T; kinds, levels and values, S each. A level's mesh is 3n vertices (x, y, z), n
- * neighbour_counts (5 or 6), 6n neighbours and 6n angles, six places a vertex, of which a sixth is not read where the
- * count is 5. fresh, settle and write take the meshes of all levels from 0 to the top, one after another in each list;
- * locator takes one level's parts; set takes no mesh. locator needs, with g = max(2, ceiling(sqrt(n/6)*1.2)): 6*g*g+1
- * cell_offsets, 27n cell_vertices, n+1 face_offsets and 45n faces.
+ * T needs: store, S times n*n of level T; words, S. A level's mesh is 3n vertices (x, y, z), n neighbour_counts (5 or
+ * 6), 6n neighbours and 6n angles, six places a vertex, of which a sixth is not read where the count is 5. fresh, settle
+ * and write take the meshes of all levels from 0 to the top, one after another in each list; locator takes one level's
+ * parts; set takes no mesh. locator needs, with g = max(2, ceiling(sqrt(n/6)*1.2)): 6*g*g+1 cell_offsets, 27n
+ * cell_vertices, n+1 face_offsets and 45n faces.
  *
- * Against an atom a slab is one distance bin and holds n energies, so S is n_r and the store S times n of level T.
- * Rows, meshes and locators are as above: one set of meshes serves tables of both kinds.
+ * Words. A word is the row of one slab: value + level*2^32 + kind*2^40, and the rest, the bits from 48 on, is 0. Kind: 0
+ * Scalar, 1 Repulsive, 2 Mesh read at the nearest vertices, 3 Mesh interpolated. Level: a Mesh row's; 0 of any other.
+ * Value: the bits of a Scalar row's float; 0 of any other. A word whose rest is not 0 has an unknown kind. icotable_word
+ * makes a word, icotable_word_kind, _level and _value take it apart.
+ *
+ * Against an atom a slab is one distance bin and holds n energies, so S is n_r and the store S times n of level T. Its
+ * rows are not words but three lists, kinds, levels and values, S each. Meshes and locators are as above: one set of
+ * meshes serves tables of both kinds.
  *
  * Units. omega and omega_step are in radians, threshold is per radian. Distances and energies have the caller's units,
  * and beta is one over the unit of energies.
@@ -48,7 +54,7 @@
 /* The version, raised where a struct, a function or the table file changes (CHANGELOG.md). The pkg-config file and the
  * tool take it from here; a test compares it with hosts/rust. */
 #define ICOTABLE_VERSION_MAJOR 0
-#define ICOTABLE_VERSION_MINOR 18
+#define ICOTABLE_VERSION_MINOR 19
 #define ICOTABLE_VERSION_PATCH 0
 
 #define ICOTABLE_STRING_(x) #x
@@ -72,7 +78,7 @@
     X(12, SHORT_OUTPUT, "the output is shorter than the file") \
     X(13, SECTIONS, "the file's sections do not follow their counts, do not end with its last byte, or are not those of this kind of table") \
     X(14, FILE_GRID, "the file's grid, bin counts, level count, row count or vertex counts are not those of a table") \
-    X(15, ROW, "a row has an unknown kind, a Mesh row a level above the top; or, in a file, an unused field that is used, or a scalar NaN other than 0x7FC00000") \
+    X(15, ROW, "a row has an unknown kind (a word has one where its bits from 48 on are not 0), a Mesh row a level above the top; or, in a file, an unused field that is used, or a scalar NaN other than 0x7FC00000") \
     X(16, TILING, "the rows' offsets do not tile the energies in row order") \
     X(17, FILE_NAN, "an energy of the file is a NaN") \
     X(18, QUERY, "r or an end of a span is a NaN, omega not finite, or the length of a direction not finite or 0") \
@@ -168,14 +174,30 @@ typedef struct icotable_value {
     double energy, distance_a, distance_b;
 } icotable_value;
 
-/* A builder with no slab set. Fills the store with 0.0 and every row with the scalar 0.0. Questions 1 to 7. */
+/* The word of a row, and the three numbers of a word. The kind is all above the level: with a rest it is 256 or more. */
+static inline uint64_t icotable_word(uint8_t kind, uint8_t level, uint32_t value) {
+    return (uint64_t)kind << 40 | (uint64_t)level << 32 | value;
+}
+
+static inline uint64_t icotable_word_kind(uint64_t word) {
+    return word >> 40;
+}
+
+static inline uint8_t icotable_word_level(uint64_t word) {
+    return (uint8_t)(word >> 32);
+}
+
+static inline uint32_t icotable_word_value(uint64_t word) {
+    return (uint32_t)word;
+}
+
+/* A builder with no slab set. Fills the store with 0.0 and every row with the scalar 0.0, the word 0. Questions 1 to
+ * 7. */
 icotable_built icotable_fresh(
     icotable_grid grid,
     uint64_t top,
     double *store, size_t store_count,
-    uint8_t *kinds, size_t kinds_count,
-    uint8_t *levels, size_t levels_count,
-    uint32_t *values, size_t values_count,
+    uint64_t *words, size_t words_count,
     const double *vertices, size_t vertices_count,
     const uint8_t *neighbour_counts, size_t neighbour_counts_count,
     const uint16_t *neighbours, size_t neighbours_count,
@@ -186,9 +208,7 @@ icotable_built icotable_fresh(
 icotable_built icotable_set(
     icotable_builder builder,
     double *store, size_t store_count,
-    uint8_t *kinds, size_t kinds_count,
-    uint8_t *levels, size_t levels_count,
-    uint32_t *values, size_t values_count,
+    uint64_t *words, size_t words_count,
     uint64_t ri,
     uint64_t oi,
     const double *energies, size_t energies_count);
@@ -197,9 +217,7 @@ icotable_built icotable_set(
 icotable_settled icotable_settle(
     icotable_builder builder,
     const double *store, size_t store_count,
-    uint8_t *kinds, size_t kinds_count,
-    uint8_t *levels, size_t levels_count,
-    uint32_t *values, size_t values_count,
+    uint64_t *words, size_t words_count,
     const double *vertices, size_t vertices_count,
     const uint8_t *neighbour_counts, size_t neighbour_counts_count,
     const uint16_t *neighbours, size_t neighbours_count,
@@ -210,9 +228,7 @@ icotable_settled icotable_settle(
 icotable_written icotable_write(
     icotable_builder builder,
     const double *store, size_t store_count,
-    const uint8_t *kinds, size_t kinds_count,
-    const uint8_t *levels, size_t levels_count,
-    const uint32_t *values, size_t values_count,
+    const uint64_t *words, size_t words_count,
     const double *vertices, size_t vertices_count,
     const uint8_t *neighbour_counts, size_t neighbour_counts_count,
     const uint16_t *neighbours, size_t neighbours_count,
@@ -227,9 +243,7 @@ icotable_written icotable_write(
 icotable_written icotable_write_tail(
     icotable_builder builder,
     const double *store, size_t store_count,
-    const uint8_t *kinds, size_t kinds_count,
-    const uint8_t *levels, size_t levels_count,
-    const uint32_t *values, size_t values_count,
+    const uint64_t *words, size_t words_count,
     const double *vertices, size_t vertices_count,
     const uint8_t *neighbour_counts, size_t neighbour_counts_count,
     const uint16_t *neighbours, size_t neighbours_count,
@@ -239,6 +253,24 @@ icotable_written icotable_write_tail(
     const uint32_t *powers, size_t powers_count,
     const double *prefactor, size_t prefactor_count,
     uint8_t *output, size_t output_count);
+
+/* Moves so many rows from three lists, as a table against an atom has them, to words. Any three numbers move. Question
+ * 6, of all four lists. */
+uint64_t icotable_rows_to_words(
+    uint64_t rows,
+    const uint8_t *kinds, size_t kinds_count,
+    const uint8_t *levels, size_t levels_count,
+    const uint32_t *values, size_t values_count,
+    uint64_t *words, size_t words_count);
+
+/* Moves so many rows from words to three lists. Question 6, of all four lists; then 15, where the rest of one of these
+ * words is not 0. An unknown kind below 256 moves. */
+uint64_t icotable_words_to_rows(
+    uint64_t rows,
+    const uint64_t *words, size_t words_count,
+    uint8_t *kinds, size_t kinds_count,
+    uint8_t *levels, size_t levels_count,
+    uint32_t *values, size_t values_count);
 
 /* Looks over a file, all of it. Questions 13 to 17, 23. */
 icotable_table icotable_read(const uint8_t *file, size_t file_count);

@@ -28,11 +28,10 @@ typedef struct work {
     double *store, *energies;
     size_t store_count, per;
     pose *first, *second;
-    uint8_t kinds[SLABS], levels[SLABS];
-    uint32_t values[SLABS];
+    uint64_t words[SLABS]; /* a row each */
 } work;
 
-/* The same for the ion's table, which is small: n energies a slab. */
+/* The same for the ion's table, which is small: n energies a slab. Its rows are three lists. */
 typedef struct ion_work {
     const icotable_meshes *meshes;
     icotable_atom_builder builder;
@@ -41,7 +40,7 @@ typedef struct ion_work {
     uint32_t values[ION_SLABS];
 } ion_work;
 
-#define ROWS(w) (w)->kinds, SLABS, (w)->levels, SLABS, (w)->values, SLABS
+#define ROWS(w) (w)->words, SLABS
 #define ION_LISTS(w) (w)->store, ION_STORE, (w)->kinds, ION_SLABS, (w)->levels, ION_SLABS, (w)->values, ION_SLABS
 
 static void stop(const char *what, uint64_t number) {
@@ -100,13 +99,13 @@ static icotable_settled settle(work *w, uint64_t ri) {
 }
 
 /* A slab's row as a letter: # Repulsive, . Scalar, a digit for the level of a Mesh row. */
-static int letter(uint8_t kind, uint8_t level) {
+static int letter(uint64_t kind, uint8_t level) {
     return kind == 0 ? '.' : kind == 1 ? '#' : '0' + level;
 }
 
 static void show_slice(const work *w, uint64_t ri) {
     for (size_t s = ri * N_OMEGA; s < (ri + 1) * N_OMEGA; s++)
-        putchar(letter(w->kinds[s], w->levels[s]));
+        putchar(letter(icotable_word_kind(w->words[s]), icotable_word_level(w->words[s])));
 }
 
 /* The length of the file that write would give now: the builder counts, so no row is walked. */
@@ -151,7 +150,7 @@ static uint8_t *written(work *w, size_t *length) {
 /* A slice that was settled at a level that has gone is settled again, as by a job that is restarted. */
 static int restarted(work *w, const uint8_t *file, size_t length) {
     uint64_t ri = 0;
-    while (ri < N_R && (w->kinds[ri * N_OMEGA] < 2 || w->levels[ri * N_OMEGA] == w->builder.level))
+    while (ri < N_R && (icotable_word_kind(w->words[ri * N_OMEGA]) < 2 || icotable_word_level(w->words[ri * N_OMEGA]) == w->builder.level))
         ri++;
     icotable_settled s = settle(w, ri);
     size_t again;

@@ -1,5 +1,5 @@
 /* Every number that a call can be refused with, each given by an example, 1 to 21 by one against an atom, 1 to 7 and 23 by a
- * sizing, and those of a search without a locator:
+ * sizing, those of a search without a locator, and those of moving rows to words and back:
  * writes docs/REFUSALS.md, and the status is 1 where an example gives another number. The table has two distances, two
  * dihedral bins and two levels; that against an atom has two distances and two levels. */
 #include "mesh.h"
@@ -15,11 +15,11 @@ static const icotable_grid settings = {.rmin = 0, .rmax = 2, .dr = 1, .omega_ste
 
 static icotable_meshes held;
 static double store[STORE], energies[PER];
-static uint8_t kinds[SLABS], levels[SLABS], file[ROOM];
-static uint32_t values[SLABS];
+static uint64_t words[SLABS];
+static uint8_t file[ROOM];
 
 static icotable_built fresh(icotable_grid grid, uint64_t top, size_t store_count) {
-    return icotable_fresh(grid, top, store, store_count, kinds, SLABS, levels, SLABS, values, SLABS, ICOTABLE_MESHES(&held));
+    return icotable_fresh(grid, top, store, store_count, words, SLABS, ICOTABLE_MESHES(&held));
 }
 
 static uint64_t fresh_with(icotable_grid grid, uint64_t top) {
@@ -27,15 +27,15 @@ static uint64_t fresh_with(icotable_grid grid, uint64_t top) {
 }
 
 static icotable_built set(icotable_builder b, uint64_t ri, uint64_t oi, size_t count) {
-    return icotable_set(b, store, STORE, kinds, SLABS, levels, SLABS, values, SLABS, ri, oi, energies, count);
+    return icotable_set(b, store, STORE, words, SLABS, ri, oi, energies, count);
 }
 
 static icotable_settled settle(icotable_builder b, uint64_t ri) {
-    return icotable_settle(b, store, STORE, kinds, SLABS, levels, SLABS, values, SLABS, ICOTABLE_MESHES(&held), ri);
+    return icotable_settle(b, store, STORE, words, SLABS, ICOTABLE_MESHES(&held), ri);
 }
 
 static icotable_written write_to(icotable_builder b, size_t room) {
-    return icotable_write(b, store, STORE, kinds, SLABS, levels, SLABS, values, SLABS, ICOTABLE_MESHES(&held), file, room);
+    return icotable_write(b, store, STORE, words, SLABS, ICOTABLE_MESHES(&held), file, room);
 }
 
 /* A builder whose first slab holds energies: zeros but for one of 0.05. */
@@ -135,8 +135,11 @@ static uint64_t file_grid(void) {
 
 static uint64_t unknown_kind(void) {
     icotable_builder b = begun();
-    kinds[0] = 4;
-    return set(b, 0, 0, PER).number != ICOTABLE_ROW ? 100 : read_with(56, 4);
+    words[0] = icotable_word(4, 0, 0);
+    if (set(b, 0, 0, PER).number != ICOTABLE_ROW)
+        return 100;
+    words[0] = (uint64_t)1 << 48;
+    return settle(b, 0).number != ICOTABLE_ROW ? 100 : read_with(56, 4);
 }
 
 static uint64_t wrong_offset(void) {
@@ -192,7 +195,7 @@ static uint64_t no_beta(void) {
 static const double coefficients[] = {-1.5, 2}, kappas[] = {0, 0.25}, prefactor[] = {4};
 
 static uint64_t write_terms(const uint32_t powers[2], size_t prefactors) {
-    return icotable_write_tail(begun(), store, STORE, kinds, SLABS, levels, SLABS, values, SLABS, ICOTABLE_MESHES(&held), coefficients, 2, kappas, 2, powers, 2,
+    return icotable_write_tail(begun(), store, STORE, words, SLABS, ICOTABLE_MESHES(&held), coefficients, 2, kappas, 2, powers, 2,
                                prefactor, prefactors, file, ROOM).number;
 }
 
@@ -238,6 +241,9 @@ static uint64_t span_beyond(void) {
 /* ---- against an atom */
 
 enum { ATOM_SLABS = 2, ATOM_STORE = ATOM_SLABS * N };
+
+static uint8_t kinds[ATOM_SLABS], levels[ATOM_SLABS];
+static uint32_t values[ATOM_SLABS];
 
 static const icotable_atom_grid atom_settings = {.rmin = 0, .rmax = 2, .dr = 1, .threshold = 0.1, .beta = 1};
 
@@ -419,7 +425,7 @@ static const example examples[] = {
     {short_output, "write to 1000 bytes, where the file has 7156", 0},
     {cut_off, "read of a file without its last byte", 0},
     {file_grid, "read of a file that says 3 dihedral bins, where its step gives 2", 0},
-    {unknown_kind, "read of a file whose first row has kind 4; set of a slab whose row the host gave kind 4", 0},
+    {unknown_kind, "read of a file whose first row has kind 4; set of a slab whose row the host gave kind 4; settle of a slice with a word 2^48", 0},
     {wrong_offset, "read of a file whose first Mesh row has offset 1", 0},
     {file_nan, "read of a file whose first energy has the bits FFFFFFFF", 0},
     {no_direction, "a reading with the direction 0, 0, 0", 0},
@@ -553,6 +559,43 @@ static const example size_examples[SIZED] = {
     {size_terms, "sizing with 4294967296 terms", 0},
 };
 
+/* ---- rows to words and back: 6, and on the way back 15 */
+
+enum { MOVED = 3 };
+
+static uint64_t to_words(size_t kinds_lent) {
+    uint8_t a_kind[MOVED] = {0, 1, 200}, a_level[MOVED] = {0, 0, 7};
+    uint32_t a_value[MOVED] = {0x3F800000, 0, 1};
+    return icotable_rows_to_words(MOVED, a_kind, kinds_lent, a_level, MOVED, a_value, MOVED, words, MOVED);
+}
+
+static uint64_t to_rows(size_t words_lent) {
+    uint8_t a_kind[MOVED], a_level[MOVED];
+    uint32_t a_value[MOVED];
+    return icotable_words_to_rows(MOVED, words, words_lent, a_kind, MOVED, a_level, MOVED, a_value, MOVED);
+}
+
+static uint64_t short_kinds(void) {
+    return to_rows(MOVED - 1) != ICOTABLE_SHORT_LIST ? 100 : to_words(MOVED - 1);
+}
+
+/* The kind 200, which no row has, fits the lists and moves; a rest does not. */
+static uint64_t word_rest(void) {
+    if (to_words(MOVED) != 0 || to_rows(MOVED) != 0)
+        return 100;
+    words[1] |= (uint64_t)1 << 63;
+    return to_rows(MOVED - 1) != ICOTABLE_SHORT_LIST ? 100 : to_rows(MOVED);
+}
+
+static const struct {
+    uint64_t number;
+    example e;
+} move_examples[] = {
+    {6, {short_kinds, "three rows to words with a list of two kinds; three words to rows with a list of two words", 0}},
+    {15, {word_rest, "three words to rows, one of which has bit 63; the kind 200 moves", 0}},
+};
+enum { MOVES = sizeof move_examples / sizeof move_examples[0] };
+
 /* ---- a search without a locator: 2, 6, 7 without the angles, 18, 20 */
 
 static uint64_t searched(uint64_t level, size_t vertices, double x) {
@@ -603,8 +646,8 @@ int main(void) {
     puts("# Refusals\n\nA call that is refused answers the number of the first question that was answered no, and alters "
          "nothing: no list, no\nbuilder, no file. `include/icotable.h` has the table (`ICOTABLE_REFUSALS`, "
          "`icotable_words`), `hosts/rust` the same as\nan enum (`Refusal`); docs/SPEC.md has each question, S5.1 to "
-         "S5.20, S5.24 to S5.27 and S24.3, and their\norder. Each example below is run by `hosts/c/refusals.c`, which writes this "
-         "page; the gate compares the page with what\nit writes.\n\n"
+         "S5.20, S5.24 to S5.27, S24.3, S25.2 and\nS25.5, and their order. Each example below is run by `hosts/c/refusals.c`, which writes this "
+         "page; the gate compares\nthe page with what it writes.\n\n"
          "| number | name | what was answered no | an example |\n|---|---|---|---|");
     for (int i = 0; i < NUMBERS; i++) {
         const example *e = &examples[i];
@@ -635,6 +678,14 @@ int main(void) {
         uint64_t number = search_examples[i].number;
         printf("| %llu | %s | %s |\n", (unsigned long long)number, name_of(number), search_examples[i].e.words);
         differing += differs(&search_examples[i].e, number);
+    }
+    puts("\n## Rows to words and back\n\n`icotable_rows_to_words` puts 6 to all four lists, and then moves any three numbers of a row. "
+         "`icotable_words_to_rows`\nputs 6 likewise, then 15 to the words that move: of the bits from 48 on alone, since any kind below 256 fits the "
+         "lists.\n\n| number | name | an example |\n|---|---|---|");
+    for (size_t i = 0; i < MOVES; i++) {
+        uint64_t number = move_examples[i].number;
+        printf("| %llu | %s | %s |\n", (unsigned long long)number, name_of(number), move_examples[i].e.words);
+        differing += differs(&move_examples[i].e, number);
     }
     icotable_free_meshes(&held);
     return differing != 0;

@@ -1,8 +1,9 @@
-/* A host in C: an empty table of level 0 from its settings, written, printed and read back; a slab set and settled; calls
- * that are refused; the locator of the icosahedron; readings, also weighted and with locator lists that were altered; a
- * long-range tail; the bounds of a viewer; loosely packed files; spans of distances; the same of a table against an atom;
- * the sizing of a build; a search without a locator; sizes and numbers. Every answer is compared with what documents 01
- * and 02 say, and the status is 1 where one differs. */
+/* A host in C: an empty table of level 0 from its settings, written, printed and read back; a slab set and settled;
+ * words with a rest, and rows moved to words and back; calls that are refused; the locator of the icosahedron;
+ * readings, also weighted and with locator lists that were altered; a long-range tail; the bounds of a viewer; loosely
+ * packed files; spans of distances; the same of a table against an atom; the sizing of a build; a search without a
+ * locator; sizes and numbers. Every answer is compared with what documents 01 and 02 say, and the status is 1 where
+ * one differs. */
 #include "icotable.h"
 
 #include <math.h>
@@ -24,6 +25,8 @@ static uint16_t neighbours[6 * N];
 static double angles[6 * N];
 
 static double store[PER];
+static uint64_t words[1];
+/* the rows of a table against an atom */
 static uint8_t kinds[1], levels[1];
 static uint32_t values[1];
 
@@ -66,15 +69,15 @@ static const icotable_grid settings = {
 };
 
 static icotable_built fresh(icotable_grid grid, uint64_t top) {
-    return icotable_fresh(grid, top, store, PER, kinds, 1, levels, 1, values, 1, vertices, 3 * N, neighbour_counts, N, neighbours, 6 * N, angles, 6 * N);
+    return icotable_fresh(grid, top, store, PER, words, 1, vertices, 3 * N, neighbour_counts, N, neighbours, 6 * N, angles, 6 * N);
 }
 
 static icotable_settled settle(icotable_builder b, uint64_t ri) {
-    return icotable_settle(b, store, PER, kinds, 1, levels, 1, values, 1, vertices, 3 * N, neighbour_counts, N, neighbours, 6 * N, angles, 6 * N, ri);
+    return icotable_settle(b, store, PER, words, 1, vertices, 3 * N, neighbour_counts, N, neighbours, 6 * N, angles, 6 * N, ri);
 }
 
 static icotable_written written(icotable_builder b, uint8_t *output, size_t count) {
-    return icotable_write(b, store, PER, kinds, 1, levels, 1, values, 1, vertices, 3 * N, neighbour_counts, N, neighbours, 6 * N, angles, 6 * N, output, count);
+    return icotable_write(b, store, PER, words, 1, vertices, 3 * N, neighbour_counts, N, neighbours, 6 * N, angles, 6 * N, output, count);
 }
 
 /* The bytes in hexadecimal, grouped as those that are wanted; how many differ from these. */
@@ -132,13 +135,13 @@ static void one_slab(void) {
     icotable_builder b = fresh(settings, 0).builder;
     for (int i = 0; i < PER; i++)
         energies[i] = i == 0 ? 1000 : 0; /* Boltzmann weights 0 and 1 */
-    icotable_built s = icotable_set(b, store, PER, kinds, 1, levels, 1, values, 1, 0, 1, energies, PER);
+    icotable_built s = icotable_set(b, store, PER, words, 1, 0, 1, energies, PER);
     expect("set of a bin beyond the last", s.number, 8);
     expect("the builder's bins after it", s.builder.grid.n_r, 1);
     expect("its packed energies", s.builder.packed, 0);
-    s = icotable_set(b, store, PER, kinds, 1, levels, 1, values, 1, 0, 0, energies, PER);
+    s = icotable_set(b, store, PER, words, 1, 0, 0, energies, PER);
     expect("set", s.number, 0);
-    expect("kind", kinds[0], 3);
+    expect("word of a Mesh row, interpolated, of level 0", words[0], (uint64_t)3 << 40);
     expect("packed energies", s.builder.packed, PER);
     icotable_written w = written(s.builder, output, sizeof output);
     expect("bytes", w.length, 642);
@@ -155,19 +158,79 @@ static void one_slab(void) {
     expect("its packed energies", a.builder.packed, PER);
     for (int i = 0; i < PER; i++)
         energies[i] = 10;
-    s = icotable_set(s.builder, store, PER, kinds, 1, levels, 1, values, 1, 0, 0, energies, PER);
+    s = icotable_set(s.builder, store, PER, words, 1, 0, 0, energies, PER);
     expect("set of tens", s.number, 0);
     expect("packed energies of a slab set twice", s.builder.packed, PER);
     a = settle(b, 0);
     expect("settle", a.number, 0);
-    expect("kind", kinds[0], 1);
+    expect("word of a Repulsive row", words[0], (uint64_t)1 << 40);
     expect("comparisons of a slab that becomes Repulsive", a.comparisons, 0);
     expect("packed energies less than none", a.builder.packed, (uint64_t)0 - PER);
-    kinds[0] = 4;
-    s = icotable_set(s.builder, store, PER, kinds, 1, levels, 1, values, 1, 0, 0, energies, PER);
+    words[0] = icotable_word(4, 0, 0);
+    s = icotable_set(s.builder, store, PER, words, 1, 0, 0, energies, PER);
     expect("set over a row of kind 4", s.number, 15);
     expect("packed energies after it", s.builder.packed, PER);
-    kinds[0] = 0;
+}
+
+/* A word and its three numbers. A rest of a word, be it one bit, is an unknown kind; beyond the rows it is not looked at. */
+static void word_rests(void) {
+    static const double energies[PER] = {0};
+    uint8_t output[700];
+    uint64_t word = icotable_word(3, 15, 0x7FC00000);
+    expect("word of kind 3, level 15 and a NaN", word, 0x030F7FC00000);
+    expect("its kind", icotable_word_kind(word), 3);
+    expect("its level", icotable_word_level(word), 15);
+    expect("its value", icotable_word_value(word), 0x7FC00000);
+    expect("kind of the largest word", icotable_word_kind(UINT64_MAX), 0xFFFFFF);
+    expect("its level", icotable_word_level(UINT64_MAX), 255);
+    expect("its value", icotable_word_value(UINT64_MAX), UINT32_MAX);
+    icotable_builder b = fresh(settings, 0).builder;
+    expect("word of the scalar 0", words[0], 0);
+    for (int bit = 48; bit < 64; bit++) {
+        uint64_t rest = (uint64_t)1 << bit;
+        words[0] = rest;
+        expect("set over a word with a rest", icotable_set(b, store, PER, words, 1, 0, 0, energies, PER).number, 15);
+        expect("settle of it", settle(b, 0).number, 15);
+        expect("write of it", written(b, output, sizeof output).number, 15);
+        expect("the word after it", words[0], rest);
+    }
+    uint64_t two_words[2] = {0, UINT64_MAX};
+    expect("set beside a word with a rest", icotable_set(b, store, PER, two_words, 2, 0, 0, energies, PER).number, 0);
+    expect("the word that it gives", two_words[0], icotable_word(3, 0, 0));
+    expect("the one beside it", two_words[1], UINT64_MAX);
+    words[0] = 0;
+}
+
+/* Three lists to words and back; 6 of each list, then 15 of the rows that move. */
+static void moves(void) {
+    static const uint8_t from_kinds[3] = {0, 200, 255}, from_levels[3] = {0, 7, 255};
+    static const uint32_t from_values[3] = {0x7FC00000, 1, UINT32_MAX};
+    static const uint64_t wanted[3] = {0x7FC00000, 0xC80700000001, 0xFFFFFFFFFFFF};
+    uint64_t moved[4] = {5, 5, 5, 5};
+    uint8_t to_kinds[4] = {9, 9, 9, 9}, to_levels[4] = {9, 9, 9, 9};
+    uint32_t to_values[4] = {9, 9, 9, 9};
+    expect("rows to words", icotable_rows_to_words(3, from_kinds, 3, from_levels, 3, from_values, 3, moved, 4), 0);
+    expect("words that differ", memcmp(moved, wanted, sizeof wanted) != 0, 0);
+    expect("the word behind them", moved[3], 5);
+    moved[3] = UINT64_MAX;
+    expect("words to rows", icotable_words_to_rows(3, moved, 4, to_kinds, 4, to_levels, 4, to_values, 4), 0);
+    expect("kinds that differ", memcmp(to_kinds, from_kinds, 3) != 0, 0);
+    expect("levels that differ", memcmp(to_levels, from_levels, 3) != 0, 0);
+    expect("values that differ", memcmp(to_values, from_values, sizeof from_values) != 0, 0);
+    expect("what is behind them", to_kinds[3] == 9 && to_levels[3] == 9 && to_values[3] == 9, 1);
+    moved[0] = 0;
+    expect("four words to rows, the last with a rest", icotable_words_to_rows(4, moved, 4, to_kinds, 4, to_levels, 4, to_values, 4), 15);
+    expect("the first value after it", to_values[0], 0x7FC00000);
+    for (int i = 0; i < 4; i++) {
+        size_t k = 3 + (i != 0), l = 3 + (i != 1), v = 3 + (i != 2), w = 3 + (i != 3);
+        expect("four words to rows, with a list of three", icotable_words_to_rows(4, moved, w, to_kinds, k, to_levels, l, to_values, v), 6);
+        expect("four rows to words, with a list of three", icotable_rows_to_words(4, to_kinds, k, to_levels, l, to_values, v, moved, w), 6);
+    }
+    expect("the words after it", moved[0] == 0 && moved[3] == UINT64_MAX, 1);
+    expect("no rows to words", icotable_rows_to_words(0, NULL, 0, NULL, 0, NULL, 0, NULL, 0), 0);
+    expect("no words to rows", icotable_words_to_rows(0, NULL, 0, NULL, 0, NULL, 0, NULL, 0), 0);
+    expect("2^64 - 1 rows to words", icotable_rows_to_words(UINT64_MAX, from_kinds, 3, from_levels, 3, from_values, 3, moved, 4), 6);
+    expect("2^64 - 1 words to rows", icotable_words_to_rows(UINT64_MAX, moved, 4, to_kinds, 4, to_levels, 4, to_values, 4), 6);
 }
 
 /* The same slab, before it is built: 52 + 4 + 10 + 4 * 144 bytes, and 60 neighbours against 2 * 12 lines. */
@@ -229,7 +292,7 @@ static void refused(void) {
     expect("fresh with dr below 0", f.number, 1);
     expect("its distance bins", f.builder.grid.n_r, 0);
     expect("fresh with top level 16", fresh(settings, 16).number, 2);
-    f = icotable_fresh(settings, 0, NULL, 0, kinds, 1, levels, 1, values, 1, vertices, 3 * N, neighbour_counts, N, neighbours, 6 * N, angles, 6 * N);
+    f = icotable_fresh(settings, 0, NULL, 0, words, 1, vertices, 3 * N, neighbour_counts, N, neighbours, 6 * N, angles, 6 * N);
     expect("fresh with no store", f.number, 6);
     expect("read of no bytes", icotable_read(NULL, 0).number, 13);
 }
@@ -260,7 +323,7 @@ static void small_table(void) {
     for (int i = 0; i < PER; i++)
         energies[i] = 100 * (i / N) + i % N;
     icotable_builder b = fresh(settings, 0).builder;
-    expect("set", icotable_set(b, store, PER, kinds, 1, levels, 1, values, 1, 0, 0, energies, PER).number, 0);
+    expect("set", icotable_set(b, store, PER, words, 1, 0, 0, energies, PER).number, 0);
     file_count = written(b, file, sizeof file).length;
     faces_count = 45 * N;
     table = icotable_read(file, file_count);
@@ -395,7 +458,7 @@ static const tail two = {.coefficients = {-1.5, 2}, .kappas = {0, 0.25}, .prefac
 
 /* With so many entries of each list. */
 static icotable_written written_tail(const tail *t, size_t terms, size_t kappas, size_t powers, size_t prefactors, size_t room) {
-    return icotable_write_tail(fresh(settings, 0).builder, store, PER, kinds, 1, levels, 1, values, 1, vertices, 3 * N, neighbour_counts, N, neighbours, 6 * N,
+    return icotable_write_tail(fresh(settings, 0).builder, store, PER, words, 1, vertices, 3 * N, neighbour_counts, N, neighbours, 6 * N,
                                angles, 6 * N, t->coefficients, terms, t->kappas, kappas, t->powers, powers, &t->prefactor, prefactors, file, room);
 }
 
@@ -733,7 +796,7 @@ static void loose_files(void) {
     icotable_builder b = fresh(settings, 0).builder;
     for (int i = 0; i < PER; i++)
         energies[i] = i;
-    b = icotable_set(b, store, PER, kinds, 1, levels, 1, values, 1, 0, 0, energies, PER).builder;
+    b = icotable_set(b, store, PER, words, 1, 0, 0, energies, PER).builder;
     expect("bytes of a packed file", written(b, packed, sizeof packed).length, 642);
     memset(output, 7, sizeof output);
     icotable_repacked r = icotable_repack(packed, 642, output, sizeof output);
@@ -888,6 +951,8 @@ int main(void) {
     mesh();
     empty_table();
     one_slab();
+    word_rests();
+    moves();
     sizing();
     search();
     refused();

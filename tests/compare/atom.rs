@@ -14,6 +14,8 @@ use std::panic::{catch_unwind, set_hook, take_hook, AssertUnwindSafe};
 #[path = "atom_calls.rs"]
 mod calls;
 pub use calls::*;
+#[path = "list_rows.rs"]
+pub mod rows;
 
 pub type RustTable = rust::Table3DAdaptive<f32>;
 

@@ -75,6 +75,8 @@ pub struct Caller<'a> {
     pub rust: Option<RustBuilder>,
     // the builder was altered by hand, and every call with it is to be refused
     pub altered: bool,
+    // whether words are given rests; the stored lines have no room for one but where calls.rs puts it
+    pub rests: bool,
     pub cases: BTreeMap<String, usize>,
     pub gradients: usize,
 }
@@ -89,6 +91,7 @@ impl<'a> Caller<'a> {
             held: Held { settings, n_r: 0, n_omega: 0, top: 0, level: 0, packed: 0 },
             rust: None,
             altered: false,
+            rests: false,
             cases: BTreeMap::new(),
             gradients: 0,
         }
@@ -134,6 +137,9 @@ impl<'a> Caller<'a> {
         let answer = Answer { number, gradient, comparisons, held: self.held };
         self.sink.call(&Call { what, held, lent }, &answer, &self.lists);
         self.case(&format!("{name} {number}"));
+        if name != "fresh" && refusals::rest(&held, &self.lists) {
+            self.case(&format!("{name} {number}, a word having a rest"));
+        }
     }
 
     fn mesh(&self, level: u64) -> MeshLevel {
@@ -232,14 +238,14 @@ impl<'a> Caller<'a> {
     }
 
     // Document 02's comparisons, which the Rust does not count: those that its gradient makes, for every slab that held energies and is not Repulsive now.
-    fn compared(&self, before: &[u8], first: usize) -> u64 {
+    fn compared(&self, before: &[u32], first: usize) -> u64 {
         let each = shape::comparisons(&self.mesh(self.held.level).neighbors);
         let reached = |k: usize| before[k] >= 2 && self.lists.kinds[first + k] != 1;
         (0..before.len()).filter(|&k| reached(k)).map(|_| each).sum()
     }
 
     // Which cases a settled slice has.
-    fn settled(&mut self, before: &[u8], slice: std::ops::Range<usize>, level: u64, gradient: f64) {
+    fn settled(&mut self, before: &[u32], slice: std::ops::Range<usize>, level: u64, gradient: f64) {
         let words = ["Scalar", "Repulsive", "Mesh nearest", "Mesh interpolated"];
         for (k, s) in slice.clone().enumerate() {
             if before[k] >= 2 {

@@ -40,12 +40,12 @@ mod icotable;
 #[cfg_attr(not(atom), path = "pair.rs")]
 mod shape;
 
-use caller::{Answer, Call, Caller, Rule, Sink, What, PRIME};
+use caller::{Answer, Call, Caller, Rule, Sink, What, NOWHERE, PRIME};
 use lines::{bits, Fixed};
 use lists::{accident, descent, far_weights, lend, lengths, list, odd_numbers, refused, repulsive_rows};
 use meshes::{icosphere, Mesh, Random};
-use refusals::{vertices_below, Held, Lists};
-use shape::PAIR;
+use refusals::{vertices_below, Held, Lists, Settings};
+use shape::{per, PAIR};
 
 const LINE: usize = 591;
 
@@ -57,6 +57,8 @@ const HEAD: &[&str] = &[
     "Energy i is base + step * (x % m), x being the seed after i + 1 turns of x = x * 16807 % 2147483647. The stamp is h = (h * 16807 + bits % 2147483647 + 1) % 2147483647 over the store, from 1.",
     "04 entries of a lent list (0 kinds, 1 levels, 2 values, 3 vertices, 4 counts, 5 neighbours, 6 angles): the list, the first place, how many, the entries. 05 a builder that is held from there on.",
 ];
+
+const IN_WORDS: &str = "A row is a word, and a kind that is put there has the word's rest above it, of which the rows of an answer show nothing. 15 for a rest is document 02's.";
 
 const AGAINST_AN_ATOM: &str = "Against an atom: the omega step, the second bin count and the dihedral bin are not handed in.";
 
@@ -140,7 +142,7 @@ impl Sink for Written {
         line.put(40, 16, answer.comparisons);
         line.put(57, 8, stamp(&lists.store));
         for i in 0..12 {
-            line.put(66 + 15 * i, 2, lists.kinds[i] as u64);
+            line.put(66 + 15 * i, 2, lists.kinds[i] as u64 & 0xff);
             line.put(69 + 15 * i, 2, lists.levels[i] as u64);
             line.put(72 + 15 * i, 8, lists.values[i] as u64);
         }
@@ -195,8 +197,28 @@ fn needed() -> Vec<String> {
     ];
     words.extend(other.map(String::from));
     // an atom's slice is one slab
+    if PAIR {
+        words.extend(["set 0", "set 15", "settle 0", "settle 6", "settle 15"].map(|what| format!("{what}, a word having a rest")));
+    }
     words.push(if PAIR { "no drop, a row being Repulsive from before" } else { "settle 11, where the Rust panics" }.to_string());
     words
+}
+
+// Words with a rest, by document 02: refused where set would replace one and where settle touches one, and as they were after every other call. The last word is beyond the slabs.
+fn rests(caller: &mut Caller) {
+    let all = caller.lists.lengths();
+    let short = [all[0], 3, all[2], all[3], all[4], all[5], all[6], all[7]];
+    let s = Settings { rmin: 0.0, rmax: 2.0, dr: 1.0, omega_step: 3.0, threshold: 0.1, beta: 1.0 };
+    let r = Rule { count: per(0), modulus: 1, seed: 1, base: 3.0, step: 0.0, places: [(NOWHERE, 0.0); 2] };
+    for rest in [1, 0x80, 0x8000, 0xffff] {
+        caller.entries(0, 11, &[9 | rest << 8]);
+        assert_eq!([caller.fresh(s, 0, [0, 0], all), caller.set(0, 0, r, all)], [0, 0]);
+        caller.entries(0, 0, &[3 | rest << 8]);
+        assert_eq!([caller.set(0, 0, r, all), caller.settle(0, all), caller.settle(0, short)], [15, 15, 6]);
+        assert_eq!([caller.set(0, 1, r, all), caller.set(1, 0, r, all), caller.settle(1, all)], [0, 0, 0]);
+        caller.entries(0, 0, &[3]);
+        assert_eq!(caller.settle(0, all), 0);
+    }
 }
 
 fn report(caller: &Caller, path: &str) {
@@ -225,7 +247,7 @@ fn report(caller: &Caller, path: &str) {
 fn main() {
     let paths: Vec<String> = std::env::args().skip(1).collect();
     let mut written = Written::default();
-    for words in HEAD.iter().chain((!PAIR).then_some(&AGAINST_AN_ATOM)) {
+    for words in HEAD.iter().chain([if PAIR { &IN_WORDS } else { &AGAINST_AN_ATOM }]) {
         written.out.extend(Line::remark(words).0);
     }
     let mut caller = Caller::new(blank(), &mut written);
@@ -261,6 +283,9 @@ fn main() {
     lend(&mut caller, &shuffled, |a| a * (1.0 + 0.5 * other.unit()));
     for k in 0..12 {
         list(&mut caller, &mut random, [1, 0, 2][k % 3]);
+    }
+    if PAIR {
+        rests(&mut caller);
     }
     for (words, n) in &caller.cases {
         println!("{n:5} {words}");

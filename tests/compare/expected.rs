@@ -204,7 +204,7 @@ fn r12(found: &mut Found) {
     let over = (0..655).try_fold(0u32, |offset, _| offset.checked_add(per));
     let fresh = |slabs: f64| {
         let grid = library::builder_of(&refusals::Held { settings: Settings { rmax: slabs, ..PLAIN }, n_r: 0, n_omega: 0, top: 15, level: 15, packed: 0 }).grid;
-        let mut none = icotable::Lists { store: &mut [], kinds: &mut [], levels: &mut [], values: &mut [] };
+        let mut none = icotable::Lists { store: &mut [], words: &mut [] };
         icotable::fresh(grid, 15, &mut none, icotable::Meshes { vertices: &[], counts: &[], neighbours: &[], angles: &[] }).number
     };
     found.tell(
@@ -262,9 +262,10 @@ fn r17(found: &mut Found) {
     rust.set_slab(0, &energies);
     let gradient = rust.finish_r_slice(0).to_bits();
     let panic = panic_of(|| rust.finish_r_slice(0));
-    let mut host = Host::new(&meshes);
-    let lent = host.lists.lengths();
-    let (mut l, m) = library::lists_of(&mut host.lists, &lent);
+    let refusals::Lists { mut store, vertices, counts, neighbours, angles, .. } = Host::new(&meshes).lists;
+    let (mut kinds, mut levels, mut values) = ([0], [0], [0]);
+    let mut l = icotable::AtomLists { store: &mut store, kinds: &mut kinds, levels: &mut levels, values: &mut values };
+    let m = icotable::Meshes { vertices: &vertices, counts: &counts, neighbours: &neighbours, angles: &angles };
     let grid = icotable::AtomGrid { rmin: 0.0, rmax: 1.0, dr: 1.0, threshold: 0.1, beta: 1.0, n_r: 0 };
     let fresh = icotable::atom_fresh(grid, 1, &mut l, m);
     let set = icotable::atom_set(fresh.builder, &mut l, 0, &energies);

@@ -1,7 +1,7 @@
 // A small host of the static library: lists of its own over given meshes, every angle being 1, and readings of a file.
 use crate::builder;
 use crate::icotable::{self, Builder, Query, Table, Value};
-use crate::library::{add_level, builder_of, lists_of};
+use crate::library::{add_level, builder_of, lending};
 use crate::meshes::Mesh;
 use crate::oracle::FaceGrid;
 use crate::reader;
@@ -53,23 +53,21 @@ impl Host {
     pub fn fresh(&mut self, settings: Settings) -> u64 {
         let grid = builder_of(&Held { settings, n_r: 0, n_omega: 0, top: 0, level: 0, packed: 0 }).grid;
         let lent = self.lists.lengths();
-        let (mut l, m) = lists_of(&mut self.lists, &lent);
-        let a = icotable::fresh(grid, self.top, &mut l, m);
+        let a = lending(&mut self.lists, &lent, |l, m| icotable::fresh(grid, self.top, l, m));
         self.builder = a.builder;
         a.number
     }
 
     pub fn set(&mut self, ri: u64, oi: u64, energies: &[f64]) -> u64 {
         let lent = self.lists.lengths();
-        let a = icotable::set(self.builder, &mut lists_of(&mut self.lists, &lent).0, ri, oi, energies);
+        let a = lending(&mut self.lists, &lent, |l, _| icotable::set(self.builder, l, ri, oi, energies));
         self.builder = a.builder;
         a.number
     }
 
     pub fn settle(&mut self, ri: u64) -> (u64, f64) {
         let lent = self.lists.lengths();
-        let (mut l, m) = lists_of(&mut self.lists, &lent);
-        let a = icotable::settle(self.builder, &mut l, m, ri);
+        let a = lending(&mut self.lists, &lent, |l, m| icotable::settle(self.builder, l, m, ri));
         self.builder = a.builder;
         (a.number, a.gradient)
     }
@@ -77,8 +75,7 @@ impl Host {
     pub fn write(&mut self) -> Vec<u8> {
         let lent = self.lists.lengths();
         let mut file = vec![0; 100 + 14 * lent[0]];
-        let (l, m) = lists_of(&mut self.lists, &lent);
-        let a = icotable::write(self.builder, l.held(), m, &mut file);
+        let a = lending(&mut self.lists, &lent, |l, m| icotable::write(self.builder, l.held(), m, &mut file));
         assert_eq!(a.number, 0);
         file.truncate(a.length as usize);
         file
@@ -88,8 +85,7 @@ impl Host {
     pub fn write_tail(&mut self, tail: icotable::Tail) -> (u64, Vec<u8>) {
         let lent = self.lists.lengths();
         let mut file = vec![0; 200 + 14 * lent[0]];
-        let (l, m) = lists_of(&mut self.lists, &lent);
-        let a = icotable::write_tail(self.builder, l.held(), m, tail, &mut file);
+        let a = lending(&mut self.lists, &lent, |l, m| icotable::write_tail(self.builder, l.held(), m, tail, &mut file));
         file.truncate(a.length as usize);
         (a.number, file)
     }

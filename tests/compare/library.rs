@@ -8,6 +8,7 @@ use crate::reader;
 use crate::reading;
 use crate::refusals::{Held, Lists};
 use crate::report::{self, differ};
+use crate::shape::rows::{self, Rows};
 use crate::shape::{self, grid_words, Builder, Table, Value};
 
 fn builder_words(b: &Builder) -> (Vec<u64>, u64, u64, u64) {
@@ -22,15 +23,13 @@ pub fn builder_of(b: &Held) -> Builder {
     shape::builder(shape::grid(b.settings.list(), [b.n_r, b.n_omega]), b)
 }
 
-pub fn lists_of<'a>(l: &'a mut Lists, lent: &[usize; 8]) -> (icotable::Lists<'a>, Meshes<'a>) {
-    let lists = icotable::Lists {
-        store: &mut l.store[..lent[0]],
-        kinds: &mut l.kinds[..lent[1]],
-        levels: &mut l.levels[..lent[2]],
-        values: &mut l.values[..lent[3]],
-    };
+// Lends so much of the lists to a call, rows in the form that the library takes, and takes back what it leaves there.
+pub fn lending<A>(l: &mut Lists, lent: &[usize; 8], call: impl FnOnce(&mut rows::Lists, Meshes) -> A) -> A {
+    let mut rows = Rows::of(&l.kinds, &l.levels, &l.values);
     let meshes = Meshes { vertices: &l.vertices[..lent[4]], counts: &l.counts[..lent[5]], neighbours: &l.neighbours[..lent[6]], angles: &l.angles[..lent[7]] };
-    (lists, meshes)
+    let answer = call(&mut rows.lent(&mut l.store[..lent[0]], [lent[1], lent[2], lent[3]]), meshes);
+    (l.kinds, l.levels, l.values) = rows.numbers();
+    answer
 }
 
 fn same_floats(a: &[f64], b: &[f64]) -> bool {
@@ -74,21 +73,20 @@ impl caller::Sink for Library {
     fn call(&mut self, call: &Call, answer: &Answer, lists: &Lists) {
         report::input();
         let given = builder_of(&call.held);
-        let (mut l, m) = lists_of(&mut self.lists, &call.lent);
-        let (name, number, gradient, comparisons, builder) = match call.what {
+        let (name, number, gradient, comparisons, builder) = lending(&mut self.lists, &call.lent, |l, m| match call.what {
             What::Fresh => {
-                let a = shape::fresh(given.grid, given.top, &mut l, m);
+                let a = shape::fresh(given.grid, given.top, l, m);
                 ("fresh", a.number, 0.0, 0, a.builder)
             }
             What::Set(ri, oi, _, energies) => {
-                let a = shape::set(given, &mut l, ri, oi, energies);
+                let a = shape::set(given, l, ri, oi, energies);
                 ("set", a.number, 0.0, 0, a.builder)
             }
             What::Settle(ri) => {
-                let a = shape::settle(given, &mut l, m, ri);
+                let a = shape::settle(given, l, m, ri);
                 ("settle", a.number, a.gradient, a.comparisons, a.builder)
             }
-        };
+        });
         // a refused fresh answers with zeros, a refused set or settle with the builder as it came
         let wanted = match (answer.number, name) {
             (0, _) => builder_of(&answer.held),

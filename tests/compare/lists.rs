@@ -188,7 +188,12 @@ impl Odd {
                 let (list, at, n) = wrong_mesh(caller, random.below(WRONG_MESH), random);
                 self.alter(caller, list, at, n);
             }
-            7 => self.alter(caller, 0, random.below(slabs), [4, 255][random.below(2)]),
+            7 => {
+                let (s, kind) = (random.below(slabs), [4, 255][random.below(2)]);
+                // a bit of the rest above a kind that is known
+                let rest = caller.rests && random.below(2) == 0;
+                self.alter(caller, 0, s, if rest { caller.lists.word(0, s) | 0x100 << random.below(16) } else { kind });
+            }
             _ => {
                 let s = random.below(slabs);
                 // a level of a row that holds energies: too high, or another one

@@ -12,6 +12,8 @@ use crate::rust;
 #[path = "pair_calls.rs"]
 mod calls;
 pub use calls::*;
+#[path = "word_rows.rs"]
+pub mod rows;
 
 pub type RustTable = rust::Table6DAdaptive<f32>;
 
@@ -35,6 +37,12 @@ pub const NEEDED: &[&str] = &[
     "set 5",
     "settle 5",
     "write, refused with 5",
+    "set 0, a word having a rest",
+    "set 15, a word having a rest",
+    "settle 0, a word having a rest",
+    "settle 15, a word having a rest",
+    "write, refused with 15, a word having a rest",
+    "write, refused with 6, a word having a rest",
     "weighted reading, answered 0: weighted, nine corners",
     "weighted reading, answered 0: weighted, a weight of 0",
 ];

@@ -33,7 +33,8 @@ pub struct Held {
 #[derive(Clone, Default)]
 pub struct Lists {
     pub store: Vec<f64>,
-    pub kinds: Vec<u8>,
+    // of a table of two molecules with the rest of the row's word above it: a rest makes it an unknown kind
+    pub kinds: Vec<u32>,
     pub levels: Vec<u8>,
     pub values: Vec<u32>,
     pub vertices: Vec<f64>,
@@ -71,7 +72,7 @@ impl Lists {
 
     pub fn put(&mut self, list: usize, at: usize, n: u64) {
         match list {
-            0 => self.kinds[at] = n as u8,
+            0 => self.kinds[at] = n as u32,
             1 => self.levels[at] = n as u8,
             2 => self.values[at] = n as u32,
             3 => self.vertices[at] = f64::from_bits(n),
@@ -232,6 +233,11 @@ pub fn settle(b: &Held, lent: &[usize; 8], lists: &Lists, ri: u64) -> u64 {
         return 11;
     }
     0
+}
+
+// Whether the word of one of the first slabs has a rest.
+pub fn rest(b: &Held, lists: &Lists) -> bool {
+    lists.kinds.iter().take(b.n_r.saturating_mul(b.n_omega) as usize).any(|&k| k > 255)
 }
 
 // "the sum over Mesh rows of their level's n·n", of all rows that are lent

@@ -57,7 +57,7 @@ use arguments::arguments;
 use bounds::{drawn, CASES};
 use caller::Caller;
 use icotable::Query;
-use library::{builder_of, file_words, lists_of, same_reading, same_table, same_weighted, Library, Readings};
+use library::{builder_of, file_words, lending, same_reading, same_table, same_weighted, Library, Readings};
 use lines::bits;
 use lists::{needed_lengths, wrong, wrong_mesh, WRONG, WRONG_MESH};
 use meshes::Random;
@@ -86,9 +86,8 @@ impl Tally {
 fn written(held: &Held, lists: &Lists, file: &[u8], random: &mut Random) {
     let before: Vec<u8> = (0..file.len() + random.below(20)).map(|_| random.bits() as u8).collect();
     let (mut output, mut lent) = (before.clone(), lists.clone());
-    let (l, m) = lists_of(&mut lent, &lists.lengths());
     report::input();
-    let a = shape::write(builder_of(held), l.held(), m, &mut output);
+    let a = lending(&mut lent, &lists.lengths(), |l, m| shape::write(builder_of(held), l.held(), m, &mut output));
     if (a.number, a.length) != (0, file.len() as u64) {
         differ("write", format!("{held:?}"), format!("{}, {} bytes", a.number, a.length), format!("0, {} bytes", file.len()));
     }
@@ -144,6 +143,7 @@ fn refused_write(caller: &Caller, random: &mut Random, tally: &mut Tally) {
                 let (list, at, n) = wrong_mesh(caller, random.below(WRONG_MESH), random);
                 lists.put(list, at, n);
             }
+            3 if shape::PAIR && random.below(2) == 0 => lists.kinds[s] |= 0x100 << random.below(16),
             3 => lists.kinds[s] = [4, 255][random.below(2)],
             4 if lists.kinds[s] >= 2 => lists.levels[s] = [held.top as u8 + 1, 255][random.below(2)],
             _ => room = [0, room.saturating_sub(3)][random.below(2)],
@@ -155,13 +155,15 @@ fn refused_write(caller: &Caller, random: &mut Random, tally: &mut Tally) {
     }
     let before: Vec<u8> = (0..room).map(|_| random.bits() as u8).collect();
     let (mut output, was) = (before.clone(), lists.clone());
-    let (l, m) = lists_of(&mut lists, &lent);
     report::input();
-    let a = shape::write(builder_of(&held), l.held(), m, &mut output);
+    let a = lending(&mut lists, &lent, |l, m| shape::write(builder_of(&held), l.held(), m, &mut output));
     if (a.number, a.length) != (number, 0) || output != before || !library::same_lists(&lists, &was) {
         differ("write", format!("{held:?}, lent {lent:?}, output {room}"), format!("{}, {} bytes", a.number, a.length), format!("{number}, nothing altered"));
     }
     tally.add(&format!("write, refused with {number}"), 1);
+    if refusals::rest(&held, &lists) {
+        tally.add(&format!("write, refused with {number}, a word having a rest"), 1);
+    }
 }
 
 // What read returns for a file that it accepts.
@@ -373,6 +375,7 @@ fn lists(mut world: World, count: u64, many: usize, random: &mut Random, tally: 
     tally.add("locator, entries", world.entries);
     let mut library = Library::new();
     let mut caller = Caller::new(world.canaries(random), &mut library);
+    caller.rests = shape::PAIR;
     world.lend(&mut caller, random);
     for _ in 0..count {
         drawn(&mut caller, random, world.top as u64);
@@ -386,6 +389,29 @@ fn lists(mut world: World, count: u64, many: usize, random: &mut Random, tally: 
     tally.add("calls of fresh, set and settle", library.calls);
     tally.add("calls of fresh, set and settle, refused", library.refused);
     tally.add("entries of lent lists", library.entries);
+}
+
+// Rows to words and back, by the places of document 02; a rest is refused, and a list that is too short before it.
+fn moves(random: &mut Random) {
+    let rows = random.below(8);
+    let kinds: Vec<u8> = (0..rows).map(|_| random.bits() as u8).collect();
+    let levels: Vec<u8> = (0..rows).map(|_| random.bits() as u8).collect();
+    let values: Vec<u32> = (0..rows).map(|_| random.bits() as u32).collect();
+    let beyond = random.bits();
+    let mut words = vec![beyond; rows + 1];
+    assert_eq!(icotable::rows_to_words(rows as u64, &kinds, &levels, &values, &mut words), 0);
+    let bytes = |i: usize| [values[i].to_le_bytes().to_vec(), vec![levels[i], kinds[i], 0, 0]].concat();
+    let wanted: Vec<u64> = (0..rows).map(|i| u64::from_le_bytes(bytes(i).try_into().unwrap())).chain([beyond]).collect();
+    assert_eq!(words, wanted);
+    let (mut a, mut b, mut c) = (vec![7; rows], vec![7; rows], vec![7; rows]);
+    assert_eq!(icotable::words_to_rows(rows as u64, &words, &mut a, &mut b, &mut c), 0);
+    assert_eq!((&a, &b, &c), (&kinds, &levels, &values));
+    if rows > 0 {
+        words[random.below(rows)] |= 1 << (48 + random.below(16));
+        assert_eq!(icotable::words_to_rows(rows as u64, &words, &mut a, &mut b, &mut c[1..]), 6);
+        assert_eq!(icotable::words_to_rows(rows as u64, &words, &mut a, &mut b, &mut c), 15);
+        assert_eq!((&a, &b, &c), (&kinds, &levels, &values));
+    }
 }
 
 // The functions that no table needs, by answers worked out elsewhere: the two sizes by document 01's words, the five numbers by the machine's.
@@ -404,7 +430,8 @@ fn signatures(random: &mut Random) {
         assert_eq!(bits(icotable::mul_add(a, b, c)), bits(a.mul_add(b, c)));
         assert_eq!(bits(icotable::narrow(a) as f64), bits(a as f32 as f64));
     }
-    println!("signatures: vertices, cells, root, exp, ln, mul_add and narrow answer as they should");
+    (0..1000).for_each(|_| moves(random));
+    println!("signatures: vertices, cells, root, exp, ln, mul_add, narrow, rows_to_words and words_to_rows answer as they should");
 }
 
 // Cases of weighted readings that every run has.

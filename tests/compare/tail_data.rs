@@ -172,7 +172,8 @@ impl Data {
         let mut length = 0;
         if number == 0 {
             let l = &self.lists;
-            let held = plain::Held { rmin: 2.0, dr: 1.0, step: 6.0, n_r: 2, n_omega: 1, top: 0, store: &l.store, kinds: &l.kinds, levels: &l.levels, values: &l.values };
+            let kinds: Vec<u8> = l.kinds.iter().map(|&k| k as u8).collect();
+            let held = plain::Held { rmin: 2.0, dr: 1.0, step: 6.0, n_r: 2, n_omega: 1, top: 0, store: &l.store, kinds: &kinds, levels: &l.levels, values: &l.values };
             length = plain::write(&held, &mut self.file);
             let sixth = t.bytes();
             self.file[length..length + sixth.len()].copy_from_slice(&sixth);

@@ -62,7 +62,7 @@ mod worlds;
 use arguments::arguments;
 use caller::Caller;
 use icotable::{AtomTable, Lent, Table, Written};
-use library::{builder_of, file_words, lists_of, same_lists, same_table, Library};
+use library::{builder_of, file_words, lending, same_lists, same_table, Library};
 use lines::bits;
 use lists::{needed_lengths, wrong, wrong_mesh, WRONG, WRONG_MESH};
 use meshes::Random;
@@ -126,8 +126,7 @@ fn powers(count: u64, random: &mut Random, tally: &mut Tally) {
 fn written(caller: &Caller, t: &Tail, output: &mut [u8], lent: &[usize; 8], lists: &mut Lists, held: &refusals::Held) -> Written {
     report::input();
     let was = lists.clone();
-    let (l, m) = lists_of(lists, lent);
-    let a = icotable::write_tail(builder_of(held), l.held(), m, t.lent(), output);
+    let a = lending(lists, lent, |l, m| icotable::write_tail(builder_of(held), l.held(), m, t.lent(), output));
     if !same_lists(lists, &was) {
         differ("write_tail", format!("{:?}, {t:?}", caller.held), "other entries in a lent list".into(), "lists as they were".into());
     }
@@ -155,8 +154,7 @@ fn without_terms(caller: &Caller, plain: &[u8], random: &mut Random) {
     let file = accepted_write(caller, &t, plain, random);
     let (mut output, mut lists) = (vec![0; file.len()], caller.lists.clone());
     let lent = lists.lengths();
-    let (l, m) = lists_of(&mut lists, &lent);
-    let a = icotable::write(builder_of(&caller.held), l.held(), m, &mut output);
+    let a = lending(&mut lists, &lent, |l, m| icotable::write(builder_of(&caller.held), l.held(), m, &mut output));
     if (a.number, a.length as usize) != (0, file.len()) || output != file {
         differ("write_tail without terms", format!("{:?}, {t:?}", caller.held), format!("{a:?}"), "the bytes of write".into());
     }
@@ -180,7 +178,7 @@ fn refused_write(caller: &Caller, random: &mut Random, tally: &mut Tally) {
                 let (list, at, n) = wrong_mesh(caller, random.below(WRONG_MESH), random);
                 lists.put(list, at, n);
             }
-            3 => lists.kinds[s] = [4, 255][random.below(2)],
+            3 => lists.kinds[s] = [4, 255, lists.kinds[s] | 0x100 << random.below(16)][random.below(3)],
             4 | 5 => room = [0, room.saturating_sub(3), room.saturating_sub(sixth)][random.below(3)],
             _ => t.spoilt(random),
         }
@@ -196,6 +194,9 @@ fn refused_write(caller: &Caller, random: &mut Random, tally: &mut Tally) {
         differ("write_tail", format!("{held:?}, {t:?}, lent {lent:?}, output {room}"), format!("{a:?}"), format!("{number}, nothing altered"));
     }
     tally.add(&format!("write_tail, refused with {number}"), 1);
+    if refusals::rest(&held, &lists) {
+        tally.add(&format!("write_tail, refused with {number}, a word having a rest"), 1);
+    }
 }
 
 // The Rust's own check of the prefactor says no where 22 does, of terms with which nothing else is wrong.
@@ -229,9 +230,8 @@ fn too_many(caller: &Caller, tally: &mut Tally) {
     for (prefactor, kappas, wanted) in [(&[1.0][..], MANY, 23), (&[], MANY, 22), (&[1.0], MANY - 1, 6)] {
         let mut lists = caller.lists.clone();
         let lent = lists.lengths();
-        let (l, m) = lists_of(&mut lists, &lent);
         let t = icotable::Tail { coefficients: floats, kappas: &floats[..kappas], powers, prefactor };
-        let a = icotable::write_tail(builder_of(&caller.held), l.held(), m, t, &mut []);
+        let a = lending(&mut lists, &lent, |l, m| icotable::write_tail(builder_of(&caller.held), l.held(), m, t, &mut []));
         if a.number != wanted {
             differ("write_tail", format!("2^32 terms, {kappas} kappas, prefactor {prefactor:?}"), format!("{}", a.number), format!("{wanted}"));
         }
@@ -497,6 +497,7 @@ fn after_a_list(caller: &Caller, world: &mut World, many: u64, random: &mut Rand
 fn lists(world: &mut World, count: u64, many: u64, random: &mut Random, tally: &mut Tally) {
     let mut library = Library::new();
     let mut caller = Caller::new(world.canaries(random), &mut library);
+    caller.rests = true;
     world.lend(&mut caller, random);
     for i in 0..count {
         bounds::drawn(&mut caller, random, world.top as u64);
@@ -512,6 +513,7 @@ fn lists(world: &mut World, count: u64, many: u64, random: &mut Random, tally: &
 fn needed() -> Vec<String> {
     let mut words = Vec::new();
     words.extend([1, 2, 3, 4, 5, 6, 7, 12, 15, 22, 23].map(|n| format!("write_tail, refused with {n}")));
+    words.push("write_tail, refused with 15, a word having a rest".to_string());
     words.extend(["0, with", "0, no", "13, no", "23, no"].map(|case| format!("read, answered {case} terms")));
     words.extend(["18", "0, no terms", "0, a NaN", "0, infinite", "0, -0", "0, 0", "0, subnormal", "0, a number"].map(|case| format!("tail, as the Rust, answered {case}")));
     words.extend([0, 18, 19].map(|n| format!("tail, of a damaged file, answered {n}")));

@@ -80,7 +80,7 @@ impl World {
         let more = random.below(5);
         Lists {
             store: (0..slabs * per(self.top as u64) + more).map(|_| random.finite()).collect(),
-            kinds: (0..slabs + more).map(|_| random.bits() as u8).collect(),
+            kinds: (0..slabs + more).map(|_| random.bits() as u32 & shape::rows::KINDS).collect(),
             levels: (0..slabs + more).map(|_| random.bits() as u8).collect(),
             values: (0..slabs + more).map(|_| random.bits() as u32).collect(),
             vertices: (0..3 * all).map(|_| random.finite()).collect(),

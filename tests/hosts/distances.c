@@ -58,16 +58,15 @@ static bool build(uint64_t level) {
     uint64_t n = icotable_vertices(level), per = n * n;
     double *store = malloc(per * sizeof *store), *energies = malloc(per * sizeof *energies);
     size_t room = 200 + 4 * per;
-    uint8_t kind, at;
-    uint32_t value;
+    uint64_t word;
     file = malloc(room);
     if (!store || !energies || !file)
         return false;
     for (uint64_t i = 0; i < per; i++)
         energies[i] = (double)i;
-    icotable_built f = icotable_fresh(settings, level, store, per, &kind, 1, &at, 1, &value, 1, ICOTABLE_MESHES(&meshes));
-    icotable_built s = icotable_set(f.builder, store, per, &kind, 1, &at, 1, &value, 1, 0, 0, energies, per);
-    icotable_written w = icotable_write(s.builder, store, per, &kind, 1, &at, 1, &value, 1, ICOTABLE_MESHES(&meshes), file, room);
+    icotable_built f = icotable_fresh(settings, level, store, per, &word, 1, ICOTABLE_MESHES(&meshes));
+    icotable_built s = icotable_set(f.builder, store, per, &word, 1, 0, 0, energies, per);
+    icotable_written w = icotable_write(s.builder, store, per, &word, 1, ICOTABLE_MESHES(&meshes), file, room);
     length = w.length;
     table = icotable_read(file, length);
     free(store);

@@ -11,6 +11,7 @@ HEAD = """#include "environment.h"
 
 enum { top = 1, slabs = 32 * 12, n = 42, store_count = slabs * n * n, output_count = 60 + 10 * slabs + 4 * store_count };
 static double store[store_count], energies[n * n];
+static uint64_t words[slabs];
 static uint8_t kinds[slabs], levels[slabs], output[output_count];
 static uint32_t values[slabs];
 enum { distances = 48 };
@@ -33,6 +34,11 @@ int main(void) {
     double r = 3.25, omega = 1.05, ax = 1, ay = 0, az = 0, bx = 0, by = 1, bz = 0, beta = 0.40339;
     for (int i = 0; i < n * n; i++)
         energies[i] = 7;
+"""
+# the three lists that the page moves to words
+LISTS = """    check("rows", icotable_words_to_rows(slabs, words, slabs, kinds, slabs, levels, slabs, values, slabs));
+"""
+WORDS = """    printf("row %c\\n", letter);
 """
 BETWEEN = """    printf("tail %g of %llu terms\\n", tail.energy, (unsigned long long)far.terms);
     icotable_free_meshes(&m);
@@ -72,6 +78,9 @@ def main():
         snippets(page, "Finding a direction without a locator", 4),
         "    }\n",
         snippets(page, "Building a table", 7),
+        LISTS,
+        snippets(page, "Rows in words", 4),
+        WORDS,
         snippets(page, "Beyond the table's distances", 4),
         BETWEEN,
         snippets(page, "Reading in a simulation", 4),

@@ -8,10 +8,10 @@
 enum { TOP = 1, N = 42, PER = N * N, ROOM = 8000 };
 
 static double store[PER], energies[PER];
-static uint8_t kinds[1], levels[1], file[ROOM];
-static uint32_t values[1];
+static uint64_t words[1];
+static uint8_t file[ROOM];
 
-#define LISTS store, PER, kinds, 1, levels, 1, values, 1
+#define LISTS store, PER, words, 1
 
 /* The energy of vertices 5 and 9, where that of i and j is 100 i + j; any other number where a call is refused. */
 static double energy(const icotable_meshes *m) {

@@ -49,15 +49,15 @@ typedef struct answer {
 typedef struct world {
     icotable_builder builder;
     double store[STORE];
-    uint8_t kinds[ROWS], levels[ROWS], output[WRITES][ROOM];
-    uint32_t values[ROWS];
+    uint64_t words[ROWS];
+    uint8_t output[WRITES][ROOM];
     size_t writes;
 } world;
 
 static icotable_meshes meshes;
 static size_t store_count, rows_count; /* as lent */
 
-#define LISTS(w) (w)->store, store_count, (w)->kinds, rows_count, (w)->levels, rows_count, (w)->values, rows_count
+#define LISTS(w) (w)->store, store_count, (w)->words, rows_count
 
 /* Flat, nearly flat, rough or a wall, so that every kind of row comes out and levels drop. */
 static const double *energies(const call *c) {
@@ -130,11 +130,8 @@ static void draw_start(list *l) {
         rows_count = distances * omegas - 1;
     for (size_t i = 0; i < STORE; i++)
         start.store[i] = (double)below(1000);
-    for (size_t i = 0; i < ROWS; i++) {
-        start.kinds[i] = (uint8_t)bits();
-        start.levels[i] = (uint8_t)bits();
-        start.values[i] = (uint32_t)bits();
-    }
+    for (size_t i = 0; i < ROWS; i++)
+        start.words[i] = bits();
 }
 
 /* A set of a slab that is not among those set in this run; or, where all are or one in four times, a set that is refused. */
@@ -208,8 +205,7 @@ static bool same_end(void) {
     static const call last = {.what = WRITE, .count = ROOM};
     answer a = made(&first, &last), b = made(&second, &last);
     bool same = memcmp(&a, &b, sizeof a) == 0 && memcmp(&first.builder, &second.builder, sizeof first.builder) == 0 && first.writes == second.writes;
-    same = same && memcmp(first.store, second.store, sizeof first.store) == 0 && memcmp(first.kinds, second.kinds, ROWS) == 0;
-    same = same && memcmp(first.levels, second.levels, ROWS) == 0 && memcmp(first.values, second.values, sizeof first.values) == 0;
+    same = same && memcmp(first.store, second.store, sizeof first.store) == 0 && memcmp(first.words, second.words, sizeof first.words) == 0;
     first.writes--;
     second.writes--;
     return same && memcmp(first.output, second.output, (first.writes + 1) * ROOM) == 0;

@@ -156,28 +156,31 @@ static void locators(const icotable_size *s) {
 
 typedef struct lists {
     double *store, *energies;
-    uint8_t *kinds, *levels, *output;
+    uint64_t *words;           /* of two molecules */
+    uint8_t *kinds, *levels;   /* against an atom */
     uint32_t *values;
+    uint8_t *output;
 } lists;
 
 static lists allocated(size_t store, size_t slabs, size_t energies, size_t output) {
-    return (lists){calloc(store, 8), calloc(energies, 8), calloc(slabs, 1), calloc(slabs, 1), calloc(output, 1), calloc(slabs, 4)};
+    return (lists){calloc(store, 8), calloc(energies, 8), calloc(slabs, 8), calloc(slabs, 1), calloc(slabs, 1), calloc(slabs, 4), calloc(output, 1)};
 }
 
 static void freed(lists *l) {
-    free(l->store), free(l->energies), free(l->kinds), free(l->levels), free(l->output), free(l->values);
+    free(l->store), free(l->energies), free(l->words), free(l->kinds), free(l->levels), free(l->values), free(l->output);
 }
 
-#define LENT(l, c) (l).store, (c)[0], (l).kinds, (c)[1], (l).levels, (c)[2], (l).values, (c)[3]
+#define LENT(l, c) (l).store, (c)[0], (l).words, (c)[1]
+#define ATOM_LENT(l, c) (l).store, (c)[0], (l).kinds, (c)[1], (l).levels, (c)[2], (l).values, (c)[3]
 
 static void pair_builds(uint64_t top) {
     size_t n = icotable_vertices(top), slabs = DISTANCES * OMEGAS;
     icotable_size s = sized(pairs, top, meshes.neighbour_counts_count, meshes.neighbours_count);
     lists l = allocated(s.store, slabs, n * n, s.file);
-    size_t count[4] = {s.store, slabs, slabs, slabs};
-    for (int less = 1; less <= 4; less++) {
-        size_t c[4];
-        for (int i = 0; i < 4; i++)
+    size_t count[2] = {s.store, slabs};
+    for (int less = 1; less <= 2; less++) {
+        size_t c[2];
+        for (int i = 0; i < 2; i++)
             c[i] = count[i] - (less == i + 1);
         expect("fresh with one entry less", top, icotable_fresh(pairs, top, LENT(l, c), ICOTABLE_MESHES(&meshes)).number, 6);
     }
@@ -212,7 +215,7 @@ static void tail_builds(uint64_t top) {
     icotable_size s = sized_with(pairs, top, meshes.neighbour_counts_count, meshes.neighbours_count, 3);
     expect("the terms in the longest file", top, s.file - sized(pairs, top, meshes.neighbour_counts_count, meshes.neighbours_count).file, 12 + 3 * 20);
     lists l = allocated(s.store, slabs, n * n, s.file);
-    size_t count[4] = {s.store, slabs, slabs, slabs};
+    size_t count[2] = {s.store, slabs};
     icotable_builder b = icotable_fresh(pairs, top, LENT(l, count), ICOTABLE_MESHES(&meshes)).builder;
     for (uint64_t slab = 0; slab < slabs; slab++)
         b = icotable_set(b, LENT(l, count), slab / OMEGAS, slab % OMEGAS, l.energies, n * n).builder;
@@ -235,21 +238,21 @@ static void atom_builds(uint64_t top) {
         size_t c[4];
         for (int i = 0; i < 4; i++)
             c[i] = count[i] - (less == i + 1);
-        expect("an atom's fresh with one entry less", top, icotable_atom_fresh(atoms, top, LENT(l, c), ICOTABLE_MESHES(&meshes)).number, 6);
+        expect("an atom's fresh with one entry less", top, icotable_atom_fresh(atoms, top, ATOM_LENT(l, c), ICOTABLE_MESHES(&meshes)).number, 6);
     }
-    icotable_atom_built b = icotable_atom_fresh(atoms, top, LENT(l, count), ICOTABLE_MESHES(&meshes));
+    icotable_atom_built b = icotable_atom_fresh(atoms, top, ATOM_LENT(l, count), ICOTABLE_MESHES(&meshes));
     expect("an atom's fresh with exactly these lengths", top, b.number, 0);
     for (uint64_t ri = 0; ri < DISTANCES; ri++) {
         for (size_t i = 0; i < n; i++)
             l.energies[i] = (double)i;
-        expect("an atom's set", top, icotable_atom_set(b.builder, LENT(l, count), ri, l.energies, n).number, 0);
+        expect("an atom's set", top, icotable_atom_set(b.builder, ATOM_LENT(l, count), ri, l.energies, n).number, 0);
     }
-    icotable_written w = icotable_atom_write(b.builder, LENT(l, count), ICOTABLE_MESHES(&meshes), l.output, s.file);
+    icotable_written w = icotable_atom_write(b.builder, ATOM_LENT(l, count), ICOTABLE_MESHES(&meshes), l.output, s.file);
     expect("an atom's longest file is reached", top, w.length, s.file);
-    expect("an atom's write with a byte less", top, icotable_atom_write(b.builder, LENT(l, count), ICOTABLE_MESHES(&meshes), l.output, s.file - 1).number, 12);
+    expect("an atom's write with a byte less", top, icotable_atom_write(b.builder, ATOM_LENT(l, count), ICOTABLE_MESHES(&meshes), l.output, s.file - 1).number, 12);
     for (uint64_t ri = 0; ri < DISTANCES; ri++)
-        b.builder = icotable_atom_settle(b.builder, LENT(l, count), ICOTABLE_MESHES(&meshes), ri).builder;
-    w = icotable_atom_write(b.builder, LENT(l, count), ICOTABLE_MESHES(&meshes), l.output, s.file);
+        b.builder = icotable_atom_settle(b.builder, ATOM_LENT(l, count), ICOTABLE_MESHES(&meshes), ri).builder;
+    w = icotable_atom_write(b.builder, ATOM_LENT(l, count), ICOTABLE_MESHES(&meshes), l.output, s.file);
     expect("an atom's settled build's file is no longer", top, w.number == 0 && w.length <= s.file, 1);
     freed(&l);
 }

@@ -16,8 +16,8 @@ static icotable_meshes meshes;
 static icotable_builder held;
 static double *store, *energies;
 static size_t store_count, room, length;
-static uint8_t kinds[SLABS], levels[SLABS], *file, *tail_file;
-static uint32_t values[SLABS];
+static uint64_t words[SLABS];
+static uint8_t *file, *tail_file;
 static icotable_table table, tail_table;
 static volatile double sink;
 
@@ -31,7 +31,7 @@ static uint32_t atom_values[DISTANCES];
 static size_t atom_length;
 static icotable_atom_table atom_table;
 
-#define LISTS store, store_count, kinds, SLABS, levels, SLABS, values, SLABS
+#define LISTS store, store_count, words, SLABS
 #define ATOM_LISTS atom_store, ATOM_STORE, atom_kinds, DISTANCES, atom_levels, DISTANCES, atom_values, DISTANCES
 
 static void fresh(void) {
@@ -117,6 +117,13 @@ static void numbers(void) {
     sink = (double)(icotable_vertices(15) + icotable_cells(15));
 }
 
+/* The atom's rows to words and back. */
+static void moves(void) {
+    uint64_t moved[DISTANCES];
+    sink = (double)icotable_rows_to_words(DISTANCES, atom_kinds, DISTANCES, atom_levels, DISTANCES, atom_values, DISTANCES, moved, DISTANCES);
+    sink = (double)icotable_words_to_rows(DISTANCES, moved, DISTANCES, atom_kinds, DISTANCES, atom_levels, DISTANCES, atom_values, DISTANCES);
+}
+
 static void nothing(void) {
 }
 
@@ -132,6 +139,7 @@ static const operation operations[] = {
     {"settle", set, settle, 88},
     {"write, write_tail", nothing, write_table, 2},
     {"read", nothing, read_table, 2},
+    {"rows_to_words, words_to_rows", nothing, moves, 2},
     {"locator", nothing, locator, 10},
     {"reading, boltzmann, tail, span", nothing, reading, 3},
     {"sizing", nothing, sizing, 4},
@@ -197,7 +205,7 @@ int main(int count, char **names) {
     }
     unsigned seen = 0, atom_seen = 0; /* kinds of rows */
     for (int s = 0; s < SLABS; s++) {
-        seen |= 1u << kinds[s];
+        seen |= 1u << icotable_word_kind(words[s]);
         atom_seen |= 1u << atom_kinds[s / 2];
     }
     if (length == 0 || table.number != 0 || tail_table.terms != 3 || seen != 15 || atom_length == 0 || atom_table.number != 0 || atom_seen != 15)

@@ -1,7 +1,9 @@
 /* Lists of calls of fresh, set and settle (tests/compare/calls.rs writes them). A line is one of these: a call with its
  * stored answer, the level, rows and store after it, and its arguments; entries of a lent list; a builder that is held
  * from there on. The lists and the builder are those that the calls before have left, also refused ones. Lines of calls
- * against an atom are alike; their builder is held here without omega step and dihedral count. */
+ * against an atom are alike; their builder is held here without omega step and dihedral count. Of two molecules a row is
+ * a word: the stored kind, level and value are those of the word, and as many words are lent as the shortest of the three
+ * lists has entries. */
 #include "replay.h"
 
 #include <string.h>
@@ -16,7 +18,8 @@ enum { ANSWER = 3 + 17 + 17 + 17 + 9 + SLABS * 15, BUILDER = 3 + ANSWER + 8 * 5 
 /* The lists, in the order in which a line says how much of each is lent. */
 typedef struct lists {
     double store[STORE];
-    uint8_t kinds[SLABS], levels[SLABS];
+    uint64_t words[SLABS];               /* of two molecules */
+    uint8_t kinds[SLABS], levels[SLABS]; /* against an atom */
     uint32_t values[SLABS];
     double vertices[3 * N];
     uint8_t counts[N];
@@ -25,8 +28,15 @@ typedef struct lists {
 } lists;
 
 typedef struct lengths {
-    size_t store, kinds, levels, values, vertices, counts, neighbours, angles;
+    size_t store, words, kinds, levels, values, vertices, counts, neighbours, angles;
 } lengths;
+
+/* The three numbers of a row; a word's rest stands above its kind. */
+typedef struct row {
+    uint64_t kind;
+    uint8_t level;
+    uint32_t value;
+} row;
 
 /* What a call gives, whatever it is. */
 typedef struct outcome {
@@ -36,12 +46,31 @@ typedef struct outcome {
     icotable_builder builder;
 } outcome;
 
+static row row_at(const replay *r, const lists *l, size_t i) {
+    uint64_t w = l->words[i];
+    if (r->atom)
+        return (row){l->kinds[i], l->levels[i], l->values[i]};
+    return (row){icotable_word_kind(w), icotable_word_level(w), icotable_word_value(w)};
+}
+
+static void put_row(const replay *r, lists *l, size_t i, row x) {
+    if (r->atom)
+        l->kinds[i] = (uint8_t)x.kind, l->levels[i] = x.level, l->values[i] = x.value;
+    else
+        l->words[i] = x.kind << 40 | icotable_word(0, x.level, x.value);
+}
+
+static size_t least(size_t a, size_t b) {
+    return a < b ? a : b;
+}
+
 static lengths read_lengths(replay *r) {
     lengths n;
     n.store = lent(r, STORE);
     n.kinds = lent(r, SLABS);
     n.levels = lent(r, SLABS);
     n.values = lent(r, SLABS);
+    n.words = least(n.kinds, least(n.levels, n.values));
     n.vertices = lent(r, 3 * N);
     n.counts = lent(r, N);
     n.neighbours = lent(r, 6 * N);
@@ -109,17 +138,17 @@ static size_t read_energies(replay *r, double *energies) {
 
 /* ---- the calls */
 
-#define ROW_LISTS l->kinds, n->kinds, l->levels, n->levels, l->values, n->values
+#define LISTS l->store, n->store, l->words, n->words
+#define ATOM_LISTS l->store, n->store, l->kinds, n->kinds, l->levels, n->levels, l->values, n->values
 #define MESH_LISTS \
     l->vertices, n->vertices, l->counts, n->counts, l->neighbours, n->neighbours, l->angles, n->angles
 
 static outcome call_fresh(const replay *r, lists *l, const lengths *n, icotable_builder b) {
     if (r->atom) {
-        icotable_atom_built a =
-            icotable_atom_fresh(to_atom(&b).grid, b.top, l->store, n->store, ROW_LISTS, MESH_LISTS);
+        icotable_atom_built a = icotable_atom_fresh(to_atom(&b).grid, b.top, ATOM_LISTS, MESH_LISTS);
         return (outcome){.number = a.number, .builder = of_atom(&a.builder)};
     }
-    icotable_built a = icotable_fresh(b.grid, b.top, l->store, n->store, ROW_LISTS, MESH_LISTS);
+    icotable_built a = icotable_fresh(b.grid, b.top, LISTS, MESH_LISTS);
     return (outcome){.number = a.number, .builder = a.builder};
 }
 
@@ -142,20 +171,20 @@ static outcome set(replay *r, lists *l, const lengths *n, icotable_builder held)
     uint64_t ri = word(r, 16), oi = word(r, 16);
     size_t count = read_energies(r, energies);
     if (r->atom) {
-        icotable_atom_built a = icotable_atom_set(to_atom(&held), l->store, n->store, ROW_LISTS, ri, energies, count);
+        icotable_atom_built a = icotable_atom_set(to_atom(&held), ATOM_LISTS, ri, energies, count);
         return (outcome){.number = a.number, .builder = of_atom(&a.builder)};
     }
-    icotable_built a = icotable_set(held, l->store, n->store, ROW_LISTS, ri, oi, energies, count);
+    icotable_built a = icotable_set(held, LISTS, ri, oi, energies, count);
     return (outcome){.number = a.number, .builder = a.builder};
 }
 
 static outcome settle(replay *r, lists *l, const lengths *n, icotable_builder held) {
     uint64_t ri = word(r, 16);
     if (r->atom) {
-        icotable_atom_settled a = icotable_atom_settle(to_atom(&held), l->store, n->store, ROW_LISTS, MESH_LISTS, ri);
+        icotable_atom_settled a = icotable_atom_settle(to_atom(&held), ATOM_LISTS, MESH_LISTS, ri);
         return (outcome){a.number, a.gradient, a.comparisons, of_atom(&a.builder)};
     }
-    icotable_settled a = icotable_settle(held, l->store, n->store, ROW_LISTS, MESH_LISTS, ri);
+    icotable_settled a = icotable_settle(held, LISTS, MESH_LISTS, ri);
     return (outcome){a.number, a.gradient, a.comparisons, a.builder};
 }
 
@@ -167,9 +196,14 @@ static uint64_t stamp(const double *store) {
     return h;
 }
 
+/* Whether a word is as it was, or was replaced by one without a rest; after a refused call it is as it was. */
+static bool rest_stays(uint64_t before, uint64_t after, bool refused) {
+    return after == before || (!refused && after >> 48 == 0);
+}
+
 /* The stored answer: number, level, gradient, comparisons, stamp of the store, and all twelve rows, also those beyond the ones that
- * the table needs. */
-static void judge(replay *r, int kind, bool right, const outcome *o, const lists *l) {
+ * the table needs. A stored row has no place for the rest of a word. */
+static void judge(replay *r, int kind, bool right, const outcome *o, const lists *l, const uint64_t *before) {
     bool agrees = same(r, kind, 2, o->number) && right;
     bool level = same(r, LEVELS, 16, o->builder.level);
     bool gradient = same(r, kind < SETTLE ? kind : GRADIENTS, 16, bits(o->gradient));
@@ -180,19 +214,22 @@ static void judge(replay *r, int kind, bool right, const outcome *o, const lists
     counted(r, LEVELS, level);
     counted(r, STORES, same(r, STORES, 8, stamp(l->store)));
     for (size_t i = 0; i < SLABS; i++) {
-        bool row = same(r, ROWS, 2, l->kinds[i]);
-        row &= same(r, ROWS, 2, l->levels[i]);
-        row &= same(r, ROWS, 8, l->values[i]);
-        counted(r, ROWS, row);
+        row x = row_at(r, l, i);
+        bool agree = same(r, ROWS, 2, x.kind & 0xFF);
+        agree &= same(r, ROWS, 2, x.level);
+        agree &= same(r, ROWS, 8, x.value);
+        agree &= holds(r, ROWS, rest_stays(before[i], l->words[i], o->number != 0), "the rest of a word, or a refused call's word, is another");
+        counted(r, ROWS, agree);
     }
 }
 
 /* n*n of the level of every Mesh row, also of those beyond the ones that the table needs. */
-static uint64_t packed(const lists *l) {
+static uint64_t packed(const replay *r, const lists *l) {
     uint64_t sum = 0;
     for (size_t i = 0; i < SLABS; i++) {
-        uint64_t m = (uint64_t)l->levels[i] + 1, n = 10 * m * m + 2;
-        if (l->kinds[i] == 2 || l->kinds[i] == 3)
+        row x = row_at(r, l, i);
+        uint64_t m = (uint64_t)x.level + 1, n = 10 * m * m + 2;
+        if (x.kind == 2 || x.kind == 3)
             sum += n * n;
     }
     return sum;
@@ -205,27 +242,42 @@ static void replay_call(replay *r, uint64_t what, lists *l, icotable_builder *he
     r->at = answer + ANSWER;
     lengths n = read_lengths(r);
     icotable_builder given = read_builder(r);
+    uint64_t words[SLABS];
+    memcpy(words, l->words, sizeof words);
     bool right = true;
     outcome o;
     if (what == 1) {
         o = fresh(r, l, &n, given, *held, &right);
     } else {
-        uint64_t before = packed(l);
+        uint64_t before = packed(r, l);
         right = holds(r, kind, same_table(&given, held) && given.level == held->level,
             "the builder that is held is not the stored one");
         o = what == 2 ? set(r, l, &n, *held) : settle(r, l, &n, *held);
         right &= holds(r, kind, same_table(&o.builder, held), "the builder comes back with other settings");
-        right &= holds(r, kind, r->atom || o.builder.packed == held->packed + packed(l) - before,
+        right &= holds(r, kind, r->atom || o.builder.packed == held->packed + packed(r, l) - before,
             "the packed energies move by another number than the rows'");
     }
     size_t end = r->at;
     r->at = answer;
-    judge(r, kind, right, &o, l);
+    judge(r, kind, right, &o, l, words);
     *held = o.builder;
     r->at = end;
 }
 
 /* ---- entries */
+
+/* One number of a row: 0 its kind, 1 its level, 2 its value. */
+static void put_number(replay *r, lists *l, uint64_t list, size_t place) {
+    row x = row_at(r, l, place);
+    uint64_t n = word(r, 16);
+    if (list == 0)
+        x.kind = n;
+    else if (list == 1)
+        x.level = (uint8_t)n;
+    else
+        x.value = (uint32_t)n;
+    put_row(r, l, place, x);
+}
 
 /* Lists 0 kinds, 1 levels, 2 values, 3 vertices, 4 counts, 5 neighbours, 6 angles. */
 static void put(replay *r, void *lent_lists, uint64_t list, size_t place) {
@@ -234,9 +286,9 @@ static void put(replay *r, void *lent_lists, uint64_t list, size_t place) {
     if (list > 6 || place >= counts[list])
         bad_data(r, "there is no such place in a list");
     switch (list) {
-    case 0: l->kinds[place] = (uint8_t)word(r, 16); break;
-    case 1: l->levels[place] = (uint8_t)word(r, 16); break;
-    case 2: l->values[place] = (uint32_t)word(r, 16); break;
+    case 0:
+    case 1:
+    case 2: put_number(r, l, list, place); break;
     case 3: l->vertices[place] = number(r); break;
     case 4: l->counts[place] = (uint8_t)word(r, 16); break;
     case 5: l->neighbours[place] = (uint16_t)word(r, 16); break;
@@ -245,18 +297,18 @@ static void put(replay *r, void *lent_lists, uint64_t list, size_t place) {
 }
 
 /* What the lists hold before the first line. */
-static void blank(lists *l) {
+static void blank(const replay *r, lists *l) {
     memset(l, 0, sizeof *l);
     for (size_t i = 0; i < STORE; i++)
         l->store[i] = 1.0;
     for (size_t i = 0; i < SLABS; i++)
-        l->kinds[i] = l->levels[i] = 9, l->values[i] = 9;
+        put_row(r, l, i, (row){9, 9, 9});
 }
 
 void replay_calls(replay *r) {
     static lists l;
     icotable_builder held = {0};
-    blank(&l);
+    blank(r, &l);
     while (next_line(r)) {
         size_t start = r->at;
         uint64_t what = word(r, 2);

@@ -19,8 +19,7 @@ typedef struct lists {
     uint8_t counts[N];
     uint16_t neighbours[6 * N];
     double store[STORE];
-    uint8_t kinds[SLABS], levels[SLABS];
-    uint32_t values[SLABS];
+    uint64_t words[SLABS];
 } lists;
 
 #define MESHES l->vertices, 3 * N, l->counts, N, l->neighbours, 6 * N, l->angles, 6 * N
@@ -47,8 +46,7 @@ static icotable_builder fresh(replay *r, lists *l) {
     const icotable_grid grid = {.rmin = 2.0, .rmax = 4.0, .dr = 1.0, .omega_step = 6.0, .threshold = 0.1, .beta = 1.0};
     for (int i = 0; i < 6 * N; i++)
         l->angles[i] = 1.0;
-    icotable_built b = icotable_fresh(
-        grid, 0, l->store, STORE, l->kinds, SLABS, l->levels, SLABS, l->values, SLABS, MESHES);
+    icotable_built b = icotable_fresh(grid, 0, l->store, STORE, l->words, SLABS, MESHES);
     holds(r, WRITTEN, b.number == 0, "the builder is refused");
     return b.builder;
 }
@@ -79,12 +77,12 @@ static void replay_write(replay *r, lists *l) {
     case ICOTABLE_BIN_COUNT: b.grid.n_r = 7; break;
     case ICOTABLE_SHORT_LIST: store--; break;
     case ICOTABLE_MESH: l->neighbours[0] = N; break;
-    case ICOTABLE_ROW: l->kinds[1] = 9; break;
+    case ICOTABLE_ROW: l->words[1] = icotable_word(9, 0, 0); break;
     case 0: break;
     default: bad_data(r, "there is no such flaw");
     }
-    icotable_written w = icotable_write_tail(b, l->store, store, l->kinds, SLABS, l->levels, SLABS, l->values, SLABS,
-        MESHES, l->coefficients, n[0], l->kappas, n[1], l->powers, n[2], l->prefactor, n[3], l->file, n[4]);
+    icotable_written w = icotable_write_tail(b, l->store, store, l->words, SLABS, MESHES, l->coefficients, n[0],
+        l->kappas, n[1], l->powers, n[2], l->prefactor, n[3], l->file, n[4]);
     l->neighbours[0] = neighbour;
     r->at = answer;
     bool agrees = same(r, kind, 2, w.number);

@@ -4,7 +4,7 @@ from source import Wrong
 from text import applied, arg
 
 # the law that the byte offset of an index fits, by the element's size
-FITS = {8: 'place-fits', 4: 'word-fits'}
+FITS = {8: 'place-fits'}
 
 
 def laws(kind):

@@ -21,9 +21,10 @@ def walks():
         Read('lent', 'records', 'row_at', RECORDS, 'none', 'read (rows .now) s', 'read-beyond (rows .now) s h'),
         Replace('lent', 'records', 'replace_row', RECORDS, 'none', '(inside (ltb s (length (rows .now))) h, refl)',
                 '(outside (ltb s (length (rows .now))) h, kept (rows .now) s r h)'),
-        Gather('lent', 'records', 'gather', RECORDS, 'none', 'bridged-le'),
-        Spread('lent', 'records', 'spread', RECORDS, 'none', 'bridged-le', 'recordAt (columns (rows .now)) %s',
-               'read (rows .now) %s'),
+        Gather('lent', 'records', 'gather', RECORDS, 'none', 'gather-fits', 'gather-low', 'gather-clear'),
+        Spread('lent', 'records', 'spread', RECORDS, 'none', 'spread-fits', 'spread-low',
+               'getD (wordsIn (rows .now)) %s 0', 'word-read (rows .now) %s'),
         Through('test_forms', 'through', 'settle_through'),
         Through('test_forms', 'through', 'with_row', 'e .1'),
+        Through('test_forms', 'through', 'with_words', 'e .1'),
     ]

@@ -1,16 +1,17 @@
 -- What questions that were answered yes say of the numbers. Assumes nothing.
-use mathlib.Core.Path.{_≡_}
+use mathlib.Core.Path.{_≡_, refl, _∙_}
 use Rattle.lists.proofs.Asking.{ask-yes, first-yes}
 use Rattle.lists.proofs.Counting.{yes, no}
 use mathlib.Core.Bool.{Bool, true, false, not, _&&_, and-eq-true-iff}
-use mathlib.Core.List.{List}
-use Prim.Native.Nat.{ℕ, suc, _+_, _*_, _≤_, _<_}
+use mathlib.Core.List.{List, [], _∷_, map, map-append}
+use Prim.Native.Nat.{ℕ, zero, suc, _+_, _*_, _≤_, _<_}
 use native.Mathlib.Omega.{arith}
 use lib.Dec.{leb, ltb, lit<}
 use lib.Ieee.{Float}
-use lib.ListN.{length}
+use lib.ListN.{length, drop, replicate}
 use borrow.Author.Tests.{leb-true, ltb-true, eqb-true, ne-eqb}
 use Rattle.lists.specs.Questions.{ask, first}
+use Rattle.lists.specs.Lists.{put}
 use Rattle.mesh.specs.Levels.{per, vertexCount, verticesBelow}
 use Rattle.mesh.specs.Mesh.{Mesh, meshLong, meshesKeep}
 use Rattle.mesh.proofs.Sizes.{per-mono, count-mono}
@@ -21,7 +22,11 @@ use Rattle.grid.specs.declared.Grid.{Grid}
 use Rattle.grid.specs.declared.AtomGrid.{AtomGrid}
 use Rattle.grid.proofs.Laws.{counts-le, atom-count-le}
 use Rattle.rows.specs.Rows.{rowRoom}
-use Rattle.builder.specs.BuilderLists.{slabs, slab, storePlace, slabRoom, listRoom}
+use Rattle.rows.specs.Words.{wordKind, wordLevel, wordValue, wordRows}
+use Rattle.rows.proofs.InWords.{kinds-long, levels-long, values-long}
+use Rattle.settling.specs.Gradient.{zero as noEnergy}
+use Rattle.builder.specs.BuilderLists.{BuilderLists, slabs, slab, storePlace, slabRoom, listRoom, listsLong, wordLists}
+use Rattle.builder.specs.Calls.{filledSlabs}
 use Rattle.builder.specs.Refusals.{builderQuestion, setQuestion}
 use Rattle.builder.specs.Atom.{atomBuilderQuestion, atomRoom, atomSetQuestion}
 use Rattle.builder.specs.declared.Builder.{Builder}
@@ -135,6 +140,33 @@ meshed b m store kinds levels values p =
     let q7 = ask-yes (lit< tt) (q6 .1) in
     let r = and-eq-true-iff (listRoom (b .grid) (b .top) store kinds levels values) (meshLong (verticesBelow (suc (b .top))) m) .0 (q6 .0) in
     record { asked = asked (b .grid) (b .top) (b .level) (f .0); room = roomy (b .grid) (b .top) store kinds levels values (r .0); held = r .1; kept = q7 .0 }
+
+-- ---- rows as words
+
+-- 6 asks the one list for the slabs
+pub words-long : (b : Builder) (store : List Float) (ws : List ℕ) → listsLong b (wordLists store ws) ≡ listRoom (b .grid) (b .top) (length store) (length ws) (length ws) (length ws)
+words-long b store ws = rw (kinds-long ws, levels-long ws, values-long ws)
+
+map-drop : {A B : Type 0} (f : A → B) (k : ℕ) (l : List A) → map f (drop k l) ≡ drop k (map f l)
+map-drop f zero l = refl
+map-drop f (suc k) [] = refl
+map-drop f (suc k) (x ∷ l) = map-drop f k l
+
+map-zeros : (f : ℕ → ℕ) → f 0 ≡ 0 → (n : ℕ) → map f (replicate n 0) ≡ replicate n 0
+map-zeros f e zero = refl
+map-zeros f e (suc n) = rw (e, map-zeros f e n)
+
+zeros-in : (f : ℕ → ℕ) → f 0 ≡ 0 → (ws : List ℕ) (n : ℕ) → map f (put ws 0 (replicate n 0)) ≡ put (map f ws) 0 (replicate n 0)
+unfolding put
+zeros-in f e ws n =
+    let k : ℕ = 0 + length (replicate {A = ℕ} n 0) in
+    map-append f (replicate n 0) (drop k ws) ∙ rw (map-zeros f e n, map-drop f k ws)
+
+-- the word 0 is the row Scalar 0.0
+pub filled-words : (n z : ℕ) (store : List Float) (ws : List ℕ)
+    → _≡_ {A = BuilderLists} (wordLists (put store 0 (replicate (n * z) noEnergy)) (put ws 0 (replicate n 0))) (filledSlabs n z (wordLists store ws))
+unfolding filledSlabs wordRows wordKind wordLevel wordValue
+filled-words n z store ws = rw (zeros-in wordKind refl ws n, zeros-in wordLevel refl ws n, zeros-in wordValue refl ws n)
 
 -- ---- the same of a table against an atom
 

@@ -14,10 +14,10 @@ use Rattle.rows.specs.declared.SlabResolution.{SlabResolution}
 use Rattle.rows.specs.declared.SlabResolution.the-variants.{Scalar, Mesh as MeshRow, Repulsive}
 use Rattle.rows.specs.Rows.{resolutionAt, rowWith}
 use Rattle.settling.specs.Settling.{fromLevel}
-use Rattle.builder.specs.BuilderLists.{BuilderLists, slab, storePlace, rowIn, rowAt, rowsIn, rowsFrom, rowsKnown}
+use Rattle.builder.specs.BuilderLists.{BuilderLists, slab, storePlace, rowIn, rowAt, rowsIn, rowsFrom}
 use Rattle.builder.specs.Refusals.{meshedRefusal, settleRefusal}
 use Rattle.builder.specs.Atom.{atomMeshedRefusal, atomSettleRefusal}
-use Rattle.builder.specs.Internal.{rowsFromLevel, settleQuestion}
+use Rattle.builder.specs.Internal.{rowsFromLevel, settleQuestion, atomSettleQuestion}
 use Rattle.builder.specs.declared.Builder.{Builder}
 use Rattle.builder.specs.declared.AtomBuilder.{AtomBuilder}
 
@@ -68,8 +68,7 @@ asked-as b m l ri = rw (by-lists (b .level) (b .top) l (slab (b .grid) ri 0) (b 
 
 -- .. of a table against an atom, where a slice has one row
 pub atom-asked-as : (b : AtomBuilder) (m : Mesh) (l : BuilderLists) (ri : ℕ)
-    → first (atomMeshedRefusal b m l) (settleQuestion (b .grid .«n_r») 1 (b .top) (b .level) (l .rows) ri) ≡ atomSettleRefusal b m l ri
-unfolding atomSettleRefusal settleQuestion rowsKnown rowsFromLevel allUpTo rowIn
+    → first (atomMeshedRefusal b m l) (atomSettleQuestion (b .grid .«n_r») (b .top) (b .level) (l .rows) ri) ≡ atomSettleRefusal b m l ri
+unfolding atomSettleRefusal atomSettleQuestion rowIn
 atom-asked-as b m l ri =
-    let z : ri * 1 + 0 + 0 ≡ ri = omega arith in
-    rw (z, any-energies (b .level) (resolutionAt (l .rows) ri) (take (vertexCount (getD (l .rows .levels) ri 0)) (drop (ri * vertexCount (b .top)) (l .store)))) refl
+    rw (any-energies (b .level) (resolutionAt (l .rows) ri) (take (vertexCount (getD (l .rows .levels) ri 0)) (drop (ri * vertexCount (b .top)) (l .store)))) refl

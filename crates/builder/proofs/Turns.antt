@@ -112,9 +112,7 @@ module _ (f : Row Float → Verdict) (c top base n : ℕ) (l : BuilderLists) (st
     pub tally : tallyFrom f c t (rowsFrom top l (base + i) (n - i)) ≡ tallyFrom f c start (rowsFrom top l base n)
     pub rows : settledLists c now (base + i) (map f (rowsFrom top l (base + i) (n - i))) ≡ settledLists c (l .rows) base (map f (rowsFrom top l base n))
     pub same : (s : ℕ) → base + i ≤ s → Same now (l .rows) s
-    pub kinds-size : length (now .kinds) ≡ length (l .rows .kinds)
-    pub levels-size : length (now .levels) ≡ length (l .rows .levels)
-    pub values-size : length (now .values) ≡ length (l .rows .values)
+    pub size : length (now .kinds) ≡ length (l .rows .kinds)
 
   pub begin : After 0 start (l .rows)
   begin =
@@ -125,16 +123,13 @@ module _ (f : Row Float → Verdict) (c top base n : ℕ) (l : BuilderLists) (st
         tally = rw (b, m) refl;
         rows = rw (b, m) refl;
         same = λ s h. (record { kinds = refl; levels = refl; values = refl });
-        kinds-size = refl;
-        levels-size = refl;
-        values-size = refl;
+        size = refl;
       }
 
-  same-size : (r : Rows) (s : ℕ) (x : Option SlabResolution) → (length (replacedBy r s x .kinds) ≡ length (r .kinds)) × (length (replacedBy r s x .levels) ≡ length (r .levels))
-      × (length (replacedBy r s x .values) ≡ length (r .values))
+  same-size : (r : Rows) (s : ℕ) (x : Option SlabResolution) → length (replacedBy r s x .kinds) ≡ length (r .kinds)
   unfolding replaced
-  same-size r s none = (refl, refl, refl)
-  same-size r s (some x) = (length-set (r .kinds) s (kindOf x), length-set (r .levels) s (levelOf x), length-set (r .values) s (valueOf x))
+  same-size r s none = refl
+  same-size r s (some x) = length-set (r .kinds) s (kindOf x)
 
   pub again : (i : ℕ) (t u : Tally) (now next : Rows) → After i t now → i < n
       → u ≡ tallied c t (rowAt top l (base + i)) (f (rowAt top l (base + i)))
@@ -146,7 +141,6 @@ module _ (f : Row Float → Verdict) (c top base n : ℕ) (l : BuilderLists) (st
       let w = newRow c (f r) in
       let m = rows-more top l base n i h in
       let z : base + (i + 1) ≡ suc (base + i) = omega arith in
-      let k = same-size now (base + i) w in
       let step : settledLists c (replacedBy now (base + i) w) (suc (base + i)) (map f (rowsFrom top l (base + (i + 1)) (n - (i + 1)))) ≡ settledLists c (l .rows) base (map f (rowsFrom top l base n)) =
       rw m at (a .rows) in
       record {
@@ -157,9 +151,7 @@ module _ (f : Row Float → Verdict) (c top base n : ℕ) (l : BuilderLists) (st
             let x = past now (base + i) s w (omega (arith, g)) in
             let y = a .same s (omega (arith, g)) in
             rw q (record { kinds = x .kinds ∙ y .kinds; levels = x .levels ∙ y .levels; values = x .values ∙ y .values });
-        kinds-size = rw q (k .0 ∙ a .kinds-size);
-        levels-size = rw q (k .1 ∙ a .levels-size);
-        values-size = rw q (k .2 ∙ a .values-size);
+        size = rw q (same-size now (base + i) w ∙ a .size);
       }
 
   pub end : (i : ℕ) (t : Tally) (now : Rows) → After i t now → n ≤ i → (t ≡ tallyFrom f c start (rowsFrom top l base n)) × (now ≡ settledLists c (l .rows) base (map f (rowsFrom top l base n)))

@@ -10,6 +10,7 @@ use Rattle.mesh.specs.Levels.{per, verticesBelow}
 use Rattle.mesh.specs.Mesh.{Mesh, meshLong}
 use Rattle.grid.specs.declared.Grid.{Grid}
 use Rattle.rows.specs.Rows.{Rows, rowsOf, resolutionAt, rowKnown, rowRoom, Row, rowWith}
+use Rattle.rows.specs.Words.{wordRows}
 use Rattle.builder.specs.declared.Builder.{Builder}
 
 -- the store and the rows
@@ -19,6 +20,10 @@ pub record BuilderLists : Type 0 where
 
 abbrev pub listsOf : List Float → List ℕ → List ℕ → List ℕ → BuilderLists
 listsOf store kinds levels values = record { store = store; rows = rowsOf kinds levels values }
+
+-- .. the rows as words (S25.3)
+abbrev pub wordLists : List Float → List ℕ → BuilderLists
+wordLists store words = record { store = store; rows = wordRows words }
 
 -- "A slab is one distance bin and one dihedral bin"
 abbrev pub slabs : Grid → ℕ

@@ -9,7 +9,7 @@ use lib.Ieee.{Float, binary64, ofBits, lt}
 use Rattle.lists.specs.Lists.{every, allUpTo}
 use Rattle.mesh.specs.Levels.{vertexCount, per, verticesBelow}
 use Rattle.mesh.specs.Mesh.{Mesh, levelPart, meshOf}
-use Rattle.rows.specs.Rows.{Rows, Row, resolutionAt, rowWith}
+use Rattle.rows.specs.Rows.{Rows, Row, resolutionAt, rowKnown, rowWith}
 use Rattle.settling.specs.Settling.{verdictOf, newRow, fromLevel, replacedBy, atomVerdictOf}
 use Rattle.builder.specs.BuilderLists.{BuilderLists, slab, slabs, sliceAt}
 use Rattle.builder.specs.Calls.{settledLists}
@@ -99,6 +99,13 @@ pub record AtomSettleReady (b : AtomBuilder) (ms : Mesh) (store : List Float) (r
   pub level-le : b .level ≤ b .top
   pub store-le : ri * vertexCount (b .top) + vertexCount (b .level) ≤ length store
   pub linked : MeshesLinked (b .level) ms
+
+-- 8, 15 and 11 of settle, whose slice is one row
+unfoldable pub atomSettleQuestion : ℕ → ℕ → ℕ → Rows → ℕ → ℕ
+atomSettleQuestion bins top level r ri =
+    ask (ltb ri bins) 8
+    (ask (rowKnown top r ri) 15
+    (ask (fromLevel level (rowWith (resolutionAt r ri) [])) 11 0))
 
 -- what settling slab ri gives and leaves, over the mesh of the current level
 abbrev pub atomSettledSlab : AtomBuilder → Mesh → List Float → ℕ → Rows → AtomVerdict → Rows → Type 0

@@ -10,7 +10,7 @@ ghost use Rattle.rows.specs.Rows.{rowsOf};
 ghost use Rattle.settling.specs.Settling.{comparisonsFor};
 ghost use Rattle.builder.specs.BuilderLists.{listsOf};
 ghost use Rattle.builder.specs.Atom.{AtomBuiltOut, AtomSettleOut, atomBuiltValues, atomBuiltNumbered, atomSettledValues, atomSettledNumbered, noAtomBuilder, atomBuilderQuestion, atomRoom, atomFreshBuilder, atomFreshOut, atomSetQuestion, atomSetOut, atomSettleRefusal, atomSettleOut};
-ghost use Rattle.builder.specs.Internal.{AtomSettleReady, partLinks, atomSettledSlab};
+ghost use Rattle.builder.specs.Internal.{AtomSettleReady, partLinks, atomSettleQuestion, atomSettledSlab};
 use crate::AtomBuilder;
 use crate::AtomBuilt;
 use crate::AtomSettled;
@@ -104,7 +104,7 @@ pub fn atom_fresh(
     }
     let n_r = made.grid.n_r;
     let most = made.top;
-    copies::clear_slabs(
+    copies::atom_clear_slabs(
         n_r,
         mesh::vertex_count(most as u8),
         store,
@@ -176,7 +176,7 @@ pub fn atom_set(
     }
     let top = b.top;
     let level = b.level;
-    copies::set_slab(
+    copies::atom_set_slab(
         mesh::vertex_count(top as u8),
         level as u8,
         store,
@@ -187,6 +187,30 @@ pub fn atom_set(
         energies,
     );
     AtomBuilt::Accepted(b)
+}
+
+// Questions 8, 15 and 11 of settle, whose slice is one row.
+fn atom_settle_question(
+    bins: u64,
+    top: u64,
+    level: u64,
+    kinds: &[u8],
+    levels: &[u8],
+    values: &[u32],
+    ri: u64,
+) -> u64
+    ensures { λ r. ⌜ r ≡ atomSettleQuestion bins top level (rowsOf (now (kinds .entry)) (now (levels .entry)) (now (values .entry))) ri ⌝ }
+{
+    if bins <= ri {
+        return 8;
+    }
+    if !rows::row_known(top, kinds, levels, ri) {
+        return 15;
+    }
+    if !questions::from_level(level, rows::resolution_at(kinds, levels, values, ri)) {
+        return 11;
+    }
+    0
 }
 
 // Questions 1 to 8, 15 and 11, of settle.
@@ -222,7 +246,7 @@ fn atom_settle_refusal(
     let n_r = b.grid.n_r;
     let top = b.top;
     let level = b.level;
-    questions::settle_question(n_r, 1, top, level, kinds, levels, values, ri)
+    atom_settle_question(n_r, top, level, kinds, levels, values, ri)
 }
 
 // Settles slab ri over the meshes of all levels, of which the current level's part is cut out.

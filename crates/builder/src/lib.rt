@@ -5,7 +5,7 @@ ghost use mathlib.Core.List.{[]};
 ghost use Prim.Native.Nat.{_≤_};
 ghost use Rattle.mesh.specs.Mesh.{meshOf};
 ghost use Rattle.rows.specs.Rows.{rowWith};
-ghost use Rattle.builder.specs.BuilderLists.{listsOf};
+ghost use Rattle.builder.specs.BuilderLists.{wordLists};
 ghost use Rattle.builder.specs.Calls.{BuiltOut, SettleOut, builtValues, builtNumbered, settledValues, settledNumbered, noBuilder, freshBuilder, freshOut, setBuilder, setOut, settleOut};
 use grid::AtomGrid;
 use grid::Grid;
@@ -78,26 +78,22 @@ pub fn fresh(
     g: Grid,
     top: u64,
     store: &mut [f64],
-    kinds: &mut [u8],
-    levels: &mut [u8],
-    values: &mut [u32],
+    words: &mut [u64],
     vertices: &[f64],
     counts: &[u8],
     neighbours: &[u16],
     angles: &[f64],
 ) -> Built
     ensures { λ r. ⌜ (builtNumbered r ≡ true) × _≡_ {A = BuiltOut}
-        (record { answer = builtValues noBuilder r; lists = listsOf (now (store .exit)) (now (kinds .exit)) (now (levels .exit)) (now (values .exit)) })
+        (record { answer = builtValues noBuilder r; lists = wordLists (now (store .exit)) (now (words .exit)) })
         (freshOut g top (meshOf (now (vertices .entry)) (now (counts .entry)) (now (neighbours .entry)) (now (angles .entry)))
-        (listsOf (now (store .entry)) (now (kinds .entry)) (now (levels .entry)) (now (values .entry)))) ⌝ }
+        (wordLists (now (store .entry)) (now (words .entry)))) ⌝ }
 {
     let made = fresh_builder(g, top);
     let no = questions::meshed_refusal(
         made,
         store.len() as u64,
-        kinds.len() as u64,
-        levels.len() as u64,
-        values.len() as u64,
+        words.len() as u64,
         vertices,
         counts,
         neighbours,
@@ -109,14 +105,7 @@ pub fn fresh(
     let n_r = made.grid.n_r;
     let n_omega = made.grid.n_omega;
     let most = made.top;
-    copies::clear_slabs(
-        n_r * n_omega,
-        mesh::per_level(most as u8),
-        store,
-        kinds,
-        levels,
-        values,
-    );
+    copies::clear_slabs(n_r * n_omega, mesh::per_level(most as u8), store, words);
     Built::Accepted(made)
 }
 
@@ -143,27 +132,16 @@ fn set_builder(b: Builder, row: SlabResolution) -> Builder
 pub fn set(
     b: Builder,
     store: &mut [f64],
-    kinds: &mut [u8],
-    levels: &mut [u8],
-    values: &mut [u32],
+    words: &mut [u64],
     ri: u64,
     oi: u64,
     energies: &[f64],
 ) -> Built
     ensures { λ r. ⌜ (builtNumbered r ≡ true) × _≡_ {A = BuiltOut}
-        (record { answer = builtValues b r; lists = listsOf (now (store .exit)) (now (kinds .exit)) (now (levels .exit)) (now (values .exit)) })
-        (setOut b (listsOf (now (store .entry)) (now (kinds .entry)) (now (levels .entry)) (now (values .entry))) ri oi (now (energies .entry))) ⌝ }
+        (record { answer = builtValues b r; lists = wordLists (now (store .exit)) (now (words .exit)) })
+        (setOut b (wordLists (now (store .entry)) (now (words .entry))) ri oi (now (energies .entry))) ⌝ }
 {
-    let no = questions::set_refusal(
-        b,
-        store.len() as u64,
-        kinds,
-        levels,
-        values.len() as u64,
-        ri,
-        oi,
-        energies,
-    );
+    let no = questions::set_refusal(b, store.len() as u64, words, ri, oi, energies);
     if no != 0 {
         return Built::Refused(no);
     }
@@ -171,14 +149,12 @@ pub fn set(
     let top = b.top;
     let level = b.level;
     let s = ri * n_omega + oi;
-    let after = set_builder(b, rows::resolution_at(kinds, levels, values, s));
+    let after = set_builder(b, rows::resolution_in(words, s));
     copies::set_slab(
         mesh::per_level(top as u8),
         level as u8,
         store,
-        kinds,
-        levels,
-        values,
+        words,
         s,
         energies,
     );
@@ -189,9 +165,7 @@ pub fn set(
 pub fn settle(
     b: Builder,
     store: &[f64],
-    kinds: &mut [u8],
-    levels: &mut [u8],
-    values: &mut [u32],
+    words: &mut [u64],
     vertices: &[f64],
     counts: &[u8],
     neighbours: &[u16],
@@ -199,36 +173,15 @@ pub fn settle(
     ri: u64,
 ) -> Settled
     ensures { λ r. ⌜ (settledNumbered r ≡ true) × _≡_ {A = SettleOut}
-        (record { answer = settledValues b r; lists = listsOf (now (store .entry)) (now (kinds .exit)) (now (levels .exit)) (now (values .exit)) })
+        (record { answer = settledValues b r; lists = wordLists (now (store .entry)) (now (words .exit)) })
         (settleOut b (meshOf (now (vertices .entry)) (now (counts .entry)) (now (neighbours .entry)) (now (angles .entry)))
-        (listsOf (now (store .entry)) (now (kinds .entry)) (now (levels .entry)) (now (values .entry))) ri) ⌝ }
+        (wordLists (now (store .entry)) (now (words .entry))) ri) ⌝ }
 {
-    let no = questions::settle_refusal(
-        b,
-        store,
-        kinds,
-        levels,
-        values,
-        vertices,
-        counts,
-        neighbours,
-        angles,
-        ri,
-    );
+    let no = questions::settle_refusal(b, store, words, vertices, counts, neighbours, angles, ri);
     if no != 0 {
         return Settled::Refused(no);
     }
-    let t = slices::settle_slice(
-        b,
-        ri,
-        store,
-        counts,
-        neighbours,
-        angles,
-        kinds,
-        levels,
-        values,
-    );
+    let t = slices::settle_slice(b, ri, store, counts, neighbours, angles, words);
     let comparisons = slices::compared(b, t, counts);
     Settled::Accepted(slices::dropped(b, t), t.gradient, comparisons)
 }

@@ -10,9 +10,10 @@ ghost use Rattle.lists.specs.Questions.{ask, first};
 ghost use Rattle.lists.specs.Lists.{every};
 ghost use Rattle.mesh.specs.Levels.{verticesBelow};
 ghost use Rattle.mesh.specs.Mesh.{meshLong, meshesKeep, meshOf};
-ghost use Rattle.rows.specs.Rows.{rowWith, rowsOf, rowKnown};
+ghost use Rattle.rows.specs.Rows.{rowWith, rowKnown};
+ghost use Rattle.rows.specs.Words.{wordRows};
 ghost use Rattle.settling.specs.Settling.{fromLevel};
-ghost use Rattle.builder.specs.BuilderLists.{slab, slabRoom, listRoom, rowsKnown, listsOf};
+ghost use Rattle.builder.specs.BuilderLists.{slab, slabRoom, listRoom, rowsKnown, wordLists};
 ghost use Rattle.builder.specs.Internal.{rowsFromLevel, settleQuestion};
 ghost use Rattle.builder.specs.Refusals.{builderQuestion, setQuestion, settleRefusal};
 use crate::Builder;
@@ -79,17 +80,15 @@ pub(crate) fn set_question(
 pub(crate) fn set_refusal(
     b: Builder,
     store: u64,
-    kinds: &[u8],
-    levels: &[u8],
-    values: u64,
+    words: &[u64],
     ri: u64,
     oi: u64,
     energies: &[f64],
 ) -> u64
     ensures { λ r. ⌜ r ≡ first (builderQuestion b)
-        (ask (listRoom (b .grid) (b .top) store (length (now (kinds .entry))) (length (now (levels .entry))) values) 6
+        (ask (listRoom (b .grid) (b .top) store (length (now (words .entry))) (length (now (words .entry))) (length (now (words .entry)))) 6
         (first (setQuestion (b .grid) (b .level) ri oi (now (energies .entry)))
-        (ask (rowKnown (b .top) (rowsOf (now (kinds .entry)) (now (levels .entry)) []) (slab (b .grid) ri oi)) 15 0))) ⌝ }
+        (ask (rowKnown (b .top) (wordRows (now (words .entry))) (slab (b .grid) ri oi)) 15 0))) ⌝ }
 {
     let g = b.grid;
     let top = b.top;
@@ -100,13 +99,14 @@ pub(crate) fn set_refusal(
     }
     let n_r = g.n_r;
     let n_omega = g.n_omega;
+    let held = words.len() as u64;
     let no = set_question(
         n_r * n_omega,
         mesh::per_level(top as u8),
         store,
-        kinds.len() as u64,
-        levels.len() as u64,
-        values,
+        held,
+        held,
+        held,
         (ri < n_r) & (oi < n_omega),
         mesh::per_level(level as u8),
         energies,
@@ -114,7 +114,7 @@ pub(crate) fn set_refusal(
     if no != 0 {
         return no;
     }
-    if !rows::row_known(top, kinds, levels, ri * n_omega + oi) {
+    if !rows::known_in(top, words, ri * n_omega + oi) {
         return 15;
     }
     0
@@ -160,16 +160,14 @@ pub(crate) fn mesh_question(
 pub fn meshed_refusal(
     b: Builder,
     store: u64,
-    kinds: u64,
-    levels: u64,
-    values: u64,
+    words: u64,
     vertices: &[f64],
     counts: &[u8],
     neighbours: &[u16],
     angles: &[f64],
 ) -> u64
     ensures { λ r. ⌜ r ≡ first (builderQuestion b)
-        (ask (listRoom (b .grid) (b .top) store kinds levels values && meshLong (verticesBelow (suc (b .top))) (meshOf (now (vertices .entry)) (now (counts .entry)) (now (neighbours .entry)) (now (angles .entry)))) 6
+        (ask (listRoom (b .grid) (b .top) store words words words && meshLong (verticesBelow (suc (b .top))) (meshOf (now (vertices .entry)) (now (counts .entry)) (now (neighbours .entry)) (now (angles .entry)))) 6
         (ask (meshesKeep (b .top) (meshOf (now (vertices .entry)) (now (counts .entry)) (now (neighbours .entry)) (now (angles .entry)))) 7 0)) ⌝ }
 {
     let g = b.grid;
@@ -186,9 +184,9 @@ pub fn meshed_refusal(
         mesh::per_level(top as u8),
         top,
         store,
-        kinds,
-        levels,
-        values,
+        words,
+        words,
+        words,
         vertices,
         counts,
         neighbours,
@@ -197,13 +195,13 @@ pub fn meshed_refusal(
 }
 
 // The kind and level part of question 15, of the rows of a slice.
-fn rows_known(top: u64, kinds: &[u8], levels: &[u8], s: u64, n: u64) -> bool
+fn rows_known(top: u64, words: &[u64], s: u64, n: u64) -> bool
     requires { ⌜ (s ≤ 4294967295) × (n ≤ 65535) ⌝ }
-    ensures { λ r. ⌜ r ≡ rowsKnown top (rowsOf (now (kinds .entry)) (now (levels .entry)) []) s n ⌝ }
+    ensures { λ r. ⌜ r ≡ rowsKnown top (wordRows (now (words .entry))) s n ⌝ }
 {
     let mut i: u64 = 0;
     while i < n {
-        if !rows::row_known(top, kinds, levels, s + i) {
+        if !rows::known_in(top, words, s + i) {
             return false;
         }
         i += 1;
@@ -212,7 +210,7 @@ fn rows_known(top: u64, kinds: &[u8], levels: &[u8], s: u64, n: u64) -> bool
 }
 
 // A row's energies, if it holds any, are from a level.
-fn from_level(level: u64, row: SlabResolution) -> bool
+pub(crate) fn from_level(level: u64, row: SlabResolution) -> bool
     ensures { λ r. ⌜ r ≡ fromLevel level (rowWith row []) ⌝ }
 {
     match row {
@@ -223,13 +221,13 @@ fn from_level(level: u64, row: SlabResolution) -> bool
 }
 
 // Question 11.
-fn rows_from_level(level: u64, kinds: &[u8], levels: &[u8], values: &[u32], s: u64, n: u64) -> bool
+fn rows_from_level(level: u64, words: &[u64], s: u64, n: u64) -> bool
     requires { ⌜ (s ≤ 4294967295) × (n ≤ 65535) ⌝ }
-    ensures { λ r. ⌜ r ≡ rowsFromLevel level (rowsOf (now (kinds .entry)) (now (levels .entry)) (now (values .entry))) s n ⌝ }
+    ensures { λ r. ⌜ r ≡ rowsFromLevel level (wordRows (now (words .entry))) s n ⌝ }
 {
     let mut i: u64 = 0;
     while i < n {
-        if !from_level(level, rows::resolution_at(kinds, levels, values, s + i)) {
+        if !from_level(level, rows::resolution_in(words, s + i)) {
             return false;
         }
         i += 1;
@@ -238,27 +236,18 @@ fn rows_from_level(level: u64, kinds: &[u8], levels: &[u8], values: &[u32], s: u
 }
 
 // Questions 8, 15 and 11 of settle, with n rows a slice.
-pub(crate) fn settle_question(
-    bins: u64,
-    n: u64,
-    top: u64,
-    level: u64,
-    kinds: &[u8],
-    levels: &[u8],
-    values: &[u32],
-    ri: u64,
-) -> u64
+fn settle_question(bins: u64, n: u64, top: u64, level: u64, words: &[u64], ri: u64) -> u64
     requires { ⌜ (bins ≤ 65535) × (n ≤ 65535) ⌝ }
-    ensures { λ r. ⌜ r ≡ settleQuestion bins n top level (rowsOf (now (kinds .entry)) (now (levels .entry)) (now (values .entry))) ri ⌝ }
+    ensures { λ r. ⌜ r ≡ settleQuestion bins n top level (wordRows (now (words .entry))) ri ⌝ }
 {
     if bins <= ri {
         return 8;
     }
     let s = ri * n;
-    if !rows_known(top, kinds, levels, s, n) {
+    if !rows_known(top, words, s, n) {
         return 15;
     }
-    if !rows_from_level(level, kinds, levels, values, s, n) {
+    if !rows_from_level(level, words, s, n) {
         return 11;
     }
     0
@@ -268,9 +257,7 @@ pub(crate) fn settle_question(
 pub(crate) fn settle_refusal(
     b: Builder,
     store: &[f64],
-    kinds: &[u8],
-    levels: &[u8],
-    values: &[u32],
+    words: &[u64],
     vertices: &[f64],
     counts: &[u8],
     neighbours: &[u16],
@@ -278,14 +265,12 @@ pub(crate) fn settle_refusal(
     ri: u64,
 ) -> u64
     ensures { λ r. ⌜ r ≡ settleRefusal b (meshOf (now (vertices .entry)) (now (counts .entry)) (now (neighbours .entry)) (now (angles .entry)))
-        (listsOf (now (store .entry)) (now (kinds .entry)) (now (levels .entry)) (now (values .entry))) ri ⌝ }
+        (wordLists (now (store .entry)) (now (words .entry))) ri ⌝ }
 {
     let no = meshed_refusal(
         b,
         store.len() as u64,
-        kinds.len() as u64,
-        levels.len() as u64,
-        values.len() as u64,
+        words.len() as u64,
         vertices,
         counts,
         neighbours,
@@ -298,5 +283,5 @@ pub(crate) fn settle_refusal(
     let n_omega = b.grid.n_omega;
     let top = b.top;
     let level = b.level;
-    settle_question(n_r, n_omega, top, level, kinds, levels, values, ri)
+    settle_question(n_r, n_omega, top, level, words, ri)
 }

@@ -4,9 +4,10 @@ ghost use mathlib.Core.List.{[]};
 ghost use Prim.Native.Nat.{_+_, _*_, _≤_};
 ghost use lib.ListN.{length, take, drop};
 ghost use Rattle.mesh.specs.Mesh.{meshOf, neighbourTotal};
-ghost use Rattle.builder.specs.BuilderLists.{listsOf};
+ghost use Rattle.builder.specs.BuilderLists.{wordLists};
 ghost use Rattle.mesh.specs.Levels.{vertexCount};
-ghost use Rattle.rows.specs.Rows.{resolutionAt, rowWith, rowsOf};
+ghost use Rattle.rows.specs.Rows.{resolutionAt, rowWith};
+ghost use Rattle.rows.specs.Words.{wordRows};
 ghost use Rattle.builder.specs.Internal.{SettleReady, SettleReadyIn, partLinks, settledSlab, SliceSettled, dropsBy, droppedBy};
 use crate::Builder;
 use settling::Tally;
@@ -21,19 +22,17 @@ fn settle_slab(
     neighbours: &[u16],
     angles: &[f64],
     level: u8,
-    kinds: &mut [u8],
-    levels: &mut [u8],
-    values: &mut [u32],
+    words: &mut [u64],
     s: u64,
     t: Tally,
 ) -> Tally
     requires { ⌜ (level ≤ 15) × (at + vertexCount level * vertexCount level ≤ length (now store)) ⌝ }
     ensures { λ r. ⌜ settledSlab threshold beta (meshOf [] (now (counts .entry)) (now (neighbours .entry)) (now (angles .entry))) level t
-        (rowWith (resolutionAt (rowsOf (now (kinds .entry)) (now (levels .entry)) (now (values .entry))) s) (take (vertexCount level * vertexCount level) (drop at (now (store .entry))))) s
-        (rowsOf (now (kinds .entry)) (now (levels .entry)) (now (values .entry)))
-        r (rowsOf (now (kinds .exit)) (now (levels .exit)) (now (values .exit))) ⌝ }
+        (rowWith (resolutionAt (wordRows (now (words .entry))) s) (take (vertexCount level * vertexCount level) (drop at (now (store .entry))))) s
+        (wordRows (now (words .entry)))
+        r (wordRows (now (words .exit))) ⌝ }
 {
-    let row = rows::resolution_at(kinds, levels, values, s);
+    let row = rows::resolution_in(words, s);
     let n = mesh::vertex_count(level);
     let end = at + (n * n) as usize;
     let v = settling::verdict_of(
@@ -46,7 +45,7 @@ fn settle_slab(
         level,
         row,
     );
-    settling::replace_by(kinds, levels, values, s, level, v);
+    settling::replace_word_by(words, s, level, v);
     settling::tallied(level, t, row, v)
 }
 
@@ -58,14 +57,12 @@ pub(crate) fn settle_rows(
     counts: &[u8],
     neighbours: &[u16],
     angles: &[f64],
-    kinds: &mut [u8],
-    levels: &mut [u8],
-    values: &mut [u32],
+    words: &mut [u64],
 ) -> Tally
-    requires { ⌜ SettleReady b (listsOf (now store) (now kinds) (now levels) (now values)) ri ⌝ }
+    requires { ⌜ SettleReady b (wordLists (now store) (now words)) ri ⌝ }
     ensures { λ r. ⌜ SliceSettled b (meshOf [] (now (counts .entry)) (now (neighbours .entry)) (now (angles .entry)))
-        (listsOf (now (store .entry)) (now (kinds .entry)) (now (levels .entry)) (now (values .entry))) ri
-        r (rowsOf (now (kinds .exit)) (now (levels .exit)) (now (values .exit))) ⌝ }
+        (wordLists (now (store .entry)) (now (words .entry))) ri
+        r (wordRows (now (words .exit))) ⌝ }
 {
     let threshold = b.grid.threshold;
     let beta = b.grid.beta;
@@ -94,9 +91,7 @@ pub(crate) fn settle_rows(
             neighbours,
             angles,
             level,
-            kinds,
-            levels,
-            values,
+            words,
             s,
             t,
         );
@@ -113,15 +108,13 @@ pub(crate) fn settle_slice(
     counts: &[u8],
     neighbours: &[u16],
     angles: &[f64],
-    kinds: &mut [u8],
-    levels: &mut [u8],
-    values: &mut [u32],
+    words: &mut [u64],
 ) -> Tally
     requires { ⌜ SettleReadyIn b (meshOf [] (now counts) (now neighbours) (now angles))
-        (listsOf (now store) (now kinds) (now levels) (now values)) ri ⌝ }
+        (wordLists (now store) (now words)) ri ⌝ }
     ensures { λ r. ⌜ SliceSettled b (partLinks (b .level) (meshOf [] (now (counts .entry)) (now (neighbours .entry)) (now (angles .entry))))
-        (listsOf (now (store .entry)) (now (kinds .entry)) (now (levels .entry)) (now (values .entry))) ri
-        r (rowsOf (now (kinds .exit)) (now (levels .exit)) (now (values .exit))) ⌝ }
+        (wordLists (now (store .entry)) (now (words .entry))) ri
+        r (wordRows (now (words .exit))) ⌝ }
 {
     let level = b.level as u8;
     let a = mesh::vertices_below(level) as usize;
@@ -135,9 +128,7 @@ pub(crate) fn settle_slice(
         &counts[a..e],
         &neighbours[a6..e6],
         &angles[a6..e6],
-        kinds,
-        levels,
-        values,
+        words,
     )
 }
 

@@ -2,7 +2,7 @@
 ghost use mathlib.Core.Path.{_≡_};
 ghost use Rattle.mesh.specs.Mesh.{meshOf};
 ghost use Rattle.search.specs.Search.{locatorOf};
-ghost use Rattle.builder.specs.BuilderLists.{listsOf};
+ghost use Rattle.builder.specs.BuilderLists.{wordLists};
 ghost use Rattle.ieee.specs.Root.{root};
 ghost use Rattle.ieee.specs.Fused.{fused};
 ghost use Rattle.ieee.specs.Narrow.{narrowed};
@@ -33,6 +33,7 @@ use writer::Written;
 
 mod atom;
 mod found;
+mod moves;
 mod repacks;
 mod spans;
 mod tails;
@@ -238,27 +239,23 @@ pub extern "C" fn icotable_fresh(
     grid: Grid,
     top: u64,
     store: &mut [f64],
-    kinds: &mut [u8],
-    levels: &mut [u8],
-    values: &mut [u32],
+    words: &mut [u64],
     vertices: &[f64],
     neighbour_counts: &[u8],
     neighbours: &[u16],
     angles: &[f64],
 ) -> BuildAnswer
     ensures { λ r. ⌜ _≡_ {A = BuiltOut}
-        (record { answer = builtIn r; lists = listsOf (now (store .exit)) (now (kinds .exit)) (now (levels .exit)) (now (values .exit)) })
+        (record { answer = builtIn r; lists = wordLists (now (store .exit)) (now (words .exit)) })
         (freshOut grid top (meshOf (now (vertices .entry)) (now («neighbour_counts» .entry)) (now (neighbours .entry)) (now (angles .entry)))
-        (listsOf (now (store .entry)) (now (kinds .entry)) (now (levels .entry)) (now (values .entry)))) ⌝ }
+        (wordLists (now (store .entry)) (now (words .entry)))) ⌝ }
 {
     let none = no_builder();
     let a = builder::fresh(
         grid,
         top,
         store,
-        kinds,
-        levels,
-        values,
+        words,
         vertices,
         neighbour_counts,
         neighbours,
@@ -271,18 +268,16 @@ pub extern "C" fn icotable_fresh(
 pub extern "C" fn icotable_set(
     builder: Builder,
     store: &mut [f64],
-    kinds: &mut [u8],
-    levels: &mut [u8],
-    values: &mut [u32],
+    words: &mut [u64],
     ri: u64,
     oi: u64,
     energies: &[f64],
 ) -> BuildAnswer
     ensures { λ r. ⌜ _≡_ {A = BuiltOut}
-        (record { answer = builtIn r; lists = listsOf (now (store .exit)) (now (kinds .exit)) (now (levels .exit)) (now (values .exit)) })
-        (setOut builder (listsOf (now (store .entry)) (now (kinds .entry)) (now (levels .entry)) (now (values .entry))) ri oi (now (energies .entry))) ⌝ }
+        (record { answer = builtIn r; lists = wordLists (now (store .exit)) (now (words .exit)) })
+        (setOut builder (wordLists (now (store .entry)) (now (words .entry))) ri oi (now (energies .entry))) ⌝ }
 {
-    let a = builder::set(builder, store, kinds, levels, values, ri, oi, energies);
+    let a = builder::set(builder, store, words, ri, oi, energies);
     built_answer(builder, a)
 }
 
@@ -290,9 +285,7 @@ pub extern "C" fn icotable_set(
 pub extern "C" fn icotable_settle(
     builder: Builder,
     store: &[f64],
-    kinds: &mut [u8],
-    levels: &mut [u8],
-    values: &mut [u32],
+    words: &mut [u64],
     vertices: &[f64],
     neighbour_counts: &[u8],
     neighbours: &[u16],
@@ -300,16 +293,14 @@ pub extern "C" fn icotable_settle(
     ri: u64,
 ) -> SettleAnswer
     ensures { λ r. ⌜ _≡_ {A = SettleOut}
-        (record { answer = settledIn r; lists = listsOf (now (store .entry)) (now (kinds .exit)) (now (levels .exit)) (now (values .exit)) })
+        (record { answer = settledIn r; lists = wordLists (now (store .entry)) (now (words .exit)) })
         (settleOut builder (meshOf (now (vertices .entry)) (now («neighbour_counts» .entry)) (now (neighbours .entry)) (now (angles .entry)))
-        (listsOf (now (store .entry)) (now (kinds .entry)) (now (levels .entry)) (now (values .entry))) ri) ⌝ }
+        (wordLists (now (store .entry)) (now (words .entry))) ri) ⌝ }
 {
     let a = builder::settle(
         builder,
         store,
-        kinds,
-        levels,
-        values,
+        words,
         vertices,
         neighbour_counts,
         neighbours,
@@ -323,9 +314,7 @@ pub extern "C" fn icotable_settle(
 pub extern "C" fn icotable_write(
     builder: Builder,
     store: &[f64],
-    kinds: &[u8],
-    levels: &[u8],
-    values: &[u32],
+    words: &[u64],
     vertices: &[f64],
     neighbour_counts: &[u8],
     neighbours: &[u16],
@@ -333,16 +322,14 @@ pub extern "C" fn icotable_write(
     output: &mut [u8],
 ) -> WriteAnswer
     ensures { λ r. ⌜ _≡_ {A = WriteOut}
-        (record { answer = writtenIn r; builder = builder; lists = listsOf (now (store .entry)) (now (kinds .entry)) (now (levels .entry)) (now (values .entry)); output = now (output .exit) })
+        (record { answer = writtenIn r; builder = builder; lists = wordLists (now (store .entry)) (now (words .entry)); output = now (output .exit) })
         (writeOut builder (meshOf (now (vertices .entry)) (now («neighbour_counts» .entry)) (now (neighbours .entry)) (now (angles .entry)))
-        (listsOf (now (store .entry)) (now (kinds .entry)) (now (levels .entry)) (now (values .entry))) (now (output .entry))) ⌝ }
+        (wordLists (now (store .entry)) (now (words .entry))) (now (output .entry))) ⌝ }
 {
     let a = writer::write(
         builder,
         store,
-        kinds,
-        levels,
-        values,
+        words,
         vertices,
         neighbour_counts,
         neighbours,

@@ -1,7 +1,7 @@
 // The long-range tail of a table: its writing and its reading.
 ghost use mathlib.Core.Path.{_≡_};
 ghost use Rattle.mesh.specs.Mesh.{meshOf};
-ghost use Rattle.builder.specs.BuilderLists.{listsOf};
+ghost use Rattle.builder.specs.BuilderLists.{wordLists};
 ghost use Rattle.writer.specs.Write.{WriteOut};
 ghost use Rattle.writer.specs.Tailed.{tailLists, writeTailOut};
 ghost use Rattle.tail.specs.Reading.{tailValues, tailOut};
@@ -18,9 +18,7 @@ use tail::TailAnswer;
 pub extern "C" fn icotable_write_tail(
     builder: Builder,
     store: &[f64],
-    kinds: &[u8],
-    levels: &[u8],
-    values: &[u32],
+    words: &[u64],
     vertices: &[f64],
     neighbour_counts: &[u8],
     neighbours: &[u16],
@@ -32,17 +30,15 @@ pub extern "C" fn icotable_write_tail(
     output: &mut [u8],
 ) -> WriteAnswer
     ensures { λ r. ⌜ _≡_ {A = WriteOut}
-        (record { answer = writtenIn r; builder = builder; lists = listsOf (now (store .entry)) (now (kinds .entry)) (now (levels .entry)) (now (values .entry)); output = now (output .exit) })
+        (record { answer = writtenIn r; builder = builder; lists = wordLists (now (store .entry)) (now (words .entry)); output = now (output .exit) })
         (writeTailOut builder (meshOf (now (vertices .entry)) (now («neighbour_counts» .entry)) (now (neighbours .entry)) (now (angles .entry)))
-        (listsOf (now (store .entry)) (now (kinds .entry)) (now (levels .entry)) (now (values .entry)))
+        (wordLists (now (store .entry)) (now (words .entry)))
         (tailLists (now (coefficients .entry)) (now (kappas .entry)) (now (powers .entry)) (now (prefactor .entry))) (now (output .entry))) ⌝ }
 {
     let a = writer::write_tail(
         builder,
         store,
-        kinds,
-        levels,
-        values,
+        words,
         vertices,
         neighbour_counts,
         neighbours,

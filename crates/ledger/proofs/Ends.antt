@@ -33,7 +33,7 @@ use Rattle.writer.specs.Write.{fileFrom}
 use Rattle.writer.specs.Tailed.{TailLists, fullFileFrom, writeTailRefusal, writeTailOut}
 use Rattle.writer.proofs.OfTail.{tail-length}
 use Rattle.ledger.specs.Ledger.{Ledger, opened, ledger}
-use Rattle.ledger.specs.Promise.{History, fresh, ended, rows}
+use Rattle.ledger.specs.Promise.{History, startLists, fresh, ended, rows}
 use Rattle.ledger.specs.Packed.{LengthKnown, FileLength}
 use Rattle.ledger.proofs.Invariant.{rows-are}
 use Rattle.ledger.proofs.Follows.{Basis, builderAt, Agree, follows, starts}
@@ -110,12 +110,12 @@ module _ (h : History) (begins : fresh h .answer .number ≡ 0) where
   abbrev last : Ledger
   last = ledger g (h .meshes) (opened g (h .top)) (h .calls)
 
-  none : meshedRefusal (freshBuilder (h .grid) (h .top)) (h .meshes) (h .lists) ≡ 0
-  none = fresh-number (h .grid) (h .top) (h .meshes) (h .lists) _ refl begins
+  none : meshedRefusal (freshBuilder (h .grid) (h .top)) (h .meshes) (startLists h) ≡ 0
+  none = fresh-number (h .grid) (h .top) (h .meshes) (startLists h) _ refl begins
 
-  pub yes-all : Meshed (builderAt g (h .top) (h .top) 0) (h .meshes) (length (h .lists .store)) (length (h .lists .rows .kinds)) (length (h .lists .rows .levels)) (length (h .lists .rows .values))
+  pub yes-all : Meshed (builderAt g (h .top) (h .top) 0) (h .meshes) (length (startLists h .store)) (length (startLists h .rows .kinds)) (length (startLists h .rows .levels)) (length (startLists h .rows .values))
   unfolding meshedRefusal freshBuilder
-  yes-all = meshed (builderAt g (h .top) (h .top) 0) (h .meshes) (length (h .lists .store)) (length (h .lists .rows .kinds)) (length (h .lists .rows .levels)) (length (h .lists .rows .values)) none
+  yes-all = meshed (builderAt g (h .top) (h .top) 0) (h .meshes) (length (startLists h .store)) (length (startLists h .rows .kinds)) (length (startLists h .rows .levels)) (length (startLists h .rows .values)) none
 
   pub basis : Basis g (h .top) (h .meshes)
   unfolding meshedRefusal freshBuilder
@@ -125,8 +125,8 @@ module _ (h : History) (begins : fresh h .answer .number ≡ 0) where
   pub agree : Agree g (h .top) (ended h) last
   unfolding ended
   agree =
-      rw (fresh-is (h .grid) (h .top) (h .meshes) (h .lists) none)
-      (follows g (h .top) (h .meshes) basis _ (opened g (h .top)) (h .calls) (starts g (h .top) (h .lists) (yes-all .room)))
+      rw (fresh-is (h .grid) (h .top) (h .meshes) (startLists h) none)
+      (follows g (h .top) (h .meshes) basis _ (opened g (h .top)) (h .calls) (starts g (h .top) (startLists h) (yes-all .room)))
 
   pub many : length (rows h) ≡ slabs g
   unfolding rows
@@ -142,8 +142,8 @@ module _ (h : History) (begins : fresh h .answer .number ≡ 0) where
   counted-packed : ended h .builder .packed ≡ packedRows (last .rows)
   unfolding ended opened
   counted-packed =
-      rw (fresh-is (h .grid) (h .top) (h .meshes) (h .lists) none)
-      (counts g (h .top) (h .meshes) basis _ (opened g (h .top)) (h .calls) (starts g (h .top) (h .lists) (yes-all .room)) (sym (none-packed (slabs g))))
+      rw (fresh-is (h .grid) (h .top) (h .meshes) (startLists h) none)
+      (counts g (h .top) (h .meshes) basis _ (opened g (h .top)) (h .calls) (starts g (h .top) (startLists h) (yes-all .room)) (sym (none-packed (slabs g))))
 
   pub length-known : LengthKnown h
   unfolding rows

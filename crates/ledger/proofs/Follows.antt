@@ -60,6 +60,17 @@ lower-asked g top v e h =
     let q5 = ask-yes {q = slabsFit (g .«n_r») (g .«n_omega») top} (lit< tt) (q4 .1) in
     rw (q1 .0, le-leb top 15 (top-le top top (q2 .0)), le-leb v top h, q3 .0, q4 .0, q5 .0)
 
+-- ---- bins that 8 let pass: their slab, or slice, is inside the rows
+
+pub in-rows : (g : Grid) (v ri oi : ℕ) (e : List Float) → setQuestion g v ri oi e ≡ 0 → slab g ri oi < slabs g
+unfolding setQuestion
+in-rows g v ri oi e q =
+    let bins = and-eq-true-iff (ltb ri (g .«n_r»)) (ltb oi (g .«n_omega»)) .0 (ask-yes (lit< tt) q .0) in
+    omega (arith, place ri (g .«n_r») (oi + 1) (g .«n_omega») (ltb-true ri (g .«n_r») (bins .0)) (omega (arith, ltb-true oi (g .«n_omega») (bins .1))))
+
+pub slice-in : (g : Grid) (ri : ℕ) → ltb ri (g .«n_r») ≡ true → slab g ri 0 + g .«n_omega» ≤ slabs g
+slice-in g ri d = omega (arith, place ri (g .«n_r») (g .«n_omega») (g .«n_omega») (ltb-true ri (g .«n_r») d) (omega arith))
+
 -- ---- the calls
 
 pub record Agree (g : Grid) (top : ℕ) (st : State) (b : Ledger) : Type 0 where
@@ -105,18 +116,12 @@ module _ (g : Grid) (top : ℕ) (m : Mesh) (base : Basis g top m) (v p : ℕ) (l
 
   -- set
 
-  in-rows : (ri oi : ℕ) (e : List Float) → setQuestion g v ri oi e ≡ 0 → slab g ri oi < slabs g
-  unfolding setQuestion
-  in-rows ri oi e q =
-      let bins = and-eq-true-iff (ltb ri (g .«n_r»)) (ltb oi (g .«n_omega»)) .0 (ask-yes (lit< tt) q .0) in
-      omega (arith, place ri (g .«n_r») (oi + 1) (g .«n_omega») (ltb-true ri (g .«n_r») (bins .0)) (omega (arith, ltb-true oi (g .«n_omega») (bins .1))))
-
   -- every row that the ledger has is known
   set-number : (ri oi : ℕ) (e : List Float) (x : Bool) → eqb (setQuestion g v ri oi e) 0 ≡ x → setRefusal b ls ri oi e ≡ setQuestion g v ri oi e
   unfolding setRefusal first ask
   set-number ri oi e true d =
       let q = eqb-true (setQuestion g v ri oi e) 0 d in
-      rw (asked, roomy, d, row-known per (slabs g) top store l rows a (slab g ri oi) (in-rows ri oi e q)) (sym q)
+      rw (asked, roomy, d, row-known per (slabs g) top store l rows a (slab g ri oi) (in-rows g v ri oi e q)) (sym q)
   set-number ri oi e false d = rw (asked, roomy, d) refl
 
   set-fit : (ri oi : ℕ) (e : List Float) → setQuestion g v ri oi e ≡ 0
@@ -126,7 +131,7 @@ module _ (g : Grid) (top : ℕ) (m : Mesh) (base : Basis g top m) (v p : ℕ) (l
       let q8 = ask-yes (lit< tt) p in
       let q9 = ask-yes (lit< tt) (q8 .1) in
       let q10 = ask-yes (lit< tt) (q9 .1) in
-      slab-set-fit per per-mono (slabs g) top v low store l rows a (slab g ri oi) (in-rows ri oi e p) e (eqb-true (length e) (per v) (q9 .0)) (q10 .0)
+      slab-set-fit per per-mono (slabs g) top v low store l rows a (slab g ri oi) (in-rows g v ri oi e p) e (eqb-true (length e) (per v) (q9 .0)) (q10 .0)
 
   set-step : (ri oi : ℕ) (e : List Float) (x : Bool) → eqb (setQuestion g v ri oi e) 0 ≡ x → Agree g top (called m st (set-call ri oi e)) (entered g m bk (set-call ri oi e))
   unfolding called entered setOut setBuilder slabSet setEntered
@@ -135,15 +140,12 @@ module _ (g : Grid) (top : ℕ) (m : Mesh) (base : Basis g top m) (v p : ℕ) (l
 
   -- settle
 
-  slice-in : (ri : ℕ) → ltb ri (g .«n_r») ≡ true → slab g ri 0 + g .«n_omega» ≤ slabs g
-  slice-in ri d = omega (arith, place ri (g .«n_r») (g .«n_omega») (g .«n_omega») (ltb-true ri (g .«n_r») d) (omega arith))
-
   slice-is : (ri : ℕ) → ltb ri (g .«n_r») ≡ true → sliceAt b ls ri ≡ ledgerSlice g bk ri
-  slice-is ri d = rows-are per (slabs g) top store l rows a (g .«n_omega») (slab g ri 0) (slice-in ri d)
+  slice-is ri d = rows-are per (slabs g) top store l rows a (g .«n_omega») (slab g ri 0) (slice-in g ri d)
 
   settle-number : (ri : ℕ) (x : Bool) → ltb ri (g .«n_r») ≡ x → settleRefusal b m ls ri ≡ ledgerQuestion g bk ri
   unfolding settleRefusal ledgerQuestion first ask
-  settle-number ri true d = rw (meshed-yes, d, rows-known per (slabs g) top store l rows a (g .«n_omega») (slab g ri 0) (slice-in ri d), slice-is ri d)
+  settle-number ri true d = rw (meshed-yes, d, rows-known per (slabs g) top store l rows a (g .«n_omega») (slab g ri 0) (slice-in g ri d), slice-is ri d)
   settle-number ri false d = rw (meshed-yes, d)
 
   abbrev seen : Row Float → Verdict
@@ -158,7 +160,7 @@ module _ (g : Grid) (top : ℕ) (m : Mesh) (base : Basis g top m) (v p : ℕ) (l
       let s = slab g ri 0 in
       let n = g .«n_omega» in
       let rs = ledgerSlice g bk ri in
-      let i = slice-in ri (q8 .0) in
+      let i = slice-in g ri (q8 .0) in
       let many : length rs ≡ n = length-take-le n (drop s rows) (omega (arith, length-drop s rows, a .many)) in
       rw (put-sets rows s (settledRows v rs (map seen rs)) (omega (arith, settled-many v seen rs, a .many)))
       (settled-fit per per-mono (slabs g) top v seen (λ x. refl) refl (verdict-fits (g .threshold) (g .beta) (levelPart v m) (vertexCount v)) n s store l rows a i (q11 .0))

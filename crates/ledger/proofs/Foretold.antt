@@ -26,7 +26,7 @@ use Rattle.ledger.proofs.AtomEnds.{agree as atom-agree, yes-all as atom
 use Rattle.ledger.proofs.Longest.{size-is}
 use Rattle.ledger.proofs.AtomLongest.{size-is as atom-size-is}
 
-slice-long : (each : ℕ → ℕ) (top : ℕ) (l : BuilderLists) (n s : ℕ) → length (rowsIn each top l s n) ≡ n
+pub slice-long : (each : ℕ → ℕ) (top : ℕ) (l : BuilderLists) (n s : ℕ) → length (rowsIn each top l s n) ≡ n
 unfolding rowsIn
 slice-long each top l zero s = refl
 slice-long each top l (suc n) s = ap suc (slice-long each top l n (suc s))

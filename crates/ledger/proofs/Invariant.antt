@@ -173,10 +173,10 @@ slab-set-fit each rise count top v low store l rows a s row e n q =
 
 -- ---- fresh
 
-filled-at : (d : List ℕ) (n s : ℕ) → s < n → getD (put d 0 (replicate n 0)) s 0 ≡ 0
+pub filled-at : (d : List ℕ) (n s : ℕ) → s < n → getD (put d 0 (replicate n 0)) s 0 ≡ 0
 filled-at d n s h = getD-put d (replicate n 0) s (omega (arith, length-replicate {A = ℕ} n 0)) ∙ getD-replicate n s 0 0 h
 
-filled-wide : {A : Type 0} (d : List A) (n : ℕ) (x : A) → n ≤ length d → length (put d 0 (replicate n x)) ≡ length d
+pub filled-wide : {A : Type 0} (d : List A) (n : ℕ) (x : A) → n ≤ length d → length (put d 0 (replicate n x)) ≡ length d
 filled-wide d n x h = length-put d 0 (replicate n x) (omega (arith, length-replicate n x))
 
 pub filled-fit : (each : ℕ → ℕ) (count top : ℕ) (l : BuilderLists) → Roomy count (each top) (length (l .store)) (length (l .rows .kinds)) (length (l .rows .levels)) (length (l .rows .values))

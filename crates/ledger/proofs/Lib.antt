@@ -1,6 +1,6 @@
 -- Laws of lists of calls, and the theorems: `promise` (Theorem), `atom-promise` (AtomTheorem), `any-order` and `later` (Order), `within-runs` (Runs), `packed-moves` (Packed), `file-length` (Ends),
 -- `reports` and `atom-reports` (Comparisons),
--- `longest`, `reached` and `fitting` (Longest) with those of an atom (AtomLongest), `foretold` and `atom-foretold` (Foretold).
+-- `longest`, `reached` and `fitting` (Longest) with those of an atom (AtomLongest), `foretold` and `atom-foretold` (Foretold), `as-lists` (Words).
 pub mod Store
 pub mod Invariant
 pub mod Follows
@@ -22,3 +22,5 @@ pub mod Order
 pub mod Longest
 pub mod AtomLongest
 pub mod Foretold
+pub mod Agreeing
+pub mod Words

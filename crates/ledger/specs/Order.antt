@@ -74,7 +74,7 @@ once (write-call t out ∷ cs) (r ∷ rs) = once cs rs
 
 -- "after the same fresh": the same settings, top level, meshes and lent lists, and other calls after them
 abbrev pub withCalls : History → List Call → History
-withCalls h cs = record { grid = h .grid; top = h .top; meshes = h .meshes; lists = h .lists; calls = cs; tail = h .tail; output = h .output }
+withCalls h cs = record { grid = h .grid; top = h .top; meshes = h .meshes; store = h .store; words = h .words; calls = cs; tail = h .tail; output = h .output }
 
 abbrev pub answersOf : History → List Reply
 answersOf h = replies (h .meshes) (begun h) (h .calls)

@@ -14,7 +14,7 @@ use Rattle.rows.specs.Rows.{Row, repulsive, compared}
 use Rattle.search.specs.Search.{Locator}
 use Rattle.locator.specs.Locator.{locatorOut}
 use Rattle.locator.specs.Several.{locatorPart, locators, Roomy}
-use Rattle.builder.specs.BuilderLists.{BuilderLists, slabs}
+use Rattle.builder.specs.BuilderLists.{BuilderLists, wordLists, slabs}
 use Rattle.builder.specs.Calls.{BuiltOut, freshOut}
 use Rattle.table.specs.Tail.{Term, Tail}
 use Rattle.table.specs.Read.{readOut}
@@ -26,21 +26,27 @@ use Rattle.reading.specs.Rule.{ruledBy}
 use Rattle.tail.specs.Reading.{tailOut, ruledTail}
 use Rattle.ledger.specs.Ledger.{Call, State, run, opened, ledger}
 
--- "lists of set, settle and write calls, refused ones included, each from a fresh builder": what is handed to fresh (lists of any contents
+-- "lists of set, settle and write calls, refused ones included, each from a fresh builder": what is handed to fresh (a store and words of any contents
 -- and any length), the calls after it (any list, the empty one too), and the tail and the output that are handed to the write after them
 pub record History : Type 0 where
   pub grid : Grid
   pub top : ℕ
   pub meshes : Mesh
-  pub lists : BuilderLists
+  pub store : List Float
+  pub words : List ℕ
   pub calls : List Call
   pub tail : TailLists
   pub output : List ℕ
 
 -- ---- the list as the operations run it
 
+-- the lists that are handed to fresh. The states of a run have the rows that the words stand for: each call's contract says that the words which it leaves
+-- stand for the rows of its outcome, and no two lists of words stand for the same rows (`word-parts` and `words-of` of rows' proofs/InWords). (S25.3)
+abbrev pub startLists : History → BuilderLists
+startLists h = wordLists (h .store) (h .words)
+
 abbrev pub fresh : History → BuiltOut
-fresh h = freshOut (h .grid) (h .top) (h .meshes) (h .lists)
+fresh h = freshOut (h .grid) (h .top) (h .meshes) (startLists h)
 
 -- after the calls
 unfoldable pub ended : History → State

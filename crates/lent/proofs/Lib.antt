@@ -1,4 +1,5 @@
--- Laws of records and lists of numbers.
+-- Laws of records and words.
 pub mod Entries
 pub mod Columns
+pub mod Worded
 pub mod Alike

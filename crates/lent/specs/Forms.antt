@@ -1,15 +1,18 @@
--- The same calls by value over number lists, and with the builder lent over row records; and what it is that they answer alike. Definitions only.
+-- The same calls by value over words, and with the builder lent over row records; and what it is that they answer alike. Definitions only.
 use mathlib.Core.Path.{_≡_}
+use mathlib.Core.Bool.{true}
 use mathlib.Core.List.{List, [], _∷_}
-use Prim.Native.Nat.{ℕ}
-use lib.ListN.{length, set, take}
+use Prim.Native.Nat.{ℕ, _≤_, _<_}
+use lib.ListN.{length, getD, set, take}
 use lib.Ieee.{Float}
 use Rattle.mesh.specs.Mesh.{Mesh}
 use Rattle.grid.specs.declared.Grid.{Grid}
 use Rattle.rows.specs.declared.SlabResolution.{SlabResolution}
-use Rattle.rows.specs.Rows.{Rows, resolutionOf, resolutionAt, replaced}
+use Rattle.rows.specs.Rows.{Rows, levelOf, valueOf, resolutionOf, resolutionAt, replaced}
+use Rattle.rows.specs.Words.{wordKind, wordRows}
+use Rattle.words.specs.Moves.{wordsOf, rowsFit}
 use Rattle.search.specs.Search.{Locator}
-use Rattle.builder.specs.BuilderLists.{BuilderLists}
+use Rattle.builder.specs.BuilderLists.{BuilderLists, wordLists}
 use Rattle.builder.specs.declared.Builder.{Builder}
 use Rattle.builder.specs.Calls.{BuiltOut, freshOut}
 use Rattle.writer.specs.Write.{WriteOut}
@@ -23,28 +26,32 @@ use Rattle.ledger.specs.Promise.{History, fresh, ended, lastWrite, file}
 use Rattle.ledger.specs.Replies.{Reply, set-reply, settle-reply, writeReply, replies, begun}
 use Rattle.lent.specs.declared.RowRecord.{RowRecord}
 use Rattle.lent.specs.Calls.{setLent, settleLent}
-use Rattle.lent.specs.Records.{columns, recordAt, recordOf, gathered, spreadOut}
+use Rattle.lent.specs.Records.{columns, recordAt, recordOf, wordsIn, gatherNumber, gathered, spreadOut}
 
 -- ---- with the builder lent, over records
 
--- the number lists that a call works on are filled from the records before it, and the records from them after it
+-- the words that a call works on are filled from the records before it, and the records from them after it
 pub record LentState : Type 0 where
   pub builder : Builder
   pub store : List Float
   pub rows : List RowRecord
-  pub work : Rows
+  pub work : List ℕ
 
--- the same state by value, over number lists
+-- the same state by value, over words
 abbrev pub asState : LentState → State
-asState st = record { builder = st .builder; lists = record { store = st .store; rows = columns (st .rows) } }
+asState st = record { builder = st .builder; lists = wordLists (st .store) (wordsIn (st .rows)) }
 
 abbrev pub spreadLists : LentState → BuilderLists
-spreadLists st = record { store = st .store; rows = spreadOut (st .rows) (st .work) .rows }
+spreadLists st = wordLists (st .store) (spreadOut (st .rows) (st .work) .words)
+
+-- the words that a call leaves: its contract says that they stand for the rows of its outcome, and no others do
+abbrev pub wordsLeft : Rows → List ℕ
+wordsLeft r = wordsOf (r .kinds) (r .levels) (r .values)
 
 abbrev pub leftIn : LentState → Builder → BuilderLists → LentState
-leftIn st b l = record { builder = b; store = l .store; rows = gathered (l .rows) (st .rows); work = l .rows }
+leftIn st b l = record { builder = b; store = l .store; rows = gathered (wordsLeft (l .rows)) (st .rows); work = wordsLeft (l .rows) }
 
--- a call, and its answer, over the number lists l that the records were spread over
+-- a call, and its answer, over the words that the records were spread over
 unfoldable pub calledOver : Mesh → LentState → BuilderLists → Call → LentState
 calledOver m st l (set-call ri oi e) = let o = setLent (st .builder) l ri oi e in leftIn st (o .builder) (o .lists)
 calledOver m st l (settle-call ri) = let o = settleLent (st .builder) m l ri in leftIn st (o .builder) (o .lists)
@@ -76,9 +83,9 @@ pub record LentHistory : Type 0 where
   pub tail : TailLists
   pub output : List ℕ
 
--- the same history by value, over number lists
+-- the same history by value, over words
 abbrev pub byValue : LentHistory → History
-byValue h = record { grid = h .grid; top = h .top; meshes = h .meshes; lists = asState (h .start) .lists; calls = h .calls; tail = h .tail; output = h .output }
+byValue h = record { grid = h .grid; top = h .top; meshes = h .meshes; store = h .start .store; words = wordsIn (h .start .rows); calls = h .calls; tail = h .tail; output = h .output }
 
 abbrev pub freshLent : LentHistory → BuiltOut
 freshLent h = freshOut (h .grid) (h .top) (h .meshes) (spreadLists (h .start))
@@ -97,18 +104,16 @@ fileLent h = take (lastWriteLent h .answer .length) (lastWriteLent h .output)
 
 -- ---- alike
 
--- each work list is as long as the list of records, whatever it holds
-pub record Long (rs : List RowRecord) (l : Rows) : Type 0 where
-  pub kinds : length (l .kinds) ≡ length rs
-  pub levels : length (l .levels) ≡ length rs
-  pub values : length (l .values) ≡ length rs
-
--- "read one, replace one, over the proved number lists": one row, and the bridge both ways
+-- "read one, replace one": one row, and the bridge both ways
 pub record RowsAlike (rs : List RowRecord) : Type 0 where
-  pub read : (s : ℕ) → let r = recordAt (columns rs) s in resolutionOf (r .kind) (r .level) (r .value) ≡ resolutionAt (columns rs) s
-  pub replace : (s : ℕ) (x : SlabResolution) → columns (set rs s (recordOf x)) ≡ replaced (columns rs) s x
-  pub spread : (l : Rows) → Long rs l → spreadOut rs l ≡ record { answer = length rs; rows = columns rs }
-  pub gather : (l : Rows) → Long rs l → columns (gathered l rs) ≡ l
+  -- the words of records stand for the records' numbers
+  pub numbers : wordRows (wordsIn rs) ≡ columns rs
+  pub read : (s : ℕ) → let r = recordAt (columns rs) s in resolutionOf (r .kind) (r .level) (r .value) ≡ resolutionAt (wordRows (wordsIn rs)) s
+  pub replace : (s : ℕ) (x : SlabResolution) → levelOf x ≤ 255 → valueOf x ≤ 4294967295 → wordRows (wordsIn (set rs s (recordOf x))) ≡ replaced (wordRows (wordsIn rs)) s x
+  pub spread : (ws : List ℕ) → length ws ≡ length rs → spreadOut rs ws ≡ record { number = 0; words = wordsIn rs }
+  pub gather : (ws : List ℕ) → length ws ≡ length rs → ((s : ℕ) → wordKind (getD ws s 0) ≤ 255) → (gatherNumber (length rs) ws ≡ 0) × (wordsIn (gathered ws rs) ≡ ws)
+  -- "A word whose rest is not 0 ..": "refused by 15, after 6"
+  pub rest : (ws : List ℕ) (s : ℕ) → length rs ≤ length ws → s < length rs → 255 < wordKind (getD ws s 0) → (gatherNumber (length rs) ws ≡ 15) × (gathered ws rs ≡ rs)
 
 -- answers, builder, store and rows, file, readings and the tail's readings of a history
 pub record CallsAlike (h : LentHistory) : Type 0 where
@@ -121,6 +126,7 @@ pub record CallsAlike (h : LentHistory) : Type 0 where
       readingBy (fileLent h) (readOut (fileLent h) .table) vertices l way q ≡ readingBy (file (byValue h)) (readOut (file (byValue h)) .table) vertices l way q
   pub tails : (r : Float) → tailOut (fileLent h) (readOut (fileLent h) .table) r ≡ tailOut (file (byValue h)) (readOut (file (byValue h)) .table) r
 
--- all calls, files and readings answer alike through either form
+-- all calls, files and readings answer alike through either form, the records being of numbers that their types can hold;
+-- and words can be had from the rows that they stand for
 abbrev pub EitherForm : Type 0
-EitherForm = ((rs : List RowRecord) → RowsAlike rs) × ((h : LentHistory) → Long (h .start .rows) (h .start .work) → CallsAlike h)
+EitherForm = ((ws : List ℕ) → wordsLeft (wordRows ws) ≡ ws) × ((rs : List RowRecord) → rowsFit (columns rs) ≡ true → RowsAlike rs) × ((h : LentHistory) → rowsFit (columns (h .start .rows)) ≡ true → length (h .start .work) ≡ length (h .start .rows) → CallsAlike h)

@@ -1,14 +1,18 @@
--- Rows as a list of records, and the three lists of numbers that they stand for. Definitions only.
+-- Rows as a list of records, and the words that they stand for. Definitions only.
 use mathlib.Core.Bool.{cond}
 use mathlib.Core.List.{List, map}
 use Prim.Native.Nat.{ℕ}
 use lib.ListN.{length, getD, set}
+use lib.Dec.{leb, eqb}
 use Rattle.lists.specs.Lists.{forEach}
+use Rattle.lists.specs.Questions.{ask}
 use Rattle.rows.specs.declared.SlabResolution.{SlabResolution}
-use Rattle.rows.specs.Rows.{Rows, kindOf, levelOf, valueOf, rowRoom, rowsOf}
+use Rattle.rows.specs.Rows.{Rows, kindOf, levelOf, valueOf, rowsOf}
+use Rattle.rows.specs.Words.{wordOf, wordRows}
+use Rattle.words.specs.Moves.{restsClear}
 use Rattle.lent.specs.declared.RowRecord.{RowRecord}
 
--- "one lent list of row records": the three lists of numbers that it stands for
+-- "one lent list of row records": the numbers that it stands for
 abbrev pub columns : List RowRecord → Rows
 columns rs = rowsOf (map (λ (r : RowRecord). r .kind) rs) (map (λ (r : RowRecord). r .level) rs) (map (λ (r : RowRecord). r .value) rs)
 
@@ -19,32 +23,42 @@ recordAt l s = record { kind = getD (l .kinds) s 0; level = getD (l .levels) s 0
 abbrev pub recordOf : SlabResolution → RowRecord
 recordOf x = record { kind = kindOf x; level = levelOf x; value = valueOf x }
 
+-- ---- "The row records stay, over the words."
+
+-- the word of a record, and those of a list
+abbrev pub wordIn : RowRecord → ℕ
+wordIn r = wordOf (r .kind) (r .level) (r .value)
+
+abbrev pub wordsIn : List RowRecord → List ℕ
+wordsIn rs = map wordIn rs
+
 -- ---- the bridge
 
--- how many rows it takes over: all n, or none where a list is shorter
-unfoldable pub bridged : ℕ → ℕ → ℕ → ℕ → ℕ
-bridged n kinds levels values = cond (rowRoom n kinds levels values) n 0
+-- what refuses it: a record has eight bits for a kind, and no place for a rest. Document 02's paper 11: "refused by 15, after 6" (S15.2)
+unfoldable pub gatherNumber : ℕ → List ℕ → ℕ
+gatherNumber n words = ask (leb n (length words)) 6 (ask (restsClear n words) 15 0)
 
-abbrev pub bridgedOf : List RowRecord → Rows → ℕ
-bridgedOf rs l = bridged (length rs) (length (l .kinds)) (length (l .levels)) (length (l .values))
+unfoldable pub spreadNumber : ℕ → ℕ → ℕ
+spreadNumber n words = ask (leb n words) 6 0
+
+-- how many of n rows it takes over: all, or none where it is refused
+unfoldable pub taken : ℕ → ℕ → ℕ
+taken number n = cond (eqb number 0) n 0
 
 -- the first n entries replaced by f 0, f 1, .. , f (n - 1)
 abbrev pub copied : {A : Type 0} → ℕ → (ℕ → A) → List A → List A
 copied n f xs = forEach n (λ s ys. set ys s (f s)) xs
 
--- from the lists into the records
-abbrev pub gathered : Rows → List RowRecord → List RowRecord
-gathered l rs = copied (bridgedOf rs l) (recordAt l) rs
+-- from the words into the records
+abbrev pub gathered : List ℕ → List RowRecord → List RowRecord
+gathered words rs = copied (taken (gatherNumber (length rs) words) (length rs)) (recordAt (wordRows words)) rs
 
--- from the records over the lists
-abbrev pub spreadFirst : ℕ → List RowRecord → Rows → Rows
-spreadFirst n rs l =
-    let c = recordAt (columns rs) in
-    (rowsOf (copied n (λ s. c s .kind) (l .kinds)) (copied n (λ s. c s .level) (l .levels)) (copied n (λ s. c s .value) (l .values)))
-
+-- from the records over the words
 pub record SpreadOut : Type 0 where
-  pub answer : ℕ
-  pub rows : Rows
+  pub number : ℕ
+  pub words : List ℕ
 
-abbrev pub spreadOut : List RowRecord → Rows → SpreadOut
-spreadOut rs l = record { answer = bridgedOf rs l; rows = spreadFirst (bridgedOf rs l) rs l }
+abbrev pub spreadOut : List RowRecord → List ℕ → SpreadOut
+spreadOut rs words =
+    let number = spreadNumber (length rs) (length words) in
+    record { number = number; words = copied (taken number (length rs)) (λ s. getD (wordsIn rs) s 0) words }

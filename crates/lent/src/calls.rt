@@ -3,7 +3,7 @@ ghost use mathlib.Core.Path.{_≡_};
 ghost use mathlib.Core.Bool.{true};
 ghost use Prim.Native.Nat.{ℕ};
 ghost use Rattle.mesh.specs.Mesh.{meshOf};
-ghost use Rattle.builder.specs.BuilderLists.{listsOf};
+ghost use Rattle.builder.specs.BuilderLists.{wordLists};
 ghost use Rattle.builder.specs.Calls.{builtValues, settledValues, settledNumbered};
 ghost use Rattle.lent.specs.Calls.{LentOut, LentValues, lentValues, lentNumbered, setLent, settleLent};
 use crate::LentSettled;
@@ -52,27 +52,23 @@ fn settle_done(kept: Builder, a: Settled) -> SettleDone
 fn set_kept(
     b: Builder,
     store: &mut [f64],
-    kinds: &mut [u8],
-    levels: &mut [u8],
-    values: &mut [u32],
+    words: &mut [u64],
     ri: u64,
     oi: u64,
     energies: &[f64],
 ) -> SetDone
     ensures { λ r. ⌜ _≡_ {A = LentOut ℕ}
-        (record { answer = r .number; builder = r .builder; lists = listsOf (now (store .exit)) (now (kinds .exit)) (now (levels .exit)) (now (values .exit)) })
-        (setLent b (listsOf (now (store .entry)) (now (kinds .entry)) (now (levels .entry)) (now (values .entry))) ri oi (now (energies .entry))) ⌝ }
+        (record { answer = r .number; builder = r .builder; lists = wordLists (now (store .exit)) (now (words .exit)) })
+        (setLent b (wordLists (now (store .entry)) (now (words .entry))) ri oi (now (energies .entry))) ⌝ }
 {
-    let a = builder::set(b, store, kinds, levels, values, ri, oi, energies);
+    let a = builder::set(b, store, words, ri, oi, energies);
     set_done(b, a)
 }
 
 fn settle_kept(
     b: Builder,
     store: &[f64],
-    kinds: &mut [u8],
-    levels: &mut [u8],
-    values: &mut [u32],
+    words: &mut [u64],
     vertices: &[f64],
     counts: &[u8],
     neighbours: &[u16],
@@ -80,22 +76,11 @@ fn settle_kept(
     ri: u64,
 ) -> SettleDone
     ensures { λ r. ⌜ (lentNumbered (r .answer) ≡ true) × _≡_ {A = LentOut LentValues}
-        (record { answer = lentValues (r .answer); builder = r .builder; lists = listsOf (now (store .entry)) (now (kinds .exit)) (now (levels .exit)) (now (values .exit)) })
+        (record { answer = lentValues (r .answer); builder = r .builder; lists = wordLists (now (store .entry)) (now (words .exit)) })
         (settleLent b (meshOf (now (vertices .entry)) (now (counts .entry)) (now (neighbours .entry)) (now (angles .entry)))
-        (listsOf (now (store .entry)) (now (kinds .entry)) (now (levels .entry)) (now (values .entry))) ri) ⌝ }
+        (wordLists (now (store .entry)) (now (words .entry))) ri) ⌝ }
 {
-    let a = builder::settle(
-        b,
-        store,
-        kinds,
-        levels,
-        values,
-        vertices,
-        counts,
-        neighbours,
-        angles,
-        ri,
-    );
+    let a = builder::settle(b, store, words, vertices, counts, neighbours, angles, ri);
     settle_done(b, a)
 }
 
@@ -103,18 +88,16 @@ fn settle_kept(
 pub fn set_lent(
     b: &mut Builder,
     store: &mut [f64],
-    kinds: &mut [u8],
-    levels: &mut [u8],
-    values: &mut [u32],
+    words: &mut [u64],
     ri: u64,
     oi: u64,
     energies: &[f64],
 ) -> u64
     ensures { λ r. ⌜ _≡_ {A = LentOut ℕ}
-        (record { answer = r; builder = now (b .exit); lists = listsOf (now (store .exit)) (now (kinds .exit)) (now (levels .exit)) (now (values .exit)) })
-        (setLent (now (b .entry)) (listsOf (now (store .entry)) (now (kinds .entry)) (now (levels .entry)) (now (values .entry))) ri oi (now (energies .entry))) ⌝ }
+        (record { answer = r; builder = now (b .exit); lists = wordLists (now (store .exit)) (now (words .exit)) })
+        (setLent (now (b .entry)) (wordLists (now (store .entry)) (now (words .entry))) ri oi (now (energies .entry))) ⌝ }
 {
-    let a = set_kept(*b, store, kinds, levels, values, ri, oi, energies);
+    let a = set_kept(*b, store, words, ri, oi, energies);
     *b = a.builder;
     a.number
 }
@@ -123,9 +106,7 @@ pub fn set_lent(
 pub fn settle_lent(
     b: &mut Builder,
     store: &[f64],
-    kinds: &mut [u8],
-    levels: &mut [u8],
-    values: &mut [u32],
+    words: &mut [u64],
     vertices: &[f64],
     counts: &[u8],
     neighbours: &[u16],
@@ -133,22 +114,11 @@ pub fn settle_lent(
     ri: u64,
 ) -> LentSettled
     ensures { λ r. ⌜ (lentNumbered r ≡ true) × _≡_ {A = LentOut LentValues}
-        (record { answer = lentValues r; builder = now (b .exit); lists = listsOf (now (store .entry)) (now (kinds .exit)) (now (levels .exit)) (now (values .exit)) })
+        (record { answer = lentValues r; builder = now (b .exit); lists = wordLists (now (store .entry)) (now (words .exit)) })
         (settleLent (now (b .entry)) (meshOf (now (vertices .entry)) (now (counts .entry)) (now (neighbours .entry)) (now (angles .entry)))
-        (listsOf (now (store .entry)) (now (kinds .entry)) (now (levels .entry)) (now (values .entry))) ri) ⌝ }
+        (wordLists (now (store .entry)) (now (words .entry))) ri) ⌝ }
 {
-    let a = settle_kept(
-        *b,
-        store,
-        kinds,
-        levels,
-        values,
-        vertices,
-        counts,
-        neighbours,
-        angles,
-        ri,
-    );
+    let a = settle_kept(*b, store, words, vertices, counts, neighbours, angles, ri);
     *b = a.builder;
     a.answer
 }

@@ -1,10 +1,11 @@
-// Rows as a slice of records: read one, replace one, and the bridge to the three lists of numbers. A slab number is an index of the slice.
+// Rows as a slice of records: read one, replace one, and the bridge to the words. A slab number is an index of the slice.
 ghost use mathlib.Core.Path.{_≡_};
-ghost use Prim.Native.Nat.{_<_};
+ghost use Prim.Native.Nat.{_<_, _≤_};
 ghost use lib.Dec.{ltb};
-ghost use lib.ListN.{length, set};
-ghost use Rattle.rows.specs.Rows.{resolutionOf, rowsOf};
-ghost use Rattle.lent.specs.Records.{columns, recordAt, recordOf, bridged, gathered, SpreadOut, spreadOut};
+ghost use lib.ListN.{length, getD, set};
+ghost use Rattle.rows.specs.Rows.{resolutionOf};
+ghost use Rattle.rows.specs.Words.{wordKind, wordRows};
+ghost use Rattle.lent.specs.Records.{columns, recordAt, recordOf, wordIn, gatherNumber, spreadNumber, taken, gathered, SpreadOut, spreadOut};
 use crate::RowRecord;
 use rows::SlabResolution;
 
@@ -25,7 +26,7 @@ pub fn resolution_of(r: RowRecord) -> SlabResolution
     rows::resolution_of(r.kind, r.level, r.value)
 }
 
-// The record of slab s; zeros beyond the slice, as beyond the lists.
+// The record of slab s; zeros beyond the slice, as beyond a list of words.
 pub fn row_at(rows: &[RowRecord], s: usize) -> RowRecord
     ensures { λ r. ⌜ r ≡ recordAt (columns (now (rows .entry))) s ⌝ }
 {
@@ -52,57 +53,89 @@ pub fn replace_row(rows: &mut [RowRecord], s: usize, r: RowRecord) -> bool
     }
 }
 
-// How many rows the bridge takes over: all n of the slice, or none where a list is shorter.
-fn bridged(n: usize, kinds: usize, levels: usize, values: usize) -> usize
-    ensures { λ r. ⌜ r ≡ bridged n kinds levels values ⌝ }
+// What refuses a bridge: 6 where there are fewer words than records, then 15 where a word that goes to a record has a rest.
+fn gather_question(n: usize, words: &[u64]) -> u64
+    ensures { λ r. ⌜ r ≡ gatherNumber n (now (words .entry)) ⌝ }
 {
-    if (n <= kinds) & ((n <= levels) & (n <= values)) {
+    if words.len() < n {
+        return 6;
+    }
+    if !words::rests_clear(words, n as u64) {
+        return 15;
+    }
+    0
+}
+
+fn spread_question(n: usize, words: usize) -> u64
+    ensures { λ r. ⌜ r ≡ spreadNumber n words ⌝ }
+{
+    if words < n {
+        return 6;
+    }
+    0
+}
+
+// How many rows a bridge takes over: all n, or none where it is refused.
+fn taken(number: u64, n: usize) -> usize
+    ensures { λ r. ⌜ r ≡ taken number n ⌝ }
+{
+    if number == 0 {
         return n;
     }
     0
 }
 
-// The record that the three lists hold of slab s.
-fn record_at(kinds: &[u8], levels: &[u8], values: &[u32], s: usize) -> RowRecord
-    requires { ⌜ (s < length (now kinds)) × (s < length (now levels)) × (s < length (now values)) ⌝ }
-    ensures { λ r. ⌜ r ≡ recordAt (rowsOf (now (kinds .entry)) (now (levels .entry)) (now (values .entry))) s ⌝ }
+// The record of a word, and the word of a record.
+fn record_at(words: &[u64], s: usize) -> RowRecord
+    requires { ⌜ (s < length (now words)) × (wordKind (getD (now words) s 0) ≤ 255) ⌝ }
+    ensures { λ r. ⌜ r ≡ recordAt (wordRows (now (words .entry))) s ⌝ }
 {
+    let w = words[s];
     RowRecord {
-        kind: kinds[s],
-        level: levels[s],
-        value: values[s],
+        kind: rows::word_kind(w) as u8,
+        level: rows::word_level(w),
+        value: rows::word_value(w),
     }
 }
 
-// The lists' numbers into the records.
-pub fn gather(rows: &mut [RowRecord], kinds: &[u8], levels: &[u8], values: &[u32]) -> usize
-    ensures { λ r. ⌜ (r ≡ bridged (length (now (rows .entry))) (length (now (kinds .entry))) (length (now (levels .entry))) (length (now (values .entry))))
-        × (now (rows .exit) ≡ gathered (rowsOf (now (kinds .entry)) (now (levels .entry)) (now (values .entry))) (now (rows .entry))) ⌝ }
+fn word_in(r: RowRecord) -> u64
+    ensures { λ x. ⌜ x ≡ wordIn r ⌝ }
 {
-    let n = bridged(rows.len(), kinds.len(), levels.len(), values.len());
+    rows::word_of(r.kind, r.level, r.value)
+}
+
+// The words into the records; the answer is document 01's number, 0 where it is done.
+pub fn gather(rows: &mut [RowRecord], words: &[u64]) -> u64
+    ensures { λ r. ⌜ (r ≡ gatherNumber (length (now (rows .entry))) (now (words .entry)))
+        × (now (rows .exit) ≡ gathered (now (words .entry)) (now (rows .entry))) ⌝ }
+{
+    let m = rows.len();
+    let no = gather_question(m, words);
+    let n = taken(no, m);
     let mut i = 0;
     while i < n {
-        let r = record_at(kinds, levels, values, i);
+        let r = record_at(words, i);
         rows[i] = r;
         i += 1;
     }
-    n
+    no
 }
 
-// The records' numbers over the lists.
-pub fn spread(rows: &[RowRecord], kinds: &mut [u8], levels: &mut [u8], values: &mut [u32]) -> usize
+// The records over the words.
+pub fn spread(rows: &[RowRecord], words: &mut [u64]) -> u64
     ensures { λ r. ⌜ _≡_ {A = SpreadOut}
-        (record { answer = r; rows = rowsOf (now (kinds .exit)) (now (levels .exit)) (now (values .exit)) })
-        (spreadOut (now (rows .entry)) (rowsOf (now (kinds .entry)) (now (levels .entry)) (now (values .entry)))) ⌝ }
+        (record { number = r; words = now (words .exit) })
+        (spreadOut (now (rows .entry)) (now (words .entry))) ⌝ }
 {
-    let n = bridged(rows.len(), kinds.len(), levels.len(), values.len());
+    let m = rows.len();
+    let no = spread_question(m, words.len());
+    let n = taken(no, m);
     let mut i = 0;
     while i < n {
         let r = rows[i];
-        kinds[i] = r.kind;
-        levels[i] = r.level;
-        values[i] = r.value;
+        let w = word_in(r);
+        words[i] = w;
         i += 1;
     }
-    n
+    no
 }

@@ -1,7 +1,19 @@
-// A slab's row: an enum, and three numbers in lent lists.
+// A slab's row: an enum, three numbers in lent lists, or a word in one.
 ghost use mathlib.Core.Path.{_≡_};
 ghost use lib.ListN.{getD, set};
 ghost use Rattle.rows.specs.Rows.{Rows, kindOf, levelOf, valueOf, resolutionOf, resolutionAt, replaced, known, rowsOf};
+
+mod words;
+
+pub use words::known_by;
+pub use words::known_in;
+pub use words::replace_in;
+pub use words::resolution_by;
+pub use words::resolution_in;
+pub use words::word_kind;
+pub use words::word_level;
+pub use words::word_of;
+pub use words::word_value;
 
 // What is known of a slab: one energy for all directions, a mesh of energies (its level, and whether a reading interpolates), or nothing but
 // that it is strongly repulsive.

@@ -8,6 +8,7 @@ pub use atom::atom_verdict_of;
 pub use verdicts::packed_after;
 pub use verdicts::packed_row;
 pub use verdicts::replace_by;
+pub use verdicts::replace_word_by;
 pub use verdicts::settles;
 pub use verdicts::tallied;
 pub use verdicts::verdict_of;

@@ -7,6 +7,7 @@ ghost use lib.Dec.{leb};
 ghost use lib.Ieee.{binary64, ofBits};
 ghost use Rattle.mesh.specs.Mesh.{meshOf};
 ghost use Rattle.mesh.specs.Levels.{vertexCount};
+ghost use Rattle.rows.specs.Words.{wordRows};
 ghost use Rattle.rows.specs.Rows.{Rows, rowWith, rowsOf};
 ghost use Rattle.settling.specs.Gradient.{repulsive, allRepulsive, sumFrom, meanNarrowed};
 ghost use Rattle.settling.specs.Settling.{byGradient, verdict, verdictOf, newRow, replacedBy, steeperOf, settles, packedAfter, comparisonsFor};
@@ -259,4 +260,13 @@ pub fn replace_by(
         return;
     }
     rows::replace(kinds, levels, values, s, becomes(level, v));
+}
+
+pub fn replace_word_by(words: &mut [u64], s: u64, level: u8, v: Verdict)
+    ensures { λ _. ⌜ _≡_ {A = Rows} (wordRows (now (words .exit))) (replacedBy (wordRows (now (words .entry))) s (newRow level v)) ⌝ }
+{
+    if stays(v) {
+        return;
+    }
+    rows::replace_in(words, s, becomes(level, v));
 }

@@ -42,21 +42,14 @@ fn bin_of(s: u64, n_omega: u64) -> u64 {
 }
 
 // Sets the twelve slabs of a table, and answers how many were refused.
-fn set_twelve(
-    b: Builder,
-    n_omega: u64,
-    store: &mut [f64],
-    kinds: &mut [u8],
-    levels: &mut [u8],
-    values: &mut [u32],
-) -> u64 {
+fn set_twelve(b: Builder, n_omega: u64, store: &mut [f64], words: &mut [u64]) -> u64 {
     let e = smooth();
     let mut refused: u64 = 0;
     let mut s: u64 = 0;
     while s < 12 {
         let ri = slice_of(s, n_omega);
         let oi = bin_of(s, n_omega);
-        let no = set_number(builder::set(b, store, kinds, levels, values, ri, oi, &e));
+        let no = set_number(builder::set(b, store, words, ri, oi, &e));
         refused = plus(refused, no != 0);
         s += 1;
     }
@@ -75,33 +68,23 @@ fn level_of(b: Builder) -> u64 {
     b.level
 }
 
-// How many of the twelve rows are Mesh nearest, of level 1.
-fn nearest_rows(kinds: &[u8; 12], levels: &[u8; 12], values: &[u32; 12]) -> u64 {
+// How many of the twelve rows are Mesh nearest, of level 1: kind 2 · 2^40 and level 1 · 2^32.
+fn nearest_rows(words: &[u64; 12]) -> u64 {
     let mut n: u64 = 0;
     let mut i = 0;
     while i < 12 {
-        n = plus(n, (kinds[i] == 2) & ((levels[i] == 1) & (values[i] == 0)));
+        n = plus(n, words[i] == 2203318222848);
         i += 1;
     }
     n
 }
 
-struct Rows {
-    kinds: [u8; 12],
-    levels: [u8; 12],
-    values: [u32; 12],
-}
-
 // How many of the twelve rows differ.
-fn other_rows(a: Rows, b: Rows) -> u64 {
+fn other_rows(a: &[u64; 12], b: &[u64; 12]) -> u64 {
     let mut n: u64 = 0;
     let mut i = 0;
     while i < 12 {
-        n = plus(
-            n,
-            !((a.kinds[i] == b.kinds[i])
-                & ((a.levels[i] == b.levels[i]) & (a.values[i] == b.values[i]))),
-        );
+        n = plus(n, !(a[i] == b[i]));
         i += 1;
     }
     n
@@ -131,20 +114,18 @@ fn other_bytes(a: &[u8; 84900], b: &[u8; 84900]) -> u64 {
 }
 
 // Settles slice ri of a level that has gone: 11, and nothing is altered.
-fn settle_late(b: Builder, ri: u64, store: &[f64; 21168], before: Rows) {
-    let mut kinds = before.kinds;
-    let mut levels = before.levels;
-    let mut values = before.values;
+fn settle_late(b: Builder, ri: u64, store: &[f64; 21168], before: [u64; 12]) {
+    let mut words = before;
     let mut once: [u8; 84900] = [7; 84900];
     let mut twice: [u8; 84900] = [7; 84900];
-    let n = written(b, store, &kinds, &levels, &values, &mut once);
+    let n = written(b, store, &words, &mut once);
     say(b"  bytes", n, 84852);
-    let a = settled(b, ri, store, &mut kinds, &mut levels, &mut values);
+    let a = settled(b, ri, store, &mut words);
     say(b"  settled at a level that has gone", settled_number(a), 11);
     say(b"  comparisons", compared(a), 0);
     let c = after(b, a);
     say(b"  level after it", level_of(c), 0);
-    let m = written(c, store, &kinds, &levels, &values, &mut twice);
+    let m = written(c, store, &words, &mut twice);
     say(b"  bytes", m, 84852);
     say(b"  bytes that differ", other_bytes(&once, &twice), 0);
     say(
@@ -152,39 +133,27 @@ fn settle_late(b: Builder, ri: u64, store: &[f64; 21168], before: Rows) {
         other_energies(store),
         0,
     );
-    let rows = Rows {
-        kinds,
-        levels,
-        values,
-    };
-    say(b"  rows that differ", other_rows(before, rows), 0);
+    say(b"  rows that differ", other_rows(&before, &words), 0);
 }
 
 // A table of slices 0 to `late`, of n_omega slabs each and twelve in all, every one of them set at level 1. The first slice is settled and the level drops; then the last slice is settled,
 // which is the same one where there is one alone.
 fn settle_both(what: &[u8], rmax: f64, omega_step: f64, late: u64, n_omega: u64, comparisons: u64) {
     let mut store = [1.0; 21168];
-    let mut kinds: [u8; 12] = [9; 12];
-    let mut levels: [u8; 12] = [9; 12];
-    let mut values: [u32; 12] = [9; 12];
+    let mut words: [u64; 12] = [u64::MAX; 12];
     let g = settings(rmax, omega_step);
-    let b = begun(g, 1, &mut store, &mut kinds, &mut levels, &mut values);
+    let b = begun(g, 1, &mut store, &mut words);
     io::write_all(STDOUT_FILENO, what);
-    let refused = set_twelve(b, n_omega, &mut store, &mut kinds, &mut levels, &mut values);
+    let refused = set_twelve(b, n_omega, &mut store, &mut words);
     say(b", sets refused", refused, 0);
-    let a = settled(b, 0, &store, &mut kinds, &mut levels, &mut values);
+    let a = settled(b, 0, &store, &mut words);
     say(b"  settled", settled_number(a), 0);
     say(b"  comparisons", compared(a), comparisons);
     let c = after(b, a);
     say(b"  level after it", level_of(c), 0);
-    let nearest = nearest_rows(&kinds, &levels, &values);
+    let nearest = nearest_rows(&words);
     say(b"  rows that are Mesh nearest of level 1", nearest, n_omega);
-    let rows = Rows {
-        kinds,
-        levels,
-        values,
-    };
-    settle_late(c, late, &store, rows);
+    settle_late(c, late, &store, words);
 }
 
 pub(crate) fn settled_twice() {

@@ -22,12 +22,8 @@ pub(crate) fn say(what: &[u8], got: u64, wanted: u64) {
     }
 }
 
-// Functions of their own, so that the casts need no proof where they are used.
+// A function of its own, so that the cast needs no proof where it is used.
 fn wide8(x: u8) -> u64 {
-    x as u64
-}
-
-fn wide32(x: u32) -> u64 {
     x as u64
 }
 
@@ -55,21 +51,12 @@ fn none() -> Builder {
 }
 
 // The builder that fresh answers; one that every call refuses where it does not.
-pub(crate) fn begun(
-    g: Grid,
-    top: u64,
-    store: &mut [f64],
-    kinds: &mut [u8],
-    levels: &mut [u8],
-    values: &mut [u32],
-) -> Builder {
+pub(crate) fn begun(g: Grid, top: u64, store: &mut [f64], words: &mut [u64]) -> Builder {
     match builder::fresh(
         g,
         top,
         store,
-        kinds,
-        levels,
-        values,
+        words,
         &meshes::vertices(),
         &meshes::counts(),
         &meshes::neighbours(),
@@ -81,20 +68,11 @@ pub(crate) fn begun(
 }
 
 // The length of the file that write answers, or its number and a million.
-pub(crate) fn written(
-    b: Builder,
-    store: &[f64],
-    kinds: &[u8],
-    levels: &[u8],
-    values: &[u32],
-    output: &mut [u8],
-) -> u64 {
+pub(crate) fn written(b: Builder, store: &[f64], words: &[u64], output: &mut [u8]) -> u64 {
     match writer::write(
         b,
         store,
-        kinds,
-        levels,
-        values,
+        words,
         &meshes::vertices(),
         &meshes::counts(),
         &meshes::neighbours(),
@@ -115,20 +93,11 @@ pub(crate) fn set_number(a: Built) -> u64 {
 }
 
 // What settle answers, over the two meshes.
-pub(crate) fn settled(
-    b: Builder,
-    ri: u64,
-    store: &[f64],
-    kinds: &mut [u8],
-    levels: &mut [u8],
-    values: &mut [u32],
-) -> Settled {
+pub(crate) fn settled(b: Builder, ri: u64, store: &[f64], words: &mut [u64]) -> Settled {
     builder::settle(
         b,
         store,
-        kinds,
-        levels,
-        values,
+        words,
         &meshes::vertices(),
         &meshes::counts(),
         &meshes::neighbours(),
@@ -188,19 +157,10 @@ fn tail(file: [u8; 66]) {
 // The table of rmin 0, rmax 1, dr 1, step 6, top level 0 with nothing set: the 66 bytes.
 fn nothing_set() {
     let mut store = [1.0; 144];
-    let mut kinds: [u8; 1] = [9; 1];
-    let mut levels: [u8; 1] = [9; 1];
-    let mut values: [u32; 1] = [9; 1];
+    let mut words: [u64; 1] = [u64::MAX; 1];
     let mut output: [u8; 66] = [0; 66];
-    let b = begun(
-        settings(1.0, 6.0),
-        0,
-        &mut store,
-        &mut kinds,
-        &mut levels,
-        &mut values,
-    );
-    let n = written(b, &store, &kinds, &levels, &values, &mut output);
+    let b = begun(settings(1.0, 6.0), 0, &mut store, &mut words);
+    let n = written(b, &store, &words, &mut output);
     say(b"bytes with nothing set", n, 66);
     head(output);
     tail(output);
@@ -209,38 +169,21 @@ fn nothing_set() {
 // One slab of level 0 with 144 equal energies: the file's length, then the comparisons, and the kind and the value that the slab settles to.
 fn one_slab(what: &[u8], energy: f64, kind: u64, comparisons: u64) {
     let mut store = [1.0; 144];
-    let mut kinds: [u8; 1] = [9; 1];
-    let mut levels: [u8; 1] = [9; 1];
-    let mut values: [u32; 1] = [9; 1];
+    let mut words: [u64; 1] = [u64::MAX; 1];
     let mut output: [u8; 700] = [0; 700];
     let energies = [energy; 144];
-    let b = begun(
-        settings(1.0, 6.0),
-        0,
-        &mut store,
-        &mut kinds,
-        &mut levels,
-        &mut values,
-    );
-    let no = set_number(builder::set(
-        b,
-        &mut store,
-        &mut kinds,
-        &mut levels,
-        &mut values,
-        0,
-        0,
-        &energies,
-    ));
+    let b = begun(settings(1.0, 6.0), 0, &mut store, &mut words);
+    let no = set_number(builder::set(b, &mut store, &mut words, 0, 0, &energies));
     io::write_all(STDOUT_FILENO, what);
     say(b", set", no, 0);
-    let n = written(b, &store, &kinds, &levels, &values, &mut output);
+    let n = written(b, &store, &words, &mut output);
     say(b"  bytes", n, 642);
-    let a = settled(b, 0, &store, &mut kinds, &mut levels, &mut values);
+    let a = settled(b, 0, &store, &mut words);
     say(b"  settled", settled_number(a), 0);
     say(b"  comparisons", compared(a), comparisons);
-    say(b"  kind", wide8(kinds[0]), kind);
-    say(b"  value", wide32(values[0]), 0);
+    let word = words[0];
+    say(b"  kind", word / 1099511627776, kind);
+    say(b"  value", word % 4294967296, 0);
 }
 
 fn main() {

@@ -1,4 +1,4 @@
-// A settle with the builder lent, and a record replaced in a lent list of rows, each beside the by-value call over the three lists of numbers. `either-form` of `lent` has the rest by proof.
+// A settle with the builder lent, and a record replaced in a lent list of rows, each beside the by-value call over words. `either-form` of `lent` has the rest by proof.
 use builder::Builder;
 use builder::Built;
 use builder::Settled;
@@ -11,13 +11,7 @@ use rows::SlabResolution;
 mod meshes;
 mod through;
 
-struct Rows {
-    kinds: [u8; 2],
-    levels: [u8; 2],
-    values: [u32; 2],
-}
-
-// What a settle answered and left: its number, the gradient's bits, the comparisons, the level, and row 0 as one number.
+// What a settle answered and left: its number, the gradient's bits, the comparisons, the level, and row 0 as a word.
 struct Left {
     number: u64,
     gradient: u64,
@@ -48,8 +42,8 @@ fn compare(what: &[u8], lent: Left, by_value: Left) {
     say(b"  row 0", lent.row, by_value.row);
 }
 
-fn packed(kind: u8, level: u8, value: u32) -> u64 {
-    (kind as u64) * 1099511627776 + (level as u64) * 4294967296 + value as u64
+fn word_of(r: RowRecord) -> u64 {
+    rows::word_of(r.kind, r.level, r.value)
 }
 
 fn value_left(a: Settled, kept: u64, row: u64) -> Left {
@@ -90,35 +84,27 @@ fn lent_left(a: LentSettled, level: u64, row: u64) -> Left {
     }
 }
 
-fn settle_by_value(b: Builder, ri: u64, store: &[f64], rows: Rows) -> Left {
-    let mut kinds = rows.kinds;
-    let mut levels = rows.levels;
-    let mut values = rows.values;
+fn settle_by_value(b: Builder, ri: u64, store: &[f64], rows: [u64; 2]) -> Left {
+    let mut words = rows;
     let a = builder::settle(
         b,
         store,
-        &mut kinds,
-        &mut levels,
-        &mut values,
+        &mut words,
         &meshes::vertices(),
         &meshes::counts(),
         &meshes::neighbours(),
         &meshes::angles(),
         ri,
     );
-    value_left(a, b.level, packed(kinds[0], levels[0], values[0]))
+    value_left(a, b.level, words[0])
 }
 
-fn settle_lent(b: Builder, ri: u64, store: &[f64], rows: Rows) -> Left {
-    let mut kinds = rows.kinds;
-    let mut levels = rows.levels;
-    let mut values = rows.values;
+fn settle_lent(b: Builder, ri: u64, store: &[f64], rows: [u64; 2]) -> Left {
+    let mut words = rows;
     let a = through::settle_through(
         b,
         store,
-        &mut kinds,
-        &mut levels,
-        &mut values,
+        &mut words,
         &meshes::vertices(),
         &meshes::counts(),
         &meshes::neighbours(),
@@ -126,48 +112,46 @@ fn settle_lent(b: Builder, ri: u64, store: &[f64], rows: Rows) -> Left {
         ri,
     );
     let answer = a.answer;
-    let row = packed(kinds[0], levels[0], values[0]);
-    lent_left(answer, a.builder.level, row)
+    lent_left(answer, a.builder.level, words[0])
+}
+
+// The record of a word without a rest.
+fn record_of(w: u64) -> RowRecord {
+    RowRecord {
+        kind: (rows::word_kind(w) % 256) as u8,
+        level: rows::word_level(w),
+        value: rows::word_value(w),
+    }
 }
 
 // Row 1 replaced by Repulsive.
-fn replace(rows: Rows) {
-    let mut kinds = rows.kinds;
-    let mut levels = rows.levels;
-    let mut values = rows.values;
-    let first = RowRecord {
-        kind: kinds[0],
-        level: levels[0],
-        value: values[0],
-    };
-    let second = RowRecord {
-        kind: kinds[1],
-        level: levels[1],
-        value: values[1],
-    };
+fn replace(rows: [u64; 2]) {
+    let mut words = rows;
     let records = through::with_row(
-        [first, second],
+        [record_of(words[0]), record_of(words[1])],
         1,
         lent::record_of(SlabResolution::Repulsive),
     );
-    rows::replace(
-        &mut kinds,
-        &mut levels,
-        &mut values,
-        1,
-        SlabResolution::Repulsive,
-    );
+    rows::replace_in(&mut words, 1, SlabResolution::Repulsive);
     let a = records[0];
     let b = records[1];
+    say(b"row 0, row 1 being replaced", word_of(a), words[0]);
+    say(b"row 1, replaced by Repulsive", word_of(b), words[1]);
+}
+
+// Words into records that hold Repulsive, beside the move of the same words to three lists that do.
+fn gather(what: &[u8], words: [u64; 2]) {
+    let r = lent::record_of(SlabResolution::Repulsive);
+    let records = through::with_words([r, r], &words);
+    let mut kinds: [u8; 2] = [1; 2];
+    let mut levels: [u8; 2] = [0; 2];
+    let mut values: [u32; 2] = [0; 2];
+    words::words_to_rows(2, &words, &mut kinds, &mut levels, &mut values);
+    let a = records[0];
     say(
-        b"row 0, row 1 being replaced",
-        packed(a.kind, a.level, a.value),
-        packed(kinds[0], levels[0], values[0]),
-    );
-    say(
-        b"row 1, replaced by Repulsive",
-        packed(b.kind, b.level, b.value),
-        packed(kinds[1], levels[1], values[1]),
+        what,
+        word_of(a),
+        rows::word_of(kinds[0], levels[0], values[0]),
     );
 }
 
@@ -206,46 +190,33 @@ fn accepted(a: Built) -> Builder {
 }
 
 // A slice with one slab set; a settle of a bin beyond, which is refused; one that is accepted, and drops the level; a
-// record replaced.
+// record replaced; words into records, without and with a rest.
 fn main() {
     let mut store = [1.0; 3528];
-    let mut kinds: [u8; 2] = [9; 2];
-    let mut levels: [u8; 2] = [9; 2];
-    let mut values: [u32; 2] = [9; 2];
+    let mut words: [u64; 2] = [18446744073709551615; 2];
     let b = accepted(builder::fresh(
         settings(),
         1,
         &mut store,
-        &mut kinds,
-        &mut levels,
-        &mut values,
+        &mut words,
         &meshes::vertices(),
         &meshes::counts(),
         &meshes::neighbours(),
         &meshes::angles(),
     ));
-    let c = accepted(builder::set(
-        b,
-        &mut store,
-        &mut kinds,
-        &mut levels,
-        &mut values,
-        0,
-        0,
-        &smooth(),
-    ));
-    let rows = Rows {
-        kinds,
-        levels,
-        values,
-    };
-    let beyond = settle_by_value(c, 1, &store, rows);
+    let c = accepted(builder::set(b, &mut store, &mut words, 0, 0, &smooth()));
+    let beyond = settle_by_value(c, 1, &store, words);
     compare(
         b"settle, a bin beyond",
-        settle_lent(c, 1, &store, rows),
+        settle_lent(c, 1, &store, words),
         beyond,
     );
-    let settled = settle_by_value(c, 0, &store, rows);
-    compare(b"settle", settle_lent(c, 0, &store, rows), settled);
-    replace(rows);
+    let settled = settle_by_value(c, 0, &store, words);
+    compare(b"settle", settle_lent(c, 0, &store, words), settled);
+    replace(words);
+    gather(b"row 0, gathered over Repulsive", words);
+    gather(
+        b"row 0, where word 1 has a rest",
+        [words[0], 281474976710656],
+    );
 }

@@ -3,8 +3,9 @@ ghost use mathlib.Core.Path.{_≡_};
 ghost use mathlib.Core.Bool.{true};
 ghost use lib.ListN.{set};
 ghost use Rattle.mesh.specs.Mesh.{meshOf};
-ghost use Rattle.builder.specs.BuilderLists.{listsOf};
+ghost use Rattle.builder.specs.BuilderLists.{wordLists};
 ghost use Rattle.lent.specs.Calls.{LentOut, LentValues, lentValues, lentNumbered, settleLent};
+ghost use Rattle.lent.specs.Records.{gathered};
 use builder::Builder;
 use lent::LentSettled;
 use lent::RowRecord;
@@ -18,9 +19,7 @@ pub(crate) struct SettleLeft {
 pub(crate) fn settle_through(
     b: Builder,
     store: &[f64],
-    kinds: &mut [u8],
-    levels: &mut [u8],
-    values: &mut [u32],
+    words: &mut [u64],
     vertices: &[f64],
     counts: &[u8],
     neighbours: &[u16],
@@ -28,17 +27,15 @@ pub(crate) fn settle_through(
     ri: u64,
 ) -> SettleLeft
     ensures { λ r. ⌜ (lentNumbered (r .answer) ≡ true) × _≡_ {A = LentOut LentValues}
-        (record { answer = lentValues (r .answer); builder = r .builder; lists = listsOf (now (store .entry)) (now (kinds .exit)) (now (levels .exit)) (now (values .exit)) })
+        (record { answer = lentValues (r .answer); builder = r .builder; lists = wordLists (now (store .entry)) (now (words .exit)) })
         (settleLent b (meshOf (now (vertices .entry)) (now (counts .entry)) (now (neighbours .entry)) (now (angles .entry)))
-        (listsOf (now (store .entry)) (now (kinds .entry)) (now (levels .entry)) (now (values .entry))) ri) ⌝ }
+        (wordLists (now (store .entry)) (now (words .entry))) ri) ⌝ }
 {
     let mut c = b;
     let answer = lent::settle_lent(
         &mut c,
         store,
-        kinds,
-        levels,
-        values,
+        words,
         vertices,
         counts,
         neighbours,
@@ -53,5 +50,13 @@ pub(crate) fn with_row(rows: [RowRecord; 2], s: usize, r: RowRecord) -> [RowReco
 {
     let mut t = rows;
     lent::replace_row(&mut t, s, r);
+    t
+}
+
+pub(crate) fn with_words(rows: [RowRecord; 2], words: &[u64]) -> [RowRecord; 2]
+    ensures { λ t. ⌜ t ≡ gathered (now (words .entry)) rows ⌝ }
+{
+    let mut t = rows;
+    lent::gather(&mut t, words);
     t
 }

@@ -13,13 +13,12 @@ use Rattle.grid.specs.Settings.{counted}
 use Rattle.grid.specs.declared.Grid.{Grid}
 use Rattle.rows.specs.Rows.{Row, scalar, repulsive, mesh}
 use Rattle.builder.specs.BuilderLists.{slabs}
-use Rattle.builder.specs.Calls.{freshOut}
 use Rattle.writer.specs.Tailed.{TailLists, tailLists, writeTailOut}
 use Rattle.ledger.specs.Ledger.{Call, set-call, settle-call, write-call, State, run, Ledger, opened, ledger}
-use Rattle.ledger.specs.Promise.{History, ended, file, rows, tailOf, Accepted, Same}
+use Rattle.ledger.specs.Promise.{History, fresh, ended, file, rows, tailOf, Accepted, Same}
 use Rattle.ledger.proofs.Theorem.{promise}
 use Rattle.test_marks.specs.Icospheres.{twoLevels}
-use Rattle.test_marks.specs.Computed.{f64, lent, noTerms, tailHistory, history, history₂, computed}
+use Rattle.test_marks.specs.Computed.{f64, lentStore, lentWords, noTerms, tailHistory, history, history₂, computed}
 use Rattle.test_marks.specs.Settled.{tens, nearly, lowered, after, lowers}
 
 -- lists over the same settings are the same where their ledgers are
@@ -112,7 +111,7 @@ files-differ e =
 -- ---- three slabs at levels 0 and 1
 
 abbrev deep : List Call → History
-deep cs = record { grid = history₂ [] .grid; top = 1; meshes = twoLevels; lists = lent 5292 3; calls = cs; tail = noTerms; output = replicate 14202 7 }
+deep cs = record { grid = history₂ [] .grid; top = 1; meshes = twoLevels; store = lentStore 5292; words = lentWords 3; calls = cs; tail = noTerms; output = replicate 14202 7 }
 
 -- calls that lower the level; and after them a settle of each slice that was set, which 11 refuses, and a write
 abbrev later : List Call
@@ -143,7 +142,7 @@ written : writeTailOut (after .builder) twoLevels (after .lists) noTerms (replic
 unfolding computed
 written = refl
 
-opened-yes : freshOut (short .grid) 1 twoLevels (lent 5292 3) .answer .number ≡ 0
+opened-yes : fresh short .answer .number ≡ 0
 unfolding computed
 opened-yes = refl
 

@@ -23,6 +23,7 @@ use Rattle.grid.specs.Bins.{distanceBin, dihedralBin}
 use Rattle.grid.specs.Settings.{above, question, inRange, levelsValid, countsValid, ownCount, slabsFit, counted}
 use Rattle.grid.specs.declared.Grid.{Grid}
 use Rattle.rows.specs.Rows.{resolutionOf, resolutionAt, replaced, known, rowRoom}
+use Rattle.rows.specs.Words.{wordOf, wordValue, wordLevel, wordKind, wordRows}
 use Rattle.settling.specs.Gradient.{weight, repulsive, allRepulsive, steeper, alongNeighbours, pairWeight, gradientOf, gradient, comparisons, sumFrom, meanNarrowed}
 use Rattle.settling.specs.Settling.{byGradient, verdict, verdicts, settledRows, largestFrom, someSettle, drops, settledSlice, packedRows, packedAfter, comparisonsFor, comparisonsIn}
 use Rattle.builder.specs.BuilderLists.{BuilderLists, rowIn, rowsIn, listRoom, rowsKnown, listsOf}
@@ -65,11 +66,16 @@ settings rmax step = record {
 abbrev pub plain : Grid
 plain = settings 0x3FF0_0000_0000_0000 0x4018_0000_0000_0000
 
--- n energies' places and k rows, with other contents and a place more than needed
+-- n energies' places and k rows, with other contents and a place more than needed; each row a word of kind, level and value 9
+abbrev pub lentStore : ℕ → List Float
+lentStore n = replicate (1 + n) (f64 0x4000_0000_0000_0000)
+
+abbrev pub lentWords : ℕ → List ℕ
+lentWords k = replicate (1 + k) 0x0909_0000_0009
+
+-- .. the rows in three lists
 abbrev pub lent : ℕ → ℕ → BuilderLists
-lent n k =
-    let nines : List ℕ = replicate (1 + k) 9 in
-    (listsOf (replicate (1 + n) (f64 0x4000_0000_0000_0000)) nines nines nines)
+lent n k = let nines : List ℕ = replicate (1 + k) 9 in listsOf (lentStore n) nines nines nines
 
 -- no terms and no prefactor
 abbrev pub noTerms : TailLists
@@ -77,14 +83,14 @@ noTerms = tailLists [] [] [] []
 
 -- at level 0, one slab
 abbrev pub tailHistory : TailLists → List Call → History
-tailHistory t cs = record { grid = plain; top = 0; meshes = icosahedron; lists = lent 144 1; calls = cs; tail = t; output = replicate 700 7 }
+tailHistory t cs = record { grid = plain; top = 0; meshes = icosahedron; store = lentStore 144; words = lentWords 1; calls = cs; tail = t; output = replicate 700 7 }
 
 abbrev pub history : List Call → History
 history cs = tailHistory noTerms cs
 
 -- at levels 0 and 1, three distance bins (rmax 3)
 abbrev pub history₂ : List Call → History
-history₂ cs = record { grid = settings 0x4008_0000_0000_0000 0x4018_0000_0000_0000; top = 1; meshes = twoLevels; lists = lent 5292 3; calls = cs; tail = noTerms; output = [] }
+history₂ cs = record { grid = settings 0x4008_0000_0000_0000 0x4018_0000_0000_0000; top = 1; meshes = twoLevels; store = lentStore 5292; words = lentWords 3; calls = cs; tail = noTerms; output = [] }
 
 -- ---- the definitions opened, layer by layer; each of these is its argument
 
@@ -101,7 +107,7 @@ unfolding dot norm unit difference vertexAt cubeFaceProject cubeFace cubeProject
 searches x = x
 
 unfoldable calls : {A : Type 0} → A → A
-unfolding distanceBin dihedralBin above question counted inRange levelsValid countsValid ownCount slabsFit resolutionOf resolutionAt replaced known rowRoom rowIn rowsIn settledLists listRoom rowsKnown meshedRefusal freshBuilder packedRows packedAfter setBuilder filledSlabs freshOut setQuestion setRefusal slabSet setOut settleRefusal settleAccepted settleOut
+unfolding distanceBin dihedralBin above question counted inRange levelsValid countsValid ownCount slabsFit resolutionOf resolutionAt replaced known rowRoom wordOf wordValue wordLevel wordKind wordRows rowIn rowsIn settledLists listRoom rowsKnown meshedRefusal freshBuilder packedRows packedAfter setBuilder filledSlabs freshOut setQuestion setRefusal slabSet setOut settleRefusal settleAccepted settleOut
 calls x = x
 
 unfoldable settling : {A : Type 0} → A → A

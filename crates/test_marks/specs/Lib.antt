@@ -16,3 +16,4 @@ pub mod Viewed
 pub mod Found
 pub mod Repacked
 pub mod Spans
+pub mod Worded

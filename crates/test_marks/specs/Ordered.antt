@@ -10,7 +10,7 @@ use Rattle.ledger.specs.Promise.{History, ended, file}
 use Rattle.ledger.specs.Replies.{number}
 use Rattle.ledger.specs.Order.{Reordered, same, exchanged, then, moved, once, answersOf}
 use Rattle.test_marks.specs.Icospheres.{icosahedron}
-use Rattle.test_marks.specs.Computed.{f64, settings, lent, noTerms, history, computed}
+use Rattle.test_marks.specs.Computed.{f64, settings, lentStore, lentWords, noTerms, history, computed}
 
 abbrev all : ℕ → List Float
 all x = replicate 144 (f64 x)
@@ -19,7 +19,7 @@ all x = replicate 144 (f64 x)
 
 -- at level 0, three distance bins (rmax 3)
 abbrev pub history₃ : List Call → History
-history₃ cs = record { grid = settings 0x4008_0000_0000_0000 0x4018_0000_0000_0000; top = 0; meshes = icosahedron; lists = lent 432 3; calls = cs; tail = noTerms; output = replicate 1900 7 }
+history₃ cs = record { grid = settings 0x4008_0000_0000_0000 0x4018_0000_0000_0000; top = 0; meshes = icosahedron; store = lentStore 432; words = lentWords 3; calls = cs; tail = noTerms; output = replicate 1900 7 }
 
 -- energies 1, 2 and 3 for the three slabs, and a set that 8 refuses
 abbrev one : Call

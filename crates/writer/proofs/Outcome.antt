@@ -1,26 +1,27 @@
 -- Write's outcome by the answers to its questions, and what they say of builder and lists. Assumes nothing.
 use mathlib.Core.Path.{_≡_, refl, sym, _∙_}
 use Rattle.lists.proofs.Asking.{ask-yes, first-yes}
-use mathlib.Core.Bool.{Bool, true, false, cond}
+use mathlib.Core.Bool.{Bool, true, false, cond, _&&_}
 use mathlib.Core.List.{List}
 use Prim.Native.Nat.{ℕ, _+_, _*_, _≤_}
 use native.Mathlib.Nat.{mul-le-mul}
 use native.Mathlib.Omega.{arith}
 use lib.ListN.{length}
 use lib.Dec.{leb, eqb, lit<}
+use lib.Ieee.{Float}
 use borrow.Author.Tests.{eq-eqb, ne-eqb}
 use Rattle.lists.specs.Questions.{ask, first}
 use Rattle.lists.specs.Lists.{put}
 use Rattle.mesh.specs.Levels.{vertexCount, per}
-use Rattle.mesh.specs.Mesh.{Mesh}
+use Rattle.mesh.specs.Mesh.{Mesh, meshesKeep}
 use Rattle.mesh.proofs.Sizes.{count-mono, per-mono}
 use Rattle.grid.proofs.Laws.{slab-energies-le}
-use Rattle.builder.specs.BuilderLists.{BuilderLists, slabs, rowsKnown}
-use Rattle.builder.specs.Refusals.{meshedRefusal}
+use Rattle.builder.specs.BuilderLists.{BuilderLists, wordLists, slabs, listRoom, meshesLong, rowsKnown}
+use Rattle.builder.specs.Refusals.{builderQuestion, meshedRefusal}
 use Rattle.builder.specs.Atom.{atomMeshedRefusal}
 use Rattle.builder.specs.declared.Builder.{Builder}
 use Rattle.builder.specs.declared.AtomBuilder.{AtomBuilder}
-use Rattle.builder.proofs.Laws.{meshed, atom-meshed}
+use Rattle.builder.proofs.Laws.{meshed, atom-meshed, words-long}
 use Rattle.table.specs.File.{fileOf}
 use Rattle.table.specs.Atom.{atomFileOf}
 use Rattle.writer.specs.Write.{writtenValues, fileFrom, writeRefusal, writeOut}
@@ -57,6 +58,12 @@ module _ (m x : ℕ) (r : Bool) where
       let f = first-yes h in
       let z : r ≡ true = ask-yes (lit< tt) (f .1) .0 in
       first-zero m _ (f .0) ∙ rw z
+
+-- 1 to 7, of rows that are words
+pub meshed-words : (b : Builder) (m : Mesh) (store : List Float) (words : List ℕ) → let n = length words in
+    meshedRefusal b m (wordLists store words) ≡ first (builderQuestion b) (ask (listRoom (b .grid) (b .top) (length store) n n n && meshesLong b m) 6 (ask (meshesKeep (b .top) m) 7 0))
+unfolding meshedRefusal
+meshed-words b m store words = rw (words-long b store words)
 
 -- ---- what the answers say
 

@@ -1,5 +1,6 @@
 -- What only the code and the proofs need; a reader need not believe it. Definitions only.
 use mathlib.Core.Path.{_≡_}
+use mathlib.Core.Bool.{Bool}
 use mathlib.Core.List.{List, [], _∷_, _++_, map}
 use Prim.Native.Nat.{ℕ, zero, suc, _+_, _*_, _≤_}
 use lib.ListN.{length, take, drop}
@@ -11,6 +12,7 @@ use Rattle.mesh.specs.Mesh.{Mesh}
 use Rattle.rows.specs.declared.SlabResolution.{SlabResolution}
 use Rattle.rows.specs.declared.SlabResolution.the-variants.{Scalar, Mesh as OnMesh, Repulsive}
 use Rattle.rows.specs.Rows.{Rows, kindOf, levelOf, valueOf, resolutionAt, narrowBits}
+use Rattle.rows.specs.Words.{rowsBy}
 use Rattle.builder.specs.BuilderLists.{BuilderLists, slabs, rowsKnown}
 use Rattle.builder.specs.Refusals.{meshedRefusal}
 use Rattle.builder.specs.Atom.{atomMeshedRefusal}
@@ -68,6 +70,10 @@ restBytes each top n l =
     let rows = resolutions (l .rows) 0 n in
     section (bytesOf 4) (map vertexCount (below (suc top)))
     ++ (section entryBytes (entriesFor each 0 rows) ++ section (bytesOf 4) (energiesFor each (each top) (l .store) 0 rows))
+
+-- store and rows, these in either form
+abbrev pub listsBy : Bool → List Float → List ℕ → List ℕ → List ℕ → List ℕ → BuilderLists
+listsBy worded store words kinds levels values = record { store = store; rows = rowsBy worded words kinds levels values }
 
 -- n slabs that every question of write was answered yes for; and with them the room for a file, its heads being `at` bytes and its rows holding e energies together
 pub record Sure (each : ℕ → ℕ) (top n : ℕ) (l : BuilderLists) : Type 0 where

@@ -1,7 +1,6 @@
 // Write of a table against an atom: its questions, then the file.
 ghost use mathlib.Core.Path.{_≡_};
 ghost use mathlib.Core.Bool.{true, _&&_};
-ghost use mathlib.Core.List.{[]};
 ghost use Prim.Native.Nat.{suc, _≤_};
 ghost use lib.ListN.{length};
 ghost use Rattle.rows.specs.Rows.{rowsOf};
@@ -27,16 +26,16 @@ fn atom_write_question(
     store: u64,
     kinds: &[u8],
     levels: &[u8],
-    values: u64,
+    values: &[u32],
     vertices: &[f64],
     counts: &[u8],
     neighbours: &[u16],
     angles: &[f64],
 ) -> u64
     ensures { λ r. ⌜ r ≡ first (first (atomBuilderQuestion b)
-        (ask (atomRoom (b .grid) (b .top) store (length (now (kinds .entry))) (length (now (levels .entry))) values && meshLong (verticesBelow (suc (b .top))) (meshOf (now (vertices .entry)) (now (counts .entry)) (now (neighbours .entry)) (now (angles .entry)))) 6
+        (ask (atomRoom (b .grid) (b .top) store (length (now (kinds .entry))) (length (now (levels .entry))) (length (now (values .entry))) && meshLong (verticesBelow (suc (b .top))) (meshOf (now (vertices .entry)) (now (counts .entry)) (now (neighbours .entry)) (now (angles .entry)))) 6
         (ask (meshesKeep (b .top) (meshOf (now (vertices .entry)) (now (counts .entry)) (now (neighbours .entry)) (now (angles .entry)))) 7 0)))
-        (ask (rowsKnown (b .top) (rowsOf (now (kinds .entry)) (now (levels .entry)) []) 0 (b .grid .«n_r»)) 15 0) ⌝ }
+        (ask (rowsKnown (b .top) (rowsOf (now (kinds .entry)) (now (levels .entry)) (now (values .entry))) 0 (b .grid .«n_r»)) 15 0) ⌝ }
 {
     let n_r = b.grid.n_r;
     let top = b.top;
@@ -45,7 +44,7 @@ fn atom_write_question(
         store,
         kinds.len() as u64,
         levels.len() as u64,
-        values,
+        values.len() as u64,
         vertices,
         counts,
         neighbours,
@@ -54,7 +53,8 @@ fn atom_write_question(
     if no != 0 {
         return no;
     }
-    if !rows_known(top, kinds, levels, n_r) {
+    let none: [u64; 1] = [0; 1];
+    if !rows_known(false, top, &none, kinds, levels, values, n_r) {
         return 15;
     }
     0
@@ -77,8 +77,21 @@ fn put_atom_file(
     let g = b.grid;
     let n_r = b.grid.n_r;
     let top = b.top;
+    let none: [u64; 1] = [0; 1];
     put_atom_head(out, g);
-    put_rest(out, 28, false, top, n_r, e, store, kinds, levels, values);
+    put_rest(
+        out,
+        28,
+        false,
+        top,
+        n_r,
+        e,
+        store,
+        &none,
+        kinds,
+        levels,
+        values,
+    );
 }
 
 // Writes the table file of a builder against an atom.
@@ -106,7 +119,7 @@ pub fn atom_write(
         store.len() as u64,
         kinds,
         levels,
-        values.len() as u64,
+        values,
         vertices,
         counts,
         neighbours,
@@ -115,7 +128,8 @@ pub fn atom_write(
     if no != 0 {
         return Written::Refused(no);
     }
-    let e = energy_total(false, kinds, levels, values, n_r);
+    let none: [u64; 1] = [0; 1];
+    let e = energy_total(false, &none, kinds, levels, values, n_r);
     let size = 44 + 4 * top + 10 * n_r + 4 * e;
     if (output.len() as u64) < size {
         return Written::Refused(12);

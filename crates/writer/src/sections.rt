@@ -5,13 +5,13 @@ ghost use Prim.Native.Nat.{_+_, _*_, _≤_, min};
 ghost use lib.ListN.{length, take, drop};
 ghost use lib.Ieee.{binary32, binary64, toBits};
 ghost use Rattle.lists.specs.Lists.{put, below};
-ghost use Rattle.mesh.specs.Levels.{vertexCount};
-ghost use Rattle.rows.specs.Rows.{narrowBits, rowsOf};
-ghost use Rattle.builder.specs.BuilderLists.{listsOf};
+ghost use Rattle.mesh.specs.Levels.{vertexCount, per};
+ghost use Rattle.rows.specs.Rows.{narrowBits};
+ghost use Rattle.rows.specs.Words.{wordRows, rowsBy};
 ghost use Rattle.table.specs.Bytes.{bytesOf, packed, section};
 ghost use Rattle.table.specs.File.{entryBytes};
 ghost use Rattle.table.specs.Internal.{eachOf};
-ghost use Rattle.writer.specs.Internal.{heldBy, offsetOf, resolutions, entriesFor, total, energiesFor, Bounded, headBytes, restBytes, WriteReady};
+ghost use Rattle.writer.specs.Internal.{heldBy, offsetOf, resolutions, entriesFor, total, energiesFor, Bounded, headBytes, restBytes, listsBy, WriteReady};
 use crate::bytes::put_f64;
 use crate::bytes::put_u32;
 use grid::AtomGrid;
@@ -129,21 +129,22 @@ fn put_entries(
     out: &mut [u8],
     at: u64,
     pairs: bool,
+    words: &[u64],
     kinds: &[u8],
     levels: &[u8],
     values: &[u32],
     n: u64,
 )
     requires { ⌜ (at + n * 10 ≤ length (now out))
-        × (total (eachOf pairs) (resolutions (rowsOf (now kinds) (now levels) (now values)) 0 n) ≤ 4294967295) ⌝ }
-    ensures { λ _. ⌜ now (out .exit) ≡ put (now (out .entry)) at (packed entryBytes (entriesFor (eachOf pairs) 0 (resolutions (rowsOf (now (kinds .entry)) (now (levels .entry)) (now (values .entry))) 0 n))) ⌝ }
+        × (total (eachOf pairs) (resolutions (rowsBy pairs (now words) (now kinds) (now levels) (now values)) 0 n) ≤ 4294967295) ⌝ }
+    ensures { λ _. ⌜ now (out .exit) ≡ put (now (out .entry)) at (packed entryBytes (entriesFor (eachOf pairs) 0 (resolutions (rowsBy pairs (now (words .entry)) (now (kinds .entry)) (now (levels .entry)) (now (values .entry))) 0 n))) ⌝ }
 {
     let mut s: u64 = 0;
     let mut left = n;
     let mut to = at;
     let mut o: u64 = 0;
     while 0 < left {
-        let x = rows::resolution_at(kinds, levels, values, s);
+        let x = rows::resolution_by(pairs, words, kinds, levels, values, s);
         let offset = offset_of(x, o as u32);
         put_row(
             out,
@@ -161,19 +162,39 @@ fn put_entries(
 }
 
 // The energies of all rows together.
-pub(crate) fn energy_total(pairs: bool, kinds: &[u8], levels: &[u8], values: &[u32], n: u64) -> u64
-    requires { ⌜ total (eachOf pairs) (resolutions (rowsOf (now kinds) (now levels) (now values)) 0 n) ≤ 4294967295 ⌝ }
-    ensures { λ r. ⌜ r ≡ total (eachOf pairs) (resolutions (rowsOf (now (kinds .entry)) (now (levels .entry)) (now (values .entry))) 0 n) ⌝ }
+pub(crate) fn energy_total(
+    pairs: bool,
+    words: &[u64],
+    kinds: &[u8],
+    levels: &[u8],
+    values: &[u32],
+    n: u64,
+) -> u64
+    requires { ⌜ total (eachOf pairs) (resolutions (rowsBy pairs (now words) (now kinds) (now levels) (now values)) 0 n) ≤ 4294967295 ⌝ }
+    ensures { λ r. ⌜ r ≡ total (eachOf pairs) (resolutions (rowsBy pairs (now (words .entry)) (now (kinds .entry)) (now (levels .entry)) (now (values .entry))) 0 n) ⌝ }
 {
     let mut s: u64 = 0;
     let mut left = n;
     let mut o: u64 = 0;
     while 0 < left {
-        o += energy_count(pairs, rows::resolution_at(kinds, levels, values, s));
+        o += energy_count(
+            pairs,
+            rows::resolution_by(pairs, words, kinds, levels, values, s),
+        );
         s += 1;
         left -= 1;
     }
     o
+}
+
+// .. of rows that are words; the lists that are not looked at have to be handed over all the same.
+pub(crate) fn word_total(words: &[u64], n: u64) -> u64
+    requires { ⌜ total per (resolutions (wordRows (now words)) 0 n) ≤ 4294967295 ⌝ }
+    ensures { λ r. ⌜ r ≡ total per (resolutions (wordRows (now (words .entry))) 0 n) ⌝ }
+{
+    let bytes: [u8; 1] = [0; 1];
+    let numbers: [u32; 1] = [0; 1];
+    energy_total(true, words, &bytes, &bytes, &numbers, n)
 }
 
 // The first n of some numbers.
@@ -243,21 +264,25 @@ fn put_slabs(
     pairs: bool,
     z: u64,
     store: &[f64],
+    words: &[u64],
     kinds: &[u8],
     levels: &[u8],
     values: &[u32],
     n: u64,
 )
-    requires { ⌜ (at + total (eachOf pairs) (resolutions (rowsOf (now kinds) (now levels) (now values)) 0 n) * 4 ≤ length (now out))
-        × (n * z ≤ length (now store)) × (Bounded (eachOf pairs) z (resolutions (rowsOf (now kinds) (now levels) (now values)) 0 n)) ⌝ }
-    ensures { λ _. ⌜ now (out .exit) ≡ put (now (out .entry)) at (packed (bytesOf 4) (energiesFor (eachOf pairs) z (now (store .entry)) 0 (resolutions (rowsOf (now (kinds .entry)) (now (levels .entry)) (now (values .entry))) 0 n))) ⌝ }
+    requires { ⌜ (at + total (eachOf pairs) (resolutions (rowsBy pairs (now words) (now kinds) (now levels) (now values)) 0 n) * 4 ≤ length (now out))
+        × (n * z ≤ length (now store)) × (Bounded (eachOf pairs) z (resolutions (rowsBy pairs (now words) (now kinds) (now levels) (now values)) 0 n)) ⌝ }
+    ensures { λ _. ⌜ now (out .exit) ≡ put (now (out .entry)) at (packed (bytesOf 4) (energiesFor (eachOf pairs) z (now (store .entry)) 0 (resolutions (rowsBy pairs (now (words .entry)) (now (kinds .entry)) (now (levels .entry)) (now (values .entry))) 0 n))) ⌝ }
 {
     let mut s: u64 = 0;
     let mut left = n;
     let mut to = at;
     let mut p: u64 = 0;
     while 0 < left {
-        let k = energy_count(pairs, rows::resolution_at(kinds, levels, values, s));
+        let k = energy_count(
+            pairs,
+            rows::resolution_by(pairs, words, kinds, levels, values, s),
+        );
         put_energies(out, to, store, p, k);
         to += 4 * k;
         p += z;
@@ -271,17 +296,18 @@ fn put_rows(
     out: &mut [u8],
     at: u64,
     pairs: bool,
+    words: &[u64],
     kinds: &[u8],
     levels: &[u8],
     values: &[u32],
     n: u64,
 )
     requires { ⌜ (at + 4 + n * 10 ≤ length (now out)) × (n ≤ 4294967295)
-        × (total (eachOf pairs) (resolutions (rowsOf (now kinds) (now levels) (now values)) 0 n) ≤ 4294967295) ⌝ }
-    ensures { λ _. ⌜ now (out .exit) ≡ put (now (out .entry)) at (section entryBytes (entriesFor (eachOf pairs) 0 (resolutions (rowsOf (now (kinds .entry)) (now (levels .entry)) (now (values .entry))) 0 n))) ⌝ }
+        × (total (eachOf pairs) (resolutions (rowsBy pairs (now words) (now kinds) (now levels) (now values)) 0 n) ≤ 4294967295) ⌝ }
+    ensures { λ _. ⌜ now (out .exit) ≡ put (now (out .entry)) at (section entryBytes (entriesFor (eachOf pairs) 0 (resolutions (rowsBy pairs (now (words .entry)) (now (kinds .entry)) (now (levels .entry)) (now (values .entry))) 0 n))) ⌝ }
 {
     put_u32(out, at, n as u32);
-    put_entries(out, at + 4, pairs, kinds, levels, values, n);
+    put_entries(out, at + 4, pairs, words, kinds, levels, values, n);
 }
 
 // The section of energies, of which there are e.
@@ -292,18 +318,30 @@ fn put_energy_section(
     pairs: bool,
     z: u64,
     store: &[f64],
+    words: &[u64],
     kinds: &[u8],
     levels: &[u8],
     values: &[u32],
     n: u64,
 )
     requires { ⌜ (at + 4 + e * 4 ≤ length (now out)) × (e ≤ 4294967295)
-        × (e ≡ total (eachOf pairs) (resolutions (rowsOf (now kinds) (now levels) (now values)) 0 n))
-        × (n * z ≤ length (now store)) × (Bounded (eachOf pairs) z (resolutions (rowsOf (now kinds) (now levels) (now values)) 0 n)) ⌝ }
-    ensures { λ _. ⌜ now (out .exit) ≡ put (now (out .entry)) at (section (bytesOf 4) (energiesFor (eachOf pairs) z (now (store .entry)) 0 (resolutions (rowsOf (now (kinds .entry)) (now (levels .entry)) (now (values .entry))) 0 n))) ⌝ }
+        × (e ≡ total (eachOf pairs) (resolutions (rowsBy pairs (now words) (now kinds) (now levels) (now values)) 0 n))
+        × (n * z ≤ length (now store)) × (Bounded (eachOf pairs) z (resolutions (rowsBy pairs (now words) (now kinds) (now levels) (now values)) 0 n)) ⌝ }
+    ensures { λ _. ⌜ now (out .exit) ≡ put (now (out .entry)) at (section (bytesOf 4) (energiesFor (eachOf pairs) z (now (store .entry)) 0 (resolutions (rowsBy pairs (now (words .entry)) (now (kinds .entry)) (now (levels .entry)) (now (values .entry))) 0 n))) ⌝ }
 {
     put_u32(out, at, e as u32);
-    put_slabs(out, at + 4, pairs, z, store, kinds, levels, values, n);
+    put_slabs(
+        out,
+        at + 4,
+        pairs,
+        z,
+        store,
+        words,
+        kinds,
+        levels,
+        values,
+        n,
+    );
 }
 
 // The sections behind the heads, which end at byte `at`: those of n slabs, whose rows hold e energies together.
@@ -315,16 +353,26 @@ pub(crate) fn put_rest(
     n: u64,
     e: u64,
     store: &[f64],
+    words: &[u64],
     kinds: &[u8],
     levels: &[u8],
     values: &[u32],
 )
-    requires { ⌜ WriteReady (eachOf pairs) at top n (listsOf (now store) (now kinds) (now levels) (now values)) e (length (now out)) × (at ≤ 40) ⌝ }
-    ensures { λ _. ⌜ now (out .exit) ≡ put (now (out .entry)) at (restBytes (eachOf pairs) top n (listsOf (now (store .entry)) (now (kinds .entry)) (now (levels .entry)) (now (values .entry)))) ⌝ }
+    requires { ⌜ WriteReady (eachOf pairs) at top n (listsBy pairs (now store) (now words) (now kinds) (now levels) (now values)) e (length (now out)) × (at ≤ 40) ⌝ }
+    ensures { λ _. ⌜ now (out .exit) ≡ put (now (out .entry)) at (restBytes (eachOf pairs) top n (listsBy pairs (now (store .entry)) (now (words .entry)) (now (kinds .entry)) (now (levels .entry)) (now (values .entry)))) ⌝ }
 {
     let z = table::energies_of(pairs, top as u8);
     put_levels(out, at, top + 1);
-    put_rows(out, at + 8 + 4 * top, pairs, kinds, levels, values, n);
+    put_rows(
+        out,
+        at + 8 + 4 * top,
+        pairs,
+        words,
+        kinds,
+        levels,
+        values,
+        n,
+    );
     put_energy_section(
         out,
         at + 12 + 4 * top + 10 * n,
@@ -332,6 +380,7 @@ pub(crate) fn put_rest(
         pairs,
         z,
         store,
+        words,
         kinds,
         levels,
         values,

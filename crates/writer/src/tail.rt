@@ -6,7 +6,7 @@ ghost use lib.ListN.{length};
 ghost use lib.Dec.{leb};
 ghost use Rattle.lists.specs.Lists.{put, every};
 ghost use Rattle.mesh.specs.Mesh.{meshOf};
-ghost use Rattle.builder.specs.BuilderLists.{listsOf};
+ghost use Rattle.builder.specs.BuilderLists.{wordLists};
 ghost use Rattle.table.specs.Bytes.{packed};
 ghost use Rattle.table.specs.Tail.{termBytes, termValid, tailBytes};
 ghost use Rattle.writer.specs.Write.{WriteOut, writtenValues, writtenNumbered};
@@ -16,7 +16,7 @@ use crate::bytes::put_f64;
 use crate::bytes::put_u32;
 use crate::files::put_file;
 use crate::files::write_question;
-use crate::sections::energy_total;
+use crate::sections::word_total;
 use builder::Builder;
 
 // Question 6, of n terms.
@@ -83,9 +83,7 @@ fn tail_question(coefficients: &[f64], kappas: &[f64], powers: &[u32], prefactor
 fn tailed_question(
     b: Builder,
     store: &[f64],
-    kinds: &[u8],
-    levels: &[u8],
-    values: &[u32],
+    words: &[u64],
     vertices: &[f64],
     counts: &[u8],
     neighbours: &[u16],
@@ -97,7 +95,7 @@ fn tailed_question(
 ) -> u64
     ensures { λ r. ⌜ r ≡ tailedQuestion b
         (meshOf (now (vertices .entry)) (now (counts .entry)) (now (neighbours .entry)) (now (angles .entry)))
-        (listsOf (now (store .entry)) (now (kinds .entry)) (now (levels .entry)) (now (values .entry)))
+        (wordLists (now (store .entry)) (now (words .entry)))
         (tailLists (now (coefficients .entry)) (now (kappas .entry)) (now (powers .entry)) (now (prefactor .entry))) ⌝ }
 {
     let g = b.grid;
@@ -114,17 +112,7 @@ fn tailed_question(
         }
         return 6;
     }
-    let no = write_question(
-        b,
-        store.len() as u64,
-        kinds,
-        levels,
-        values.len() as u64,
-        vertices,
-        counts,
-        neighbours,
-        angles,
-    );
+    let no = write_question(b, store, words, vertices, counts, neighbours, angles);
     if no != 0 {
         return no;
     }
@@ -184,9 +172,7 @@ fn put_sixth(
 pub fn write_tail(
     b: Builder,
     store: &[f64],
-    kinds: &[u8],
-    levels: &[u8],
-    values: &[u32],
+    words: &[u64],
     vertices: &[f64],
     counts: &[u8],
     neighbours: &[u16],
@@ -198,9 +184,9 @@ pub fn write_tail(
     output: &mut [u8],
 ) -> Written
     ensures { λ r. ⌜ (writtenNumbered r ≡ true) × _≡_ {A = WriteOut}
-        (record { answer = writtenValues r; builder = b; lists = listsOf (now (store .entry)) (now (kinds .entry)) (now (levels .entry)) (now (values .entry)); output = now (output .exit) })
+        (record { answer = writtenValues r; builder = b; lists = wordLists (now (store .entry)) (now (words .entry)); output = now (output .exit) })
         (writeTailOut b (meshOf (now (vertices .entry)) (now (counts .entry)) (now (neighbours .entry)) (now (angles .entry)))
-        (listsOf (now (store .entry)) (now (kinds .entry)) (now (levels .entry)) (now (values .entry)))
+        (wordLists (now (store .entry)) (now (words .entry)))
         (tailLists (now (coefficients .entry)) (now (kappas .entry)) (now (powers .entry)) (now (prefactor .entry))) (now (output .entry))) ⌝ }
 {
     let n_r = b.grid.n_r;
@@ -209,9 +195,7 @@ pub fn write_tail(
     let no = tailed_question(
         b,
         store,
-        kinds,
-        levels,
-        values,
+        words,
         vertices,
         counts,
         neighbours,
@@ -225,14 +209,14 @@ pub fn write_tail(
         return Written::Refused(no);
     }
     let n = n_r * n_omega;
-    let e = energy_total(true, kinds, levels, values, n);
+    let e = word_total(words, n);
     let k = coefficients.len() as u64;
     let at = 56 + 4 * top + 10 * n + 4 * e;
     let size = at + table::tail_size(k as u32);
     if (output.len() as u64) < size {
         return Written::Refused(12);
     }
-    put_file(b, store, kinds, levels, values, e, output);
+    put_file(b, store, words, e, output);
     put_sixth(output, at, k, coefficients, kappas, powers, prefactor);
     Written::Accepted(size)
 }

@@ -2,7 +2,7 @@
 use crate::builder::Settled;
 use crate::environment::FloatEnvironment;
 use crate::error::Error;
-use crate::lists::Lists;
+use crate::lists::AtomLists;
 use crate::refusal::{answer, Refusal};
 use crate::row::Row;
 use crate::sizing::atom_sizing;
@@ -20,14 +20,14 @@ fn per(level: u64) -> usize {
 pub struct AtomBuilder {
     held: sys::AtomBuilder,
     mesh: Arc<Mesh>,
-    lists: Lists,
+    lists: AtomLists,
 }
 
 impl AtomBuilder {
     /// A builder with no slab set, at the mesh's top level.
     pub fn new(settings: AtomGrid, mesh: Arc<Mesh>) -> Result<AtomBuilder, Error> {
         FloatEnvironment::ask()?;
-        let mut lists = Lists::of(&atom_sizing(settings, &mesh)?);
+        let mut lists = AtomLists::of(&atom_sizing(settings, &mesh)?);
         let built = sys::atom_fresh(settings, mesh.top(), &mut lists.lent(), mesh.lent());
         Ok(answer(built.number, AtomBuilder { held: built.builder, mesh, lists })?)
     }

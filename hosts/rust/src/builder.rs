@@ -95,6 +95,12 @@ impl Builder {
         self.held.level
     }
 
+    /// The rows as they are now, a word for each slab, those of a distance bin one after another;
+    /// [`words_to_rows`](crate::words_to_rows) takes them apart.
+    pub fn words(&self) -> &[u64] {
+        &self.lists.words
+    }
+
     pub fn mesh(&self) -> &Arc<Mesh> {
         &self.mesh
     }

@@ -3,10 +3,11 @@
 //!
 //! A safe wrapper over libicotable.a, whose functions are proved. [`Mesh`] holds the meshes and locators of all levels,
 //! [`Builder`] the lists that a table is built in, [`Table`] a table file; [`AtomBuilder`] and [`AtomTable`] are the same of
-//! one molecule against an atom; [`Tail`] is what a host adds beyond a table's distances; [`sizing`] says beforehand what a build
-//! needs; [`search`] finds a direction without a locator; [`repack`] packs a table file that was loosely packed. What the library
-//! refuses is a [`Refusal`], with document 01's number and its words; a refused call alters nothing. The wrapper itself is not
-//! proved: it sizes the lists, hands them over and turns numbers into the enum.
+//! one molecule against an atom; [`Tail`] is what a host adds beyond a table's distances; [`sizing`] says beforehand what a
+//! build needs; [`search`] finds a direction without a locator; [`repack`] packs a table file that was loosely packed;
+//! [`rows_to_words`] and [`words_to_rows`] move rows between a builder's words and three lists. What the library refuses is a
+//! [`Refusal`], with document 01's number and its words; a refused call alters nothing. The wrapper itself is not proved: it
+//! sizes the lists, hands them over and turns numbers into the enum.
 //!
 //! The proofs speak of one floating-point environment; [`Builder::new`], [`Table::read`] and the atom's two ask whether the
 //! thread has it ([`FloatEnvironment`]), and calls of a thread that alters it afterwards are not asked again. Settling takes up
@@ -26,6 +27,7 @@ mod sizing;
 mod sys;
 mod table;
 mod tail;
+mod words;
 
 pub use atom::{AtomBuilder, AtomTable};
 pub use builder::{Builder, Settled};
@@ -40,6 +42,7 @@ pub use sizing::{atom_sizing, sizing, sizing_with_terms, LevelSizing, Sizing};
 pub use sys::{AtomGrid, Grid};
 pub use table::{Reading, Span, Table};
 pub use tail::{power, Tail, Term};
+pub use words::{rows_to_words, words_to_rows, RowLists};
 
 /// Settings of a new table; the library works out the two bin counts.
 pub fn settings(rmin: f64, rmax: f64, dr: f64, omega_step: f64, threshold: f64, beta: f64) -> Grid {

@@ -50,7 +50,7 @@ refusals! {
     12 ShortOutput "the output is shorter than the file",
     13 Sections "the file's sections do not follow their counts, do not end with its last byte, or are not those of this kind of table",
     14 FileGrid "the file's grid, bin counts, level count, row count or vertex counts are not those of a table",
-    15 Row "a row has an unknown kind, a Mesh row a level above the top; or, in a file, an unused field that is used, or a scalar NaN other than 0x7FC00000",
+    15 Row "a row has an unknown kind (a word has one where its bits from 48 on are not 0), a Mesh row a level above the top; or, in a file, an unused field that is used, or a scalar NaN other than 0x7FC00000",
     16 Tiling "the rows' offsets do not tile the energies in row order",
     17 FileNan "an energy of the file is a NaN",
     18 Query "r or an end of a span is a NaN, omega not finite, or the length of a direction not finite or 0",

@@ -168,28 +168,34 @@ pub struct Found {
 #[rustfmt::skip]
 extern "C" {
     fn icotable_fresh(
-        grid: Grid, top: u64, store: *mut f64, a: usize, kinds: *mut u8, b: usize, levels: *mut u8, c: usize, values: *mut u32, d: usize,
-        vertices: *const f64, e: usize, counts: *const u8, f: usize, neighbours: *const u16, g: usize, angles: *const f64, h: usize,
+        grid: Grid, top: u64, store: *mut f64, a: usize, words: *mut u64, b: usize,
+        vertices: *const f64, c: usize, counts: *const u8, d: usize, neighbours: *const u16, e: usize, angles: *const f64, f: usize,
     ) -> Built;
     fn icotable_set(
-        builder: Builder, store: *mut f64, a: usize, kinds: *mut u8, b: usize, levels: *mut u8, c: usize, values: *mut u32, d: usize,
-        ri: u64, oi: u64, energies: *const f64, e: usize,
+        builder: Builder, store: *mut f64, a: usize, words: *mut u64, b: usize,
+        ri: u64, oi: u64, energies: *const f64, c: usize,
     ) -> Built;
     fn icotable_settle(
-        builder: Builder, store: *const f64, a: usize, kinds: *mut u8, b: usize, levels: *mut u8, c: usize, values: *mut u32, d: usize,
-        vertices: *const f64, e: usize, counts: *const u8, f: usize, neighbours: *const u16, g: usize, angles: *const f64, h: usize, ri: u64,
+        builder: Builder, store: *const f64, a: usize, words: *mut u64, b: usize,
+        vertices: *const f64, c: usize, counts: *const u8, d: usize, neighbours: *const u16, e: usize, angles: *const f64, f: usize, ri: u64,
     ) -> Settled;
     fn icotable_write(
-        builder: Builder, store: *const f64, a: usize, kinds: *const u8, b: usize, levels: *const u8, c: usize, values: *const u32, d: usize,
-        vertices: *const f64, e: usize, counts: *const u8, f: usize, neighbours: *const u16, g: usize, angles: *const f64, h: usize,
-        output: *mut u8, i: usize,
+        builder: Builder, store: *const f64, a: usize, words: *const u64, b: usize,
+        vertices: *const f64, c: usize, counts: *const u8, d: usize, neighbours: *const u16, e: usize, angles: *const f64, f: usize,
+        output: *mut u8, g: usize,
     ) -> Written;
     fn icotable_write_tail(
-        builder: Builder, store: *const f64, a: usize, kinds: *const u8, b: usize, levels: *const u8, c: usize, values: *const u32, d: usize,
-        vertices: *const f64, e: usize, counts: *const u8, f: usize, neighbours: *const u16, g: usize, angles: *const f64, h: usize,
-        coefficients: *const f64, i: usize, kappas: *const f64, j: usize, powers: *const u32, k: usize, prefactor: *const f64, l: usize,
-        output: *mut u8, m: usize,
+        builder: Builder, store: *const f64, a: usize, words: *const u64, b: usize,
+        vertices: *const f64, c: usize, counts: *const u8, d: usize, neighbours: *const u16, e: usize, angles: *const f64, f: usize,
+        coefficients: *const f64, g: usize, kappas: *const f64, h: usize, powers: *const u32, i: usize, prefactor: *const f64, j: usize,
+        output: *mut u8, k: usize,
     ) -> Written;
+    fn icotable_rows_to_words(
+        rows: u64, kinds: *const u8, a: usize, levels: *const u8, b: usize, values: *const u32, c: usize, words: *mut u64, d: usize,
+    ) -> u64;
+    fn icotable_words_to_rows(
+        rows: u64, words: *const u64, a: usize, kinds: *mut u8, b: usize, levels: *mut u8, c: usize, values: *mut u32, d: usize,
+    ) -> u64;
     fn icotable_read(file: *const u8, a: usize) -> Table;
     fn icotable_view(file: *const u8, a: usize) -> Table;
     fn icotable_repack(file: *const u8, a: usize, output: *mut u8, b: usize) -> Repacked;
@@ -249,23 +255,41 @@ extern "C" {
     fn icotable_narrow_case(x: f64) -> u64;
 }
 
-// The lists that are lent to a builder.
+// The lists that are lent to a builder: a row is a word.
 pub struct Lists<'a> {
     pub store: &'a mut [f64],
-    pub kinds: &'a mut [u8],
-    pub levels: &'a mut [u8],
-    pub values: &'a mut [u32],
+    pub words: &'a mut [u64],
 }
 
 impl Lists<'_> {
     pub fn held(&self) -> Held<'_> {
-        Held { store: self.store, kinds: self.kinds, levels: self.levels, values: self.values }
+        Held { store: self.store, words: self.words }
     }
 }
 
 // The same, lent to be read alone.
 #[derive(Clone, Copy)]
 pub struct Held<'a> {
+    pub store: &'a [f64],
+    pub words: &'a [u64],
+}
+
+// Those of a builder against an atom: a row is an entry of each of three lists.
+pub struct AtomLists<'a> {
+    pub store: &'a mut [f64],
+    pub kinds: &'a mut [u8],
+    pub levels: &'a mut [u8],
+    pub values: &'a mut [u32],
+}
+
+impl AtomLists<'_> {
+    pub fn held(&self) -> AtomHeld<'_> {
+        AtomHeld { store: self.store, kinds: self.kinds, levels: self.levels, values: self.values }
+    }
+}
+
+#[derive(Clone, Copy)]
+pub struct AtomHeld<'a> {
     pub store: &'a [f64],
     pub kinds: &'a [u8],
     pub levels: &'a [u8],
@@ -309,19 +333,14 @@ pub struct Query {
     pub b: [f64; 3],
 }
 
-// The arguments that calls have in common: what is lent to a builder; the meshes; a written table; what a reading is lent beside its table. Others stand before them and behind them.
+// The arguments that calls have in common: the named lists that are lent to a builder; the meshes; a written table; what a reading is lent beside its table. Others stand before them and behind them.
 #[rustfmt::skip]
 macro_rules! with_lists {
-    ($call:ident, ($($before:expr),*), $l:expr, ($($behind:expr),*)) => {
-        unsafe {
-            $call(
-                $($before,)* $l.store.as_mut_ptr(), $l.store.len(), $l.kinds.as_mut_ptr(), $l.kinds.len(), $l.levels.as_mut_ptr(), $l.levels.len(),
-                $l.values.as_mut_ptr(), $l.values.len(), $($behind),*
-            )
-        }
+    ($call:ident, ($($before:expr),*), $l:ident [$($list:ident)*], ($($behind:expr),*)) => {
+        unsafe { $call($($before,)* $($l.$list.as_mut_ptr(), $l.$list.len(),)* $($behind),*) }
     };
-    ($call:ident, ($($before:expr),*), $l:expr, $m:expr, ($($behind:expr),*)) => {
-        with_lists!($call, ($($before),*), $l, (
+    ($call:ident, ($($before:expr),*), $l:ident $lists:tt, $m:expr, ($($behind:expr),*)) => {
+        with_lists!($call, ($($before),*), $l $lists, (
             $m.vertices.as_ptr(), $m.vertices.len(), $m.counts.as_ptr(), $m.counts.len(), $m.neighbours.as_ptr(), $m.neighbours.len(), $m.angles.as_ptr(), $m.angles.len()
             $(, $behind)*
         ))
@@ -330,11 +349,10 @@ macro_rules! with_lists {
 
 #[rustfmt::skip]
 macro_rules! with_held {
-    ($call:ident, $b:expr, $l:expr, $m:expr, ($($before:expr),*), $output:expr) => {
+    ($call:ident, $b:expr, $l:ident [$($list:ident)*], $m:expr, ($($before:expr),*), $output:expr) => {
         unsafe {
             $call(
-                $b, $l.store.as_ptr(), $l.store.len(), $l.kinds.as_ptr(), $l.kinds.len(), $l.levels.as_ptr(), $l.levels.len(),
-                $l.values.as_ptr(), $l.values.len(), $m.vertices.as_ptr(), $m.vertices.len(), $m.counts.as_ptr(), $m.counts.len(),
+                $b, $($l.$list.as_ptr(), $l.$list.len(),)* $m.vertices.as_ptr(), $m.vertices.len(), $m.counts.as_ptr(), $m.counts.len(),
                 $m.neighbours.as_ptr(), $m.neighbours.len(), $m.angles.as_ptr(), $m.angles.len(), $($before,)* $output.as_mut_ptr(), $output.len(),
             )
         }
@@ -355,19 +373,19 @@ macro_rules! with_lent {
 }
 
 pub fn fresh(grid: Grid, top: u64, l: &mut Lists, m: Meshes) -> Built {
-    with_lists!(icotable_fresh, (grid, top), l, m, ())
+    with_lists!(icotable_fresh, (grid, top), l [store words], m, ())
 }
 
 pub fn set(b: Builder, l: &mut Lists, ri: u64, oi: u64, energies: &[f64]) -> Built {
-    with_lists!(icotable_set, (b), l, (ri, oi, energies.as_ptr(), energies.len()))
+    with_lists!(icotable_set, (b), l [store words], (ri, oi, energies.as_ptr(), energies.len()))
 }
 
 pub fn settle(b: Builder, l: &mut Lists, m: Meshes, ri: u64) -> Settled {
-    with_lists!(icotable_settle, (b), l, m, (ri))
+    with_lists!(icotable_settle, (b), l [store words], m, (ri))
 }
 
 pub fn write(b: Builder, l: Held, m: Meshes, output: &mut [u8]) -> Written {
-    with_held!(icotable_write, b, l, m, (), output)
+    with_held!(icotable_write, b, l [store words], m, (), output)
 }
 
 // A long-range tail, as it is handed over.
@@ -382,13 +400,31 @@ pub struct Tail<'a> {
 #[rustfmt::skip]
 pub fn write_tail(b: Builder, l: Held, m: Meshes, t: Tail, output: &mut [u8]) -> Written {
     with_held!(
-        icotable_write_tail, b, l, m,
+        icotable_write_tail, b, l [store words], m,
         (
             t.coefficients.as_ptr(), t.coefficients.len(), t.kappas.as_ptr(), t.kappas.len(), t.powers.as_ptr(), t.powers.len(),
             t.prefactor.as_ptr(), t.prefactor.len()
         ),
         output
     )
+}
+
+#[rustfmt::skip]
+pub fn rows_to_words(rows: u64, kinds: &[u8], levels: &[u8], values: &[u32], words: &mut [u64]) -> u64 {
+    unsafe {
+        icotable_rows_to_words(
+            rows, kinds.as_ptr(), kinds.len(), levels.as_ptr(), levels.len(), values.as_ptr(), values.len(), words.as_mut_ptr(), words.len(),
+        )
+    }
+}
+
+#[rustfmt::skip]
+pub fn words_to_rows(rows: u64, words: &[u64], kinds: &mut [u8], levels: &mut [u8], values: &mut [u32]) -> u64 {
+    unsafe {
+        icotable_words_to_rows(
+            rows, words.as_ptr(), words.len(), kinds.as_mut_ptr(), kinds.len(), levels.as_mut_ptr(), levels.len(), values.as_mut_ptr(), values.len(),
+        )
+    }
 }
 
 pub fn tail(table: &Table, file: &[u8], r: f64) -> Value {
@@ -432,20 +468,20 @@ pub fn boltzmann(table: &Table, l: Lent, q: &Query, beta: f64) -> Value {
     with_lent!(icotable_boltzmann, table, l, q.r, q.omega, a[0], a[1], a[2], b[0], b[1], b[2], beta)
 }
 
-pub fn atom_fresh(grid: AtomGrid, top: u64, l: &mut Lists, m: Meshes) -> AtomBuilt {
-    with_lists!(icotable_atom_fresh, (grid, top), l, m, ())
+pub fn atom_fresh(grid: AtomGrid, top: u64, l: &mut AtomLists, m: Meshes) -> AtomBuilt {
+    with_lists!(icotable_atom_fresh, (grid, top), l [store kinds levels values], m, ())
 }
 
-pub fn atom_set(b: AtomBuilder, l: &mut Lists, ri: u64, energies: &[f64]) -> AtomBuilt {
-    with_lists!(icotable_atom_set, (b), l, (ri, energies.as_ptr(), energies.len()))
+pub fn atom_set(b: AtomBuilder, l: &mut AtomLists, ri: u64, energies: &[f64]) -> AtomBuilt {
+    with_lists!(icotable_atom_set, (b), l [store kinds levels values], (ri, energies.as_ptr(), energies.len()))
 }
 
-pub fn atom_settle(b: AtomBuilder, l: &mut Lists, m: Meshes, ri: u64) -> AtomSettled {
-    with_lists!(icotable_atom_settle, (b), l, m, (ri))
+pub fn atom_settle(b: AtomBuilder, l: &mut AtomLists, m: Meshes, ri: u64) -> AtomSettled {
+    with_lists!(icotable_atom_settle, (b), l [store kinds levels values], m, (ri))
 }
 
-pub fn atom_write(b: AtomBuilder, l: Held, m: Meshes, output: &mut [u8]) -> Written {
-    with_held!(icotable_atom_write, b, l, m, (), output)
+pub fn atom_write(b: AtomBuilder, l: AtomHeld, m: Meshes, output: &mut [u8]) -> Written {
+    with_held!(icotable_atom_write, b, l [store kinds levels values], m, (), output)
 }
 
 pub fn atom_read(file: &[u8]) -> AtomTable {

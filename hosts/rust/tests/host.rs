@@ -1,7 +1,7 @@
 //! The wrapper, used as a host does.
 use icotable::{
-    atom_settings, power, repack, search, settings, sizing, sizing_with_terms, vertex_count, AtomBuilder, AtomTable, Builder, Error, FloatEnvironment, Grid, Kind,
-    Level, Mesh, Refusal, Repacked, Span, Table, Tail, Term,
+    atom_settings, power, repack, rows_to_words, search, settings, sizing, sizing_with_terms, vertex_count, words_to_rows, AtomBuilder, AtomTable, Builder, Error,
+    FloatEnvironment, Grid, Kind, Level, Mesh, Refusal, Repacked, RowLists, Span, Table, Tail, Term,
 };
 use std::sync::Arc;
 
@@ -164,6 +164,52 @@ fn a_slice_is_not_settled_again_once_its_level_has_gone() {
     let file = b.write().unwrap();
     assert_eq!(b.settle(0), Err(Refusal::OtherLevel));
     assert_eq!(b.write().unwrap(), file);
+}
+
+#[test]
+fn a_builders_rows_are_words() {
+    let mut b = builder(1);
+    assert_eq!(b.words(), [0; 4]);
+    b.set(1, 0, &smooth(1)).unwrap();
+    b.set(1, 1, &vec![10.0; 1764]).unwrap();
+    let mesh = 3 << 40 | 1 << 32;
+    assert_eq!(b.words(), [0, 0, mesh, mesh]);
+    b.settle(1).unwrap();
+    assert_eq!(b.words()[3], 1 << 40);
+    let rows = words_to_rows(b.words()).unwrap();
+    assert_eq!((rows.kinds.as_slice(), rows.levels[2], rows.values[3]), (&[0, 0, 2, 1][..], 1, 0));
+    assert_eq!(rows_to_words(&rows).unwrap(), b.words());
+}
+
+#[test]
+fn rows_move_to_words_and_back() {
+    let numbers = |k: u32| [0u32, 1, 3, 127, 200, 255][k as usize % 6];
+    let lists = RowLists {
+        kinds: (0..216).map(numbers).map(|n| n as u8).collect(),
+        levels: (0..216).map(|k| numbers(k / 6) as u8).collect(),
+        values: (0..216).map(|k| numbers(k / 36) * 0x0101_0101).collect(),
+    };
+    let words = rows_to_words(&lists).unwrap();
+    for (i, &word) in words.iter().enumerate() {
+        let (kind, level, value) = (lists.kinds[i] as u64, lists.levels[i] as u64, lists.values[i] as u64);
+        assert_eq!(word, value + level * (1 << 32) + kind * (1 << 40));
+    }
+    assert_eq!(words_to_rows(&words).unwrap(), lists);
+    for bit in 48..64 {
+        let mut rest = words.clone();
+        rest[100] |= 1 << bit;
+        assert_eq!(words_to_rows(&rest), Err(Refusal::Row));
+    }
+    for short in 0..3 {
+        let mut lists = lists.clone();
+        match short {
+            0 => drop(lists.kinds.pop()),
+            1 => drop(lists.levels.pop()),
+            _ => drop(lists.values.pop()),
+        }
+        assert_eq!(rows_to_words(&lists), Err(Refusal::ShortList));
+    }
+    assert_eq!((rows_to_words(&RowLists::default()), words_to_rows(&[])), (Ok(Vec::new()), Ok(RowLists::default())));
 }
 
 #[test]

@@ -28,16 +28,16 @@ returns c = (rw (ne-eqb _ _ (c .if1 .taken)), rw (← c .before .before .atom-fr
 cast-vertex-count : tie.Need-cast-vertex-count
 cast-vertex-count c = let f = facts c in omega (arith, f .asked .top-le)
 
-clear-slabs-requires : tie.Need-clear-slabs-requires
-clear-slabs-requires c κs = let f = facts (c .before .before .before .before .before) in rw (c .before .before .before .before .vertex-count .ensures) (f .room .store-le, f .room .kinds-le, f .room .levels-le, f .room .values-le)
+atom-clear-slabs-requires : tie.Need-atom-clear-slabs-requires
+atom-clear-slabs-requires c κs = let f = facts (c .before .before .before .before .before) in rw (c .before .before .before .before .vertex-count .ensures) (f .room .store-le, f .room .kinds-le, f .room .levels-le, f .room .values-le)
 
 returns-2 : tie.Need-returns-2
 unfolding atomFreshOut atomMeshedRefusal
 returns-2 c =
     let d = c .before .before .before .before .before .before .before .before .before .before .before .before .before .before in
-    (refl, rw (← d .before .before .atom-fresh-builder .ensures, ← top-is d, ← d .before .atom-meshed-refusal .ensures, eq-eqb _ _ (d .if1 .left), ← c .before .before .before .before .before .before .before .before .before .before .before .before .before .vertex-count .ensures, c .before .before .before .before .before .before .before .before .clear-slabs .ensures))
+    (refl, rw (← d .before .before .atom-fresh-builder .ensures, ← top-is d, ← d .before .atom-meshed-refusal .ensures, eq-eqb _ _ (d .if1 .left), ← c .before .before .before .before .before .before .before .before .before .before .before .before .before .vertex-count .ensures, c .before .before .before .before .before .before .before .before .atom-clear-slabs .ensures))
 
 pub atom-fresh-spec : {M : Type 1} → statement M
 atom-fresh-spec =
     tie.close
-    (tie.spec (λ c κs. search needs) (λ c κs. search needs) returns cast-vertex-count (λ c κs. search needs) clear-slabs-requires (λ c. search needs) (λ c. search needs) (λ c. search needs) (λ c. search needs) returns-2)
+    (tie.spec (λ c κs. search needs) (λ c κs. search needs) returns cast-vertex-count (λ c κs. search needs) atom-clear-slabs-requires (λ c. search needs) (λ c. search needs) (λ c. search needs) (λ c. search needs) returns-2)

@@ -21,19 +21,19 @@ returns c = (rw (ne-eqb _ _ (c .if1 .taken)), rw (← c .before .atom-set-refusa
 cast-vertex-count : tie.Need-cast-vertex-count
 cast-vertex-count c = let f = facts c in omega (arith, f .asked .top-le)
 
-cast-set-slab : tie.Need-cast-set-slab
-cast-set-slab c = let f = facts (c .before) in omega (arith, f .asked .top-le, f .asked .level-le)
+cast-atom-set-slab : tie.Need-cast-atom-set-slab
+cast-atom-set-slab c = let f = facts (c .before) in omega (arith, f .asked .top-le, f .asked .level-le)
 
-set-slab-requires : tie.Need-set-slab-requires
-set-slab-requires c κs = let f = facts (c .before .before .before .before .before) in rw (c .before .before .before .before .vertex-count .ensures) (f .energies)
+atom-set-slab-requires : tie.Need-atom-set-slab-requires
+atom-set-slab-requires c κs = let f = facts (c .before .before .before .before .before) in rw (c .before .before .before .before .vertex-count .ensures) (f .energies)
 
 returns-2 : tie.Need-returns-2
 unfolding atomSetOut atomSetRefusal
 returns-2 c =
     let e = c .before .before .before .before .before .before .before .before .before .before .before .before .before .before in
-    (refl, rw (← e .before .atom-set-refusal .ensures, eq-eqb _ _ (e .if1 .left), ← c .before .before .before .before .before .before .before .before .before .before .before .before .before .vertex-count .ensures, c .before .before .before .before .before .before .before .before .set-slab .ensures))
+    (refl, rw (← e .before .atom-set-refusal .ensures, eq-eqb _ _ (e .if1 .left), ← c .before .before .before .before .before .before .before .before .before .before .before .before .before .vertex-count .ensures, c .before .before .before .before .before .before .before .before .atom-set-slab .ensures))
 
 pub atom-set-spec : {M : Type 1} → statement M
 atom-set-spec =
     tie.close
-    (tie.spec (λ c κs. search needs) returns cast-vertex-count (λ c κs. search needs) cast-set-slab set-slab-requires (λ c. search needs) (λ c. search needs) (λ c. search needs) (λ c. search needs) returns-2)
+    (tie.spec (λ c κs. search needs) returns cast-vertex-count (λ c κs. search needs) cast-atom-set-slab atom-set-slab-requires (λ c. search needs) (λ c. search needs) (λ c. search needs) (λ c. search needs) returns-2)

@@ -12,13 +12,13 @@ use Rattle.builder.proofs.questions.settle_question.Statement.{statemen
 use Rattle.builder.proofs.questions.settle_question.Tie as tie
 
 -- where the slice begins
-small : (c : tie.Else1) → c .before .before .before .before .args .ri * c .before .before .before .before .args .n ≤ 65535 * 65535
+small : (c : tie.Else1) → c .before .before .args .ri * c .before .before .args .n ≤ 65535 * 65535
 small c =
-    let s = c .before .before .before .before in
+    let s = c .before .before in
     let h : s .args .ri ≤ 65535 = omega (arith, s .pre .0) in
     mul-le-mul h (s .pre .1)
 
-flat : (c : tie.Else1) → let a = c .before .before .before .before .args in a .ri * a .n + 0 ≡ a .ri * a .n
+flat : (c : tie.Else1) → let a = c .before .before .args in a .ri * a .n + 0 ≡ a .ri * a .n
 flat c = omega arith
 
 returns : tie.Need-returns
@@ -29,7 +29,7 @@ mul-s : tie.Need-mul-s
 mul-s c = omega (arith, small c)
 
 rows-known-requires : tie.Need-rows-known-requires
-rows-known-requires c κs = (omega (arith, small c), c .before .before .before .before .pre .1)
+rows-known-requires c κs = (omega (arith, small c), c .before .before .pre .1)
 
 returns-2 : tie.Need-returns-2
 unfolding settleQuestion ask rowsKnown
@@ -38,7 +38,7 @@ returns-2 c =
     rw (lt-ltb _ _ (d .if1 .left), flat d, no (c .before .rows-known .ensures) (c .if2 .taken))
 
 rows-from-level-requires : tie.Need-rows-from-level-requires
-rows-from-level-requires c κs = (omega (arith, small (c .before .before)), c .before .before .before .before .before .before .pre .1)
+rows-from-level-requires c κs = (omega (arith, small (c .before .before)), c .before .before .before .before .pre .1)
 
 returns-3 : tie.Need-returns-3
 unfolding settleQuestion ask rowsKnown

@@ -9,10 +9,10 @@ returns : tie.Need-returns
 unfolding settleLent
 returns c =
     let d = c .settle-done .ensures in
-    let s = c .before .before .before .before .before .before .before .settle .ensures in
+    let s = c .before .before .before .settle .ensures in
     (d .0 ∙ s .0, rw (d .1, d .2) (ap settleLeft (s .1)))
 
 pub settle-kept-spec : {M : Type 1} → statement M
 settle-kept-spec =
     tie.close
-    (tie.spec (λ c κs. search needs) (λ c κs. search needs) (λ c. search needs) (λ c. search needs) (λ c. search needs) returns)
+    (tie.spec (λ c κs. search needs) (λ c κs. search needs) (λ c. search needs) returns)

@@ -7,6 +7,5 @@ use Rattle.test_builds.proofs.accident.nearest_rows.Tie as tie
 pub nearest-rows-spec : {M : Type 1} → statement M
 nearest-rows-spec =
     tie.close
-    (tie.spec (λ kinds levels values n₀ i₀ n i. i ≤ 12) (λ kinds levels values n₀ i₀ n i. 12 - i) (λ c. search needs) (λ c. search needs)
-    (λ c. search needs) (λ c. search needs) (λ c. search needs) (λ c κs. search needs) (λ c. search needs) (λ c. search needs) (λ c. search needs)
-    (λ c. search needs))
+    (tie.spec (λ words n₀ i₀ n i. i ≤ 12) (λ words n₀ i₀ n i. 12 - i) (λ c. search needs) (λ c. search needs) (λ c. search needs) (λ c κs. search needs)
+    (λ c. search needs) (λ c. search needs) (λ c. search needs) (λ c. search needs))

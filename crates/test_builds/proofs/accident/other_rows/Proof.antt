@@ -8,5 +8,4 @@ pub other-rows-spec : {M : Type 1} → statement M
 other-rows-spec =
     tie.close
     (tie.spec (λ a b n₀ i₀ n i. i ≤ 12) (λ a b n₀ i₀ n i. 12 - i) (λ c. search needs) (λ c. search needs) (λ c. search needs) (λ c. search needs)
-    (λ c. search needs) (λ c. search needs) (λ c. search needs) (λ c. search needs) (λ c. search needs) (λ c κs. search needs) (λ c. search needs)
-    (λ c. search needs) (λ c. search needs) (λ c. search needs))
+    (λ c. search needs) (λ c κs. search needs) (λ c. search needs) (λ c. search needs) (λ c. search needs) (λ c. search needs))

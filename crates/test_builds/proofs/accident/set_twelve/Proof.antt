@@ -10,8 +10,7 @@ pub set-twelve-spec : {M : Type 1} → statement M
 set-twelve-spec =
     tie.close
     (tie.spec
-    (λ b n-omega store₀ kinds₀ levels₀ values₀ e refused₀ s₀ store kinds levels values refused s. (s ≤ 12) × (length store ≡ length store₀) × (length kinds ≡ length kinds₀) × (length levels ≡ length levels₀) × (length values ≡ length values₀))
-    (λ b n-omega store₀ kinds₀ levels₀ values₀ e refused₀ s₀ store kinds levels values refused s. 12 - s) (λ c κs. search needs) (λ c. search needs)
+    (λ b n-omega store₀ words₀ e refused₀ s₀ store words refused s. (s ≤ 12) × (length store ≡ length store₀) × (length words ≡ length words₀))
+    (λ b n-omega store₀ words₀ e refused₀ s₀ store words refused s. 12 - s) (λ c κs. search needs) (λ c. search needs)
     (λ c κs. search needs) (λ c κs. search needs) (λ c. search needs) (λ c κs. search needs) (λ c κs. search needs) (λ c κs. search needs)
-    (λ c. search needs) (λ c. search needs) (λ c. search needs) (λ c. search needs) (λ c. search needs) (λ c. search needs) (λ c. search needs)
-    (λ c. search needs))
+    (λ c. search needs) (λ c. search needs) (λ c. search needs) (λ c. search needs) (λ c. search needs) (λ c. search needs))

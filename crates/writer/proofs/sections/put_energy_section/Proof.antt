@@ -4,7 +4,8 @@ use Prim.Native.Nat.{_+_}
 use native.Mathlib.Omega.{arith}
 use lib.ListN.{length}
 use borrow.Author.Needs.{needs}
-use Rattle.rows.specs.Rows.{Rows, rowsOf}
+use Rattle.rows.specs.Rows.{Rows}
+use Rattle.rows.specs.Words.{rowsBy}
 use Rattle.table.specs.Bytes.{bytesOf, packed, section}
 use Rattle.table.specs.Internal.{eachOf}
 use Rattle.writer.specs.Internal.{resolutions, energiesFor}
@@ -17,9 +18,9 @@ use Rattle.writer.proofs.sections.put_energy_section.Tie as tie
 returns : tie.Need-returns
 unfolding section
 returns c =
-    let s = c .before .before .before .before .before .before .before .before .before .before .before .before .before in
+    let s = c .before .before .before .before .before .before .before .before .before .before .before .before .before .before in
     let a = s .args in
-    let r : Rows = rowsOf (a .kinds .now) (a .levels .now) (a .values .now) in
+    let r : Rows = rowsBy (a .pairs) (a .words .now) (a .kinds .now) (a .levels .now) (a .values .now) in
     let xs = resolutions r 0 (a .n) in
     let len : length (energiesFor (eachOf (a .pairs)) (a .z) (a .store .now) 0 xs) ≡ a .e =
     energies-length (eachOf (a .pairs)) (a .z) (a .store .now) 0 xs (s .pre .4) (rw (res-length r 0 (a .n)) (omega (arith, s .pre .3))) ∙ sym (s .pre .2) in

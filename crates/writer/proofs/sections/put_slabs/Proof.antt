@@ -5,7 +5,8 @@ use Prim.Native.Nat.{ℕ, _+_, _*_, _≤_}
 use native.Mathlib.Omega.{arith}
 use lib.ListN.{length, take, drop}
 use borrow.Author.Needs.{needs}
-use Rattle.rows.specs.Rows.{Rows, resolutionAt, narrowBits, rowsOf}
+use Rattle.rows.specs.Rows.{Rows, resolutionAt, narrowBits}
+use Rattle.rows.specs.Words.{rowsBy}
 use Rattle.table.specs.Bytes.{bytesOf, packed}
 use Rattle.table.specs.Internal.{eachOf}
 use Rattle.writer.specs.Internal.{heldBy, resolutions, total, energiesFor, Bounded}
@@ -15,22 +16,22 @@ use Rattle.writer.proofs.sections.put_slabs.Statement.{statement}
 use Rattle.writer.proofs.sections.put_slabs.Tie as tie
 
 abbrev Inv-loop : tie.InvT-loop
-Inv-loop out₀ at pairs z store kinds levels values n s₀ left₀ to₀ p₀ out s left to p = (s + left ≡ n) × (to + total (eachOf pairs) (resolutions (rowsOf kinds levels values) s left) * 4 ≤ length out₀) × (p + left * z ≤ length store) × Bounded (eachOf pairs) z (resolutions (rowsOf kinds levels values) s left) × Left out₀ at (packed (bytesOf 4) (energiesFor (eachOf pairs) z store 0 (resolutions (rowsOf kinds levels values) 0 n))) out to (packed (bytesOf 4) (energiesFor (eachOf pairs) z store p (resolutions (rowsOf kinds levels values) s left)))
+Inv-loop out₀ at pairs z store words kinds levels values n s₀ left₀ to₀ p₀ out s left to p = (s + left ≡ n) × (to + total (eachOf pairs) (resolutions (rowsBy pairs words kinds levels values) s left) * 4 ≤ length out₀) × (p + left * z ≤ length store) × Bounded (eachOf pairs) z (resolutions (rowsBy pairs words kinds levels values) s left) × Left out₀ at (packed (bytesOf 4) (energiesFor (eachOf pairs) z store 0 (resolutions (rowsBy pairs words kinds levels values) 0 n))) out to (packed (bytesOf 4) (energiesFor (eachOf pairs) z store p (resolutions (rowsBy pairs words kinds levels values) s left)))
 
 abbrev μ-loop : tie.MeasureT-loop
-μ-loop out₀ at pairs z store kinds levels values n s₀ left₀ to₀ p₀ out s left to p = left
+μ-loop out₀ at pairs z store words kinds levels values n s₀ left₀ to₀ p₀ out s left to p = left
 
 -- the rows that were lent, and the energies of the row at hand
 abbrev rows : tie.At-loop Inv-loop μ-loop → Rows
-rows l = let a = l .before .before .before .before .before .before .args in rowsOf (a .kinds .now) (a .levels .now) (a .values .now)
+rows l = let a = l .before .before .before .before .before .before .before .args in rowsBy (a .pairs) (a .words .now) (a .kinds .now) (a .levels .now) (a .values .now)
 
 abbrev each : tie.At-loop Inv-loop μ-loop → ℕ → ℕ
-each l = eachOf (l .before .before .before .before .before .before .args .pairs)
+each l = eachOf (l .before .before .before .before .before .before .before .args .pairs)
 
 taken : (c : tie.After-energy-count Inv-loop μ-loop) → let l = c .before .before .before in c .energy-count .result ≡ heldBy (each l) (resolutionAt (rows l) (l .loop .s))
-taken c = c .energy-count .ensures ∙ ap (heldBy (each (c .before .before .before))) (c .before .resolution-at .ensures)
+taken c = c .energy-count .ensures ∙ ap (heldBy (each (c .before .before .before))) (c .before .resolution-by .ensures)
 
-turn : (c : tie.After-energy-count Inv-loop μ-loop) → let l = c .before .before .before in let a = l .before .before .before .before .before .before .args in
+turn : (c : tie.After-energy-count Inv-loop μ-loop) → let l = c .before .before .before in let a = l .before .before .before .before .before .before .before .args in
     Slab (each l) (rows l) (a .z) (l .loop .s) (l .loop .left) (l .loop .to) (l .loop .p) (c .energy-count .result) (length (a .out .now)) (length (a .store .now))
 turn c =
     let l = c .before .before .before in
@@ -38,9 +39,9 @@ turn c =
 
 loop-holds : tie.Need-loop-holds Inv-loop μ-loop
 loop-holds c =
-    let s = c .before .before .before .before .before in
+    let s = c .before .before .before .before .before .before in
     let a = s .args in
-    let r : Rows = rowsOf (a .kinds .now) (a .levels .now) (a .values .now) in (
+    let r : Rows = rowsBy (a .pairs) (a .words .now) (a .kinds .now) (a .levels .now) (a .values .now) in (
       omega arith,
       s .pre .0,
       omega (arith, s .pre .1),
@@ -73,7 +74,7 @@ loop-again : tie.Need-loop-again Inv-loop μ-loop
 loop-again c =
     let t = turn (c .before .before .before .before) in
     let l = c .before .before .before .before .before .before .before in
-    let a = l .before .before .before .before .before .before .args in
+    let a = l .before .before .before .before .before .before .before .args in
     let e = taken (c .before .before .before .before) in
     let k = c .before .before .before .before .energy-count .result in (
       omega arith,
@@ -92,8 +93,8 @@ same-length c = c .before .loop .inv .4 .size
 returns : tie.Need-returns Inv-loop μ-loop
 returns c =
     let l = c .before in
-    let a = l .before .before .before .before .before .before .args in
-    ended (l .loop .inv .4) (energies-end (eachOf (a .pairs)) (rowsOf (a .kinds .now) (a .levels .now) (a .values .now)) (a .z) (a .store .now) (l .loop .p) (l .loop .s) (l .loop .left) (omega arith))
+    let a = l .before .before .before .before .before .before .before .args in
+    ended (l .loop .inv .4) (energies-end (eachOf (a .pairs)) (rowsBy (a .pairs) (a .words .now) (a .kinds .now) (a .levels .now) (a .values .now)) (a .z) (a .store .now) (l .loop .p) (l .loop .s) (l .loop .left) (omega arith))
 
 pub put-slabs-spec : {M : Type 1} → statement M
 put-slabs-spec =

@@ -1,0 +1,2 @@
+-- A reader has to believe `Moves`.
+pub mod Moves
