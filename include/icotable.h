@@ -3,8 +3,8 @@
  *
  * Link with libicotable.a (`make -C hosts/c lib` writes it to target/staticlib) and the C library's mathematics (-lm).
  * Nothing checks these declarations against the library's source: they are written by hand and tried by hosts/c.
- * Helpers that are not proved are in libicotable_host.a: meshes (mesh.h) and a test of the floating-point environment
- * (environment.h).
+ * Helpers that are not proved are in libicotable_host.a: meshes (mesh.h), a test of the floating-point environment
+ * (environment.h) and journals of builds (icotable_journal.h).
  *
  * Answers. Every function returns a number, or a struct whose first field is `number`: 0 where the call was accepted,
  * else the number of the first question that was answered no. A refused call changes nothing. All other fields of a

@@ -1,5 +1,6 @@
 /* Tools for table files: icotable inspect [--resolution] FILE, verify [--viewer] FILE.., diff A B, map [-o OUT] FILE [FILE],
- * repack IN OUT, size [--json] [--terms N] RMIN RMAX DR [STEP] TOP, --version. */
+ * repack IN OUT, size [--json] [--terms N] RMIN RMAX DR [STEP] TOP, --version; and for journals of builds: status JOURNAL,
+ * replay [--unguarded] JOURNAL -o FILE. */
 #include "tools.h"
 
 #include "environment.h"
@@ -29,6 +30,9 @@ static const tool tools[] = {
     {"repack", "repack IN OUT           a loosely packed table to OUT, packed; OUT must not be there yet", 2, 2, repack_tool},
     {"size", "size [--json] [--terms N] RMIN RMAX DR STEP TOP  the memory, file and comparisons of a build;\n"
              "  icotable size [--json] RMIN RMAX DR TOP  against an atom", 4, 8, size_tool},
+    {"status", "status JOURNAL          how far a build is: slabs, slices, level, and what to sample next", 1, 1, status_tool},
+    {"replay", "replay JOURNAL -o FILE  the table of a journal's calls to FILE, which must not be there yet;\n"
+               "  icotable replay --unguarded JOURNAL -o FILE  also with slabs missing or slices unsettled", 3, 4, replay_tool},
     {"--version", "--version               the version", 0, 0, version_tool},
 };
 

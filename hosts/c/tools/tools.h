@@ -64,6 +64,12 @@ float energy_of(const table_file *f, const row *r, uint64_t i);
 uint64_t per_level(bool atom, uint64_t level);
 uint64_t per_row(const table_file *f, const row *r);
 const char *kind_words(unsigned kind);
+/* A line to standard error, and TROUBLE. */
+int trouble(const char *name, const char *why);
+/* GOOD where OUT is not there: as IN, under whatever name, or as another file. */
+int free_name(const char *in, const char *out);
+/* Whole, and under its own name only then; with the rights that a new file has. A file that is there is not replaced. */
+int write_new(const char *out, const uint8_t *bytes, size_t count);
 void print_row(FILE *out, const table_file *f, const row *r);
 /* A slab's bins, and where they are. */
 void print_slab(FILE *out, const table_file *f, uint64_t slab);
@@ -84,5 +90,7 @@ int diff_tool(int count, char **names);
 int map_tool(int count, char **names);
 int repack_tool(int count, char **names);
 int size_tool(int count, char **names);
+int status_tool(int count, char **names);
+int replay_tool(int count, char **names);
 
 #endif
