@@ -37,22 +37,23 @@ static bool settings_of(build *b, int count, char **words) {
     return whole_of(words[own - 3], &b->top) && number_of(words[own - 2], &b->grid.threshold) && number_of(words[own - 1], &b->grid.beta);
 }
 
-/* Whether every rank could start; the first that could not says why. */
-static bool all_started(const build *b, int status) {
+/* GOOD where every rank could start; else the status of the first that could not, which says why. */
+static int all_started(const build *b, int status) {
     int mine = status == GOOD ? b->ranks : b->rank, first;
     MPI_Allreduce(&mine, &first, 1, MPI_INT, MPI_MIN, MPI_COMM_WORLD);
+    if (first == b->ranks)
+        return GOOD;
     if (first == b->rank)
         fprintf(stderr, "icotable_mpi: rank %d: %s\n", b->rank, b->said);
-    return first == b->ranks;
+    MPI_Bcast(&status, 1, MPI_INT, first, MPI_COMM_WORLD);
+    return status;
 }
 
 static int run(build *b) {
-    int status = start(b);
-    if (!all_started(b, status))
-        status = status == GOOD ? TROUBLE : status;
-    else if (b->rank == 0)
+    int status = all_started(b, start(b));
+    if (status == GOOD && b->rank == 0)
         status = lead(b);
-    else
+    else if (status == GOOD)
         follow(b);
     finish(b);
     return status;
