@@ -1,7 +1,7 @@
 /* A plug-in for icotable_mpi that misbehaves where it is told: the molecules' energies (hosts/mpi/molecules_plugin.c, compiled
  * under other names), and WHAT RI OI FOLDER at that slab.
  *   empty    no energy is filled in         fail     it fails, with words
- *   busy     the same, while slab 0 of the slice takes 20 s
+ *   busy     the same, while slab 0 of the slice takes a minute
  *   exit     the rank ends                  kill     the rank is killed
  *   leader   rank 0 is killed               upward   the rounding is altered
  *   late     slab 0 of every slice comes in behind another: it waits until slab 3 is begun. With three ranks that sample, slab 3 is
@@ -65,6 +65,14 @@ static void begin_slab(const orders *o, const icotable_plugin_slab *slab) {
         nanosleep(&pause, NULL);
 }
 
+/* A rank that sleeps on to its end leaves a file. */
+static void sleep_on(const orders *o) {
+    sleep(60);
+    FILE *f = fopen(path(o, "slept", o->ri), "w");
+    if (f != NULL)
+        fclose(f);
+}
+
 static void kill_leader(const orders *o) {
     long leader = 0;
     FILE *f = fopen(path(o, "leader", 0), "r");
@@ -93,7 +101,7 @@ int icotable_plugin_energies(void *data, const icotable_plugin_slab *slab, doubl
     if (o != NULL && strcmp(o->what, "late") == 0)
         begin_slab(o, slab);
     if (o != NULL && strcmp(o->what, "busy") == 0 && slab->ri == o->ri && slab->oi == 0)
-        sleep(20);
+        sleep_on(o);
     bool here = o != NULL && slab->ri == o->ri && slab->oi == o->oi;
     if (here && strcmp(o->what, "empty") == 0)
         return 0;
