@@ -33,8 +33,8 @@ int open_journal(const build *b, icotable_journal *j) {
         number = opened(b, j, false);
     if (number != 0)
         return refused(b->journal_name, number, j->said);
-    printf("%s: %s; %llu of %llu slabs set, %llu of %llu slices settled, level %llu\n", b->journal_name, there ? "resumed" : "begun", (ull)j->set_count,
-           (ull)j->slabs, (ull)j->settled_count, (ull)j->builder.grid.n_r, (ull)j->builder.level);
+    printf("%s: %s; %llu of %llu slabs set, ", b->journal_name, there ? "resumed" : "begun", (ull)j->set_count, (ull)j->slabs);
+    printf("%llu of %llu slices settled, level %llu\n", (ull)j->settled_count, (ull)j->builder.grid.n_r, (ull)j->builder.level);
     if (j->cut > 0)
         printf("%s: %llu bytes behind the last whole call were cut off\n", b->journal_name, (ull)j->cut);
     fflush(stdout);

@@ -12,8 +12,8 @@
 static int usage(const build *b) {
     if (b->rank == 0)
         fputs("usage: icotable_mpi PLUGIN JOURNAL TABLE RMIN RMAX DR [STEP] TOP THRESHOLD BETA [-- WORD..]\n"
-              "  builds a table of two molecules or, without STEP, against an atom, with the energies of PLUGIN, a shared object (plugin.h).\n"
-              "  JOURNAL is resumed where it is there. The words behind -- go to the plug-in.\n", stderr);
+              "  builds a table of two molecules or, without STEP, against an atom, with the energies of PLUGIN, a\n"
+              "  shared object (plugin.h). JOURNAL is resumed where it is there. The words behind -- go to the plug-in.\n", stderr);
     return TROUBLE;
 }
 

@@ -71,7 +71,8 @@ int start(build *b) {
 int sample(build *b, uint64_t ri, uint64_t oi, uint64_t level) {
     uint64_t count = per_level(b->atom, level);
     icotable_plugin_slab slab = {
-        .atom = b->atom, .ri = ri, .oi = oi, .level = level, .r = b->grid.rmin + (double)ri * b->grid.dr, .omega = (double)oi * b->grid.omega_step,
+        .atom = b->atom, .ri = ri, .oi = oi, .level = level,
+        .r = b->grid.rmin + (double)ri * b->grid.dr, .omega = (double)oi * b->grid.omega_step,
         .n = icotable_vertices(level), .directions = icotable_level_vertices(&b->meshes, level),
     };
     char said[ICOTABLE_PLUGIN_SAID] = "";
