@@ -92,7 +92,12 @@ static int sample_and_write(const icotable_journal *j, const icotable_meshes *m,
     }
     uint64_t number = icotable_slab_write(s, folder, energies, count);
     free(energies);
-    return number == 0 ? 0 : refused(folder, number, s->said);
+    if (number != 0)
+        return refused(folder, number, s->said);
+    char name[ICOTABLE_SLAB_NAME];
+    icotable_slab_name(s, name);
+    printf("%s/%s: %llu energies\n", folder, name, (ull)count);
+    return 0;
 }
 
 static int run(const char *name, const char *folder, icotable_slab *s) {

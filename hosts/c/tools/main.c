@@ -34,7 +34,7 @@ static const tool tools[] = {
     {"replay", "replay JOURNAL -o FILE  the table of a journal's calls to FILE, which must not be there yet;\n"
                "  icotable replay --unguarded JOURNAL -o FILE  also with slabs missing or slices unsettled", 3, 4, replay_tool},
     {"begin", "begin JOURNAL --rmin X --rmax X --dr X --omega-step X --threshold X --beta X --top N  a new journal;\n"
-              "  icotable begin JOURNAL .. --atom ..  with --atom for --omega-step: against an atom", 14, 15, begin_tool},
+              "  icotable begin JOURNAL .. --atom ..  with --atom for --omega-step: against an atom", 1, 32, begin_tool},
     {"collect", "collect JOURNAL FOLDER  slab files into a journal; what to sample next. Status 1: there is more to sample", 2, 2, collect_tool},
     {"--version", "--version               the version", 0, 0, version_tool},
 };
