@@ -3,7 +3,7 @@
 #ifndef TOOLS_H
 #define TOOLS_H
 
-#include "icotable.h"
+#include "icotable_journal.h"
 
 #include <stdbool.h>
 #include <stdio.h>
@@ -88,6 +88,12 @@ void print_verdict(FILE *out, const table_file *f);
  * the rows that have it. */
 int print_resolution(const table_file *f);
 
+/* journal.c: plays a journal over the meshes that mesh.h makes, flags being those of resume; the number that refuses it, with its
+ * words in said, or 0. Close it and free the meshes in any case. */
+uint64_t play_journal(icotable_journal *j, icotable_meshes *meshes, const char *name, unsigned flags);
+/* A line with the number and its words; TROUBLE where there is nothing to refuse, FOUND otherwise. */
+int refused_journal(const char *name, uint64_t number, const char *said);
+
 int inspect_tool(int count, char **names);
 int verify_tool(int count, char **names);
 int diff_tool(int count, char **names);
@@ -96,5 +102,7 @@ int repack_tool(int count, char **names);
 int size_tool(int count, char **names);
 int status_tool(int count, char **names);
 int replay_tool(int count, char **names);
+int begin_tool(int count, char **names);
+int collect_tool(int count, char **names);
 
 #endif
