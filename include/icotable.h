@@ -3,8 +3,8 @@
  *
  * Link with libicotable.a (`make -C hosts/c lib` writes it to target/staticlib) and the C library's mathematics (-lm).
  * Nothing checks these declarations against the library's source: they are written by hand and tried by hosts/c.
- * Helpers that are not proved are in libicotable_host.a: meshes (mesh.h) and a test of the floating-point environment
- * (environment.h).
+ * Helpers that are not proved are in libicotable_host.a: meshes (mesh.h), a test of the floating-point environment
+ * (environment.h) and journals of builds (icotable_journal.h).
  *
  * Answers. Every function returns a number, or a struct whose first field is `number`: 0 where the call was accepted,
  * else the number of the first question that was answered no. A refused call changes nothing. All other fields of a
@@ -54,7 +54,7 @@
 /* The version, raised where a struct, a function or the table file changes (CHANGELOG.md). The pkg-config file and the
  * tool take it from here; a test compares it with hosts/rust. */
 #define ICOTABLE_VERSION_MAJOR 0
-#define ICOTABLE_VERSION_MINOR 19
+#define ICOTABLE_VERSION_MINOR 20
 #define ICOTABLE_VERSION_PATCH 0
 
 #define ICOTABLE_STRING_(x) #x

@@ -4,7 +4,7 @@ query, `check`) is declared here."""
 import sys
 
 HEAD = """#include "environment.h"
-#include "mesh.h"
+#include "icotable_journal.h"
 
 #include <stdio.h>
 #include <stdlib.h>
@@ -29,6 +29,11 @@ static void sample(double *list, uint64_t level, double distance) {
         list[v] = distance;
 }
 
+static void sample_slab(double *list, uint64_t level, uint64_t ri, uint64_t oi) {
+    for (uint64_t v = 0; v < icotable_vertices(level) * icotable_vertices(level); v++)
+        list[v] = (double)(v % 5 + ri % 2 + oi) / 10;
+}
+
 int main(void) {
     uint64_t ri = 3, oi = 2;
     double r = 3.25, omega = 1.05, ax = 1, ay = 0, az = 0, bx = 0, by = 1, bz = 0, beta = 0.40339;
@@ -37,6 +42,14 @@ int main(void) {
 """
 # the three lists that the page moves to words
 LISTS = """    check("rows", icotable_words_to_rows(slabs, words, slabs, kinds, slabs, levels, slabs, values, slabs));
+"""
+# a build of its own, which changes nothing of the page's
+JOURNAL = """    {
+        uint64_t ri, oi;
+        double energies[n * n];
+"""
+JOURNALED = """        printf("journal %llu, %llu calls\\n", (unsigned long long)number, (unsigned long long)j.records);
+    }
 """
 WORDS = """    printf("row %c\\n", letter);
 """
@@ -78,6 +91,9 @@ def main():
         snippets(page, "Finding a direction without a locator", 4),
         "    }\n",
         snippets(page, "Building a table", 7),
+        JOURNAL,
+        snippets(page, "Restarting a job", 4).replace("build.journal", "target/hosts/test/guide.journal"),
+        JOURNALED,
         LISTS,
         snippets(page, "Rows in words", 4),
         WORDS,

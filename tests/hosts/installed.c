@@ -1,6 +1,8 @@
 /* A host over what `make install` leaves, as C and as C++: meshes, a table of one slab, its file and one reading. The status is 1
  * where an answer is not as it should be. */
 #include <icotable/environment.h>
+#include <icotable/icotable_journal.h>
+#include <icotable/icotable_slab.h>
 #include <icotable/mesh.h>
 
 #include <stdio.h>
@@ -39,6 +41,6 @@ int main(void) {
     uint64_t number = icotable_make_meshes(&m, TOP);
     double e = number == 0 ? energy(&m) : -4;
     icotable_free_meshes(&m);
-    printf("%s; environment %s; energy %g\n", icotable_words(number), icotable_float_environment_words(environment), e);
+    printf("%s; environment %s; energy %g\n", icotable_journal_words(number), icotable_float_environment_words(environment), e);
     return environment != 0 || e < 508.999999 || e > 509.000001;
 }

@@ -1,4 +1,4 @@
--- A reader has to believe `Ledger`, `Promise`, `Replies`, `Order`, `Packed`, `Comparisons`, `Longest`, `Foretold`, `Words` and, of tables against an atom, `AtomLedger` and `AtomPromise`.
+-- A reader has to believe `Ledger`, `Promise`, `Replies`, `Order`, `Packed`, `Comparisons`, `Longest`, `Foretold`, `Words`, `Replay` and, of tables against an atom, `AtomLedger` and `AtomPromise`.
 pub mod Ledger
 pub mod Promise
 pub mod Replies
@@ -10,3 +10,4 @@ pub mod AtomPromise
 pub mod Longest
 pub mod Foretold
 pub mod Words
+pub mod Replay

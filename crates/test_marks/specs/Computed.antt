@@ -43,6 +43,7 @@ use Rattle.ledger.specs.Ledger.{Call, called, run, opened, ledgerQuestion, setE
 use Rattle.ledger.specs.Promise.{History, ended, file, rows}
 use Rattle.ledger.specs.Replies.{replied, replies}
 use Rattle.ledger.specs.Order.{moved, acceptedIn, once}
+use Rattle.ledger.specs.Replay.{some, onward, cleanFrom, closed, setFirst}
 use Rattle.test_marks.specs.Icospheres.{icosahedron, twoLevels}
 
 abbrev pub f64 : ℕ → Float
@@ -123,7 +124,7 @@ unfolding queryValid outside resolve joint nearestPick facePick nineTerms combin
 readings x = x
 
 unfoldable runs : {A : Type 0} → A → A
-unfolding called run opened ledgerQuestion setEntered settleEntered entered ledger ended file rows replied replies moved acceptedIn once locatorPart locators
+unfolding called run opened ledgerQuestion setEntered settleEntered entered ledger ended file rows replied replies moved acceptedIn once some onward cleanFrom closed setFirst locatorPart locators
 runs x = x
 
 unfoldable pub computed : {A : Type 0} → A → A

@@ -17,3 +17,4 @@ pub mod Found
 pub mod Repacked
 pub mod Spans
 pub mod Worded
+pub mod Replayed

@@ -4,8 +4,9 @@
 #include <stdlib.h>
 #include <string.h>
 #include <sys/stat.h>
+#include <unistd.h>
 
-static int trouble(const char *name, const char *why) {
+int trouble(const char *name, const char *why) {
     fprintf(stderr, "icotable: %s: %s\n", name, why);
     return TROUBLE;
 }
@@ -170,4 +171,35 @@ void print_bins(FILE *out, const table_file *f, uint64_t slab) {
     fprintf(out, "distance %g", g->rmin + (double)(slab / g->n_omega) * g->dr);
     if (!f->atom)
         fprintf(out, ", dihedral %g", (double)(slab % g->n_omega) * g->omega_step);
+}
+
+int free_name(const char *in, const char *out) {
+    struct stat a, b;
+    if (lstat(out, &b) != 0)
+        return errno == ENOENT ? GOOD : trouble(out, strerror(errno));
+    if (stat(in, &a) == 0 && stat(out, &b) == 0 && a.st_dev == b.st_dev && a.st_ino == b.st_ino)
+        return trouble(out, "is the input itself, which is never written to");
+    return trouble(out, "is there already and is not replaced");
+}
+
+int write_new(const char *out, const uint8_t *bytes, size_t count) {
+    char *name = malloc(strlen(out) + 8);
+    if (name == NULL)
+        return trouble(out, "does not fit into memory");
+    strcat(strcpy(name, out), ".XXXXXX");
+    int file = mkstemp(name), status = GOOD;
+    FILE *to = file < 0 ? NULL : fdopen(file, "wb");
+    if (to == NULL) {
+        status = trouble(out, strerror(errno));
+    } else {
+        mode_t mask = umask(0);
+        umask(mask);
+        bool whole = fwrite(bytes, 1, count, to) == count && fflush(to) == 0 && fchmod(file, 0666 & ~mask) == 0 && fsync(file) == 0;
+        /* a link does not replace; where a folder has none, a new name does as well */
+        if (fclose(to) != 0 || !whole || (link(name, out) != 0 && (errno == EEXIST || rename(name, out) != 0)))
+            status = trouble(out, errno == EEXIST ? "is there already and is not replaced" : strerror(errno));
+        unlink(name);
+    }
+    free(name);
+    return status;
 }

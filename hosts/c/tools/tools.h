@@ -3,7 +3,7 @@
 #ifndef TOOLS_H
 #define TOOLS_H
 
-#include "icotable.h"
+#include "icotable_journal.h"
 
 #include <stdbool.h>
 #include <stdio.h>
@@ -64,10 +64,20 @@ float energy_of(const table_file *f, const row *r, uint64_t i);
 uint64_t per_level(bool atom, uint64_t level);
 uint64_t per_row(const table_file *f, const row *r);
 const char *kind_words(unsigned kind);
+/* A line to standard error, and TROUBLE. */
+int trouble(const char *name, const char *why);
+/* GOOD where OUT is not there: as IN, under whatever name, or as another file. */
+int free_name(const char *in, const char *out);
+/* Whole, and under its own name only then; with the rights that a new file has. A file that is there is not replaced. */
+int write_new(const char *out, const uint8_t *bytes, size_t count);
 void print_row(FILE *out, const table_file *f, const row *r);
 /* A slab's bins, and where they are. */
 void print_slab(FILE *out, const table_file *f, uint64_t slab);
 void print_bins(FILE *out, const table_file *f, uint64_t slab);
+
+/* numbers.c: a word of the command line as a number, and as a whole one; false where it is none. */
+bool number_of(const char *word, double *x);
+bool whole_of(const char *word, uint64_t *n);
 
 /* walk.c: the questions of read, 13 to 17, 23 and a viewer's 24, once more, by the host, for the byte alone: a hint. */
 place find_place(const uint8_t *bytes, size_t count, bool atom, bool viewer);
@@ -78,11 +88,21 @@ void print_verdict(FILE *out, const table_file *f);
  * the rows that have it. */
 int print_resolution(const table_file *f);
 
+/* journal.c: plays a journal over the meshes that mesh.h makes, flags being those of resume; the number that refuses it, with its
+ * words in said, or 0. Close it and free the meshes in any case. */
+uint64_t play_journal(icotable_journal *j, icotable_meshes *meshes, const char *name, unsigned flags);
+/* A line with the number and its words; TROUBLE where there is nothing to refuse, FOUND otherwise. */
+int refused_journal(const char *name, uint64_t number, const char *said);
+
 int inspect_tool(int count, char **names);
 int verify_tool(int count, char **names);
 int diff_tool(int count, char **names);
 int map_tool(int count, char **names);
 int repack_tool(int count, char **names);
 int size_tool(int count, char **names);
+int status_tool(int count, char **names);
+int replay_tool(int count, char **names);
+int begin_tool(int count, char **names);
+int collect_tool(int count, char **names);
 
 #endif

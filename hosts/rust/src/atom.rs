@@ -2,6 +2,8 @@
 use crate::builder::Settled;
 use crate::environment::FloatEnvironment;
 use crate::error::Error;
+use crate::journal::Kept;
+use crate::journal_file::{Answer, Call, SET};
 use crate::lists::AtomLists;
 use crate::refusal::{answer, Refusal};
 use crate::row::Row;
@@ -72,6 +74,55 @@ impl AtomBuilder {
     /// The directions of the current level's vertices, in their order.
     pub fn directions(&self) -> Vec<[f64; 3]> {
         self.mesh.directions(self.level()).collect()
+    }
+}
+
+// What a journal may have to put back: the builder, a row and, where a slab that holds energies is set over, these.
+pub(crate) struct Before {
+    held: sys::AtomBuilder,
+    row: (u8, u8, u32),
+    energies: Vec<f64>,
+}
+
+impl AtomBuilder {
+    // The place of a slab in the store.
+    fn place(&self, call: &Call) -> std::ops::Range<usize> {
+        let (slab, most) = (call.ri as usize, per(self.held.top));
+        slab * most..(slab + 1) * most
+    }
+}
+
+impl Kept for AtomBuilder {
+    type Before = Before;
+
+    fn before(&self, call: &Call) -> Before {
+        let row = self.lists.row(call.ri as usize);
+        let over = call.kind == SET && row.0 >= 2;
+        Before { held: self.held, row, energies: if over { self.lists.store[self.place(call)].to_vec() } else { Vec::new() } }
+    }
+
+    fn make(&mut self, call: &Call, energies: &[f64]) -> Answer {
+        if call.kind == SET {
+            let built = sys::atom_set(self.held, &mut self.lists.lent(), call.ri, energies);
+            self.held = built.builder;
+            return Answer { number: built.number, level: self.held.level, ..Answer::default() };
+        }
+        let settled = sys::atom_settle(self.held, &mut self.lists.lent(), self.mesh.lent(), call.ri);
+        self.held = settled.builder;
+        Answer { number: settled.number, level: self.held.level, gradient: settled.gradient.to_bits(), comparisons: settled.comparisons }
+    }
+
+    fn take_back(&mut self, call: &Call, before: Before) {
+        let place = self.place(call);
+        self.lists.put_row(call.ri as usize, before.row);
+        if !before.energies.is_empty() {
+            self.lists.store[place].copy_from_slice(&before.energies);
+        }
+        self.held = before.held;
+    }
+
+    fn most(&self) -> u64 {
+        per(self.held.top) as u64
     }
 }
 

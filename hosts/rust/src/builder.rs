@@ -1,6 +1,8 @@
 //! A table that is being built.
 use crate::environment::FloatEnvironment;
 use crate::error::Error;
+use crate::journal::Kept;
+use crate::journal_file::{Answer, Call, SET};
 use crate::lists::Lists;
 use crate::refusal::{answer, Refusal};
 use crate::sizing::sizing;
@@ -108,5 +110,57 @@ impl Builder {
     /// The directions of the current level's vertices, in their order.
     pub fn directions(&self) -> Vec<[f64; 3]> {
         self.mesh.directions(self.level()).collect()
+    }
+}
+
+// What a journal may have to put back: the builder, the rows of a slice and, where a slab that holds energies is set over, these.
+pub(crate) struct Before {
+    held: sys::Builder,
+    words: Vec<u64>,
+    energies: Vec<f64>,
+}
+
+impl Builder {
+    // The words of a call's slice, and the place of its slab in the store.
+    fn places(&self, call: &Call) -> (std::ops::Range<usize>, std::ops::Range<usize>) {
+        let n_omega = self.held.grid.n_omega;
+        let first = (call.ri * n_omega) as usize;
+        let (slab, most) = (first + call.oi as usize, per(self.held.top));
+        (first..first + n_omega as usize, slab * most..(slab + 1) * most)
+    }
+}
+
+impl Kept for Builder {
+    type Before = Before;
+
+    fn before(&self, call: &Call) -> Before {
+        let (slice, place) = self.places(call);
+        let words = self.lists.words[slice].to_vec();
+        let over = call.kind == SET && words[call.oi as usize] >> 40 >= 2;
+        Before { held: self.held, words, energies: if over { self.lists.store[place].to_vec() } else { Vec::new() } }
+    }
+
+    fn make(&mut self, call: &Call, energies: &[f64]) -> Answer {
+        if call.kind == SET {
+            let built = sys::set(self.held, &mut self.lists.lent(), call.ri, call.oi, energies);
+            self.held = built.builder;
+            return Answer { number: built.number, level: self.held.level, ..Answer::default() };
+        }
+        let settled = sys::settle(self.held, &mut self.lists.lent(), self.mesh.lent(), call.ri);
+        self.held = settled.builder;
+        Answer { number: settled.number, level: self.held.level, gradient: settled.gradient.to_bits(), comparisons: settled.comparisons }
+    }
+
+    fn take_back(&mut self, call: &Call, before: Before) {
+        let (slice, place) = self.places(call);
+        self.lists.words[slice].copy_from_slice(&before.words);
+        if !before.energies.is_empty() {
+            self.lists.store[place].copy_from_slice(&before.energies);
+        }
+        self.held = before.held;
+    }
+
+    fn most(&self) -> u64 {
+        per(self.held.top) as u64
     }
 }

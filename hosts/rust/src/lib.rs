@@ -2,12 +2,13 @@
 //! and one orientation: build, write, read, look up.
 //!
 //! A safe wrapper over libicotable.a, whose functions are proved. [`Mesh`] holds the meshes and locators of all levels,
-//! [`Builder`] the lists that a table is built in, [`Table`] a table file; [`AtomBuilder`] and [`AtomTable`] are the same of
-//! one molecule against an atom; [`Tail`] is what a host adds beyond a table's distances; [`sizing`] says beforehand what a
-//! build needs; [`search`] finds a direction without a locator; [`repack`] packs a table file that was loosely packed;
-//! [`rows_to_words`] and [`words_to_rows`] move rows between a builder's words and three lists. What the library refuses is a
-//! [`Refusal`], with document 01's number and its words; a refused call alters nothing. The wrapper itself is not proved: it
-//! sizes the lists, hands them over and turns numbers into the enum.
+//! [`Builder`] the lists that a table is built in, [`Table`] a table file; [`AtomBuilder`] and [`AtomTable`] are the same
+//! of one molecule against an atom; [`Tail`] is what a host adds beyond a table's distances; [`sizing`] says beforehand
+//! what a build needs; [`Journaled`] is a builder whose calls are kept in a file; [`search`] finds a direction without a
+//! locator; [`repack`] packs a table file that was loosely packed; [`rows_to_words`] and [`words_to_rows`] move rows
+//! between a builder's words and three lists. What the library refuses is a [`Refusal`], with document 01's number and its
+//! words; a refused call alters nothing. The wrapper itself is not proved: it sizes the lists, hands them over and turns
+//! numbers into the enum.
 //!
 //! The proofs speak of one floating-point environment; [`Builder::new`], [`Table::read`] and the atom's two ask whether the
 //! thread has it ([`FloatEnvironment`]), and calls of a thread that alters it afterwards are not asked again. Settling takes up
@@ -18,6 +19,9 @@ mod builder;
 mod environment;
 mod error;
 mod found;
+mod journal;
+mod journal_file;
+mod journal_refusal;
 mod lists;
 mod mesh;
 mod refusal;
@@ -34,6 +38,8 @@ pub use builder::{Builder, Settled};
 pub use environment::FloatEnvironment;
 pub use error::Error;
 pub use found::{search, Found};
+pub use journal::{Guard, Journaled, Step};
+pub use journal_refusal::{JournalError, JournalRefusal};
 pub use mesh::{Level, Mesh};
 pub use refusal::Refusal;
 pub use repack::{repack, Repacked};

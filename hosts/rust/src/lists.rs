@@ -6,7 +6,7 @@ use crate::words::RowLists;
 // The store, and a word for each row.
 #[derive(Clone, Debug, PartialEq)]
 pub(crate) struct Lists {
-    store: Vec<f64>,
+    pub(crate) store: Vec<f64>,
     pub(crate) words: Vec<u64>,
 }
 
@@ -28,7 +28,7 @@ impl Lists {
 // Against an atom: the store, and the three numbers of each row.
 #[derive(Clone, Debug, PartialEq)]
 pub(crate) struct AtomLists {
-    store: Vec<f64>,
+    pub(crate) store: Vec<f64>,
     rows: RowLists,
 }
 
@@ -45,6 +45,15 @@ impl AtomLists {
     pub(crate) fn held(&self) -> sys::AtomHeld<'_> {
         let RowLists { kinds, levels, values } = &self.rows;
         sys::AtomHeld { store: &self.store, kinds, levels, values }
+    }
+
+    // Kind, level and value of a row.
+    pub(crate) fn row(&self, s: usize) -> (u8, u8, u32) {
+        (self.rows.kinds[s], self.rows.levels[s], self.rows.values[s])
+    }
+
+    pub(crate) fn put_row(&mut self, s: usize, row: (u8, u8, u32)) {
+        (self.rows.kinds[s], self.rows.levels[s], self.rows.values[s]) = row;
     }
 
     // The length of the file, by the levels of the rows: its five counts and first two sections, a level 4 bytes, a row 10, an energy 4.

@@ -1,0 +1,141 @@
+/* status JOURNAL: how far a build is, and what it needs next. replay JOURNAL -o FILE: the table of its calls. Both play the calls
+ * over the meshes that mesh.h makes, alter nothing of the journal, and may be called while a build has it open. */
+#include "tools.h"
+
+#include <stdlib.h>
+#include <string.h>
+
+enum { SHOWN = 12 };
+
+typedef unsigned long long ull;
+
+int refused_journal(const char *name, uint64_t number, const char *said) {
+    if (number == ICOTABLE_JOURNAL_OTHER_MESHES)
+        said = "the journal is over other meshes than this tool makes (icotable_make_meshes): only the host that has them can play it";
+    if (number == ICOTABLE_NO_MEMORY)
+        said = "no memory for the meshes";
+    printf("%s: refused with %llu: %s\n", name, (ull)number, said);
+    bool cannot = number == ICOTABLE_JOURNAL_ABSENT || number == ICOTABLE_JOURNAL_TROUBLE || number == ICOTABLE_JOURNAL_NO_ROOM || number == ICOTABLE_NO_MEMORY;
+    return cannot ? TROUBLE : FOUND;
+}
+
+uint64_t play_journal(icotable_journal *j, icotable_meshes *meshes, const char *name, unsigned flags) {
+    uint64_t number = icotable_journal_look(j, name);
+    if (number != 0)
+        return number;
+    icotable_grid g = j->builder.grid;
+    uint64_t top = j->builder.top;
+    icotable_atom_grid atom = {g.rmin, g.rmax, g.dr, g.threshold, g.beta, 0};
+    icotable_free_meshes(meshes);
+    number = icotable_make_meshes(meshes, top);
+    if (number != 0) {
+        snprintf(j->said, sizeof j->said, "%s", icotable_words(number));
+        return number;
+    }
+    return j->atom ? icotable_journal_atom_resume(j, name, atom, top, meshes, flags) : icotable_journal_resume(j, name, g, top, meshes, flags);
+}
+
+static uint64_t played(icotable_journal *j, icotable_meshes *meshes, const char *name, bool guarded) {
+    return play_journal(j, meshes, name, ICOTABLE_JOURNAL_READING | (guarded ? 0u : (unsigned)ICOTABLE_JOURNAL_UNGUARDED));
+}
+
+static void print_done(const icotable_journal *j) {
+    const icotable_builder *b = &j->builder;
+    printf("calls        %llu, in %llu bytes\n", (ull)j->records, (ull)j->bytes);
+    if (j->cut > 0)
+        printf("not whole    %llu bytes behind them, of a call that was not answered or is being written; resume cuts them off\n", (ull)j->cut);
+    printf("slabs        %llu of %llu set, %llu missing: %.1f %% done\n", (ull)j->set_count, (ull)j->slabs, (ull)(j->slabs - j->set_count),
+           100.0 * (double)j->set_count / (double)j->slabs);
+    printf("slices       %llu of %llu settled, %llu unsettled\n", (ull)j->settled_count, (ull)b->grid.n_r, (ull)(b->grid.n_r - j->settled_count));
+    printf("level        %llu now, of 0 to %llu: %llu vertices, %llu energies a slab\n", (ull)b->level, (ull)b->top, (ull)icotable_vertices(b->level),
+           (ull)per_level(j->atom, b->level));
+    printf("table so far %llu bytes\n", (ull)icotable_journal_length(j));
+}
+
+/* The dihedral bins of a slice that were not set; the first few. */
+static void print_missing(const icotable_journal *j, uint64_t ri) {
+    uint64_t n_omega = j->builder.grid.n_omega, missing = 0;
+    for (uint64_t oi = 0; oi < n_omega; oi++)
+        if (!j->set[ri * n_omega + oi] && ++missing <= SHOWN)
+            printf("%s%llu", missing == 1 ? " " : ", ", (ull)oi);
+    if (missing > SHOWN)
+        printf(" and %llu more", (ull)(missing - SHOWN));
+}
+
+static void print_next(const icotable_journal *j) {
+    uint64_t ri, oi;
+    enum icotable_journal_step step = icotable_journal_next(j, &ri, &oi);
+    double distance = j->builder.grid.rmin + (double)ri * j->builder.grid.dr;
+    if (step == ICOTABLE_JOURNAL_TO_WRITE) {
+        puts("next         every slice is settled: icotable replay writes the table");
+    } else if (step == ICOTABLE_JOURNAL_TO_SETTLE) {
+        printf("next         settle distance bin %llu, distance %g\n", (ull)ri, distance);
+    } else {
+        printf("next         sample distance bin %llu, distance %g, at level %llu", (ull)ri, distance, (ull)j->builder.level);
+        if (!j->atom) {
+            fputs(": dihedral bins", stdout);
+            print_missing(j, ri);
+        }
+        puts("; then settle it");
+    }
+}
+
+static bool by_guard(uint64_t number) {
+    return number == ICOTABLE_JOURNAL_SLICE_SETTLED || number == ICOTABLE_JOURNAL_SLAB_MISSING || number == ICOTABLE_JOURNAL_NEARER_UNSETTLED;
+}
+
+/* A journal that was kept without the guard is shown all the same, and what the guard says of it. */
+int status_tool(int count, char **names) {
+    (void)count;
+    icotable_journal j;
+    icotable_meshes meshes = {0};
+    char said[sizeof j.said] = "";
+    uint64_t number = played(&j, &meshes, names[0], true);
+    if (by_guard(number)) {
+        memcpy(said, j.said, sizeof said);
+        number = played(&j, &meshes, names[0], false);
+    }
+    int status = number == 0 ? GOOD : refused_journal(names[0], number, j.said);
+    if (status == GOOD) {
+        printf("%s: a journal of %s\n", names[0], table_words(j.atom));
+        print_done(&j);
+        if (said[0] != 0)
+            printf("the guard    refuses it: %s\n", said);
+        print_next(&j);
+    }
+    icotable_journal_close(&j);
+    icotable_free_meshes(&meshes);
+    return status;
+}
+
+static int written(icotable_journal *j, const char *name, const char *out) {
+    size_t length = icotable_journal_length(j);
+    uint8_t *bytes = malloc(length);
+    if (bytes == NULL)
+        return trouble(out, "does not fit into memory");
+    icotable_written w = icotable_journal_write(j, bytes, length);
+    int status = w.number != 0 ? refused_journal(name, w.number, j->said) : write_new(out, bytes, (size_t)w.length);
+    if (status == GOOD)
+        printf("%s: %llu bytes, the table of %llu calls\n", out, (ull)w.length, (ull)j->records);
+    free(bytes);
+    return status;
+}
+
+int replay_tool(int count, char **names) {
+    bool guarded = strcmp(names[0], "--unguarded") != 0;
+    char **words = names + !guarded;
+    icotable_journal j;
+    icotable_meshes meshes = {0};
+    if (count != 3 + !guarded || strcmp(words[1], "-o") != 0) {
+        fputs("usage: icotable replay [--unguarded] JOURNAL -o FILE\n", stderr);
+        return TROUBLE;
+    }
+    int status = free_name(words[0], words[2]);
+    if (status != GOOD)
+        return status;
+    uint64_t number = played(&j, &meshes, words[0], guarded);
+    status = number == 0 ? written(&j, words[0], words[2]) : refused_journal(words[0], number, j.said);
+    icotable_journal_close(&j);
+    icotable_free_meshes(&meshes);
+    return status;
+}

@@ -1,0 +1,189 @@
+//! Builders with a journal, used as a host does. tests/hosts/journal.c has the kills, the full disks and the damage; here is what the
+//! wrapper itself decides.
+use icotable::{atom_settings, settings, AtomBuilder, Builder, Grid, Guard, JournalError, JournalRefusal, Journaled, Mesh, Refusal, Step};
+use std::path::{Path, PathBuf};
+use std::sync::Arc;
+
+fn mesh(top: u64) -> Arc<Mesh> {
+    Arc::new(Mesh::icospheres(top).expect("icospheres keep the mesh rule"))
+}
+
+fn small() -> Grid {
+    settings(0.0, 3.0, 1.0, 3.0, 0.1, 1.0)
+}
+
+// A name in a folder of the test's own.
+struct Name(PathBuf);
+
+impl Name {
+    fn new(name: &str) -> Name {
+        let path = std::env::temp_dir().join(format!("icotable-{}-{name}.journal", std::process::id()));
+        let _ = std::fs::remove_file(&path);
+        Name(path)
+    }
+}
+
+impl AsRef<Path> for Name {
+    fn as_ref(&self) -> &Path {
+        &self.0
+    }
+}
+
+impl Drop for Name {
+    fn drop(&mut self) {
+        let _ = std::fs::remove_file(&self.0);
+    }
+}
+
+fn begin(name: &Name) -> Journaled<Builder> {
+    Builder::with_journal(name, small(), mesh(0), Guard::On).expect("begin")
+}
+
+fn resume(name: &Name) -> Result<Journaled<Builder>, JournalError> {
+    Builder::resume(name, small(), mesh(0), Guard::On)
+}
+
+fn energies(ri: u64, oi: u64) -> Vec<f64> {
+    (0..144).map(|i| ((i * 7 + ri * 3 + oi) % 11) as f64 / 4.0).collect()
+}
+
+// The next so many calls.
+fn go_on(j: &mut Journaled<Builder>, calls: usize) {
+    for _ in 0..calls {
+        match j.next_step() {
+            Step::Set { ri, oi } => j.set(ri, oi, &energies(ri, oi)).expect("set"),
+            Step::Settle { ri } => j.settle(ri).map(|_| ()).expect("settle"),
+            Step::Write => return,
+        }
+    }
+}
+
+fn refused<T>(result: Result<T, JournalError>) -> (u64, String) {
+    let error = result.err().expect("refused");
+    (error.number(), error.to_string())
+}
+
+#[test]
+fn refusals_are_the_headers() {
+    let header = include_str!("../../c/icotable_journal.h");
+    let lines: Vec<&str> = header.lines().filter_map(|l| l.trim().strip_prefix("X(")).collect();
+    assert_eq!(lines.len(), JournalRefusal::ALL.len());
+    for (line, refusal) in lines.iter().zip(JournalRefusal::ALL) {
+        let (number, rest) = line.split_once(", ").unwrap();
+        let (name, rest) = rest.split_once(", \"").unwrap();
+        let camel: String = name.split('_').map(|w| format!("{}{}", &w[..1], w[1..].to_lowercase())).collect();
+        assert_eq!((refusal.number().to_string().as_str(), format!("{refusal:?}")), (number, camel));
+        assert_eq!(refusal.words(), rest.split_once('"').unwrap().0);
+    }
+}
+
+#[test]
+fn a_resumed_build_ends_with_the_undisturbed_table() {
+    let (whole, name) = (Name::new("whole"), Name::new("resumed"));
+    let mut j = begin(&whole);
+    go_on(&mut j, 100);
+    let table = j.write().unwrap();
+    let mut plain = Builder::new(small(), mesh(0)).unwrap();
+    for ri in 0..3 {
+        (0..2).for_each(|oi| plain.set(ri, oi, &energies(ri, oi)).unwrap());
+        plain.settle(ri).unwrap();
+    }
+    assert!(plain.write().unwrap() == table && *j.builder() == plain);
+    let bytes = std::fs::read(&whole).unwrap();
+    for cut in (0..bytes.len()).step_by(41) {
+        std::fs::write(&name, &bytes[..cut]).unwrap();
+        let mut j = resume(&name).unwrap();
+        assert!(j.bytes() <= 160.max(cut as u64));
+        go_on(&mut j, 100);
+        assert!(j.write().unwrap() == table, "cut at {cut}");
+        assert!(std::fs::read(&name).unwrap() == bytes, "cut at {cut}");
+    }
+}
+
+#[test]
+fn damage_is_named_with_its_place() {
+    let name = Name::new("damaged");
+    go_on(&mut begin(&name), 4);
+    let bytes = std::fs::read(&name).unwrap();
+    for byte in (0..bytes.len()).step_by(29) {
+        let mut damaged = bytes.clone();
+        damaged[byte] ^= 0x40;
+        std::fs::write(&name, &damaged).unwrap();
+        let (number, said) = refused(resume(&name));
+        let record = if byte < 160 { 0 } else { 1 + (byte - 160) / 1228 };
+        assert_eq!(number, if byte < 8 { 204 } else { 206 }, "{byte}: {said}");
+        assert!(!(84..=2616).contains(&byte) || said.contains(&format!("(record {record}, at byte ")), "{byte}: {said}");
+        assert!(std::fs::read(&name).unwrap() == damaged);
+    }
+}
+
+#[test]
+fn one_at_a_time() {
+    let name = Name::new("lock");
+    let j = begin(&name);
+    assert_eq!(refused(resume(&name)).0, 203);
+    assert_eq!(refused(Builder::with_journal(&name, small(), mesh(0), Guard::On)).0, 201);
+    drop(j);
+    assert!(resume(&name).is_ok());
+}
+
+#[test]
+fn the_guard_names_the_bins() {
+    let name = Name::new("guard");
+    let mut j = begin(&name);
+    go_on(&mut j, 1);
+    let (number, said) = refused(j.settle(0));
+    assert!(number == 222 && said.contains("slab (0, 1), 1 of distance bin 0"), "{said}");
+    let (number, said) = refused(j.set(2, 0, &energies(2, 0)));
+    assert!(number == 223 && said.contains("distance bin 0 is nearer than 2 and not settled"), "{said}");
+    let (number, said) = refused(j.write());
+    assert!(number == 224 && said.contains("slab (0, 1), 5 in all"), "{said}");
+    go_on(&mut j, 2);
+    let (number, said) = refused(j.set(0, 1, &energies(0, 1)));
+    assert!(number == 221 && said.contains("distance bin 0 was settled; slab (0, 1)"), "{said}");
+    go_on(&mut j, 5);
+    let (number, said) = refused(j.write());
+    assert!(number == 225 && said.contains("distance bin 2, 1 in all"), "{said}");
+    assert_eq!((j.is_set(2, 1), j.is_settled(2), j.is_set(3, 0)), (Some(true), Some(false), None));
+    assert_eq!(j.records(), 9);
+}
+
+#[test]
+fn without_the_guard_the_library_decides() {
+    let name = Name::new("unguarded");
+    let mut j = Builder::with_journal(&name, small(), mesh(0), Guard::Off).unwrap();
+    j.set(2, 0, &energies(2, 0)).unwrap();
+    j.settle(2).unwrap();
+    j.set(2, 0, &energies(2, 0)).unwrap();
+    assert!(j.write().is_ok());
+    drop(j);
+    let (number, said) = refused(resume(&name));
+    assert!(number == 223 && said.contains("(record 1, at byte 160)"), "{said}");
+    assert_eq!(Builder::resume(&name, small(), mesh(0), Guard::Off).unwrap().records(), 4);
+}
+
+#[test]
+fn refused_calls_are_not_recorded() {
+    let name = Name::new("refused");
+    let mut j = begin(&name);
+    assert_eq!(j.set(0, 0, &[1.0]), Err(JournalError::Refused(Refusal::EnergyCount)));
+    assert_eq!(j.set(0, 2, &energies(0, 0)), Err(JournalError::Refused(Refusal::Bin)));
+    assert_eq!(j.set(0, 0, &[f64::NAN; 144]), Err(JournalError::Refused(Refusal::NanEnergy)));
+    assert_eq!((j.records(), j.bytes()), (1, 160));
+}
+
+#[test]
+fn another_build_is_told() {
+    let name = Name::new("other");
+    go_on(&mut begin(&name), 2);
+    let (number, said) = refused(Builder::resume(&name, Grid { beta: 2.0, ..small() }, mesh(0), Guard::On));
+    assert!(number == 208 && said.contains("beta 1, not 2"), "{said}");
+    assert_eq!(refused(Builder::resume(&name, small(), mesh(1), Guard::On)).0, 209);
+    let mut level = mesh(0).level(0).unwrap();
+    level.neighbours[3][1].1 += 0.25;
+    assert_eq!(refused(Builder::resume(&name, small(), Arc::new(Mesh::new(&[level]).unwrap()), Guard::On)).0, 210);
+    let atom = atom_settings(0.0, 3.0, 1.0, 0.1, 1.0);
+    assert_eq!(refused(AtomBuilder::resume(&name, atom, mesh(0), Guard::On)).0, 207);
+    assert_eq!(refused(AtomBuilder::resume("/dev/null", atom, mesh(0), Guard::On)).0, 204);
+    assert_eq!(refused(AtomBuilder::resume(Name::new("none"), atom, mesh(0), Guard::On)).0, 202);
+}
