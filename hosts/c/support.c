@@ -83,47 +83,61 @@ bool icotable_sync_folder_(const char *name) {
     return synced;
 }
 
-/* A new file whose name nobody else has; open, so that its rights are those that a new file has. */
-static int open_new(const char *path, char *name, size_t room) {
-    for (unsigned i = 0;; i++) {
-        snprintf(name, room, "%s.%ld-%u.tmp", path, (long)getpid(), i);
-        int file = open(name, O_WRONLY | O_CREAT | O_EXCL | O_CLOEXEC, 0666);
-        if (file >= 0 || errno != EEXIST)
-            return file;
+/* A new file behind the name; of a name that is taken, by another process or by one that was killed, the next. */
+static int open_beside(const char *name, char *other, size_t room) {
+    int file = -1;
+    for (unsigned n = 0; file < 0 && (n == 0 || errno == EEXIST); n++) {
+        snprintf(other, room, "%s.tmp.%ld.%u", name, (long)getpid(), n);
+        file = open(other, O_WRONLY | O_CREAT | O_EXCL | O_CLOEXEC, 0666);
     }
+    return file;
 }
 
-/* The file's own name in the place of the new one. A link does not replace; where a folder has none, a new name does as well. */
-static bool named(const char *name, const char *path, bool replace) {
+/* The file under its own name. A link does not replace; where a folder has none, a new name does as well. */
+static bool named(const char *other, const char *name, bool replace) {
     if (!replace) {
-        if (link(name, path) == 0)
-            return unlink(name) == 0;
-        if (errno == EEXIST || access(path, F_OK) == 0)
+        if (link(other, name) == 0)
+            return unlink(other) == 0;
+        if (errno == EEXIST)
             return false;
     }
-    return rename(name, path) == 0;
+    return rename(other, name) == 0;
 }
 
-static bool filled(int file, const void *bytes, size_t count) {
-    bool whole = icotable_write_at_(file, bytes, count, 0) && fsync(file) == 0;
+static bool fill(int file, const icotable_part_ *parts, size_t parts_count) {
+    uint64_t at = 0;
+    for (size_t i = 0; i < parts_count; i++) {
+        if (!icotable_write_at_(file, parts[i].bytes, parts[i].count, at))
+            return false;
+        at += parts[i].count;
+    }
+    return fsync(file) == 0;
+}
+
+static bool filled(int file, const icotable_part_ *parts, size_t parts_count) {
+    bool whole = fill(file, parts, parts_count);
     int why = errno;
-    if (close(file) != 0)
+    if (close(file) != 0 && whole)
         return false;
     errno = why;
     return whole;
 }
 
-bool icotable_write_file_(const char *path, const void *bytes, size_t count, bool replace) {
-    size_t room = strlen(path) + 48;
-    char *name = malloc(room);
-    int file = name == NULL ? -1 : open_new(path, name, room);
-    bool whole = file >= 0 && filled(file, bytes, count) && named(name, path, replace);
+bool icotable_write_parts_(const char *name, const icotable_part_ *parts, size_t parts_count, bool replace) {
+    size_t room = strlen(name) + 48;
+    char *other = malloc(room);
+    int file = other == NULL ? -1 : open_beside(name, other, room);
+    bool done = file >= 0 && filled(file, parts, parts_count) && named(other, name, replace);
     int why = errno;
-    if (file >= 0 && !whole)
-        unlink(name);
-    free(name);
+    if (file >= 0 && !done)
+        unlink(other);
+    free(other);
     errno = why;
-    return whole && icotable_sync_folder_(path);
+    return done && icotable_sync_folder_(name);
+}
+
+bool icotable_write_file_(const char *name, const void *bytes, size_t count, bool replace) {
+    return icotable_write_parts_(name, &(icotable_part_){bytes, count}, 1, replace);
 }
 
 uint8_t *icotable_read_file_(const char *path, size_t most, size_t *count) {

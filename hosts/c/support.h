@@ -1,4 +1,5 @@
-/* What the files of the hosts share: checksums, whole files, words of a refusal. Not installed; names end in an underscore. */
+/* What the helpers that keep files share: checksums, whole reads and writes at a place, a file that is there whole or not at
+ * all, words of a refusal. Not installed; names end in an underscore. */
 #ifndef SUPPORT_H
 #define SUPPORT_H
 
@@ -11,7 +12,7 @@
 
 /* Numbers go to files as they lie in memory. */
 #if !defined __BYTE_ORDER__ || __BYTE_ORDER__ != __ORDER_LITTLE_ENDIAN__
-#error "the hosts' files need a little-endian machine"
+#error "these helpers need a little-endian machine"
 #endif
 
 /* zlib's crc32 of what a sum stands for (0: nothing) and these bytes behind it. */
@@ -32,10 +33,17 @@ bool icotable_read_at_(int file, void *bytes, size_t count, uint64_t at);
 /* A new name is on disk once its folder is; some file systems do not sync folders. */
 bool icotable_sync_folder_(const char *name);
 
-/* A whole file on disk, under its own name only then, with the rights that a new file has. Where it is not to replace one,
- * a file of that name stays (EEXIST). False, and errno, where it could not be written, and nothing is left; or where it has
- * its name and the folder cannot be synced. */
-bool icotable_write_file_(const char *path, const void *bytes, size_t count, bool replace);
+typedef struct icotable_part_ {
+    const void *bytes;
+    size_t count;
+} icotable_part_;
+
+/* The parts one behind the other as the file of that name: written under another name beside it (NAME.tmp.PROCESS.N, which a
+ * kill leaves behind), brought to disk and renamed; with the rights that a new file has. Where it is not to replace a file, one
+ * of that name stays (EEXIST). False with errno where that is not done: then the name is as it was or, where its folder alone
+ * could not be brought to disk, as it should be. */
+bool icotable_write_parts_(const char *name, const icotable_part_ *parts, size_t parts_count, bool replace);
+bool icotable_write_file_(const char *name, const void *bytes, size_t count, bool replace);
 
 /* A regular file in memory, to be freed. NULL, and errno: EFBIG where it has more than most bytes, EINVAL where it is none. */
 uint8_t *icotable_read_file_(const char *path, size_t most, size_t *count);
