@@ -45,7 +45,7 @@ static uint64_t fill(icotable_build *b, const icotable_build_settings *s, uint64
     b->own_meshes = s->meshes == NULL || icotable_meshes_own(&b->meshes, s->top + 1);
     number = opening(b, s);
     if (number == 0)
-        return icotable_handle_accept_(fault);
+        return icotable_accepted_(fault);
     return icotable_fault_(fault, number, b->journal.said, "%s", s->journal == NULL ? "a build without a journal" : s->journal);
 }
 

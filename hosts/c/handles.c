@@ -22,12 +22,6 @@ const char *icotable_handle_words(uint64_t number) {
     }
 }
 
-uint64_t icotable_handle_accept_(icotable_fault *fault) {
-    if (fault != NULL)
-        *fault = (icotable_fault){0, "accepted"};
-    return 0;
-}
-
 uint64_t icotable_handle_environment_(icotable_fault *fault) {
     unsigned environment = icotable_float_environment();
     return environment == 0 ? 0 : REFUSE(fault, ICOTABLE_HANDLE_ENVIRONMENT, "%s", icotable_float_environment_words(environment));

@@ -10,9 +10,6 @@ typedef unsigned long long ull;
 /* A refusal with its words and what is handed over behind them; gives the number. */
 #define REFUSE(fault, number, ...) icotable_fault_(fault, number, icotable_handle_words(number), __VA_ARGS__)
 
-/* A fault that is none; gives 0. */
-uint64_t icotable_handle_accept_(icotable_fault *fault);
-
 /* The floating-point environment: 0, or refused. */
 uint64_t icotable_handle_environment_(icotable_fault *fault);
 

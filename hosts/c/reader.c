@@ -97,7 +97,7 @@ icotable_reader *icotable_reader_open(const char *path, const char *meshes, icot
         return NULL;
     }
     if (fill(t, path, meshes, fault) == 0) {
-        icotable_handle_accept_(fault);
+        icotable_accepted_(fault);
         return t;
     }
     icotable_reader_close(t);

@@ -59,6 +59,8 @@ term term_of(const table_file *f, uint64_t i);
 double prefactor_of(const table_file *f);
 bool same_slabs(const table_file *f, const table_file *g);
 bool same_row(const table_file *f, const table_file *g, uint64_t slab);
+/* Of two Mesh rows of one level: whether they hold the same energies, by their bits. */
+bool same_energies(const table_file *f, const table_file *g, const row *r, const row *s);
 float energy_of(const table_file *f, const row *r, uint64_t i);
 /* The energies that a level's Mesh row holds, and those of a row. */
 uint64_t per_level(bool atom, uint64_t level);
@@ -83,6 +85,11 @@ void print_verdict(FILE *out, const table_file *f);
 /* resolution.c: for each level of a table how far its vertices lie apart and from a direction, over the meshes of mesh.h, and
  * the rows that have it. */
 int print_resolution(const table_file *f);
+
+/* seal.c: a line on the seal beside a table, and the verdict on it; GOOD without a word where there is none. */
+int verify_seal(const table_file *f);
+/* What the seals of two tables say of samples and settings; nothing where neither has one. */
+void diff_seals(const table_file *f, const table_file *g);
 
 int inspect_tool(int count, char **names);
 int verify_tool(int count, char **names);
