@@ -97,13 +97,20 @@ static icotable_build_settings settings_of(int atom) {
     return s;
 }
 
+/* Energies over the turned meshes are others, so that a table tells which meshes it was built over. */
+static double lift;
+
+static void lift_for(const icotable_build_settings *s) {
+    lift = s->meshes != NULL && strstr(s->meshes, "turned") != NULL ? 1 : 0;
+}
+
 /* A wall, then less and less: the last slices are Scalars, and the level drops on the way. */
 static void sample(uint64_t ri, uint64_t oi, size_t count) {
     static const double height[] = {900, 2, 0.05, 0.01};
     uint64_t state = 77 * ri + 5 * oi + 1;
     for (size_t i = 0; i < count; i++) {
         state = state * 6364136223846793005u + 1442695040888963407u;
-        energies[i] = height[ri % 4] * (1 + (double)(state >> 11) / 9007199254740992.0);
+        energies[i] = height[ri % 4] * (1 + lift + (double)(state >> 11) / 9007199254740992.0);
     }
 }
 
@@ -129,6 +136,7 @@ static int step(icotable_build *b, int atom) {
 static icotable_build *open_build(icotable_build *(*how)(const icotable_build_settings *, icotable_fault *), const icotable_build_settings *s) {
     icotable_fault fault;
     icotable_build *b = how(s, &fault);
+    lift_for(s);
     if (b == NULL) {
         printf("a build is refused with %llu: %s\n", (ull)fault.number, fault.said);
         exit(1);
@@ -499,7 +507,8 @@ static void full_disk(void) {
 static int killed_at(const icotable_build_settings *s, const char *path, int kills) {
     pid_t child = fork();
     if (child == 0) {
-        icotable_build *b = icotable_build_begin(s, NULL);
+        wrong = 0;
+        icotable_build *b = open_build(icotable_build_begin, s);
         while (step(b, 0))
             continue;
         countdown = kills;
@@ -565,7 +574,8 @@ static void killed_builds(int atom, unsigned seed) {
         pid_t child = fork();
         if (child == 0) {
             srand(seed + (unsigned)kills);
-            icotable_build *b = icotable_build_open(&s, NULL);
+            wrong = 0;
+            icotable_build *b = open_build(icotable_build_open, &s);
             for (int i = rand() % 4; i > 0; i--)
                 step(b, atom);
             if (icotable_build_progress(b).step != ICOTABLE_JOURNAL_TO_WRITE)
