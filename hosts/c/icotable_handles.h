@@ -21,10 +21,7 @@
  * needs (environment.h). It is asked when they are opened, and not again. The threads that icotable_reader_energies starts
  * begin with the environment of the thread that calls, as Linux has it.
  *
- * Files. A table, its seal and its mesh file are written each under a temporary name beside it, brought to disk (fsync) and
- * renamed; a file of that name is replaced. Where writing is refused, what was there stays.
- *
- * Link with libicotable and the C library's mathematics and threads: cc host.c $(pkg-config --cflags --libs icotable). */
+ * Link with libicotable: cc host.c $(pkg-config --cflags --libs icotable). */
 #ifndef ICOTABLE_HANDLES_H
 #define ICOTABLE_HANDLES_H
 
@@ -99,8 +96,10 @@ icotable_progress icotable_build_progress(const icotable_build *b);
  * build is closed. */
 const double *icotable_build_vertices(const icotable_build *b, uint64_t level, uint64_t *count);
 
-/* Writes path.mesh where the meshes are not the library's own, then the table to path, then its seal to path.meta. A kill in
- * between leaves files that icotable_reader_open takes for what they were before, or refuses. */
+/* Writes path.mesh where the meshes are not the library's own, then the table to path, then its seal to path.meta; each under
+ * a temporary name, brought to disk and renamed, in the place of one that is there. A kill in between leaves the table before,
+ * or one that icotable_reader_open refuses until it is written again. The table is made in memory first, and the seal reads
+ * the journal, all of it. */
 uint64_t icotable_build_write(icotable_build *b, const char *path);
 
 /* The same with a long-range tail, of two molecules alone: prefactor times the sum of count terms (icotable_write_tail). */

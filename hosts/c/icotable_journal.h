@@ -27,7 +27,7 @@
  * A last record that is not whole, or whose end was never written (its last 8 bytes are 0), is cut off at resume. Any other
  * damage is refused with its record and byte; the calls before it are whole, and a file cut there resumes.
  *
- * Link with libicotable_host.a before libicotable.a, and with -lm. */
+ * Link with libicotable: cc host.c $(pkg-config --cflags --libs icotable). */
 #ifndef ICOTABLE_JOURNAL_H
 #define ICOTABLE_JOURNAL_H
 
