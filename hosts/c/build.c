@@ -30,9 +30,12 @@ static uint64_t resume(icotable_build *b, const icotable_build_settings *s) {
     return icotable_journal_atom_resume(&b->journal, s->journal, atom, s->top, &b->meshes, s->flags);
 }
 
+/* One that is only looked at is not begun. */
 static uint64_t resume_or_begin(icotable_build *b, const icotable_build_settings *s) {
-    uint64_t number = s->journal == NULL ? ICOTABLE_JOURNAL_ABSENT : resume(b, s);
-    return number == ICOTABLE_JOURNAL_ABSENT ? begin(b, s) : number;
+    if (s->journal == NULL)
+        return begin(b, s);
+    uint64_t number = resume(b, s);
+    return number == ICOTABLE_JOURNAL_ABSENT && !(s->flags & ICOTABLE_JOURNAL_READING) ? begin(b, s) : number;
 }
 
 /* The meshes, then the journal, which asks for the environment. */
@@ -199,6 +202,8 @@ static uint64_t write_files(icotable_build *b, const char *path, const uint8_t *
 uint64_t icotable_build_write_tail(icotable_build *b, const char *path, const icotable_terms *tail) {
     if (b == NULL)
         return ICOTABLE_HANDLE_NO_HANDLE;
+    if (path == NULL)
+        return REFUSE(&b->fault, ICOTABLE_HANDLE_NOT_WRITTEN, "there is no name for it");
     size_t length = 0;
     uint8_t *table = table_of(b, tail, &length);
     uint64_t number = table == NULL ? b->fault.number : write_files(b, path, table, length);

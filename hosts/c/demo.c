@@ -46,20 +46,12 @@ static icotable_reader *opened(const char *name) {
     return t;
 }
 
-/* A slab's energies: the first molecule at each vertex of the current level, the second at each. */
 static void set_slab(icotable_build *b, uint64_t level, uint64_t ri, uint64_t oi) {
-    static pose first[N], second[N];
+    static pose turned[2 * N];
     static double energies[N * N];
     uint64_t n, number;
     const double *v = icotable_build_vertices(b, level, &n);
-    double r = distance(&settings, ri), omega = (double)oi * settings.grid.omega_step;
-    for (size_t i = 0; i < n; i++) {
-        first[i] = first_pose(v + 3 * i);
-        second[i] = second_pose(v + 3 * i, omega);
-    }
-    for (size_t i = 0; i < n; i++)
-        for (size_t j = 0; j < n; j++)
-            energies[i * n + j] = pair_energy(&first[i], &second[j], r);
+    pair_slab(energies, turned, v, n, distance(&settings, ri), (double)oi * settings.grid.omega_step);
     if ((number = icotable_build_set(b, ri, oi, energies, n * n)) != 0)
         stop("set", number, icotable_build_said(b));
 }
@@ -209,15 +201,11 @@ static int look_far(const icotable_build *b, const char *name) {
 
 /* ---- one molecule against an ion */
 
-/* A slab's energies: the ion in the direction of each vertex of the current level. */
 static void set_ion_slab(icotable_build *b, uint64_t level, uint64_t ri) {
     double energies[ION_N];
     uint64_t n, number;
     const double *v = icotable_build_vertices(b, level, &n);
-    for (size_t i = 0; i < n; i++) {
-        pose turned = first_pose(v + 3 * i);
-        energies[i] = ion_energy(&turned, distance(&ion_settings, ri));
-    }
+    ion_slab(energies, v, n, distance(&ion_settings, ri));
     if ((number = icotable_build_set(b, ri, 0, energies, n)) != 0)
         stop("set", number, icotable_build_said(b));
 }

@@ -1,6 +1,7 @@
 #include "handles.h"
 
 #include "environment.h"
+#include "icotable_slab.h"
 
 const char *icotable_version(void) {
     return ICOTABLE_VERSION;
@@ -11,6 +12,7 @@ const char *icotable_handle_words(uint64_t number) {
 #define ICOTABLE_WORDS_(number, name, words) \
     case number: \
         return words;
+        ICOTABLE_SLAB_REFUSALS(ICOTABLE_WORDS_)
         ICOTABLE_MESH_FILE_REFUSALS(ICOTABLE_WORDS_)
         ICOTABLE_SEAL_REFUSALS(ICOTABLE_WORDS_)
         ICOTABLE_HANDLE_REFUSALS(ICOTABLE_WORDS_)

@@ -56,7 +56,7 @@ enum icotable_handle_refusal { ICOTABLE_HANDLE_REFUSALS(ICOTABLE_HANDLE_REFUSAL_
 /* The version of the library that is linked, as ICOTABLE_VERSION of the header that it was compiled with. */
 const char *icotable_version(void);
 
-/* Any number in words: of the library, the meshes' maker, a journal, a mesh file, a seal or a handle. */
+/* Any number in words: of the library, the meshes' maker, a journal, a slab file, a mesh file, a seal or a handle. */
 const char *icotable_handle_words(uint64_t number);
 
 /* ---- builds */

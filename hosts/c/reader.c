@@ -13,6 +13,8 @@
 /* A file of no bytes cannot be mapped; the library refuses it by itself. */
 static uint64_t map_file(icotable_reader *t, const char *path, icotable_fault *fault) {
     struct stat what;
+    if (path == NULL)
+        return REFUSE(fault, ICOTABLE_HANDLE_TROUBLE, "there is no name for it");
     int file = open(path, O_RDONLY | O_CLOEXEC | O_NONBLOCK);
     uint64_t number = 0;
     if (file < 0)
@@ -42,7 +44,7 @@ static uint64_t look_over(icotable_reader *t, const char *path, icotable_fault *
         number = (t->atom_table = icotable_atom_read(t->file, t->length)).number;
     else
         number = (t->table = icotable_read(t->file, t->length)).number;
-    return number == 0 ? 0 : REFUSE(fault, number, "%s, read as a table %s", path, t->atom ? "against an atom" : "of two molecules");
+    return number == 0 ? 0 : REFUSE(fault, number, "%s, as a table %s; `icotable verify` names the byte", path, t->atom ? "against an atom" : "of two molecules");
 }
 
 static uint64_t levels_of(const icotable_reader *t) {

@@ -249,6 +249,11 @@ static void refused_openings(void) {
     icotable_fault fault;
     icotable_build_settings s = settings_of(0);
     faults("resume", icotable_build_resume(&s, &fault), ICOTABLE_HANDLE_NO_JOURNAL, "icotable_build_resume", &fault);
+    s.flags = ICOTABLE_JOURNAL_READING;
+    s.journal = at("none.journal");
+    faults("to look at", icotable_build_open(&s, &fault), ICOTABLE_JOURNAL_ABSENT, "none.journal", &fault);
+    is("nothing is begun", 1, access(s.journal, F_OK) != 0);
+    s = settings_of(0);
     is("without a fault", 1, icotable_build_resume(&s, NULL) == NULL);
     s.top = 16;
     faults("top", icotable_build_begin(&s, &fault), ICOTABLE_LEVEL, "16", &fault);
@@ -336,7 +341,7 @@ static void no_handle(void) {
 
 /* Numbers of every kind have words of their own. */
 static void words(void) {
-    static const uint64_t numbers[] = {0, 1, 26, 100, 201, 225, 241, 249, 251, 257, 261, 271};
+    static const uint64_t numbers[] = {0, 1, 26, 100, 201, 225, 231, 239, 241, 249, 251, 257, 261, 271};
     for (size_t i = 0; i < sizeof numbers / sizeof numbers[0]; i++)
         is("words", 0, strcmp(icotable_handle_words(numbers[i]), icotable_handle_words(99)) == 0);
     says("version", ICOTABLE_VERSION, icotable_version());
@@ -372,6 +377,7 @@ static void refused_reader(const char *what, const char *path, const char *meshe
 
 static void refused_readers(void) {
     refused_reader("absent", at("nothing"), NULL, ICOTABLE_HANDLE_TROUBLE, "nothing: No such file");
+    refused_reader("no name", NULL, NULL, ICOTABLE_HANDLE_TROUBLE, "there is no name");
     refused_reader("a folder", folder, NULL, ICOTABLE_HANDLE_TROUBLE, "not a regular file");
     refused_reader("a device", "/dev/null", NULL, ICOTABLE_HANDLE_TROUBLE, "not a regular file");
     copy(at("pair"), at("empty"), 0);
@@ -497,6 +503,8 @@ static void full_disk(void) {
     same_file("what was there", at("full"), at("unguarded"));
     is("no folder", ICOTABLE_HANDLE_NOT_WRITTEN, icotable_build_write(b, at("no/such/folder")));
     is("a folder", ICOTABLE_HANDLE_NOT_WRITTEN, icotable_build_write(b, folder));
+    is("no name", ICOTABLE_HANDLE_NOT_WRITTEN, icotable_build_write(b, NULL));
+    says("no name", "there is no name", icotable_build_said(b));
     is("with room", 0, icotable_build_write(b, at("full")));
     same_file("with room", at("full"), at("pair"));
     icotable_build_close(b);

@@ -141,6 +141,8 @@ static void print_samples(const table_file *f, const table_file *g, const icotab
     shared n = comparable ? share(f, g) : (shared){0, 0};
     if (!comparable || n.both == 0)
         printf("samples not compared: %s", comparable ? "no slab holds energies of one level in both" : "grids or meshes are others");
+    else if (n.same == f->table.rows)
+        printf("samples equal in all %llu slabs", (ull)n.same);
     else if (n.same == n.both)
         printf("samples equal in the %llu of %llu slabs that hold them in both", (ull)n.both, (ull)f->table.rows);
     else
