@@ -1,7 +1,6 @@
 //! Begins or resumes a build of tests/hosts/journal.c with its journal: journal KIND FILE TABLE [RECORDS] stops after so many
 //! records, and writes the table once all is done. Journal and table are the same as in C, byte for byte.
-use icotable::{atom_settings, settings, vertex_count, AtomBuilder, Builder, Guard, JournalError, JournalRefusal, Mesh, Step};
-use std::error::Error;
+use simgrale::{AtomBuilder, Builder, Error, Guard, JournalRefusal, Mesh, Step, atom_settings, save, settings, vertex_count};
 use std::process::ExitCode;
 use std::sync::Arc;
 
@@ -21,7 +20,7 @@ fn energies(count: usize, ri: u64, oi: u64) -> Vec<f64> {
 }
 
 // Begun where there is no journal yet.
-fn begun<T>(resumed: Result<T, JournalError>, begin: impl FnOnce() -> Result<T, JournalError>) -> Result<T, JournalError> {
+fn begun<T>(resumed: Result<T, Error>, begin: impl FnOnce() -> Result<T, Error>) -> Result<T, Error> {
     match resumed {
         Err(error) if error.journal() == Some(JournalRefusal::Absent) => begin(),
         other => other,
@@ -31,7 +30,7 @@ fn begun<T>(resumed: Result<T, JournalError>, begin: impl FnOnce() -> Result<T, 
 // The records, and the table once all is done.
 type Done = (u64, Option<Vec<u8>>);
 
-fn pair(name: &str, top: u64, distances: f64, step: f64, most: u64) -> Result<Done, Box<dyn Error>> {
+fn pair(name: &str, top: u64, distances: f64, step: f64, most: u64) -> Result<Done, Box<dyn std::error::Error>> {
     let mesh = Arc::new(Mesh::icospheres(top)?);
     let grid = settings(0.0, distances, 1.0, step, 0.5, 1.0);
     let mut j = begun(Builder::resume(name, grid, mesh.clone(), Guard::On), || Builder::with_journal(name, grid, mesh, Guard::On))?;
@@ -41,14 +40,14 @@ fn pair(name: &str, top: u64, distances: f64, step: f64, most: u64) -> Result<Do
                 let n = vertex_count(j.builder().level()).ok_or("no such level")?;
                 j.set(ri, oi, &energies(n * n, ri, oi))?
             }
-            Step::Settle { ri } => j.settle(ri).map(|_| ())?,
+            Step::Settle { ri } => drop(j.settle(ri)?),
             Step::Write => return Ok((j.records(), Some(j.write()?))),
         }
     }
     Ok((j.records(), None))
 }
 
-fn atom(name: &str, most: u64) -> Result<Done, Box<dyn Error>> {
+fn atom(name: &str, most: u64) -> Result<Done, Box<dyn std::error::Error>> {
     let mesh = Arc::new(Mesh::icospheres(2)?);
     let grid = atom_settings(0.0, 6.0, 1.0, 0.5, 1.0);
     let mut j = begun(AtomBuilder::resume(name, grid, mesh.clone(), Guard::On), || AtomBuilder::with_journal(name, grid, mesh, Guard::On))?;
@@ -58,14 +57,14 @@ fn atom(name: &str, most: u64) -> Result<Done, Box<dyn Error>> {
                 let n = vertex_count(j.builder().level()).ok_or("no such level")?;
                 j.set(ri, &energies(n, ri, oi))?
             }
-            Step::Settle { ri } => j.settle(ri).map(|_| ())?,
+            Step::Settle { ri } => drop(j.settle(ri)?),
             Step::Write => return Ok((j.records(), Some(j.write()?))),
         }
     }
     Ok((j.records(), None))
 }
 
-fn run() -> Result<(), Box<dyn Error>> {
+fn run() -> Result<(), Box<dyn std::error::Error>> {
     let words: Vec<String> = std::env::args().skip(1).collect();
     let [kind, name, table, rest @ ..] = words.as_slice() else {
         return Err("usage: journal KIND FILE TABLE [RECORDS]".into());
@@ -79,7 +78,7 @@ fn run() -> Result<(), Box<dyn Error>> {
     };
     println!("{name}: {}; {records} records", if file.is_some() { "done" } else { "stopped" });
     if let Some(bytes) = file {
-        std::fs::write(table, bytes)?;
+        save(table, &bytes)?;
     }
     Ok(())
 }

@@ -1,0 +1,65 @@
+//! Table files on disk.
+use crate::error::Error;
+use std::fs::{File, OpenOptions};
+use std::io::{self, Write};
+use std::path::{Path, PathBuf};
+use std::sync::atomic::{AtomicU64, Ordering};
+
+// A file's bytes, made a table; what goes wrong is of that file.
+pub(crate) fn opened<T>(path: &Path, read: impl FnOnce(Vec<u8>) -> Result<T, Error>) -> Result<T, Error> {
+    std::fs::read(path).map_err(Error::from).and_then(read).map_err(|error| error.of_file(path))
+}
+
+// The folder that a name is in.
+fn folder(path: &Path) -> &Path {
+    path.parent().filter(|p| !p.as_os_str().is_empty()).unwrap_or(Path::new("."))
+}
+
+// A new name is on disk once its folder is; some file systems do not sync folders.
+pub(crate) fn sync_folder(path: &Path) -> io::Result<()> {
+    match File::open(folder(path))?.sync_all() {
+        Err(error) if error.kind() == io::ErrorKind::InvalidInput => Ok(()),
+        other => other,
+    }
+}
+
+// A name beside another that no other call of this or another process takes.
+fn beside(path: &Path) -> io::Result<PathBuf> {
+    static COUNT: AtomicU64 = AtomicU64::new(0);
+    let name = path.file_name().ok_or_else(|| io::Error::new(io::ErrorKind::InvalidInput, "it names no file"))?;
+    let number = COUNT.fetch_add(1, Ordering::Relaxed);
+    let mut beside = std::ffi::OsString::from(".");
+    beside.push(name);
+    beside.push(format!(".{}.{number}.tmp", std::process::id()));
+    Ok(folder(path).join(beside))
+}
+
+/// Writes a file so that its name never stands for a part of it: under another name in the same folder, brought to disk, then renamed. What was
+/// there before under the name is replaced. Where that fails nothing is left, and what was there stays; a process that is killed can leave the
+/// other name, a dot in front and `.tmp` behind. An error names the path.
+///
+/// ```
+/// use simgrale::{save, settings, AtomBuilder, Builder, Mesh, Table};
+///
+/// let builder = Builder::new(settings(1.0, 4.0, 1.0, 3.2, 0.5, 0.4), Mesh::icospheres(0)?)?;
+/// let path = std::env::temp_dir().join(format!("simgrale-save-{}.icotable", std::process::id()));
+/// save(&path, &builder.write()?)?;
+/// assert_eq!(std::fs::read(&path)?, builder.write()?);
+/// assert!(save("no/such/folder/table", &[]).unwrap_err().to_string().starts_with("no/such/folder/table: No such file"));
+/// # std::fs::remove_file(path)?;
+/// # Ok::<(), simgrale::Error>(())
+/// ```
+pub fn save(path: impl AsRef<Path>, file: &[u8]) -> Result<(), Error> {
+    let path = path.as_ref();
+    let saved = beside(path).and_then(|name| {
+        let written = write_new(&name, file).and_then(|()| std::fs::rename(&name, path));
+        written.inspect_err(|_| drop(std::fs::remove_file(&name)))
+    });
+    saved.and_then(|()| sync_folder(path)).map_err(|error| Error::from(error).of_file(path))
+}
+
+fn write_new(name: &Path, bytes: &[u8]) -> io::Result<()> {
+    let mut file = OpenOptions::new().write(true).create_new(true).open(name)?;
+    file.write_all(bytes)?;
+    file.sync_all()
+}
