@@ -90,15 +90,16 @@ impl Builder {
     /// Settles the slabs of a distance bin. The level may drop.
     ///
     /// ```
-    /// use simgrale::{settings, Builder, Mesh, Refusal};
+    /// use simgrale::{settings, Builder, Mesh, Refusal, Settled};
     ///
     /// let mut builder = Builder::new(settings(1.0, 4.0, 1.0, 3.2, 0.5, 0.4), Mesh::icospheres(1)?)?;
     /// for oi in 0..2 {
     ///     builder.set(0, oi, &(0..42 * 42).map(|i| f64::from(i % 3) / 10.0).collect::<Vec<_>>())?;
     /// }
-    /// let settled = builder.settle(0)?;
-    /// assert!(settled.gradient > 0.0 && settled.gradient < 0.5);
-    /// assert_eq!((settled.comparisons, builder.level()), (2 * (2 * 42 * 240), 0));
+    /// let Settled { gradient, comparisons } = builder.settle(0)?;
+    /// assert!(gradient > 0.0 && gradient < 0.5);
+    /// // two slabs of 42 vertices with 240 neighbours in all
+    /// assert_eq!((comparisons, builder.level()), (2 * (2 * 42 * 240), 0));
     /// // the energies are of a level that has gone: settled again they would be taken for others
     /// assert_eq!(builder.settle(0), Err(Refusal::OtherLevel));
     /// # Ok::<(), simgrale::Error>(())

@@ -43,12 +43,12 @@ impl Mesh {
     /// Finds a direction of any length over one level, without its locator.
     ///
     /// ```
-    /// use simgrale::{Mesh, Refusal};
+    /// use simgrale::{Found, Mesh, Refusal};
     ///
     /// let mesh = Mesh::icospheres(2)?;
-    /// let found = mesh.search(2, [0.3, 0.5, 0.7])?;
-    /// assert!(found.distance < 0.06 && found.face.contains(&found.vertex));
-    /// assert!((found.weights.iter().sum::<f64>() - 1.0).abs() < 1e-12);
+    /// let Found { vertex, distance, face, weights } = mesh.search(2, [0.3, 0.5, 0.7])?;
+    /// assert!(distance < 0.06 && face.contains(&vertex));
+    /// assert!((weights.iter().sum::<f64>() - 1.0).abs() < 1e-12);
     /// assert_eq!(mesh.search(2, [0.0; 3]), Err(Refusal::Query));
     /// # Ok::<(), simgrale::Error>(())
     /// ```

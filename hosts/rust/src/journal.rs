@@ -65,14 +65,14 @@ pub enum Step {
 /// A job that is killed and started again goes on where it was, and ends with the same table:
 ///
 /// ```
-/// use simgrale::{save, settings, Builder, Error, Guard, JournalRefusal, Mesh, Step, Table};
+/// use simgrale::{save, settings, Builder, Error, Guard, JournalRefusal, Journaled, Mesh, Step};
 /// use std::{path::Path, sync::Arc};
 ///
 /// // goes on with the build for so many calls, or until the table is written
 /// fn job(folder: &Path, calls: usize) -> Result<(), Error> {
 ///     let (grid, mesh) = (settings(1.0, 5.0, 1.0, 2.1, 0.5, 0.4), Arc::new(Mesh::icospheres(1)?));
 ///     let journal = folder.join("build.journal");
-///     let mut build = match Builder::resume(&journal, grid, mesh.clone(), Guard::On) {
+///     let mut build: Journaled<Builder> = match Builder::resume(&journal, grid, mesh.clone(), Guard::On) {
 ///         Err(error) if error.journal() == Some(JournalRefusal::Absent) => Builder::with_journal(&journal, grid, mesh, Guard::On)?,
 ///         resumed => resumed?,
 ///     };

@@ -16,7 +16,7 @@ pub struct Repacked {
 /// is. A row whose energies do not end inside section 5 is refused ([`Refusal::SlabPlace`]).
 ///
 /// ```
-/// use simgrale::{repack, settings, Builder, Error, Mesh, Refusal, Table};
+/// use simgrale::{repack, settings, Builder, Error, Mesh, Refusal, Repacked, Table};
 ///
 /// let mut builder = Builder::new(settings(1.0, 3.0, 1.0, 3.2, 0.5, 0.4), Mesh::icospheres(0)?)?;
 /// builder.set(0, 0, &(0..144).map(f64::from).collect::<Vec<_>>())?;
@@ -26,8 +26,7 @@ pub struct Repacked {
 /// loose[count..count + 4].copy_from_slice(&145u32.to_le_bytes());
 /// loose.extend([0; 4]);
 /// assert_eq!(Table::read(loose.clone(), builder.mesh().clone()).unwrap_err(), Error::Refused(Refusal::Tiling));
-/// let repacked = repack(&loose)?;
-/// assert_eq!((repacked.file, repacked.moved), (packed, 0));
+/// assert_eq!(repack(&loose)?, Repacked { file: packed, moved: 0 });
 /// # Ok::<(), Error>(())
 /// ```
 pub fn repack(file: &[u8]) -> Result<Repacked, Refusal> {

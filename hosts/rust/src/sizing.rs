@@ -35,14 +35,15 @@ pub struct LevelSizing {
 /// What a table of two molecules needs that has no long-range tail.
 ///
 /// ```
-/// use simgrale::{settings, sizing, sizing_with_terms, Mesh, Refusal};
+/// use simgrale::{settings, sizing, sizing_with_terms, LevelSizing, Mesh, Refusal, Sizing};
 ///
 /// let (grid, mesh) = (settings(1.0, 25.0, 0.75, 0.5235987755982988, 0.5, 0.40339), Mesh::icospheres(3)?);
-/// let size = sizing(grid, &mesh)?;
-/// assert_eq!((size.slabs, size.store, size.file), (384, 384 * 162 * 162, 40_314_692));
-/// assert_eq!((size.levels.len(), size.levels[3].comparisons), (4, 12 * 2 * 162 * 960));
+/// let Sizing { slabs, store, file, levels } = sizing(grid, &mesh)?;
+/// assert_eq!((slabs, store, file), (384, 384 * 162 * 162, 40_314_692));
+/// let LevelSizing { cell_vertices, faces, comparisons, .. } = levels[3];
+/// assert_eq!((levels.len(), cell_vertices, faces, comparisons), (4, 27 * 162, 45 * 162, 12 * 2 * 162 * 960));
 /// // a long-range tail of two terms
-/// assert_eq!(sizing_with_terms(grid, &mesh, 2)?.file, size.file + 12 + 2 * 20);
+/// assert_eq!(sizing_with_terms(grid, &mesh, 2)?.file, file + 12 + 2 * 20);
 /// assert_eq!(sizing(settings(1.0, 25.0, -0.75, 0.5, 0.5, 0.4), &mesh), Err(Refusal::Settings));
 /// # Ok::<(), simgrale::Error>(())
 /// ```
