@@ -1,8 +1,8 @@
 //! Begins or resumes a build of tests/hosts/journal.c with its journal: journal KIND FILE TABLE [RECORDS] stops after so many
 //! records, and writes the table once all is done. Journal and table are the same as in C, byte for byte.
-use simgrale::{AtomBuilder, Builder, Error, Guard, JournalRefusal, Mesh, Step, atom_settings, save, settings, vertex_count};
+use simgrale::{AtomBuilder, Builder, Guard, Mesh, Step, atom_settings, save, settings, vertex_count};
+use std::error::Error;
 use std::process::ExitCode;
-use std::sync::Arc;
 
 const HEIGHTS: [f64; 6] = [1e4, 3.0, 0.05, 3.0, 0.05, 1e-3];
 
@@ -19,21 +19,12 @@ fn energies(count: usize, ri: u64, oi: u64) -> Vec<f64> {
     (0..count as u64).map(|i| base + HEIGHTS[ri as usize % 6] * drawn(i)).collect()
 }
 
-// Begun where there is no journal yet.
-fn begun<T>(resumed: Result<T, Error>, begin: impl FnOnce() -> Result<T, Error>) -> Result<T, Error> {
-    match resumed {
-        Err(error) if error.journal() == Some(JournalRefusal::Absent) => begin(),
-        other => other,
-    }
-}
-
 // The records, and the table once all is done.
 type Done = (u64, Option<Vec<u8>>);
 
-fn pair(name: &str, top: u64, distances: f64, step: f64, most: u64) -> Result<Done, Box<dyn std::error::Error>> {
-    let mesh = Arc::new(Mesh::icospheres(top)?);
+fn pair(name: &str, top: u64, distances: f64, step: f64, most: u64) -> Result<Done, Box<dyn Error>> {
     let grid = settings(0.0, distances, 1.0, step, 0.5, 1.0);
-    let mut j = begun(Builder::resume(name, grid, mesh.clone(), Guard::On), || Builder::with_journal(name, grid, mesh, Guard::On))?;
+    let mut j = Builder::open_journal(name, grid, Mesh::icospheres(top)?, Guard::On)?;
     while j.records() < most {
         match j.next_step() {
             Step::Set { ri, oi } => {
@@ -47,10 +38,9 @@ fn pair(name: &str, top: u64, distances: f64, step: f64, most: u64) -> Result<Do
     Ok((j.records(), None))
 }
 
-fn atom(name: &str, most: u64) -> Result<Done, Box<dyn std::error::Error>> {
-    let mesh = Arc::new(Mesh::icospheres(2)?);
+fn atom(name: &str, most: u64) -> Result<Done, Box<dyn Error>> {
     let grid = atom_settings(0.0, 6.0, 1.0, 0.5, 1.0);
-    let mut j = begun(AtomBuilder::resume(name, grid, mesh.clone(), Guard::On), || AtomBuilder::with_journal(name, grid, mesh, Guard::On))?;
+    let mut j = AtomBuilder::open_journal(name, grid, Mesh::icospheres(2)?, Guard::On)?;
     while j.records() < most {
         match j.next_step() {
             Step::Set { ri, oi } => {
@@ -64,7 +54,7 @@ fn atom(name: &str, most: u64) -> Result<Done, Box<dyn std::error::Error>> {
     Ok((j.records(), None))
 }
 
-fn run() -> Result<(), Box<dyn std::error::Error>> {
+fn run() -> Result<(), Box<dyn Error>> {
     let words: Vec<String> = std::env::args().skip(1).collect();
     let [kind, name, table, rest @ ..] = words.as_slice() else {
         return Err("usage: journal KIND FILE TABLE [RECORDS]".into());

@@ -65,17 +65,13 @@ pub enum Step {
 /// A job that is killed and started again goes on where it was, and ends with the same table:
 ///
 /// ```
-/// use simgrale::{save, settings, Builder, Error, Guard, JournalRefusal, Journaled, Mesh, Step};
-/// use std::{path::Path, sync::Arc};
+/// use simgrale::{save, settings, Builder, Error, Guard, Journaled, Mesh, Step};
+/// use std::path::Path;
 ///
 /// // goes on with the build for so many calls, or until the table is written
 /// fn job(folder: &Path, calls: usize) -> Result<(), Error> {
-///     let (grid, mesh) = (settings(1.0, 5.0, 1.0, 2.1, 0.5, 0.4), Arc::new(Mesh::icospheres(1)?));
-///     let journal = folder.join("build.journal");
-///     let mut build: Journaled<Builder> = match Builder::resume(&journal, grid, mesh.clone(), Guard::On) {
-///         Err(error) if error.journal() == Some(JournalRefusal::Absent) => Builder::with_journal(&journal, grid, mesh, Guard::On)?,
-///         resumed => resumed?,
-///     };
+///     let (journal, grid) = (folder.join("build.journal"), settings(1.0, 5.0, 1.0, 2.1, 0.5, 0.4));
+///     let mut build: Journaled<Builder> = Builder::open_journal(journal, grid, Mesh::icospheres(1)?, Guard::On)?;
 ///     for _ in 0..calls {
 ///         match build.next_step() {
 ///             Step::Set { ri, oi } => {
@@ -133,7 +129,22 @@ fn atom_list(g: AtomGrid) -> [f64; 6] {
     [g.rmin, g.rmax, g.dr, 0.0, g.threshold, g.beta]
 }
 
+// Begun where there is no journal yet.
+fn begun<T>(resumed: Result<T, Error>, begin: impl FnOnce() -> Result<T, Error>) -> Result<T, Error> {
+    match resumed {
+        Err(error) if error.journal() == Some(JournalRefusal::Absent) => begin(),
+        other => other,
+    }
+}
+
 impl Builder {
+    /// [Resumes](Builder::resume) the journal where it is there, and [begins](Builder::with_journal) it where it is not: what a job calls that a
+    /// scheduler starts again. [`Journaled`] has an example.
+    pub fn open_journal(path: impl AsRef<Path>, settings: Grid, mesh: impl Into<Arc<Mesh>>, guard: Guard) -> Result<Journaled<Builder>, Error> {
+        let (path, mesh) = (path.as_ref(), mesh.into());
+        begun(Builder::resume(path, settings, mesh.clone(), guard), || Builder::with_journal(path, settings, mesh, guard))
+    }
+
     /// A builder with no slab set, and a new journal of its calls. Refused ([`JournalRefusal::Exists`]) where there is such a file.
     /// [`Journaled`] has an example.
     pub fn with_journal(path: impl AsRef<Path>, settings: Grid, mesh: impl Into<Arc<Mesh>>, guard: Guard) -> Result<Journaled<Builder>, Error> {
@@ -157,6 +168,17 @@ impl Builder {
 }
 
 impl AtomBuilder {
+    /// As [`Builder::open_journal`].
+    pub fn open_journal(
+        path: impl AsRef<Path>,
+        settings: AtomGrid,
+        mesh: impl Into<Arc<Mesh>>,
+        guard: Guard,
+    ) -> Result<Journaled<AtomBuilder>, Error> {
+        let (path, mesh) = (path.as_ref(), mesh.into());
+        begun(AtomBuilder::resume(path, settings, mesh.clone(), guard), || AtomBuilder::with_journal(path, settings, mesh, guard))
+    }
+
     /// As [`Builder::with_journal`].
     ///
     /// ```

@@ -1,4 +1,4 @@
-//! Every public name of the wrapper is used in an example of its documentation, which cargo test runs.
+//! Every public name of the wrapper is used in an example of its documentation, which cargo test runs; the lines of docs/GUIDE.md are an example's.
 use std::path::Path;
 
 // Lines of doctests, without their comment signs, and all other lines.
@@ -38,4 +38,12 @@ fn every_public_name_is_in_an_example() {
     let missing: Vec<&&str> = names.iter().filter(|name| !examples.iter().any(|line| words(line).any(|word| word == **name))).collect();
     assert!(names.len() > 80 && examples.len() > 200, "{} names, {} lines", names.len(), examples.len());
     assert!(missing.is_empty(), "in no example: {missing:?}");
+}
+
+#[test]
+fn the_guides_lines_are_the_examples() {
+    let page = include_str!("../../../docs/GUIDE.md");
+    let section = page.split("\n## From Rust\n").nth(1).and_then(|rest| rest.split("\n## ").next()).expect("the section");
+    let lines: Vec<&str> = section.lines().filter(|line| line.starts_with("    ")).collect();
+    assert!(lines.len() == 11 && include_str!("../examples/job.rs").contains(&lines.join("\n")), "{lines:#?}");
 }
