@@ -35,11 +35,11 @@ fn beside(path: &Path) -> io::Result<PathBuf> {
 }
 
 /// Writes a file so that its name never stands for a part of it: under another name in the same folder, brought to disk, then renamed. What was
-/// there before under the name is replaced. Where that fails nothing is left, and what was there stays; a process that is killed can leave the
-/// other name, a dot in front and `.tmp` behind. An error names the path.
+/// there before under the name is replaced, if it is a file: a folder, a device or a symbolic link is refused. Where it fails nothing is left, and
+/// what was there stays; a process that is killed can leave the other name, a dot in front and `.tmp` behind. An error names the path.
 ///
 /// ```
-/// use simgrale::{save, settings, AtomBuilder, Builder, Mesh, Table};
+/// use simgrale::{save, settings, Builder, Mesh};
 ///
 /// let builder = Builder::new(settings(1.0, 4.0, 1.0, 3.2, 0.5, 0.4), Mesh::icospheres(0)?)?;
 /// let path = std::env::temp_dir().join(format!("simgrale-save-{}.icotable", std::process::id()));
@@ -51,11 +51,19 @@ fn beside(path: &Path) -> io::Result<PathBuf> {
 /// ```
 pub fn save(path: impl AsRef<Path>, file: &[u8]) -> Result<(), Error> {
     let path = path.as_ref();
-    let saved = beside(path).and_then(|name| {
+    let saved = replaceable(path).and_then(|()| beside(path)).and_then(|name| {
         let written = write_new(&name, file).and_then(|()| std::fs::rename(&name, path));
         written.inspect_err(|_| drop(std::fs::remove_file(&name)))
     });
     saved.and_then(|()| sync_folder(path)).map_err(|error| Error::from(error).of_file(path))
+}
+
+// A rename would put the file in the place of a device or a link.
+fn replaceable(path: &Path) -> io::Result<()> {
+    match std::fs::symlink_metadata(path) {
+        Ok(what) if !what.is_file() => Err(io::Error::new(io::ErrorKind::AlreadyExists, "it is there and is no file that can be replaced")),
+        _ => Ok(()),
+    }
 }
 
 fn write_new(name: &Path, bytes: &[u8]) -> io::Result<()> {

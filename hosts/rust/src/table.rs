@@ -84,7 +84,7 @@ impl Table {
     /// Reads a file and looks over all of it, as [`read`](Table::read) does. An error names the path.
     ///
     /// The whole file is held in memory: std has no memory map, and this package needs nothing but std. Where the number of levels is not known
-    /// beforehand, [`Mesh::icospheres(15)`](Mesh::icospheres) serves every table that was built over icospheres.
+    /// beforehand, [`Mesh::icospheres(15)`](Mesh::icospheres) serves every table that was built over icospheres of this package or of hosts/c.
     ///
     /// ```
     /// use simgrale::{save, settings, Builder, Error, Mesh, Table};

@@ -1,9 +1,5 @@
-//! What makes the wrapper easy to use, for tables of both kinds: files that are opened and saved, levels that are asked for once, rows one after
-//! another, errors as std has them, threads.
-use simgrale::{
-    AtomBuilder, AtomTable, Builder, Error, FloatEnvironment, JournalRefusal, Kind, Mesh, Refusal, Row, Table, atom_settings, save, settings,
-};
-use std::error::Error as _;
+//! Tables of both kinds: files that are opened and saved, levels that are asked for once, rows one after another, threads.
+use simgrale::{AtomBuilder, AtomTable, Builder, Error, Kind, Mesh, Refusal, Row, Table, atom_settings, save, settings};
 use std::io;
 use std::path::{Path, PathBuf};
 use std::sync::Arc;
@@ -125,7 +121,7 @@ fn rows_come_one_after_another() {
     assert_eq!((rows[0].1.kind, rows[1].1.energies[12]), (Kind::Repulsive, 12.0));
 }
 
-// Nothing but the file is left, whatever happens, and a file that cannot be replaced stays.
+// Nothing but the file is left, whatever happens.
 #[test]
 fn a_file_is_saved_whole() {
     let folder = Folder::new("saved");
@@ -134,12 +130,19 @@ fn a_file_is_saved_whole() {
         save(&path, bytes).unwrap();
         assert_eq!((std::fs::read(&path).unwrap(), folder.names()), (bytes.to_vec(), vec!["table".to_string()]));
     }
-    let taken = folder.0.join("taken");
-    std::fs::create_dir(&taken).unwrap();
-    let error = save(&taken, b"third").unwrap_err();
-    assert!(error.to_string().starts_with(&format!("{}: ", taken.display())) && error.number().is_none(), "{error}");
-    assert_eq!(folder.names(), ["table", "taken"]);
-    assert_eq!(save(folder.0.join(".."), b"").unwrap_err().to_string(), format!("{}: it names no file", folder.0.join("..").display()));
+    // what is no file stays
+    let [inner, link, socket] = ["inner", "link", "socket"].map(|name| folder.0.join(name));
+    std::fs::create_dir(&inner).unwrap();
+    std::os::unix::fs::symlink(&path, &link).unwrap();
+    let _listener = std::os::unix::net::UnixListener::bind(&socket).unwrap();
+    for taken in [&inner, &link, &socket, &folder.0.join("..")] {
+        let said = save(taken, b"third").unwrap_err().to_string();
+        assert_eq!(said, format!("{}: it is there and is no file that can be replaced", taken.display()));
+    }
+    assert!(std::fs::symlink_metadata(&link).unwrap().is_symlink() && std::fs::read(&path).unwrap() == b"second");
+    let nowhere = folder.0.join("none/table");
+    assert_eq!(save(&nowhere, b"").err(), in_file(&nowhere, std::fs::read(&nowhere).unwrap_err().into()));
+    assert_eq!((save("", b"").unwrap_err().to_string(), folder.names().join(" ")), (": it names no file".into(), "inner link socket table".into()));
     std::thread::scope(|s| {
         for n in 0..4u8 {
             let path = &path;
@@ -147,69 +150,7 @@ fn a_file_is_saved_whole() {
         }
     });
     let bytes = std::fs::read(&path).unwrap();
-    assert!(bytes.len() == 1000 && bytes.iter().all(|b| *b == bytes[0]) && folder.names() == ["table", "taken"]);
-}
-
-fn every_error() -> Vec<Error> {
-    let told = Error::Journal { refusal: JournalRefusal::Damaged, more: "at byte 7".into() };
-    vec![
-        Error::Refused(Refusal::Bin),
-        Error::Refused(Refusal::Row),
-        Error::Environment(FloatEnvironment { rounding: true, ..FloatEnvironment::default() }),
-        Error::Levels { needed: 4, lent: 2 },
-        Error::Levels { needed: 4, lent: 3 },
-        Error::Journal { refusal: JournalRefusal::InUse, more: String::new() },
-        told.clone(),
-        Error::from(io::Error::other("the disk")),
-        Error::from(io::Error::other("a plug")),
-        Error::from(io::Error::from(io::ErrorKind::NotFound)),
-        Error::File { path: "a".into(), error: Box::new(told.clone()) },
-        Error::File { path: "b".into(), error: Box::new(told) },
-        Error::File { path: "b".into(), error: Box::new(io::Error::other("the disk").into()) },
-    ]
-}
-
-#[test]
-fn errors_are_equal_to_themselves_alone() {
-    let (all, again) = (every_error(), every_error());
-    for (i, error) in all.iter().enumerate() {
-        for (j, other) in again.iter().enumerate() {
-            assert_eq!(error == other, i == j, "{error:?} and {other:?}");
-        }
-        assert_eq!(error, &error.clone());
-    }
-}
-
-#[test]
-fn errors_say_number_words_and_place() {
-    let said: Vec<String> = every_error().iter().map(Error::to_string).collect();
-    assert_eq!(said[0], "refused with 8: a bin number is not below its count");
-    let words = "refused with 217: the floating-point environment is not the one that the library needs: results are not rounded to nearest";
-    assert!(said[2].starts_with(words), "{}", said[2]);
-    assert_eq!(said[3], "refused with 19: the table has 4 levels and the meshes 2: meshes of top level 3 are needed");
-    assert_eq!(said[5], "refused with 203: the journal is in use by another process, or by another handle of this one");
-    assert_eq!(said[6], "refused with 206: a record of the journal is damaged: at byte 7");
-    assert_eq!((said[10].as_str(), said[12].as_str()), (&*format!("a: {}", said[6]), "b: the disk"));
-    let numbers: Vec<Option<u64>> = every_error().iter().map(Error::number).collect();
-    let some = |list: &[u64]| list.iter().map(|&n| Some(n)).collect::<Vec<_>>();
-    assert_eq!(numbers[..7], some(&[8, 15, 217, 19, 19, 203, 206]));
-    assert_eq!(numbers[7..], [None, None, None, Some(206), Some(206), None]);
-}
-
-#[test]
-fn errors_have_their_source() {
-    let all = every_error();
-    let of = |i: usize| all[i].source();
-    assert_eq!(of(0).and_then(|e| e.downcast_ref()), Some(&Refusal::Bin));
-    assert!(of(2).is_none() && of(3).is_none());
-    assert_eq!([6, 10].map(|i| of(i).and_then(|e| e.downcast_ref())), [Some(&JournalRefusal::Damaged); 2]);
-    let kinds = [7, 9, 12].map(|i| of(i).and_then(|e| e.downcast_ref()).map(io::Error::kind));
-    assert_eq!(kinds, [io::ErrorKind::Other, io::ErrorKind::NotFound, io::ErrorKind::Other].map(Some));
-    // `?` takes what the library and the system refuse
-    let mixed = |path: &Path| -> Result<usize, Error> { Ok(std::fs::metadata(path)?.len() as usize + pair().write()?.len()) };
-    assert_eq!(mixed(Path::new("no/such/name")), Err(std::fs::metadata("no/such/name").unwrap_err().into()));
-    let boxed: Box<dyn std::error::Error + Send + Sync> = all[0].clone().into();
-    assert_eq!(boxed.downcast_ref(), Some(&all[0]));
+    assert!(bytes.len() == 1000 && bytes.iter().all(|b| *b == bytes[0]) && folder.names() == ["inner", "link", "socket", "table"]);
 }
 
 // The same readings in every thread, also where the table went to another one.
