@@ -75,6 +75,10 @@ void print_row(FILE *out, const table_file *f, const row *r);
 void print_slab(FILE *out, const table_file *f, uint64_t slab);
 void print_bins(FILE *out, const table_file *f, uint64_t slab);
 
+/* numbers.c: a word of the command line as a number, and as a whole one; false where it is none. */
+bool number_of(const char *word, double *x);
+bool whole_of(const char *word, uint64_t *n);
+
 /* walk.c: the questions of read, 13 to 17, 23 and a viewer's 24, once more, by the host, for the byte alone: a hint. */
 place find_place(const uint8_t *bytes, size_t count, bool atom, bool viewer);
 /* The library's number in words, and the byte where the walk agrees with it. */
