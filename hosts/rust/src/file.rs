@@ -1,5 +1,6 @@
 //! Table files on disk.
 use crate::error::Error;
+use std::ffi::OsString;
 use std::fs::{File, OpenOptions};
 use std::io::{self, Write};
 use std::path::{Path, PathBuf};
@@ -23,20 +24,26 @@ pub(crate) fn sync_folder(path: &Path) -> io::Result<()> {
     }
 }
 
-// A name beside another that no other call of this or another process takes.
-fn beside(path: &Path) -> io::Result<PathBuf> {
+// A new file beside another, under a name that nothing else has: one that a killed process left may have its process number.
+fn beside(path: &Path) -> io::Result<(PathBuf, File)> {
     static COUNT: AtomicU64 = AtomicU64::new(0);
     let name = path.file_name().ok_or_else(|| io::Error::new(io::ErrorKind::InvalidInput, "it names no file"))?;
-    let number = COUNT.fetch_add(1, Ordering::Relaxed);
-    let mut beside = std::ffi::OsString::from(".");
-    beside.push(name);
-    beside.push(format!(".{}.{number}.tmp", std::process::id()));
-    Ok(folder(path).join(beside))
+    loop {
+        let mut beside = OsString::from(".");
+        beside.push(name);
+        beside.push(format!(".{}.{}.tmp", std::process::id(), COUNT.fetch_add(1, Ordering::Relaxed)));
+        let beside = folder(path).join(beside);
+        match OpenOptions::new().write(true).create_new(true).open(&beside) {
+            Err(error) if error.kind() == io::ErrorKind::AlreadyExists => (),
+            made => return made.map(|file| (beside, file)),
+        }
+    }
 }
 
 /// Writes a file so that its name never stands for a part of it: under another name in the same folder, brought to disk, then renamed. What was
-/// there before under the name is replaced, if it is a file: a folder, a device or a symbolic link is refused. Where it fails nothing is left, and
-/// what was there stays; a process that is killed can leave the other name, a dot in front and `.tmp` behind. An error names the path.
+/// there before under the name is replaced, if it is a file: a folder, a device or a symbolic link is refused. Where that fails nothing new is left,
+/// and what was there stays. Last the folder is brought to disk; where that fails, the new file stands all the same. A process that is killed can
+/// leave the other name, a dot in front and `.tmp` behind. An error names the path.
 ///
 /// ```
 /// use simgrale::{save, settings, Builder, Mesh};
@@ -51,9 +58,9 @@ fn beside(path: &Path) -> io::Result<PathBuf> {
 /// ```
 pub fn save(path: impl AsRef<Path>, file: &[u8]) -> Result<(), Error> {
     let path = path.as_ref();
-    let saved = replaceable(path).and_then(|()| beside(path)).and_then(|name| {
-        let written = write_new(&name, file).and_then(|()| std::fs::rename(&name, path));
-        written.inspect_err(|_| drop(std::fs::remove_file(&name)))
+    let saved = replaceable(path).and_then(|()| beside(path)).and_then(|(name, mut made)| {
+        let written = made.write_all(file).and_then(|()| made.sync_all());
+        written.and_then(|()| std::fs::rename(&name, path)).inspect_err(|_| drop(std::fs::remove_file(&name)))
     });
     saved.and_then(|()| sync_folder(path)).map_err(|error| Error::from(error).of_file(path))
 }
@@ -64,10 +71,4 @@ fn replaceable(path: &Path) -> io::Result<()> {
         Ok(what) if !what.is_file() => Err(io::Error::new(io::ErrorKind::AlreadyExists, "it is there and is no file that can be replaced")),
         _ => Ok(()),
     }
-}
-
-fn write_new(name: &Path, bytes: &[u8]) -> io::Result<()> {
-    let mut file = OpenOptions::new().write(true).create_new(true).open(name)?;
-    file.write_all(bytes)?;
-    file.sync_all()
 }

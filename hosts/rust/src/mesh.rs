@@ -34,7 +34,7 @@ pub struct Mesh {
 /// One level of a mesh as a host makes it. [`Mesh::new`] has an example.
 #[derive(Clone, Debug, Default, PartialEq)]
 pub struct Level {
-    /// The place of each vertex, on the sphere of radius 1.
+    /// The place of each vertex: a point of the sphere of radius 1, which the mesh rule does not ask.
     pub vertices: Vec<[f64; 3]>,
     /// For each vertex its neighbours, 5 or 6, with the angle to each in radians.
     pub neighbours: Vec<Vec<(u16, f64)>>,
