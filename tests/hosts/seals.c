@@ -25,13 +25,13 @@ static uint64_t drawn(void) {
     return z ^ z >> 31;
 }
 
-/* Any double that is a number: of all bits, small, infinite, and those of a hand. */
+/* Any finite double: of all bits, small, and those of a hand. */
 static double any_number(void) {
-    static const double few[] = {0, -0.0, 0.1, 0.4, 0.5, 1, 1e300, 5e-324, INFINITY, -INFINITY};
+    static const double few[] = {0, -0.0, 0.1, 0.4, 0.5, 1, 1e300, 5e-324};
     uint64_t bits = drawn();
     double x;
     memcpy(&x, &bits, sizeof x);
-    return bits % 5 == 0 ? few[drawn() % (sizeof few / sizeof few[0])] : x != x ? 1.0 / 3 : x;
+    return bits % 5 == 0 ? few[drawn() % (sizeof few / sizeof few[0])] : isfinite(x) ? x : 1.0 / 3;
 }
 
 static void any_digits(char digits[65]) {
@@ -118,7 +118,8 @@ static void damages(void) {
     altered(good, "length 70", "length -1", 254, "line 4 ");
     altered(good, "aaaa", "AAAA", 254, ": a SHA-256 of the table");
     altered(good, "threshold 0.40000000000000002", "threshold 0.4", 254, "line 10 is not as this library writes it");
-    altered(good, "beta 1", "beta nan", 254, "a setting that is not a number");
+    altered(good, "beta 1", "beta nan", 254, "a setting that is not finite");
+    altered(good, "beta 1", "beta inf", 254, "a setting that is not finite");
     altered(good, "beta 1", "gamma 1", 254, "line 11 is not its 'beta'");
     altered(good, "beta 1\n", "beta 1\ncolour red\n", 254, "line 12 is not its 'n_r'");
     altered(good, "beta 1\n", "", 254, "line 11 is not its 'beta'");
@@ -139,7 +140,7 @@ static void not_written(icotable_seal s, const char *why) {
 static void unfit(void) {
     icotable_seal s = sealed;
     not_written((icotable_seal){0}, "version");
-    s.grid.beta = NAN, not_written(s, "not a number"), s = sealed;
+    s.grid.beta = NAN, not_written(s, "not finite"), s = sealed;
     strcpy(s.version, "a b"), not_written(s, "version"), s = sealed;
     memset(s.version, 'a', sizeof s.version), not_written(s, "version"), s = sealed;
     memset(s.sha256, 'a', sizeof s.sha256), not_written(s, "64 hexadecimal digits"), s = sealed;
