@@ -108,7 +108,8 @@ static void put_tables(icotable_journal *j, const plan *p) {
     icotable_written w = icotable_journal_write(j, output, sizeof output);
     need(w.number == 0, j->said);
     put("table", p->name, output, w.length);
-    icotable_seal s = {.table_length = w.length, .atom = p->atom, .grid = j->builder.grid, .top = p->top, .levels = p->top + 1, .own_meshes = 1, .journaled = p->atom};
+    icotable_seal s = {.table_length = w.length, .atom = p->atom, .grid = j->builder.grid, .top = p->top, .levels = p->top + 1, .own_meshes = 1};
+    s.journaled = p->atom; /* one with a journal, one without */
     strcpy(s.version, ICOTABLE_VERSION);
     s.meshes_hash = icotable_meshes_hash(&meshes, s.levels);
     icotable_sha256_(output, w.length, s.sha256);

@@ -79,7 +79,8 @@ static bool read_refuses(const char *name) {
     icotable_seal s, none = {0};
     snprintf(table, sizeof table, "%.*s", (int)strlen(name) - 5, name);
     uint64_t number = icotable_seal_read(&s, table, &fault);
-    check(number == fault.number && (number == 0 ? same_seal(&s, &sealed) : same_seal(&s, &none) && strlen(fault.said) > 20), "an altered seal is read as another one", fault.said);
+    bool said = number == fault.number && (number == 0 || strlen(fault.said) > 20);
+    check(said && same_seal(&s, number == 0 ? &sealed : &none), "an altered seal is read as another one", fault.said);
     return number >= 251 && number <= 259;
 }
 
@@ -102,7 +103,8 @@ static void altered(const char *good, const char *from, const char *to, uint64_t
 
 static void damages(void) {
     size_t count;
-    sealed = (icotable_seal){.table_length = 70, .grid = {1, 25, 0.75, 0.5, 0.4, 1, 32, 12}, .top = 3, .levels = 4, .meshes_hash = 255, .own_meshes = 1, .version = "0.20.0"};
+    sealed = (icotable_seal){.table_length = 70, .grid = {1, 25, 0.75, 0.5, 0.4, 1, 32, 12}, .top = 3, .levels = 4, .own_meshes = 1, .version = "0.20.0"};
+    sealed.meshes_hash = 255;
     memset(sealed.sha256, 'a', 64);
     check(icotable_seal_write(&sealed, path("good"), &fault) == 0, "a seal is not written", fault.said);
     char *good = (char *)get_file(path("good.meta"), &count);
@@ -183,7 +185,8 @@ static void troubles(void) {
     refused(256, icotable_seal_write(&s, path("good"), &fault), "File too large");
     setrlimit(RLIMIT_FSIZE, &was);
     free(get_file(path("good.meta"), &count));
-    check(icotable_seal_read(&s, path("good"), &fault) == 0 && same_seal(&s, &sealed) && files() == before, "a seal that was not written alters the one before it", fault.said);
+    check(icotable_seal_read(&s, path("good"), &fault) == 0 && same_seal(&s, &sealed), "a seal that was not written alters the one before it", fault.said);
+    check(files() == before, "a seal that was not written leaves a file", "");
 }
 
 /* ---- a small table for the tools */
@@ -262,7 +265,7 @@ int main(int count, char **words) {
     unfit();
     tables();
     troubles();
-    printf("seals: %llu checks, %llu wrong; locale %s, point '%s'\n", (unsigned long long)checks, (unsigned long long)wrong, locale == NULL ? "not there" : locale,
-           localeconv()->decimal_point);
+    printf("seals: %llu checks, %llu wrong; locale %s, point '%s'\n", (unsigned long long)checks, (unsigned long long)wrong,
+           locale == NULL ? "not there" : locale, localeconv()->decimal_point);
     return wrong != 0;
 }
