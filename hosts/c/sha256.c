@@ -45,27 +45,16 @@ static void schedule(uint32_t w[64], const uint8_t *block) {
     }
 }
 
-/* One step, 6.2.2: the eight names go round instead of their values, which so stay where they are. */
-#define STEP(a, b, c, d, e, f, g, h, t) \
-    do { \
-        uint32_t t1 = h + (rotr(e, 6) ^ rotr(e, 11) ^ rotr(e, 25)) + ((e & f) ^ (~e & g)) + K[t] + w[t]; \
-        d += t1; \
-        h = t1 + (rotr(a, 2) ^ rotr(a, 13) ^ rotr(a, 22)) + ((a & b) ^ (a & c) ^ (b & c)); \
-    } while (0)
-
 static void add_block(sha256 *s, const uint8_t *block) {
     uint32_t w[64], *v = s->h;
     uint32_t a = v[0], b = v[1], c = v[2], d = v[3], e = v[4], f = v[5], g = v[6], h = v[7];
     schedule(w, block);
-    for (size_t t = 0; t < 64; t += 8) {
-        STEP(a, b, c, d, e, f, g, h, t);
-        STEP(h, a, b, c, d, e, f, g, t + 1);
-        STEP(g, h, a, b, c, d, e, f, t + 2);
-        STEP(f, g, h, a, b, c, d, e, t + 3);
-        STEP(e, f, g, h, a, b, c, d, t + 4);
-        STEP(d, e, f, g, h, a, b, c, t + 5);
-        STEP(c, d, e, f, g, h, a, b, t + 6);
-        STEP(b, c, d, e, f, g, h, a, t + 7);
+    for (size_t t = 0; t < 64; t++) {
+        uint32_t ch = (e & f) ^ (~e & g), maj = (a & b) ^ (a & c) ^ (b & c);
+        uint32_t t1 = h + (rotr(e, 6) ^ rotr(e, 11) ^ rotr(e, 25)) + ch + K[t] + w[t];
+        uint32_t t2 = (rotr(a, 2) ^ rotr(a, 13) ^ rotr(a, 22)) + maj;
+        h = g, g = f, f = e, e = d + t1;
+        d = c, c = b, b = a, a = t1 + t2;
     }
     v[0] += a, v[1] += b, v[2] += c, v[3] += d, v[4] += e, v[5] += f, v[6] += g, v[7] += h;
 }
