@@ -1,7 +1,7 @@
 // Many readings in one call.
 ghost use mathlib.Core.Path.{_≡_};
 ghost use Rattle.search.specs.Search.{locatorOf};
-ghost use Rattle.readings.specs.Poses.{wayBy, ReadingsOut, readingsOut};
+ghost use Rattle.reading.specs.Poses.{wayBy, ReadingsOut, readingsOut};
 ghost use Rattle.icotable.specs.Answers.{tableFrom};
 use crate::TableAnswer;
 use crate::table_from;
@@ -26,7 +26,7 @@ fn readings_of(
         (wayBy (now (beta .entry))) (now (poses .entry)) (now (numbers .entry)) (now (answers .entry))) ⌝ }
 {
     let t = table_from(table);
-    readings::lookup_all(
+    reading::lookup_all(
         t,
         file,
         vertices,

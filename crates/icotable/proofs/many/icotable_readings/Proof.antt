@@ -41,7 +41,7 @@ use denote.Triple.Walked.{says, Stays, stay-none-slice, gave-slice, walkOf, AllG
 use denote.Exit.{yes}
 use denote.Struct.Laws as LL
 use Rattle.search.specs.Search.{locatorOf}
-use Rattle.readings.specs.Poses.{wayBy, ReadingsOut, readingsOut}
+use Rattle.reading.specs.Poses.{wayBy, ReadingsOut, readingsOut}
 use Rattle.icotable.specs.Answers.{tableFrom}
 use Rattle.icotable.specs.declared.TableAnswer.{TableAnswer}
 use Rattle.icotable.proofs.TableAnswer as T

@@ -3,9 +3,9 @@ use Prim.Native.Nat.{_*_}
 use native.Mathlib.Omega.{arith}
 use lib.ListN.{length-set}
 use borrow.Author.Needs.{needs}
-use Rattle.readings.proofs.Stored.{set-put, three-put}
-use Rattle.readings.proofs.store.Statement.{statement}
-use Rattle.readings.proofs.store.Tie as tie
+use Rattle.reading.proofs.Stored.{set-put, three-put}
+use Rattle.reading.proofs.many.store.Statement.{statement}
+use Rattle.reading.proofs.many.store.Tie as tie
 
 inside-2 : tie.Need-slice-write-answers-2
 inside-2 c = simp length-set (omega (arith, c .pre .1))

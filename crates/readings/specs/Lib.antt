@@ -1,3 +1,0 @@
--- A reader has to believe `Poses`. Only the code and the proofs need `Internal`.
-pub mod Poses
-pub mod Internal
