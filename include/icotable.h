@@ -40,8 +40,8 @@
  * no small number is flushed to zero: not in a program that is linked with -ffast-math, nor after fesetround. There an
  * answer can be another one. icotable_float_environment() of environment.h answers 0 where it is as it should be.
  *
- * Stack. No theorem bounds it. As measured on x86-64 and rounded up, settle takes 88 kB, locator 10 kB, sizing 4 kB, a
- * reading 3 kB and every other function 2 kB, whatever the level.
+ * Stack. No theorem bounds it. As measured on x86-64 and rounded up, settle takes 88 kB, locator 10 kB, readings 7 kB,
+ * sizing 4 kB, a reading 3 kB and every other function 2 kB, whatever the level.
  *
  * Numbers. ICOTABLE_REFUSALS below has each one in words, and docs/REFUSALS.md an example of each.
  */

@@ -1,7 +1,8 @@
 /* Many readings in one call beside single ones: readings SEED POSES. A table of levels 0 to 3 whose rows are of every kind, one
  * that is damaged among them, is read at random poses, also outside, of no length and at NaNs, by lists of random lengths: with
  * no beta, one, one that is refused, and two, of which the first counts. Number, energy and distances have to be those of the
- * single reading, and entries beyond the poses answered have to stay. The status is 1 where they do not. */
+ * single reading, and entries beyond the poses answered have to stay; 0, 18, 19, 21 and distances have to come
+ * up. The status is 1 where something is otherwise. */
 #include "mesh.h"
 
 #include <math.h>
@@ -25,6 +26,10 @@ static uint64_t random_bits(void) {
 static double from_to(double low, double high) {
     return low + (high - low) * ((double)(random_bits() >> 11) * 0x1p-53);
 }
+
+/* The numbers that single readings answered, as bits, and whether one showed a distance. */
+static uint64_t numbers_seen;
+static bool distance_seen;
 
 static uint8_t *file;
 static size_t length;
@@ -106,6 +111,8 @@ static size_t compared(size_t poses, size_t numbers, size_t answers, const doubl
     for (size_t i = 0; i < wanted; i++) {
         icotable_value v = single(l.poses + 8 * i, beta, betas);
         before.numbers[i] = v.number;
+        numbers_seen |= 1u << v.number;
+        distance_seen |= v.distance_a > 0;
         memcpy(before.answers + 3 * i, &v.energy, 3 * sizeof(double));
     }
     return count == wanted && same_lists(&l, &before) ? wanted : MOST + 1;
@@ -125,8 +132,10 @@ int main(int words, char **names) {
         differ += count > MOST;
         read += count > MOST ? 1 : count + 1;
     }
-    printf("readings: seed %s, %zu poses and calls; %zu calls differ\n", names[1], read, differ);
+    bool all_seen = numbers_seen == (1u << 0 | 1u << 18 | 1u << 19 | 1u << 21) && distance_seen;
+    printf("readings: seed %s, %zu poses and calls; %zu calls differ%s\n", names[1], read, differ,
+           all_seen ? "" : "; an answer never came up, or one that none should be");
     icotable_free_meshes(&meshes);
     free(file);
-    return differ != 0;
+    return differ != 0 || !all_seen;
 }
