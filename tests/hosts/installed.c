@@ -3,6 +3,7 @@
  * an answer is not as it should be. */
 #include <icotable/environment.h>
 #include <icotable/icotable_handles.h>
+#include <icotable/icotable_slab.h>
 
 #include <stdio.h>
 #include <string.h>
