@@ -1,7 +1,5 @@
 #include "handles.h"
 
-#include <pthread.h>
-
 /* A call that the table's kind does not have, or without a table. */
 static uint64_t refused(const icotable_reader *t, bool atom) {
     return t == NULL ? ICOTABLE_HANDLE_NO_HANDLE : !t->atom == !atom ? 0 : ICOTABLE_HANDLE_OTHER_KIND;
@@ -77,54 +75,18 @@ static void answer_atoms(const run *r) {
     }
 }
 
-static void *answer(void *what) {
-    const run *r = what;
-    if (r->t->atom)
-        answer_atoms(r);
-    else
-        answer_pairs(r);
-    return NULL;
-}
-
-/* Starting a thread takes as long as some hundred readings. */
-enum { MOST_THREADS = 256, FEWEST_POSES = 256 };
-
-static run run_of(const run *all, size_t from, size_t to) {
+static uint64_t answer(const void *what, size_t from, size_t to) {
+    const run *all = what;
     size_t wide = all->t->atom ? 4 : 8, answers = all->t->atom ? 1 : 3;
-    return (run){all->t, all->poses + wide * from, all->beta, to - from, all->numbers + from, all->answers + answers * from};
-}
-
-/* The caller's own thread has the last run, and those whose thread cannot be started. */
-static void split(const run *all, unsigned threads) {
-    pthread_t started[MOST_THREADS];
-    bool running[MOST_THREADS];
-    run runs[MOST_THREADS];
-    size_t share = all->count / threads, rest = all->count % threads, from = 0;
-    for (unsigned k = 0; k < threads; k++) {
-        size_t to = from + share + (k < rest);
-        runs[k] = run_of(all, from, to);
-        running[k] = k + 1 < threads && pthread_create(&started[k], NULL, answer, &runs[k]) == 0;
-        from = to;
-    }
-    for (unsigned k = 0; k < threads; k++)
-        if (!running[k])
-            answer(&runs[k]);
-    for (unsigned k = 0; k < threads; k++)
-        if (running[k])
-            pthread_join(started[k], NULL);
+    run r = {all->t, all->poses + wide * from, all->beta, to - from, all->numbers + from, all->answers + answers * from};
+    if (r.t->atom)
+        answer_atoms(&r);
+    else
+        answer_pairs(&r);
+    return r.count;
 }
 
 uint64_t icotable_reader_energies(const icotable_reader *t, const double *poses, size_t poses_count, const double *beta, uint64_t *numbers, double *answers,
                                   unsigned threads) {
-    if (t == NULL)
-        return 0;
-    run all = {t, poses, beta, poses_count, numbers, answers};
-    size_t most = poses_count / FEWEST_POSES < MOST_THREADS ? poses_count / FEWEST_POSES : MOST_THREADS;
-    if (threads > most)
-        threads = (unsigned)most;
-    if (threads < 2)
-        answer(&all);
-    else
-        split(&all, threads);
-    return poses_count;
+    return t == NULL ? 0 : icotable_in_runs_(poses_count, threads, answer, &(run){t, poses, beta, poses_count, numbers, answers});
 }

@@ -38,6 +38,33 @@ static void single(const icotable_reader *t, const double *p, const double *beta
     answer[2] = v.distance_b;
 }
 
+/* The poses as columns, backwards and at an odd byte, and the first pose over and over: as packed ones, to the bit. */
+static void columns(const icotable_reader *t, const double *poses, const double *beta, const uint64_t *wanted_numbers, const double *wanted) {
+    static char bytes[8 * POSES * sizeof(double) + 1];
+    static double found[POSES], distances[2 * POSES];
+    static uint64_t numbers[POSES];
+    int atom = icotable_reader_atom(t);
+    size_t wide = atom ? 4 : 8, refused = 0, differing = 0;
+    ptrdiff_t back = -(ptrdiff_t)(wide * sizeof(double));
+    for (size_t i = 0; i < POSES; i++)
+        memcpy(bytes + 1 + wide * sizeof(double) * (POSES - 1 - i), poses + wide * i, wide * sizeof(double));
+    char *last = bytes + 1 + wide * sizeof(double) * (POSES - 1);
+    icotable_columns c = {last, last + 8, last + (atom ? 8 : 16), last + 40, back, back, back, back}, one = {poses, poses + 1, poses + (atom ? 1 : 2), poses + 5, 0, 0, 0, 0};
+    for (size_t i = 0; i < POSES; i++)
+        refused += wanted_numbers[i] != 0;
+    for (unsigned threads = 0; threads <= THREADS; threads++) {
+        memset(numbers, 255, sizeof numbers);
+        is("columns", refused, icotable_reader_columns(t, &c, POSES, beta, found, distances, numbers, threads));
+        is("their numbers", 0, (uint64_t)memcmp(numbers, wanted_numbers, sizeof numbers) != 0);
+        for (size_t i = 0; i < POSES; i++)
+            differing += memcmp(found + i, wanted + (atom ? 1 : 3) * i, sizeof *found) != 0 || (!atom && memcmp(distances + 2 * i, wanted + 3 * i + 1, 16) != 0);
+    }
+    is("their answers", 0, differing);
+    is("one pose", wanted_numbers[0] == 0 ? 0 : POSES, icotable_reader_columns(t, &one, POSES, beta, found, NULL, NULL, 1));
+    is("one pose", 1, memcmp(found, wanted, sizeof *found) == 0 && memcmp(found, found + 1, (POSES - 1) * sizeof *found) == 0);
+    is("no pose", 0, icotable_reader_columns(t, &one, 0, beta, NULL, NULL, NULL, 4));
+}
+
 static void many(const char *name, const double *beta) {
     static double poses[8 * POSES], answers[3 * POSES], wanted[3 * POSES];
     static uint64_t numbers[POSES], wanted_numbers[POSES];
@@ -59,6 +86,7 @@ static void many(const char *name, const double *beta) {
     }
     threads_fail_from = -1;
     is("none", 0, icotable_reader_energies(t, NULL, 0, beta, NULL, NULL, 4));
+    columns(t, poses, beta, wanted_numbers, wanted);
     icotable_reader_close(t);
 }
 
