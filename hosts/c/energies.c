@@ -52,16 +52,8 @@ typedef struct run {
 
 static void answer_pairs(const run *r) {
     const icotable_reader *t = r->t;
-    for (size_t i = 0; i < r->count; i++) {
-        const double *p = r->poses + 8 * i;
-        icotable_value v =
-            r->beta == NULL ? icotable_reading(PAIR(t), ICOTABLE_LOCATORS(&t->meshes), p[0], p[1], p[2], p[3], p[4], p[5], p[6], p[7])
-                            : icotable_boltzmann(PAIR(t), ICOTABLE_LOCATORS(&t->meshes), p[0], p[1], p[2], p[3], p[4], p[5], p[6], p[7], *r->beta);
-        r->numbers[i] = v.number;
-        r->answers[3 * i] = v.energy;
-        r->answers[3 * i + 1] = v.distance_a;
-        r->answers[3 * i + 2] = v.distance_b;
-    }
+    icotable_readings(PAIR(t), ICOTABLE_LOCATORS(&t->meshes), r->poses, 8 * r->count, r->beta, r->beta != NULL, r->numbers, r->count, r->answers,
+                      3 * r->count);
 }
 
 static void answer_atoms(const run *r) {
