@@ -10,6 +10,8 @@ use crate::pack::packed;
 use crate::reader::Lists;
 use crate::rust::{MeshLevel, SlabResolution};
 use crate::shape::{self, lookup, lookup_boltzmann, RustTable};
+#[cfg(not(atom))]
+use crate::timing::least_of_three;
 use crate::timing::{each, least, used};
 use crate::weighted::Weighted;
 use crate::{landed, new};
@@ -159,10 +161,10 @@ pub fn batch(rows: Rows, beta: Option<f64>, bins: [usize; 2], queries: usize, ro
     let mut many = Batch::new(lists.clone(), &queries, beta, &wanted);
     let time = if let Some(b) = beta {
         let (mut one, t) = (Weighted::new(lists, &queries, b, &wanted), native(t));
-        least(rounds, queries.len(), [&mut || one.from_c(), &mut || many.read(), &mut || each(&queries, |q| used(native_boltzmann(&t, q, b)))])
+        least_of_three(rounds, queries.len(), [&mut || one.from_c(), &mut || many.read(), &mut || each(&queries, |q| used(native_boltzmann(&t, q, b)))])
     } else {
         let mut one = new::side::Readings::new(lists, &queries, &wanted);
-        least(rounds, queries.len(), [&mut || one.from_c(), &mut || many.read(), &mut || each(&queries, |q| used(lookup(&t, q)))])
+        least_of_three(rounds, queries.len(), [&mut || one.from_c(), &mut || many.read(), &mut || each(&queries, |q| used(lookup(&t, q)))])
     };
     (time, megabytes)
 }

@@ -22,8 +22,9 @@ class Look(Walk):
         self.calls = [self.call]
 
     def about(self):
-        return ('The struct is looked into and copied, and `%s` is called with the copy and the rest, of each `&` list '
+        said = ('The struct is looked into and copied, and `%s` is called with the copy and the rest, of each `&` list '
                 'with a copy.' % self.call.function.name)
+        return said + (' The `&mut` lists are given up for good.' if self.longs() else '')
 
     def spelt(self):
         return ['T', getattr(self.result, 'letter', '')]

@@ -1,6 +1,6 @@
 -- `icotable_readings` meets its contract: a walk of its MIR, written by tools/walks. Assumes nothing.
 -- The struct is looked into and copied, and `readings_of` is called with the copy and the rest, of each `&` list with a
--- copy. The numbers of `move` and `look` are places in the context.
+-- copy. The `&mut` lists are given up for good. The numbers of `move` and `look` are places in the context.
 use mathlib.Core.Path.{_≡_, refl, ap}
 use Prim.Native.Nat.{ℕ, _<_, _^_}
 use mathlib.Core.List.{List, [], _∷_}
