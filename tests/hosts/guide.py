@@ -14,7 +14,10 @@ static double store[store_count], energies[n * n];
 static uint64_t words[slabs];
 static uint8_t kinds[slabs], levels[slabs], output[output_count];
 static uint32_t values[slabs];
-enum { distances = 48 };
+enum { distances = 48, count = 2 };
+static const double poses[8 * count] = {3.25, 1.05, 1, 0, 0, 0, 1, 0, 4.5, 2, 1, 2, 3, 3, 2, 1};
+static double answers[3 * count];
+static uint64_t numbers[count];
 
 static void check(const char *what, uint64_t number) {
     if (number != 0) {
