@@ -208,9 +208,7 @@ impl Table {
     pub fn readings(&self, poses: &[[f64; 8]], beta: Option<f64>) -> Vec<Result<Reading, Refusal>> {
         let (mut numbers, mut answers) = (vec![0; poses.len()], vec![[0.0; 3]; poses.len()]);
         sys::readings(&self.held, self.mesh.lent_with(&self.file), poses, beta.as_slice(), &mut numbers, &mut answers);
-        let value = |(number, [energy, distance_a, distance_b]): (u64, [f64; 3])| {
-            Reading::of(sys::Value { number, energy, distance_a, distance_b })
-        };
+        let value = |(number, [energy, distance_a, distance_b]): (u64, [f64; 3])| Reading::of(sys::Value { number, energy, distance_a, distance_b });
         numbers.into_iter().zip(answers).map(value).collect()
     }
 
