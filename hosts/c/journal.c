@@ -1,12 +1,12 @@
 #include "icotable_journal.h"
 
 #include "environment.h"
+#include "icotable_mesh_file.h"
 #include "icotable_slab.h"
 #include "support.h"
 
 #include <errno.h>
 #include <fcntl.h>
-#include <stdarg.h>
 #include <stdio.h>
 #include <stdlib.h>
 #include <string.h>
@@ -55,13 +55,10 @@ const char *icotable_journal_words(uint64_t number) {
 
 /* The number's words, and more behind them. */
 static uint64_t say(icotable_journal *j, uint64_t number, const char *more, ...) {
-    int at = snprintf(j->said, sizeof j->said, "%s%s", icotable_journal_words(number), more[0] ? ": " : "");
-    if (at >= 0 && (size_t)at < sizeof j->said) {
-        va_list list;
-        va_start(list, more);
-        vsnprintf(j->said + at, sizeof j->said - (size_t)at, more, list);
-        va_end(list);
-    }
+    va_list list;
+    va_start(list, more);
+    icotable_say_(j->said, sizeof j->said, icotable_journal_words(number), more, list);
+    va_end(list);
     return number;
 }
 
@@ -84,14 +81,14 @@ static uint8_t *put(uint8_t *at, const void *bytes, size_t count) {
 }
 
 static uint8_t *put_sum(icotable_journal *j, uint8_t *from, uint8_t *at) {
-    j->sum = icotable_crc32(j->table, j->sum, from, (size_t)(at - from));
+    j->sum = icotable_crc32_(j->sum, from, (size_t)(at - from));
     return put(at, &j->sum, sizeof j->sum);
 }
 
 static void fill_head(const plan *p, uint8_t head[HEAD]) {
     uint32_t version = VERSION, kind = p->atom ? 1 : 0;
     double settings[] = {p->grid.rmin, p->grid.rmax, p->grid.dr, p->grid.omega_step, p->grid.threshold, p->grid.beta};
-    uint64_t hash = icotable_meshes_hash(p->meshes, p->top);
+    uint64_t hash = icotable_meshes_hash(p->meshes, p->top + 1);
     uint8_t *at = put(head, MAGIC, 8);
     at = put(at, &version, sizeof version);
     at = put(at, &kind, sizeof kind);
@@ -102,7 +99,7 @@ static void fill_head(const plan *p, uint8_t head[HEAD]) {
 
 /* Kind, top level, settings and meshes. */
 static uint64_t build_of(const uint8_t head[HEAD]) {
-    return icotable_fnv(ICOTABLE_FNV, head + 12, HEAD - 4 - 12);
+    return icotable_fnv_(ICOTABLE_FNV_, head + 12, HEAD - 4 - 12);
 }
 
 static void make_head(icotable_journal *j, const plan *p, uint8_t head[HEAD]) {
@@ -140,7 +137,7 @@ static bool unwritten(int file, uint64_t from, uint64_t end) {
     uint8_t bytes[CHUNK];
     while (from < end) {
         size_t count = end - from < CHUNK ? (size_t)(end - from) : CHUNK;
-        if (!icotable_read_at(file, bytes, count, from) || !zeros(bytes, count))
+        if (!icotable_read_at_(file, bytes, count, from) || !zeros(bytes, count))
             return false;
         from += count;
     }
@@ -333,11 +330,15 @@ static uint64_t append(icotable_journal *j, const call *c, const double *energie
     uint8_t head[CALL], tail[ANSWER];
     uint32_t before = j->sum;
     size_t length = c->count * sizeof *energies;
+    if (j->file < 0) { /* begun without a file */
+        j->records++;
+        return 0;
+    }
     make_call(j, c, head);
-    j->sum = icotable_crc32(j->table, j->sum, energies, length);
+    j->sum = icotable_crc32_(j->sum, energies, length);
     make_answer(j, a, tail);
-    bool written = icotable_write_at(j->file, head, CALL, j->bytes) && icotable_write_at(j->file, energies, length, j->bytes + CALL) &&
-                   icotable_write_at(j->file, tail, ANSWER, j->bytes + CALL + length);
+    bool written = icotable_write_at_(j->file, head, CALL, j->bytes) && icotable_write_at_(j->file, energies, length, j->bytes + CALL) &&
+                   icotable_write_at_(j->file, tail, ANSWER, j->bytes + CALL + length);
     bool kept = written && fdatasync(j->file) == 0;
     if (kept) {
         j->bytes += CALL + length + ANSWER;
@@ -437,7 +438,6 @@ static uint64_t prepare(icotable_journal *j, const plan *p, unsigned flags) {
     const icotable_meshes *m = p->meshes;
     const icotable_grid *g = &p->grid;
     *j = (icotable_journal){.atom = p->atom, .guarded = !(flags & ICOTABLE_JOURNAL_UNGUARDED), .meshes = m, .file = -1};
-    icotable_crc32_table(j->table);
     unsigned environment = icotable_float_environment();
     if (environment != 0)
         return say(j, ICOTABLE_JOURNAL_ENVIRONMENT, "%s", icotable_float_environment_words(environment));
@@ -460,7 +460,7 @@ static void make_first(icotable_journal *j, const plan *p, uint8_t first[FIRST])
 
 /* Head and fresh, in a file that has none of it or a part. */
 static uint64_t begin_file(icotable_journal *j, const char *name, const uint8_t first[FIRST]) {
-    if (!icotable_write_at(j->file, first, FIRST, 0) || ftruncate(j->file, FIRST) != 0 || fsync(j->file) != 0 || !icotable_sync_folder(name))
+    if (!icotable_write_at_(j->file, first, FIRST, 0) || ftruncate(j->file, FIRST) != 0 || fsync(j->file) != 0 || !icotable_sync_folder_(name))
         return say_errno(j, ICOTABLE_JOURNAL_NOT_WRITTEN);
     j->bytes = FIRST;
     j->records = 1;
@@ -484,6 +484,11 @@ static uint64_t begin(icotable_journal *j, const char *name, const plan *p, unsi
     uint64_t size = 0, number = prepare(j, p, flags);
     if (number != 0)
         return number;
+    if (name == NULL) {
+        j->records = 1;
+        j->state = OPEN;
+        return 0;
+    }
     j->file = open(name, O_RDWR | O_CREAT | O_EXCL | O_CLOEXEC, 0666);
     if (j->file < 0)
         return errno == EEXIST ? say(j, ICOTABLE_JOURNAL_EXISTS, "%s", name) : say_errno(j, ICOTABLE_JOURNAL_TROUBLE);
@@ -509,11 +514,11 @@ static found next_record(icotable_journal *j, uint64_t size, call *c, answer *a,
     *why = "it cannot be read";
     if (left < CALL + ANSWER)
         return TORN;
-    if (!icotable_read_at(j->file, head, CALL, j->bytes))
+    if (!icotable_read_at_(j->file, head, CALL, j->bytes))
         return BAD;
     memcpy(c, head, sizeof *c);
     memcpy(&read, head + CALL - 4, 4);
-    j->sum = icotable_crc32(j->table, sum, head, CALL - 4);
+    j->sum = icotable_crc32_(sum, head, CALL - 4);
     *why = "the checksum of its bins and counts is another";
     if (read != j->sum)
         return unwritten(j->file, j->bytes + CALL - 1, size) ? TORN : BAD;
@@ -524,10 +529,10 @@ static found next_record(icotable_journal *j, uint64_t size, call *c, answer *a,
     if (left < CALL + length + ANSWER)
         return TORN;
     *why = "it cannot be read";
-    if (!icotable_read_at(j->file, j->spare, length, j->bytes + CALL) || !icotable_read_at(j->file, tail, ANSWER, j->bytes + CALL + length))
+    if (!icotable_read_at_(j->file, j->spare, length, j->bytes + CALL) || !icotable_read_at_(j->file, tail, ANSWER, j->bytes + CALL + length))
         return BAD;
     memcpy(a, tail, sizeof *a);
-    j->sum = icotable_crc32(j->table, j->sum, j->spare, length);
+    j->sum = icotable_crc32_(j->sum, j->spare, length);
     make_answer(j, a, wanted);
     *why = "the checksum of its energies and answer is another";
     if (memcmp(tail, wanted, ANSWER) == 0)
@@ -592,7 +597,7 @@ static uint64_t check_head(icotable_journal *j, const uint8_t head[HEAD]) {
     memcpy(&sum, head + HEAD - 4, 4);
     if (memcmp(head, MAGIC, 8) != 0)
         return say(j, ICOTABLE_JOURNAL_NOT_A_JOURNAL, "it begins otherwise");
-    if (sum != icotable_crc32(j->table, 0, head, HEAD - 4))
+    if (sum != icotable_crc32_(0, head, HEAD - 4))
         return say(j, ICOTABLE_JOURNAL_DAMAGED, "the head, bytes 0 to %d", HEAD - 1);
     return version == VERSION ? 0 : say(j, ICOTABLE_JOURNAL_OTHER_VERSION, "%u", (unsigned)version);
 }
@@ -626,7 +631,7 @@ static bool half_begun(const uint8_t *bytes, size_t count, const uint8_t first[F
 static uint64_t resume_first(icotable_journal *j, uint64_t size, const uint8_t first[FIRST]) {
     uint8_t bytes[FIRST];
     size_t count = size < FIRST ? (size_t)size : FIRST;
-    if (!icotable_read_at(j->file, bytes, count, 0))
+    if (!icotable_read_at_(j->file, bytes, count, 0))
         return say_errno(j, ICOTABLE_JOURNAL_TROUBLE);
     if (size <= FIRST && half_begun(bytes, count, first))
         return 0;
@@ -710,11 +715,10 @@ uint64_t icotable_journal_look(icotable_journal *j, const char *name) {
     uint8_t head[HEAD];
     uint64_t size = 0;
     *j = (icotable_journal){.file = -1};
-    icotable_crc32_table(j->table);
     uint64_t number = open_resumed(j, name, true, &size);
     if (number == 0 && size < HEAD)
         number = say(j, ICOTABLE_JOURNAL_NOT_A_JOURNAL, "%llu bytes", (ull)size);
-    if (number == 0 && !icotable_read_at(j->file, head, HEAD, 0))
+    if (number == 0 && !icotable_read_at_(j->file, head, HEAD, 0))
         number = say_errno(j, ICOTABLE_JOURNAL_TROUBLE);
     if (number == 0)
         number = check_head(j, head);

@@ -4,7 +4,6 @@
 
 #include <errno.h>
 #include <fcntl.h>
-#include <stdarg.h>
 #include <stdio.h>
 #include <stdlib.h>
 #include <string.h>
@@ -51,13 +50,11 @@ void icotable_slab_name(const icotable_slab *s, char name[ICOTABLE_SLAB_NAME]) {
 static uint64_t say(icotable_slab *s, uint64_t number, const char *more, ...) {
     char name[ICOTABLE_SLAB_NAME];
     icotable_slab_name(s, name);
-    int at = snprintf(s->said, sizeof s->said, "%s: %s%s", name, icotable_slab_words(number), more[0] ? ": " : "");
-    if (at >= 0 && (size_t)at < sizeof s->said) {
-        va_list list;
-        va_start(list, more);
-        vsnprintf(s->said + at, sizeof s->said - (size_t)at, more, list);
-        va_end(list);
-    }
+    size_t at = (size_t)snprintf(s->said, sizeof s->said, "%s: ", name);
+    va_list list;
+    va_start(list, more);
+    icotable_say_(s->said + at, sizeof s->said - at, icotable_slab_words(number), more, list);
+    va_end(list);
     return number;
 }
 
@@ -88,7 +85,7 @@ static uint64_t check_call(icotable_slab *s, size_t energies_count) {
 /* ---- writing */
 
 uint64_t icotable_slab_write(icotable_slab *s, const char *folder, const double *energies, size_t energies_count) {
-    uint32_t table[256], sum;
+    uint32_t sum;
     uint64_t number = check_call(s, energies_count);
     if (number != 0)
         return number;
@@ -97,11 +94,10 @@ uint64_t icotable_slab_write(icotable_slab *s, const char *folder, const double 
             return say(s, ICOTABLE_NAN_ENERGY, "energy %llu", (ull)i);
     head h = {.version = VERSION, .kind = s->atom ? 1 : 0, .build = s->build, .level = s->level, .ri = s->ri, .oi = s->oi, .count = energies_count};
     memcpy(h.magic, MAGIC, sizeof h.magic);
-    icotable_part parts[] = {{&h, HEAD}, {energies, energies_count * sizeof *energies}, {&sum, SUM}};
-    icotable_crc32_table(table);
-    sum = icotable_crc32(table, icotable_crc32(table, 0, &h, HEAD), energies, parts[1].count);
+    icotable_part_ parts[] = {{&h, HEAD}, {energies, energies_count * sizeof *energies}, {&sum, SUM}};
+    sum = icotable_crc32_(icotable_crc32_(0, &h, HEAD), energies, parts[1].count);
     char *path = path_of(s, folder);
-    bool done = path != NULL && icotable_replace_file(path, parts, 3);
+    bool done = path != NULL && icotable_write_parts_(path, parts, 3, true);
     free(path);
     return done ? 0 : say_errno(s);
 }
@@ -112,7 +108,7 @@ uint64_t icotable_slab_write(icotable_slab *s, const char *folder, const double 
 static uint64_t check_length(icotable_slab *s, int file, uint64_t size, head *h) {
     if (size < HEAD + SUM)
         return say(s, ICOTABLE_SLAB_NOT_A_SLAB, "%llu bytes", (ull)size);
-    if (!icotable_read_at(file, h, HEAD, 0))
+    if (!icotable_read_at_(file, h, HEAD, 0))
         return say_errno(s);
     if (memcmp(h->magic, MAGIC, sizeof h->magic) != 0)
         return say(s, ICOTABLE_SLAB_NOT_A_SLAB, "it begins otherwise");
@@ -140,19 +136,18 @@ static uint64_t check_head(icotable_slab *s, const head *h) {
 /* The checksum of all that is before it; the energies go to the list, or past it where they are not as many as it has. */
 static uint64_t check_sum(icotable_slab *s, int file, const head *h, double *energies, size_t energies_count) {
     uint8_t part[1 << 14];
-    uint32_t table[256], wanted;
-    icotable_crc32_table(table);
-    uint32_t sum = icotable_crc32(table, 0, h, HEAD);
+    uint32_t wanted;
+    uint32_t sum = icotable_crc32_(0, h, HEAD);
     uint64_t at = HEAD, end = HEAD + h->count * sizeof(double);
     while (at < end) {
         size_t count = end - at < sizeof part ? (size_t)(end - at) : sizeof part;
         uint8_t *to = h->count == energies_count ? (uint8_t *)energies + (at - HEAD) : part;
-        if (!icotable_read_at(file, to, count, at))
+        if (!icotable_read_at_(file, to, count, at))
             return say_errno(s);
-        sum = icotable_crc32(table, sum, to, count);
+        sum = icotable_crc32_(sum, to, count);
         at += count;
     }
-    if (!icotable_read_at(file, &wanted, SUM, end))
+    if (!icotable_read_at_(file, &wanted, SUM, end))
         return say_errno(s);
     return wanted == sum ? 0 : say(s, ICOTABLE_SLAB_DAMAGED, "its checksum, at byte %llu, is %08X, and its bytes give %08X", (ull)end, (unsigned)wanted, (unsigned)sum);
 }

@@ -5,49 +5,39 @@
 #include <stdio.h>
 #include <stdlib.h>
 #include <string.h>
+#include <sys/stat.h>
 #include <unistd.h>
 
-/* The polynomial EDB88320, bits from the lowest on, all ones before and behind. */
-void icotable_crc32_table(uint32_t table[256]) {
-    for (uint32_t i = 0; i < 256; i++) {
-        uint32_t c = i;
-        for (int k = 0; k < 8; k++)
-            c = c & 1 ? c >> 1 ^ 0xEDB88320u : c >> 1;
-        table[i] = c;
-    }
-}
+/* ---- checksums */
 
-uint32_t icotable_crc32(const uint32_t table[256], uint32_t sum, const void *bytes, size_t count) {
+/* The table of polynomial EDB88320, bits from the lowest on: an entry is the sum of those of its bits. */
+#define BIT(i, bit, entry) ((i)&(bit) ? entry : 0u)
+#define AT(i) \
+    (BIT(i, 1, 0x77073096u) ^ BIT(i, 2, 0xEE0E612Cu) ^ BIT(i, 4, 0x076DC419u) ^ BIT(i, 8, 0x0EDB8832u) ^ BIT(i, 16, 0x1DB71064u) ^ \
+     BIT(i, 32, 0x3B6E20C8u) ^ BIT(i, 64, 0x76DC4190u) ^ BIT(i, 128, 0xEDB88320u))
+#define FOUR(i) AT(i), AT((i) + 1), AT((i) + 2), AT((i) + 3)
+#define SIXTEEN(i) FOUR(i), FOUR((i) + 4), FOUR((i) + 8), FOUR((i) + 12)
+#define MANY(i) SIXTEEN(i), SIXTEEN((i) + 16), SIXTEEN((i) + 32), SIXTEEN((i) + 48)
+static const uint32_t crcs[256] = {MANY(0), MANY(64), MANY(128), MANY(192)};
+
+uint32_t icotable_crc32_(uint32_t sum, const void *bytes, size_t count) {
     const uint8_t *b = bytes;
     uint32_t c = ~sum;
     for (size_t i = 0; i < count; i++)
-        c = table[(c ^ b[i]) & 255] ^ c >> 8;
+        c = crcs[(c ^ b[i]) & 255] ^ c >> 8;
     return ~c;
 }
 
-uint64_t icotable_fnv(uint64_t hash, const void *bytes, size_t count) {
+uint64_t icotable_fnv_(uint64_t hash, const void *bytes, size_t count) {
     const uint8_t *b = bytes;
     for (size_t i = 0; i < count; i++)
         hash = (hash ^ b[i]) * 0x100000001B3u;
     return hash;
 }
 
-uint64_t icotable_meshes_hash(const icotable_meshes *m, uint64_t top) {
-    static const uint16_t none = 0;
-    static const double flat = 0;
-    size_t n = 0;
-    for (uint64_t level = 0; level <= top; level++)
-        n += icotable_vertices(level);
-    uint64_t hash = icotable_fnv(ICOTABLE_FNV, m->vertices, 3 * n * sizeof *m->vertices);
-    hash = icotable_fnv(hash, m->neighbour_counts, n);
-    for (size_t k = 0; k < 6 * n; k++)
-        hash = icotable_fnv(hash, k % 6 < m->neighbour_counts[k / 6] ? &m->neighbours[k] : &none, sizeof none);
-    for (size_t k = 0; k < 6 * n; k++)
-        hash = icotable_fnv(hash, k % 6 < m->neighbour_counts[k / 6] ? &m->angles[k] : &flat, sizeof flat);
-    return hash;
-}
+/* ---- files */
 
-bool icotable_write_at(int file, const void *bytes, size_t count, uint64_t at) {
+bool icotable_write_at_(int file, const void *bytes, size_t count, uint64_t at) {
     const uint8_t *b = bytes;
     while (count > 0) {
         ssize_t done = pwrite(file, b, count, (off_t)at);
@@ -62,7 +52,7 @@ bool icotable_write_at(int file, const void *bytes, size_t count, uint64_t at) {
     return true;
 }
 
-bool icotable_read_at(int file, void *bytes, size_t count, uint64_t at) {
+bool icotable_read_at_(int file, void *bytes, size_t count, uint64_t at) {
     uint8_t *b = bytes;
     while (count > 0) {
         ssize_t done = pread(file, b, count, (off_t)at);
@@ -77,7 +67,7 @@ bool icotable_read_at(int file, void *bytes, size_t count, uint64_t at) {
     return true;
 }
 
-bool icotable_sync_folder(const char *name) {
+bool icotable_sync_folder_(const char *name) {
     const char *slash = strrchr(name, '/');
     size_t length = slash == NULL ? 1 : slash == name ? 1 : (size_t)(slash - name);
     char *folder = malloc(length + 1);
@@ -93,16 +83,6 @@ bool icotable_sync_folder(const char *name) {
     return synced;
 }
 
-static bool fill(int file, const icotable_part *parts, size_t parts_count) {
-    uint64_t at = 0;
-    for (size_t i = 0; i < parts_count; i++) {
-        if (!icotable_write_at(file, parts[i].bytes, parts[i].count, at))
-            return false;
-        at += parts[i].count;
-    }
-    return fsync(file) == 0;
-}
-
 /* A new file behind the name; of a name that is taken, by another process or by one that was killed, the next. */
 static int open_beside(const char *name, char *other, size_t room) {
     int file = -1;
@@ -113,25 +93,112 @@ static int open_beside(const char *name, char *other, size_t room) {
     return file;
 }
 
-bool icotable_replace_file(const char *name, const icotable_part *parts, size_t parts_count) {
+/* The file under its own name. A link does not replace; where a folder has none, a new name does as well. */
+static bool named(const char *other, const char *name, bool replace) {
+    if (!replace) {
+        if (link(other, name) == 0)
+            return unlink(other) == 0;
+        if (errno == EEXIST)
+            return false;
+    }
+    return rename(other, name) == 0;
+}
+
+static bool fill(int file, const icotable_part_ *parts, size_t parts_count) {
+    uint64_t at = 0;
+    for (size_t i = 0; i < parts_count; i++) {
+        if (!icotable_write_at_(file, parts[i].bytes, parts[i].count, at))
+            return false;
+        at += parts[i].count;
+    }
+    return fsync(file) == 0;
+}
+
+static bool filled(int file, const icotable_part_ *parts, size_t parts_count) {
+    bool whole = fill(file, parts, parts_count);
+    int why = errno;
+    if (close(file) != 0 && whole)
+        return false;
+    errno = why;
+    return whole;
+}
+
+bool icotable_write_parts_(const char *name, const icotable_part_ *parts, size_t parts_count, bool replace) {
     size_t room = strlen(name) + 48;
     char *other = malloc(room);
-    if (other == NULL)
-        return false;
-    int file = open_beside(name, other, room);
-    bool done = file >= 0 && fill(file, parts, parts_count);
+    int file = other == NULL ? -1 : open_beside(name, other, room);
+    bool done = file >= 0 && filled(file, parts, parts_count) && named(other, name, replace);
     int why = errno;
-    if (file >= 0 && close(file) != 0 && done) {
-        done = false;
-        why = errno;
-    }
-    if (done && rename(other, name) != 0) {
-        done = false;
-        why = errno;
-    }
-    if (!done && file >= 0)
+    if (file >= 0 && !done)
         unlink(other);
     free(other);
     errno = why;
-    return done && icotable_sync_folder(name);
+    return done && icotable_sync_folder_(name);
+}
+
+bool icotable_write_file_(const char *name, const void *bytes, size_t count, bool replace) {
+    return icotable_write_parts_(name, &(icotable_part_){bytes, count}, 1, replace);
+}
+
+uint8_t *icotable_read_file_(const char *path, size_t most, size_t *count) {
+    struct stat what;
+    uint8_t *bytes = NULL;
+    int file = open(path, O_RDONLY | O_CLOEXEC | O_NONBLOCK), why = 0;
+    if (file < 0)
+        return NULL;
+    if (fstat(file, &what) != 0)
+        why = errno;
+    else if (!S_ISREG(what.st_mode))
+        why = EINVAL;
+    else if ((uintmax_t)what.st_size > most)
+        why = EFBIG;
+    else if ((bytes = malloc((size_t)what.st_size + 1)) == NULL)
+        why = ENOMEM;
+    else if (!icotable_read_at_(file, bytes, (size_t)what.st_size, 0))
+        why = errno;
+    close(file);
+    if (why != 0) {
+        free(bytes);
+        errno = why;
+        return NULL;
+    }
+    *count = (size_t)what.st_size;
+    return bytes;
+}
+
+char *icotable_beside_(const char *path, const char *ending) {
+    size_t length = strlen(path), more = strlen(ending) + 1;
+    char *name = malloc(length + more);
+    if (name == NULL)
+        return NULL;
+    memcpy(name, path, length);
+    memcpy(name + length, ending, more);
+    return name;
+}
+
+/* ---- words of a refusal */
+
+void icotable_say_(char *said, size_t room, const char *words, const char *more, va_list list) {
+    int at = snprintf(said, room, "%s%s", words, more[0] ? ": " : "");
+    if (at >= 0 && (size_t)at < room)
+        vsnprintf(said + at, room - (size_t)at, more, list);
+}
+
+uint64_t icotable_fault_(icotable_fault *fault, uint64_t number, const char *words, const char *more, ...) {
+    if (fault == NULL)
+        return number;
+    fault->number = number;
+    va_list list;
+    va_start(list, more);
+    icotable_say_(fault->said, sizeof fault->said, words, more, list);
+    va_end(list);
+    return number;
+}
+
+uint64_t icotable_accepted_(icotable_fault *fault) {
+    if (fault != NULL) {
+        fault->number = 0;
+        snprintf(fault->said, sizeof fault->said, "accepted");
+    }
+    return 0;
 }

@@ -22,7 +22,7 @@ static int version_tool(int count, char **names) {
 static const tool tools[] = {
     {"inspect", "inspect FILE            what a table holds, or what refuses it;\n"
                 "  icotable inspect --resolution FILE  how far the vertices of its levels lie", 1, 2, inspect_tool},
-    {"verify", "verify FILE..           accepted, or the number, its words and the byte;\n"
+    {"verify", "verify FILE..           accepted, or the number, its words and the byte; and its seal FILE.meta, if any;\n"
                "  icotable verify --viewer FILE..  the same under the bounds of a viewer: 4 levels, 4096 rows", 1, 1 << 20, verify_tool},
     {"diff", "diff FILE FILE          why two tables differ", 2, 2, diff_tool},
     {"map", "map [-o OUT] FILE       a picture of the slabs (SVG) to OUT or to standard output;\n"

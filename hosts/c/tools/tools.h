@@ -59,6 +59,8 @@ term term_of(const table_file *f, uint64_t i);
 double prefactor_of(const table_file *f);
 bool same_slabs(const table_file *f, const table_file *g);
 bool same_row(const table_file *f, const table_file *g, uint64_t slab);
+/* Of two Mesh rows of one level: whether they hold the same energies, by their bits. */
+bool same_energies(const table_file *f, const table_file *g, const row *r, const row *s);
 float energy_of(const table_file *f, const row *r, uint64_t i);
 /* The energies that a level's Mesh row holds, and those of a row. */
 uint64_t per_level(bool atom, uint64_t level);
@@ -93,6 +95,11 @@ int print_resolution(const table_file *f);
 uint64_t play_journal(icotable_journal *j, icotable_meshes *meshes, const char *name, unsigned flags);
 /* A line with the number and its words; TROUBLE where there is nothing to refuse, FOUND otherwise. */
 int refused_journal(const char *name, uint64_t number, const char *said);
+
+/* seal.c: a line on the seal beside a table, and the verdict on it; GOOD without a word where there is none. */
+int verify_seal(const table_file *f);
+/* What the seals of two tables say of samples and settings; nothing where neither has one. */
+void diff_seals(const table_file *f, const table_file *g);
 
 int inspect_tool(int count, char **names);
 int verify_tool(int count, char **names);

@@ -2,17 +2,36 @@
 // checks the declarations against the library but the tests that call each of them; the comparison and the benchmark use this file too.
 #![allow(dead_code)]
 
-/// The settings, and the bin counts that they give.
+/// The settings, and the bin counts that they give. [`settings`](crate::settings) makes one for a new table.
+///
+/// ```
+/// use simgrale::{settings, Builder, Grid, Mesh};
+///
+/// let grid = Builder::new(settings(1.0, 25.0, 0.75, 0.5236, 0.5, 0.4), Mesh::icospheres(1)?)?.grid();
+/// assert_eq!((grid.n_r, grid.n_omega), (32, 12));
+/// // the same, but for two of the settings
+/// let finer = Grid { dr: 0.25, threshold: 0.1, ..grid };
+/// assert_eq!(Builder::new(finer, Mesh::icospheres(1)?)?.grid().n_r, 96);
+/// # Ok::<(), simgrale::Error>(())
+/// ```
 #[repr(C)]
 #[derive(Clone, Copy, Debug, Default, PartialEq)]
 pub struct Grid {
+    /// The distance of the first bin.
     pub rmin: f64,
+    /// The distances end here; of a table that was read its own, rmin + n_r·dr.
     pub rmax: f64,
+    /// From one distance to the next.
     pub dr: f64,
+    /// From one dihedral angle to the next, in radians.
     pub omega_step: f64,
+    /// Settling does not interpolate a slab whose gradient, per radian, is below this; 0 of a table that was read.
     pub threshold: f64,
+    /// One over the unit of energies; 0 of a table that was read.
     pub beta: f64,
+    /// Distance bins. A new table takes no notice of what is handed in.
     pub n_r: u64,
+    /// Dihedral bins. A new table takes no notice of what is handed in.
     pub n_omega: u64,
 }
 
@@ -88,15 +107,22 @@ pub struct Spanned {
     pub scalar_nans: u64,
 }
 
-/// The settings of a table of one molecule against an atom, and the bin count that they give.
+/// The settings of a table of one molecule against an atom, and the bin count that they give: as [`Grid`], without a dihedral angle.
+/// [`atom_settings`](crate::atom_settings) makes one, with an example.
 #[repr(C)]
 #[derive(Clone, Copy, Debug, Default, PartialEq)]
 pub struct AtomGrid {
+    /// The distance of the first bin.
     pub rmin: f64,
+    /// The distances end here; of a table that was read its own, rmin + n_r·dr.
     pub rmax: f64,
+    /// From one distance to the next.
     pub dr: f64,
+    /// Settling does not interpolate a slab whose gradient, per radian, is below this; 0 of a table that was read.
     pub threshold: f64,
+    /// One over the unit of energies; 0 of a table that was read.
     pub beta: f64,
+    /// Distance bins. A new table takes no notice of what is handed in.
     pub n_r: u64,
 }
 
@@ -166,7 +192,7 @@ pub struct Found {
 }
 
 #[rustfmt::skip]
-extern "C" {
+unsafe extern "C" {
     fn icotable_fresh(
         grid: Grid, top: u64, store: *mut f64, a: usize, words: *mut u64, b: usize,
         vertices: *const f64, c: usize, counts: *const u8, d: usize, neighbours: *const u16, e: usize, angles: *const f64, f: usize,
@@ -213,6 +239,11 @@ extern "C" {
         table: *const Table, file: *const u8, a: usize, vertices: *const f64, b: usize, cell_offsets: *const u32, c: usize, cell_vertices: *const u16, d: usize,
         face_offsets: *const u32, e: usize, faces: *const u16, f: usize, r: f64, omega: f64, ax: f64, ay: f64, az: f64, bx: f64, by: f64, bz: f64, beta: f64,
     ) -> Value;
+    fn icotable_readings(
+        table: *const Table, file: *const u8, a: usize, vertices: *const f64, b: usize, cell_offsets: *const u32, c: usize, cell_vertices: *const u16, d: usize,
+        face_offsets: *const u32, e: usize, faces: *const u16, f: usize, poses: *const f64, g: usize, beta: *const f64, h: usize,
+        numbers: *mut u64, i: usize, answers: *mut f64, j: usize,
+    ) -> u64;
     fn icotable_atom_fresh(
         grid: AtomGrid, top: u64, store: *mut f64, a: usize, kinds: *mut u8, b: usize, levels: *mut u8, c: usize, values: *mut u32, d: usize,
         vertices: *const f64, e: usize, counts: *const u8, f: usize, neighbours: *const u16, g: usize, angles: *const f64, h: usize,
@@ -466,6 +497,15 @@ pub fn reading(table: &Table, l: Lent, q: &Query) -> Value {
 pub fn boltzmann(table: &Table, l: Lent, q: &Query, beta: f64) -> Value {
     let (a, b) = (q.a, q.b);
     with_lent!(icotable_boltzmann, table, l, q.r, q.omega, a[0], a[1], a[2], b[0], b[1], b[2], beta)
+}
+
+// As many poses as the shortest of the three lists has.
+#[rustfmt::skip]
+pub fn readings(table: &Table, l: Lent, poses: &[[f64; 8]], beta: &[f64], numbers: &mut [u64], answers: &mut [[f64; 3]]) -> u64 {
+    with_lent!(
+        icotable_readings, table, l, poses.as_ptr().cast(), 8 * poses.len(), beta.as_ptr(), beta.len(), numbers.as_mut_ptr(), numbers.len(),
+        answers.as_mut_ptr().cast(), 3 * answers.len()
+    )
 }
 
 pub fn atom_fresh(grid: AtomGrid, top: u64, l: &mut AtomLists, m: Meshes) -> AtomBuilt {
