@@ -53,7 +53,22 @@ void view_table(table_file *f) {
     f->table = icotable_view(f->bytes, f->count);
 }
 
+/* Standard input is read once. */
+static int open_input(table_file *f) {
+    static bool taken;
+    *f = (table_file){.name = "standard input"};
+    if (taken)
+        return trouble(f->name, "is read once, and was");
+    taken = true;
+    int status = read_whole(f, stdin);
+    if (status == GOOD)
+        look_over(f);
+    return status;
+}
+
 int open_table(table_file *f, const char *name) {
+    if (strcmp(name, "-") == 0)
+        return open_input(f);
     *f = (table_file){.name = name};
     struct stat what;
     if (stat(name, &what) != 0)
@@ -143,19 +158,32 @@ const char *kind_words(unsigned kind) {
     return kind <= INTERPOLATED ? words[kind] : "unknown";
 }
 
+char row_letter(unsigned kind, unsigned level) {
+    return kind == SCALAR ? '.' : kind == REPULSIVE ? '#' : (char)((kind == NEAREST ? 'a' : 'A') + (int)level);
+}
+
+void energy_span(const table_file *f, const row *r, float *least, float *most) {
+    *least = *most = energy_of(f, r, 0);
+    for (uint64_t i = 1; i < per_row(f, r); i++) {
+        float e = energy_of(f, r, i);
+        *least = e < *least ? e : *least;
+        *most = e > *most ? e : *most;
+    }
+}
+
 void print_row(FILE *out, const table_file *f, const row *r) {
     fputs(kind_words(r->kind), out);
     if (r->kind == SCALAR)
         fprintf(out, " %g", (double)f32_of(r->scalar));
     if (r->kind < NEAREST)
         return;
-    float least = energy_of(f, r, 0), most = least;
-    for (uint64_t i = 1; i < per_row(f, r); i++) {
-        float e = energy_of(f, r, i);
-        least = e < least ? e : least;
-        most = e > most ? e : most;
-    }
-    fprintf(out, " level %u, energies from %g to %g", r->level, (double)least, (double)most);
+    float least, most;
+    energy_span(f, r, &least, &most);
+    fprintf(out, " level %u (%c), energies from %g to %g", r->level, row_letter(r->kind, r->level), (double)least, (double)most);
+}
+
+double distance_of(const icotable_grid *g, uint64_t ri) {
+    return g->rmin + (double)ri * g->dr;
 }
 
 void print_slab(FILE *out, const table_file *f, uint64_t slab) {
@@ -168,38 +196,7 @@ void print_slab(FILE *out, const table_file *f, uint64_t slab) {
 
 void print_bins(FILE *out, const table_file *f, uint64_t slab) {
     const icotable_grid *g = &f->table.grid;
-    fprintf(out, "distance %g", g->rmin + (double)(slab / g->n_omega) * g->dr);
+    fprintf(out, "distance %g", distance_of(g, slab / g->n_omega));
     if (!f->atom)
-        fprintf(out, ", dihedral %g", (double)(slab % g->n_omega) * g->omega_step);
-}
-
-int free_name(const char *in, const char *out) {
-    struct stat a, b;
-    if (lstat(out, &b) != 0)
-        return errno == ENOENT ? GOOD : trouble(out, strerror(errno));
-    if (stat(in, &a) == 0 && stat(out, &b) == 0 && a.st_dev == b.st_dev && a.st_ino == b.st_ino)
-        return trouble(out, "is the input itself, which is never written to");
-    return trouble(out, "is there already and is not replaced");
-}
-
-int write_new(const char *out, const uint8_t *bytes, size_t count) {
-    char *name = malloc(strlen(out) + 8);
-    if (name == NULL)
-        return trouble(out, "does not fit into memory");
-    strcat(strcpy(name, out), ".XXXXXX");
-    int file = mkstemp(name), status = GOOD;
-    FILE *to = file < 0 ? NULL : fdopen(file, "wb");
-    if (to == NULL) {
-        status = trouble(out, strerror(errno));
-    } else {
-        mode_t mask = umask(0);
-        umask(mask);
-        bool whole = fwrite(bytes, 1, count, to) == count && fflush(to) == 0 && fchmod(file, 0666 & ~mask) == 0 && fsync(file) == 0;
-        /* a link does not replace; where a folder has none, a new name does as well */
-        if (fclose(to) != 0 || !whole || (link(name, out) != 0 && (errno == EEXIST || rename(name, out) != 0)))
-            status = trouble(out, errno == EEXIST ? "is there already and is not replaced" : strerror(errno));
-        unlink(name);
-    }
-    free(name);
-    return status;
+        fprintf(out, ", dihedral %g rad (%.4g degrees)", (double)(slab % g->n_omega) * g->omega_step, (double)(slab % g->n_omega) * g->omega_step * DEGREES);
 }

@@ -41,7 +41,33 @@ typedef struct place {
     char why[200];
 } place;
 
-/* file.c: reads the whole file and has the library look it over, as a table against an atom where its first count is that
+/* words.c: the value of an option that was given, "" where it has none; NULL where it was not given. */
+const char *given(const char *name);
+bool whole_of(const char *word, uint64_t *n);
+
+/* colour.c: GOOD, or TROUBLE where --color is none of its words. To paint is to write an escape code to standard output, where
+ * colour is wanted, and PLAIN ends it. */
+#define PLAIN "0"
+#define RED "31"
+#define GREEN "32"
+#define BOLD "1"
+int choose_colour(void);
+void paint(FILE *out, const char *code);
+void paint_row(unsigned kind, unsigned level);
+
+/* json.c: items of an object have keys, those of an array none (NULL). Doubles and floats come back to the bit; what JSON has no
+ * number for is "Infinity", "-Infinity" or "NaN". */
+void json_open(const char *key, char bracket);
+void json_close(char bracket);
+void json_end(void);
+void json_text(const char *key, const char *text);
+void json_count(const char *key, uint64_t n);
+void json_flag(const char *key, bool flag);
+void json_null(const char *key);
+void json_double(const char *key, double x);
+void json_float(const char *key, float x);
+
+/* file.c: reads the whole file, or standard input for -, and has the library look it over, as a table against an atom where its first count is that
  * of one. TROUBLE, with a line to standard error, where it cannot be read; GOOD otherwise, whatever the verdict. */
 int open_table(table_file *f, const char *name);
 /* Looks an open file over once more, under a viewer's bounds: a viewer opens tables of two molecules alone. */
@@ -66,28 +92,47 @@ uint64_t per_row(const table_file *f, const row *r);
 const char *kind_words(unsigned kind);
 /* A line to standard error, and TROUBLE. */
 int trouble(const char *name, const char *why);
-/* GOOD where OUT is not there: as IN, under whatever name, or as another file. */
-int free_name(const char *in, const char *out);
-/* Whole, and under its own name only then; with the rights that a new file has. A file that is there is not replaced. */
-int write_new(const char *out, const uint8_t *bytes, size_t count);
+/* A row's letter, the same in every verb. */
+char row_letter(unsigned kind, unsigned level);
+/* The lowest and the highest energy of a Mesh row. */
+void energy_span(const table_file *f, const row *r, float *least, float *most);
+#define DEGREES 57.29577951308232
+double distance_of(const icotable_grid *g, uint64_t ri);
 void print_row(FILE *out, const table_file *f, const row *r);
 /* A slab's bins, and where they are. */
 void print_slab(FILE *out, const table_file *f, uint64_t slab);
 void print_bins(FILE *out, const table_file *f, uint64_t slab);
 
+/* output.c: GOOD where OUT is not there: as IN, under whatever name, or as another file. */
+int free_name(const char *in, const char *out);
+/* A file that is being written: begun, written to, and ended also where something else goes wrong. It is whole, on disk and under
+ * its own name only when it is ended with GOOD, and has the rights that a new file has. A file that is there is not replaced.
+ * Without a name, or as -, it is standard output. */
+typedef struct new_file {
+    const char *name;
+    char *under;
+    FILE *to;
+} new_file;
+int begin_new(new_file *n, const char *out);
+int end_new(new_file *n);
+int write_new(const char *out, const uint8_t *bytes, size_t count);
+
 /* walk.c: the questions of read, 13 to 17, 23 and a viewer's 24, once more, by the host, for the byte alone: a hint. */
 place find_place(const uint8_t *bytes, size_t count, bool atom, bool viewer);
 /* The library's number in words, and the byte where the walk agrees with it. */
 void print_verdict(FILE *out, const table_file *f);
+/* The same as items of a JSON object. */
+void json_verdict(const table_file *f);
 
 /* resolution.c: for each level of a table how far its vertices lie apart and from a direction, over the meshes of mesh.h, and
- * the rows that have it. */
-int print_resolution(const table_file *f);
+ * the rows that have it; in lines, or as an item of a JSON object. */
+int print_resolution(const table_file *f, bool json);
 
 int inspect_tool(int count, char **names);
 int verify_tool(int count, char **names);
 int diff_tool(int count, char **names);
 int map_tool(int count, char **names);
+int export_tool(int count, char **names);
 int repack_tool(int count, char **names);
 int size_tool(int count, char **names);
 int status_tool(int count, char **names);

@@ -1,0 +1,89 @@
+/* The words behind a verb: its options, and what was given. */
+#include "verbs.h"
+
+#include "tools.h"
+
+#include <errno.h>
+#include <stdlib.h>
+#include <string.h>
+
+enum { GIVEN = OPTIONS + 4 };
+
+static struct {
+    const option *option;
+    const char *value;
+} taken[GIVEN];
+static size_t taken_count;
+
+const char *given(const char *name) {
+    for (size_t i = 0; i < taken_count; i++)
+        if (strcmp(taken[i].option->name, name) == 0)
+            return taken[i].value;
+    return NULL;
+}
+
+int misused(const verb *v, const char *why, const char *word) {
+    fprintf(stderr, "icotable %s: %s%s%s\n", v->name, why, word[0] ? ": " : "", word);
+    print_usage(stderr, v);
+    fprintf(stderr, "icotable %s --help tells more\n", v->name);
+    return TROUBLE;
+}
+
+/* A number such as -1.5 is a name, and so is -, standard input. */
+static bool is_option(const char *word) {
+    return word[0] == '-' && word[1] != 0 && strchr("0123456789.", word[1]) == NULL;
+}
+
+/* Whether a word is that option, by itself or, of two dashes, with a value behind an equals sign. */
+static bool is_named(const char *name, const char *word) {
+    size_t n = name == NULL ? 0 : strlen(name);
+    return n > 0 && strncmp(name, word, n) == 0 && (word[n] == 0 || (word[1] == '-' && word[n] == '='));
+}
+
+static const option *option_named(const option *options, size_t most, const char *word) {
+    for (size_t i = 0; i < most && options[i].name != NULL; i++)
+        if (is_named(options[i].name, word) || is_named(options[i].other, word))
+            return &options[i];
+    return NULL;
+}
+
+/* The last value counts. */
+static void keep(const option *o, const char *value) {
+    size_t i = 0;
+    while (i < taken_count && taken[i].option != o)
+        i++;
+    taken[i].option = o;
+    taken[i].value = value;
+    taken_count += i == taken_count;
+}
+
+int take_options(const verb *v, int *count, char **words) {
+    int kept = 0;
+    bool ended = false;
+    for (int i = 0; i < *count; i++) {
+        char *word = words[i], *equals = strchr(word, '=');
+        if (ended || !is_option(word)) {
+            words[kept++] = word;
+            continue;
+        }
+        if ((ended = strcmp(word, "--") == 0))
+            continue;
+        const option *o = option_named(v->options, OPTIONS, word);
+        if (o == NULL && (o = option_named(common_options, OPTIONS, word)) == NULL)
+            return misused(v, "there is no such option", word);
+        if (o->value == NULL && equals != NULL)
+            return misused(v, "this option has no value", word);
+        if (o->value != NULL && equals == NULL && i + 1 == *count)
+            return misused(v, "a value is missing behind the option", word);
+        keep(o, o->value == NULL ? "" : equals != NULL ? equals + 1 : words[++i]);
+    }
+    *count = kept;
+    return GOOD;
+}
+
+bool whole_of(const char *word, uint64_t *n) {
+    char *end;
+    errno = 0;
+    *n = strtoull(word, &end, 10);
+    return word[0] >= '0' && word[0] <= '9' && *end == 0 && errno == 0;
+}
