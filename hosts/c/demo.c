@@ -98,9 +98,9 @@ static icotable_settled settle(work *w, uint64_t ri) {
     return icotable_settle(w->builder, w->store, w->store_count, ROWS(w), ICOTABLE_MESHES(&w->meshes), ri);
 }
 
-/* A slab's row as a letter: # Repulsive, . Scalar, a digit for the level of a Mesh row. */
+/* A slab's row as a letter, as icotable inspect has it: # Repulsive, . Scalar, A, B, .. Mesh interpolated of level 0, 1, .., a, b, .. nearest. */
 static int letter(uint64_t kind, uint8_t level) {
-    return kind == 0 ? '.' : kind == 1 ? '#' : '0' + level;
+    return kind == 0 ? '.' : kind == 1 ? '#' : (kind == 2 ? 'a' : 'A') + level;
 }
 
 static void show_slice(const work *w, uint64_t ri) {
@@ -115,7 +115,7 @@ static uint64_t file_length(const icotable_builder *b) {
 
 /* Every slice, from contact outwards: its slabs are set, then it is settled, which may lower the level. */
 static void build(work *w) {
-    puts("\nslice  distance  level  largest gradient  done  file bytes  slabs (# wall, . one number, digit: mesh of that level)");
+    puts("\nslice  distance  level  largest gradient  done  file bytes  slabs (# wall, . one number, A B C D mesh of level 0 to 3, a b c d read at the nearest vertices)");
     for (uint64_t ri = 0; ri < N_R; ri++) {
         uint64_t level = w->builder.level;
         for (uint64_t oi = 0; oi < N_OMEGA; oi++)

@@ -163,44 +163,48 @@ static void curve(FILE *out, const panel *p) {
     label(out, p->x + p->width / 2, top + CURVE + 16, "middle", "", "lowest energy of each distance (unit of the table's energies; cut off above)");
 }
 
-/* An item of the legend: Repulsive, the levels, nearest, Scalar. */
+/* An item of the legend: Repulsive, Scalar, the levels, nearest. */
 static row legend_item(unsigned k, uint64_t levels, char *words, size_t room) {
-    row r = {k == 0 ? REPULSIVE : k == levels + 2 ? SCALAR : k == levels + 1 ? NEAREST : INTERPOLATED, k == 0 || k > levels ? 0 : k - 1, 0, 0};
+    row r = {k == 0 ? REPULSIVE : k == 1 ? SCALAR : k == levels + 2 ? NEAREST : INTERPOLATED, k < 2 || k > levels + 1 ? 0 : k - 2, 0, 0};
     if (r.kind == INTERPOLATED)
         snprintf(words, room, "%u %c", r.level, row_letter(r.kind, r.level));
     else
-        snprintf(words, room, "%s", r.kind == NEAREST ? "nearest a, b, .." : r.kind == SCALAR ? "Scalar ." : "Repulsive #");
+        snprintf(words, room, "%s", r.kind == NEAREST ? "nearest a, b" : r.kind == SCALAR ? "Scalar ." : "Repulsive #");
     return r;
+}
+
+static void legend_box(FILE *out, const panel *p, const row *r, double x, double y) {
+    rectangle(out, x, y, 14, 14);
+    fputs(" stroke=\"#999\" fill=\"", out);
+    colour(out, r, p->shades);
+    fputs("\"/>\n", out);
+    if (r->kind == NEAREST) {
+        rectangle(out, x, y, 14, 14);
+        fputs(" fill=\"url(#nearest)\"/>\n", out);
+    }
 }
 
 /* In as many lines as it needs, which is what it answers; without a file they are only counted. */
 static int legend(FILE *out, const panel *p, double y) {
-    const uint64_t levels = p->file->table.levels;
     double x = p->x;
     int lines = 1;
-    for (unsigned k = 0; k < levels + 3; k++) {
+    for (unsigned k = 0; k < p->file->table.levels + 3; k++) {
         char words[40];
-        row r = legend_item(k, levels, words, sizeof words);
-        double wide = 18 + 6.5 * (double)strlen(words);
+        row r = legend_item(k, p->file->table.levels, words, sizeof words);
+        double wide = 18 + 5.8 * (double)strlen(words);
         if (x + wide > p->x + p->width) {
             x = p->x;
             y += SECOND;
             lines++;
         }
+        if (out != NULL && k == 2)
+            label(out, x, y + 12, "start", "", "Mesh of level");
+        x += k == 2 ? 84 : 0;
         if (out != NULL) {
-            rectangle(out, x, y, 14, 14);
-            fputs(" stroke=\"#999\" fill=\"", out);
-            colour(out, &r, p->shades);
-            fputs("\"/>\n", out);
-            if (r.kind == NEAREST) {
-                rectangle(out, x, y, 14, 14);
-                fputs(" fill=\"url(#nearest)\"/>\n", out);
-            }
+            legend_box(out, p, &r, x, y);
             label(out, x + 18, y + 12, "start", "", words);
         }
-        if (out != NULL && k == 0)
-            label(out, x + wide + 12, y + 12, "start", "", "Mesh of level");
-        x += wide + 12 + (k == 0 ? 90 : 0);
+        x += wide + 10;
     }
     return lines;
 }
