@@ -6,9 +6,16 @@
 #include <sys/stat.h>
 #include <unistd.h>
 
+static char said[200];
+
 int trouble(const char *name, const char *why) {
     fprintf(stderr, "icotable: %s: %s\n", name, why);
+    snprintf(said, sizeof said, "%s", why);
     return TROUBLE;
+}
+
+const char *last_trouble(void) {
+    return said;
 }
 
 static int read_whole(table_file *f, FILE *in) {

@@ -90,8 +90,9 @@ float energy_of(const table_file *f, const row *r, uint64_t i);
 uint64_t per_level(bool atom, uint64_t level);
 uint64_t per_row(const table_file *f, const row *r);
 const char *kind_words(unsigned kind);
-/* A line to standard error, and TROUBLE. */
+/* A line to standard error, and TROUBLE; and why the last one was. */
 int trouble(const char *name, const char *why);
+const char *last_trouble(void);
 /* A row's letter, the same in every verb. */
 char row_letter(unsigned kind, unsigned level);
 /* The lowest and the highest energy of a Mesh row. */

@@ -12,7 +12,7 @@ static void verdict(const table_file *f, int opened, const char *name, bool json
         json_verdict(f);
     } else {
         json_text("file", name);
-        json_text("trouble", "cannot be read");
+        json_text("trouble", last_trouble());
     }
     json_close('}');
 }
