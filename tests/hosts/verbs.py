@@ -192,6 +192,7 @@ def compared(a, folder):
     a.check(j["energies"] == {"compared": 720, "differing": 4, "largest_difference": "Infinity", "slab": {"ri": 3, "oi": 0}}, f"{j}")
     a.check([row["cause"] for row in j["listed"]] == ["scalar", "level", "kind", "energies", "energies"] and j["not_listed"] == 0, f"{j}")
     a.check(j["listed"][0]["rows"][0]["scalar"] == "NaN" and [row["letter"] for row in j["listed"][1]["rows"]] == ["B", "A"], f"{j}")
+    a.check(a.json(1, "diff", "--json", *reversed(names))["slabs"] == j["slabs"], "the slabs by cause, the other way round")
     j = a.json(1, "diff", "--json", "--limit=1", "--slice", "3", *names)
     a.check([row["slab"] for row in j["listed"]] == [{"ri": 3, "oi": 0}] and j["not_listed"] == 1 and j["slabs"]["differing"] == 5, f"{j}")
     a.check(a.json(0, "diff", "--json", names[0], names[0])["equal"], "a table is itself")

@@ -23,9 +23,9 @@ static int streams(void) {
 
 /* What was written has arrived; or TROUBLE. */
 static int flushed(int status) {
-    if (ferror(stdout))
-        return trouble("standard output", "could not be written whole");
-    return fflush(stdout) == 0 ? status : trouble("standard output", strerror(errno));
+    if (fflush(stdout) != 0)
+        return trouble("standard output", strerror(errno));
+    return ferror(stdout) ? trouble("standard output", "could not be written whole") : status;
 }
 
 static void print_version(void) {
