@@ -53,23 +53,23 @@ static void count_tails(const table_file *f, const table_file *g, differences *d
     d->tail_differs = d->terms_differing > 0 || d->prefactor_differs;
 }
 
-static setting number_of(const char *name, double x, double y) {
+static setting number_setting(const char *name, double x, double y) {
     return (setting){.name = name, .differs = !same_bits(x, y), .number = {x, y}};
 }
 
-static setting count_of(const char *name, uint64_t x, uint64_t y) {
+static setting count_setting(const char *name, uint64_t x, uint64_t y) {
     return (setting){.name = name, .count = true, .differs = x != y, .counts = {x, y}};
 }
 
 /* Grids are equal by the bits of rmin, dr and step and by both counts. */
 static void count_settings(const icotable_table *a, const icotable_table *b, differences *d) {
     const icotable_grid *g = &a->grid, *h = &b->grid;
-    d->settings[0] = number_of("rmin", g->rmin, h->rmin);
-    d->settings[1] = number_of("dr", g->dr, h->dr);
-    d->settings[2] = number_of("omega_step", g->omega_step, h->omega_step);
-    d->settings[3] = count_of("n_r", g->n_r, h->n_r);
-    d->settings[4] = count_of("n_omega", g->n_omega, h->n_omega);
-    d->settings[5] = count_of("levels", a->levels, b->levels);
+    d->settings[0] = number_setting("rmin", g->rmin, h->rmin);
+    d->settings[1] = number_setting("dr", g->dr, h->dr);
+    d->settings[2] = number_setting("omega_step", g->omega_step, h->omega_step);
+    d->settings[3] = count_setting("n_r", g->n_r, h->n_r);
+    d->settings[4] = count_setting("n_omega", g->n_omega, h->n_omega);
+    d->settings[5] = count_setting("levels", a->levels, b->levels);
     for (int i = 0; i < SETTINGS; i++)
         d->settings_differ |= d->settings[i].differs;
 }

@@ -6,8 +6,6 @@
 
 #include "mesh.h"
 
-#include <stdlib.h>
-
 /* Nanoseconds of settle for each comparison: what bench/run measures from level 1 on (docs/PERFORMANCE.md, 28.6 ns an
  * energy, of which each takes part in some 12 comparisons). */
 static const double NANOSECONDS = 2.4;
@@ -19,12 +17,6 @@ typedef struct build {
     icotable_size size;
     uint64_t store, rows, meshes, locators; /* bytes */
 } build;
-
-static bool number_of(const char *word, double *x) {
-    char *end;
-    *x = strtod(word, &end);
-    return end != word && *end == 0;
-}
 
 /* The numbers of the command line, or false. */
 static bool settings_of(build *b, int count, char **words) {

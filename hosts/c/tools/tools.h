@@ -43,7 +43,6 @@ typedef struct place {
 
 /* words.c: the value of an option that was given, "" where it has none; NULL where it was not given. */
 const char *given(const char *name);
-bool whole_of(const char *word, uint64_t *n);
 
 /* colour.c: GOOD, or TROUBLE where --color is none of its words. To paint is to write an escape code to standard output, where
  * colour is wanted, and PLAIN ends it. */
@@ -117,6 +116,10 @@ typedef struct new_file {
 int begin_new(new_file *n, const char *out);
 int end_new(new_file *n);
 int write_new(const char *out, const uint8_t *bytes, size_t count);
+
+/* numbers.c: a word of the command line as a number, and as a whole one; false where it is none. */
+bool number_of(const char *word, double *x);
+bool whole_of(const char *word, uint64_t *n);
 
 /* walk.c: the questions of read, 13 to 17, 23 and a viewer's 24, once more, by the host, for the byte alone: a hint. */
 place find_place(const uint8_t *bytes, size_t count, bool atom, bool viewer);

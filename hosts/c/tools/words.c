@@ -3,8 +3,6 @@
 
 #include "tools.h"
 
-#include <errno.h>
-#include <stdlib.h>
 #include <string.h>
 
 enum { GIVEN = OPTIONS + 4 };
@@ -79,11 +77,4 @@ int take_options(const verb *v, int *count, char **words) {
     }
     *count = kept;
     return GOOD;
-}
-
-bool whole_of(const char *word, uint64_t *n) {
-    char *end;
-    errno = 0;
-    *n = strtoull(word, &end, 10);
-    return word[0] >= '0' && word[0] <= '9' && *end == 0 && errno == 0;
 }
