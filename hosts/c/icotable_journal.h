@@ -93,7 +93,6 @@ typedef struct icotable_journal {
     uint32_t *values;
     int file, state, broken;
     uint32_t sum;
-    uint32_t table[256];
 } icotable_journal;
 
 /* Begin a journal, or resume one by playing its calls. They answer 0; a number of fresh; or one of the above. Where they
