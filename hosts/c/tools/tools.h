@@ -75,7 +75,10 @@ void print_row(FILE *out, const table_file *f, const row *r);
 void print_slab(FILE *out, const table_file *f, uint64_t slab);
 void print_bins(FILE *out, const table_file *f, uint64_t slab);
 
-/* walk.c: the questions of read, 13 to 17, 23 and a viewer's 24, once more, by the host, for the byte alone: a hint. */
+/* walk.c: whether the bits are those of a NaN; the one NaN that a Scalar row holds. */
+enum { TABLE_NAN = 0x7FC00000 };
+bool is_nan(uint32_t bits);
+/* The questions of read, 13 to 17, 23 and a viewer's 24, once more, by the host, for the byte alone: a hint. */
 place find_place(const uint8_t *bytes, size_t count, bool atom, bool viewer);
 /* The library's number in words, and the byte where the walk agrees with it. */
 void print_verdict(FILE *out, const table_file *f);
@@ -89,6 +92,7 @@ int verify_tool(int count, char **names);
 int diff_tool(int count, char **names);
 int map_tool(int count, char **names);
 int repack_tool(int count, char **names);
+int import_tool(int count, char **names);
 int size_tool(int count, char **names);
 int status_tool(int count, char **names);
 int replay_tool(int count, char **names);
