@@ -38,8 +38,8 @@ static void print_longer(const imported *made) {
     printf("audit: the packed energies run %s longer than the entries account for\n", by_threes(made->energies - a->accounted, longer));
     if (a->tiled)
         puts("audit: the rows follow each other from the first energy on, as a build lays them, and energies are left: so it is where\n"
-             "audit: a slice was settled again after its level had gone. Rows then read energies that were set for other slabs.\n"
-             "audit: The table reads as the Rust reads the save; build it anew to have what was sampled");
+             "audit: a slice was settled again after its level had gone. Rows then read energies that were set for other slabs or\n"
+             "audit: vertices. The table reads as the Rust reads the save; build it anew to have what was sampled");
 }
 
 static void print_audit(const imported *made) {
@@ -104,16 +104,21 @@ static void print_done(const imported *made, const char *in, const char *out, co
     printf("%s: the save's own meshes, levels 0 to %llu: the table is read with these and no others\n", mesh, (ull)made->levels - 1);
 }
 
+static int refused(const uint8_t *bytes, size_t count, const char *in, const icotable_fault *fault) {
+    printf("%s: refused with %llu: %s\n", in, (ull)fault->number, fault->said);
+    if (icotable_read(bytes, count).number == 0 || icotable_atom_read(bytes, count).number == 0)
+        printf("%s: it is a table file of this library already\n", in);
+    return FOUND;
+}
+
 static int import_to(const uint8_t *bytes, size_t count, const char *in, const char *out) {
     imported made;
     icotable_fault fault;
     char *mesh = icotable_beside_(out, ".mesh");
     int status = mesh == NULL ? trouble(out, "does not fit into memory") : GOOD;
     uint64_t number = import_bytes(bytes, count, &made, &fault);
-    if (status == GOOD && number != 0) {
-        printf("%s: refused with %llu: %s\n", in, (ull)number, fault.said);
-        status = FOUND;
-    }
+    if (status == GOOD && number != 0)
+        status = refused(bytes, count, in, &fault);
     if (status == GOOD)
         status = write_both(&made, in, out, mesh);
     if (status == GOOD) {
