@@ -7,9 +7,11 @@ use lib.ListN.{replicate}
 use lib.Ieee.{Float}
 use Rattle.rows.specs.Rows.{Row, scalar, repulsive, mesh}
 use Rattle.ledger.specs.Ledger.{Call, set-call, settle-call, Ledger}
-use Rattle.ledger.specs.Replay.{Keeping, onward, after, clean, closed, setFirst, keepingOf}
+use Rattle.ledger.specs.AtomLedger.{AtomCall, set-call as atom-set, settle-call as atom-settle}
+use Rattle.ledger.specs.Replay.{Keeping, onward, after, clean, closed, setFirst, keepingOf, atomKeepingOf}
 use Rattle.test_marks.specs.Computed.{f64, history, history₂, computed}
 use Rattle.test_marks.specs.Settled.{tens, nearly}
+use Rattle.test_marks.specs.Atom.{atomHistory, atomComputed}
 
 -- one slab at level 0; three slices of one slab at levels 0 and 1
 abbrev one : Keeping
@@ -65,6 +67,54 @@ set-again = refl
 pub settle-again : computed (closed one (settled ++ flat ∷ []) (settle-call 0 ∷ [])) ≡ true
 unfolding computed
 settle-again = refl
+
+-- ---- a slab that is set twice: the first set, played again with the settle, is the one that counts
+
+abbrev twice : List Call
+twice = flat ∷ set-call 0 0 tens ∷ settle-call 0 ∷ []
+
+pub twice-clean : computed (clean one twice) ≡ false
+unfolding computed
+twice-clean = refl
+
+pub twice-closed : computed (closed one twice (flat ∷ settle-call 0 ∷ [])) ≡ true
+unfolding computed
+twice-closed = refl
+
+pub twice-forms : computed (forms (after one twice)) ≡ 1 ∷ []
+unfolding computed
+twice-forms = refl
+
+pub first-forms : computed (forms (after one (twice ++ flat ∷ settle-call 0 ∷ []))) ≡ 0 ∷ []
+unfolding computed
+first-forms = refl
+
+-- ---- against an atom: a slab that was settled is set again, and no settle of it follows
+
+abbrev atomOne : Keeping
+atomOne = atomKeepingOf (atomHistory [])
+
+abbrev atomFlat : AtomCall
+atomFlat = atom-set 0 (replicate 12 (f64 0))
+
+abbrev atomSettled : List AtomCall
+atomSettled = atomFlat ∷ atom-settle 0 ∷ []
+
+pub atom-settled-clean : atomComputed (clean atomOne atomSettled) ≡ true
+unfolding atomComputed
+atom-settled-clean = refl
+
+pub atom-set-open : atomComputed (closed atomOne atomSettled (atomFlat ∷ [])) ≡ false
+unfolding atomComputed
+atom-set-open = refl
+
+pub atom-settled-forms : atomComputed (forms (after atomOne atomSettled)) ≡ 0 ∷ []
+unfolding atomComputed
+atom-settled-forms = refl
+
+pub atom-set-forms : atomComputed (forms (after atomOne (atomSettled ++ atomFlat ∷ []))) ≡ 3 ∷ []
+unfolding atomComputed
+atom-set-forms = refl
 
 -- ---- a set answered 9 in between: the second slice, sampled for level 0 while the level is 1. Played again it is accepted
 
