@@ -2,6 +2,7 @@
 
 #include "environment.h"
 #include "icotable_mesh_file.h"
+#include "icotable_slab.h"
 #include "support.h"
 
 #include <errno.h>
@@ -84,7 +85,7 @@ static uint8_t *put_sum(icotable_journal *j, uint8_t *from, uint8_t *at) {
     return put(at, &j->sum, sizeof j->sum);
 }
 
-static void make_head(icotable_journal *j, const plan *p, uint8_t head[HEAD]) {
+static void fill_head(const plan *p, uint8_t head[HEAD]) {
     uint32_t version = VERSION, kind = p->atom ? 1 : 0;
     double settings[] = {p->grid.rmin, p->grid.rmax, p->grid.dr, p->grid.omega_step, p->grid.threshold, p->grid.beta};
     uint64_t hash = icotable_meshes_hash(p->meshes, p->top + 1);
@@ -93,9 +94,25 @@ static void make_head(icotable_journal *j, const plan *p, uint8_t head[HEAD]) {
     at = put(at, &kind, sizeof kind);
     at = put(at, &p->top, sizeof p->top);
     at = put(at, settings, sizeof settings);
-    at = put(at, &hash, sizeof hash);
+    put(at, &hash, sizeof hash);
+}
+
+/* Kind, top level, settings and meshes. */
+static uint64_t build_of(const uint8_t head[HEAD]) {
+    return icotable_fnv_(ICOTABLE_FNV_, head + 12, HEAD - 4 - 12);
+}
+
+static void make_head(icotable_journal *j, const plan *p, uint8_t head[HEAD]) {
+    fill_head(p, head);
+    j->build = build_of(head);
     j->sum = 0;
-    put_sum(j, head, at);
+    put_sum(j, head, head + HEAD - 4);
+}
+
+uint64_t icotable_build_hash(int atom, icotable_grid settings, uint64_t top, const icotable_meshes *meshes) {
+    uint8_t head[HEAD];
+    fill_head(&(plan){atom, settings, top, meshes}, head);
+    return build_of(head);
 }
 
 static void make_call(icotable_journal *j, const call *c, uint8_t bytes[CALL]) {
@@ -701,6 +718,7 @@ uint64_t icotable_journal_look(icotable_journal *j, const char *name) {
         memcpy(settings, head + 24, sizeof settings);
         memcpy(&j->builder.top, head + 16, 8);
         j->atom = head[12] != 0;
+        j->build = build_of(head);
         j->builder.grid = (icotable_grid){settings[0], settings[1], settings[2], settings[3], settings[4], settings[5], 0, 0};
     }
     icotable_journal_close(j);

@@ -1,4 +1,4 @@
-/* diff A B: why two tables differ. */
+/* diff A B: why two tables differ; where they have seals, by which settings. */
 #include "tools.h"
 
 #include <math.h>
@@ -137,6 +137,7 @@ static int compare(const table_file *f, const table_file *g) {
     }
     if (f->count == g->count && memcmp(f->bytes, g->bytes, f->count) == 0) {
         printf("%s and %s are the same table, byte for byte\n", f->name, g->name);
+        diff_seals(f, g);
         return GOOD;
     }
     printf("%s and %s differ\n", f->name, g->name);
@@ -150,6 +151,7 @@ static int compare(const table_file *f, const table_file *g) {
     else
         puts("with other bin counts the slabs are not the same ones, and are not set side by side");
     diff_tails(f, g);
+    diff_seals(f, g);
     return FOUND;
 }
 

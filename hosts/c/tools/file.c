@@ -1,14 +1,28 @@
 #include "tools.h"
 
+#include "support.h"
+
 #include <errno.h>
 #include <stdlib.h>
 #include <string.h>
 #include <sys/stat.h>
-#include <unistd.h>
 
 int trouble(const char *name, const char *why) {
     fprintf(stderr, "icotable: %s: %s\n", name, why);
     return TROUBLE;
+}
+
+bool number_of(const char *word, double *x) {
+    char *end;
+    *x = strtod(word, &end);
+    return end != word && *end == 0;
+}
+
+bool whole_of(const char *word, uint64_t *n) {
+    char *end;
+    errno = 0;
+    *n = strtoull(word, &end, 10);
+    return word[0] >= '0' && word[0] <= '9' && *end == 0 && errno == 0;
 }
 
 static int read_whole(table_file *f, FILE *in) {
@@ -128,14 +142,16 @@ bool same_slabs(const table_file *f, const table_file *g) {
     return f->atom == g->atom && f->table.grid.n_r == g->table.grid.n_r && f->table.grid.n_omega == g->table.grid.n_omega;
 }
 
+bool same_energies(const table_file *f, const table_file *g, const row *r, const row *s) {
+    return memcmp(f->bytes + f->table.start[4] + 4 * (size_t)r->offset, g->bytes + g->table.start[4] + 4 * (size_t)s->offset, 4 * per_row(f, r)) == 0;
+}
+
 /* As document 01 compares rows: kind, level, flag, scalar bits and each energy's bits. */
 bool same_row(const table_file *f, const table_file *g, uint64_t slab) {
     row r = row_of(f, slab), s = row_of(g, slab);
     if (r.kind != s.kind || r.level != s.level || r.scalar != s.scalar)
         return false;
-    if (r.kind < NEAREST)
-        return true;
-    return memcmp(f->bytes + f->table.start[4] + 4 * (size_t)r.offset, g->bytes + g->table.start[4] + 4 * (size_t)s.offset, 4 * per_row(f, &r)) == 0;
+    return r.kind < NEAREST || same_energies(f, g, &r, &s);
 }
 
 const char *kind_words(unsigned kind) {
@@ -183,23 +199,7 @@ int free_name(const char *in, const char *out) {
 }
 
 int write_new(const char *out, const uint8_t *bytes, size_t count) {
-    char *name = malloc(strlen(out) + 8);
-    if (name == NULL)
-        return trouble(out, "does not fit into memory");
-    strcat(strcpy(name, out), ".XXXXXX");
-    int file = mkstemp(name), status = GOOD;
-    FILE *to = file < 0 ? NULL : fdopen(file, "wb");
-    if (to == NULL) {
-        status = trouble(out, strerror(errno));
-    } else {
-        mode_t mask = umask(0);
-        umask(mask);
-        bool whole = fwrite(bytes, 1, count, to) == count && fflush(to) == 0 && fchmod(file, 0666 & ~mask) == 0 && fsync(file) == 0;
-        /* a link does not replace; where a folder has none, a new name does as well */
-        if (fclose(to) != 0 || !whole || (link(name, out) != 0 && (errno == EEXIST || rename(name, out) != 0)))
-            status = trouble(out, errno == EEXIST ? "is there already and is not replaced" : strerror(errno));
-        unlink(name);
-    }
-    free(name);
-    return status;
+    if (icotable_write_file_(out, bytes, count, false))
+        return GOOD;
+    return trouble(out, errno == EEXIST ? "is there already and is not replaced" : strerror(errno));
 }

@@ -6,7 +6,6 @@
 
 #include "mesh.h"
 
-#include <errno.h>
 #include <stdlib.h>
 #include <string.h>
 
@@ -21,19 +20,6 @@ typedef struct build {
     icotable_size size;
     uint64_t store, rows, meshes, locators; /* bytes */
 } build;
-
-static bool number_of(const char *word, double *x) {
-    char *end;
-    *x = strtod(word, &end);
-    return end != word && *end == 0;
-}
-
-static bool whole_of(const char *word, uint64_t *n) {
-    char *end;
-    errno = 0;
-    *n = strtoull(word, &end, 10);
-    return word[0] >= '0' && word[0] <= '9' && *end == 0 && errno == 0;
-}
 
 /* The numbers of the command line, or false. */
 static bool settings_of(build *b, int count, char **words) {

@@ -3,7 +3,7 @@
 #ifndef TOOLS_H
 #define TOOLS_H
 
-#include "icotable.h"
+#include "icotable_journal.h"
 
 #include <stdbool.h>
 #include <stdio.h>
@@ -59,11 +59,16 @@ term term_of(const table_file *f, uint64_t i);
 double prefactor_of(const table_file *f);
 bool same_slabs(const table_file *f, const table_file *g);
 bool same_row(const table_file *f, const table_file *g, uint64_t slab);
+/* Of two Mesh rows of one level: whether they hold the same energies, by their bits. */
+bool same_energies(const table_file *f, const table_file *g, const row *r, const row *s);
 float energy_of(const table_file *f, const row *r, uint64_t i);
 /* The energies that a level's Mesh row holds, and those of a row. */
 uint64_t per_level(bool atom, uint64_t level);
 uint64_t per_row(const table_file *f, const row *r);
 const char *kind_words(unsigned kind);
+/* A word that is a number, or a whole one from 0 on, and nothing else. */
+bool number_of(const char *word, double *x);
+bool whole_of(const char *word, uint64_t *n);
 /* A line to standard error, and TROUBLE. */
 int trouble(const char *name, const char *why);
 /* GOOD where OUT is not there: as IN, under whatever name, or as another file. */
@@ -87,6 +92,17 @@ void print_verdict(FILE *out, const table_file *f);
  * the rows that have it. */
 int print_resolution(const table_file *f);
 
+/* journal.c: plays a journal over the meshes that mesh.h makes, flags being those of resume; the number that refuses it, with its
+ * words in said, or 0. Close it and free the meshes in any case. */
+uint64_t play_journal(icotable_journal *j, icotable_meshes *meshes, const char *name, unsigned flags);
+/* A line with the number and its words; TROUBLE where there is nothing to refuse, FOUND otherwise. */
+int refused_journal(const char *name, uint64_t number, const char *said);
+
+/* seal.c: a line on the seal beside a table, and the verdict on it; GOOD without a word where there is none. */
+int verify_seal(const table_file *f);
+/* What the seals of two tables say of samples and settings; nothing where neither has one. */
+void diff_seals(const table_file *f, const table_file *g);
+
 int inspect_tool(int count, char **names);
 int verify_tool(int count, char **names);
 int diff_tool(int count, char **names);
@@ -96,5 +112,7 @@ int import_tool(int count, char **names);
 int size_tool(int count, char **names);
 int status_tool(int count, char **names);
 int replay_tool(int count, char **names);
+int begin_tool(int count, char **names);
+int collect_tool(int count, char **names);
 
 #endif
