@@ -39,7 +39,7 @@ static void print_longer(const imported *made) {
     if (a->tiled)
         puts("audit: the rows follow each other from the first energy on, as a build lays them, and energies are left: so it is where\n"
              "audit: a slice was settled again after its level had gone. Rows then read energies that were set for other slabs or\n"
-             "audit: vertices. The table reads as the Rust reads the save; build it anew to have what was sampled");
+             "audit: vertices. The table reads as the Rust reads the save: keep the save, and build the table anew");
 }
 
 static void print_audit(const imported *made) {
