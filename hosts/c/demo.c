@@ -27,7 +27,7 @@ typedef struct work {
     icotable_builder builder;
     double *store, *energies;
     size_t store_count, per;
-    pose *first, *second;
+    pose *turned;
     uint64_t words[SLABS]; /* a row each */
 } work;
 
@@ -66,8 +66,7 @@ static void start(work *w) {
     w->store_count = SLABS * w->per;
     w->store = memory(w->store_count, sizeof *w->store);
     w->energies = memory(w->per, sizeof *w->energies);
-    w->first = memory(n, sizeof *w->first);
-    w->second = memory(n, sizeof *w->second);
+    w->turned = memory(2 * n, sizeof *w->turned);
     icotable_built b = icotable_fresh(settings, TOP, w->store, w->store_count, ROWS(w), ICOTABLE_MESHES(&w->meshes));
     if (b.number != 0)
         stop("fresh", b.number);
@@ -81,13 +80,7 @@ static void set_slab(work *w, uint64_t ri, uint64_t oi) {
     size_t n = icotable_vertices(w->builder.level);
     const double *v = icotable_level_vertices(&w->meshes, w->builder.level);
     double r = settings.rmin + (double)ri * settings.dr, omega = (double)oi * settings.omega_step;
-    for (size_t i = 0; i < n; i++) {
-        w->first[i] = first_pose(v + 3 * i);
-        w->second[i] = second_pose(v + 3 * i, omega);
-    }
-    for (size_t i = 0; i < n; i++)
-        for (size_t j = 0; j < n; j++)
-            w->energies[i * n + j] = pair_energy(&w->first[i], &w->second[j], r);
+    pair_slab(w->energies, w->turned, v, n, r, omega);
     icotable_built b = icotable_set(w->builder, w->store, w->store_count, ROWS(w), ri, oi, w->energies, n * n);
     if (b.number != 0)
         stop("set", b.number);
@@ -265,10 +258,7 @@ static void set_ion_slab(ion_work *w, uint64_t ri) {
     double energies[ION_N];
     size_t n = icotable_vertices(w->builder.level);
     const double *v = icotable_level_vertices(w->meshes, w->builder.level);
-    for (size_t i = 0; i < n; i++) {
-        pose turned = first_pose(v + 3 * i);
-        energies[i] = ion_energy(&turned, ion_settings.rmin + (double)ri * ion_settings.dr);
-    }
+    ion_slab(energies, v, n, ion_settings.rmin + (double)ri * ion_settings.dr);
     icotable_atom_built b = icotable_atom_set(w->builder, ION_LISTS(w), ri, energies, n);
     if (b.number != 0)
         stop("set", b.number);
@@ -361,8 +351,7 @@ int main(int count, char **names) {
     icotable_free_meshes(&w->meshes);
     free(w->store);
     free(w->energies);
-    free(w->first);
-    free(w->second);
+    free(w->turned);
     free(w);
     return !(safe && good);
 }

@@ -84,6 +84,7 @@ typedef struct icotable_journal {
     uint64_t slabs, set_count, settled_count;
     const uint8_t *set, *settled; /* of each slab, and of each slice: whether it was */
     char said[400];           /* the last refusal in words, with its bins or its place */
+    uint64_t build;           /* hash of kind, top level, settings and meshes, which slab files have (icotable_slab.h) */
 
     const icotable_meshes *meshes;
     double *store, *spare;
@@ -93,7 +94,6 @@ typedef struct icotable_journal {
     uint32_t *values;
     int file, state, broken;
     uint32_t sum;
-    uint32_t table[256];
 } icotable_journal;
 
 /* Begin a journal, or resume one by playing its calls. They answer 0; a number of fresh; or one of the above. Where they
@@ -105,7 +105,7 @@ uint64_t icotable_journal_atom_begin(icotable_journal *j, const char *name, icot
 uint64_t icotable_journal_atom_resume(icotable_journal *j, const char *name, icotable_atom_grid settings, uint64_t top, const icotable_meshes *meshes, unsigned flags);
 void icotable_journal_close(icotable_journal *j);
 
-/* Whose journal it is: fills atom, the settings in builder.grid, and builder.top; nothing stays open. */
+/* Whose journal it is: fills atom, the settings in builder.grid, builder.top and build; nothing stays open. */
 uint64_t icotable_journal_look(icotable_journal *j, const char *name);
 
 /* icotable_set and icotable_settle, kept; against an atom oi is 0. They answer the library's numbers and those above. */
