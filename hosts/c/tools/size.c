@@ -6,7 +6,6 @@
 
 #include "mesh.h"
 
-#include <stdlib.h>
 #include <string.h>
 
 /* Nanoseconds of settle for each comparison: what bench/run measures from level 1 on (docs/PERFORMANCE.md, 28.6 ns an

@@ -66,9 +66,6 @@ float energy_of(const table_file *f, const row *r, uint64_t i);
 uint64_t per_level(bool atom, uint64_t level);
 uint64_t per_row(const table_file *f, const row *r);
 const char *kind_words(unsigned kind);
-/* A word that is a number, or a whole one from 0 on, and nothing else. */
-bool number_of(const char *word, double *x);
-bool whole_of(const char *word, uint64_t *n);
 /* A line to standard error, and TROUBLE. */
 int trouble(const char *name, const char *why);
 /* GOOD where OUT is not there: as IN, under whatever name, or as another file. */
@@ -80,13 +77,17 @@ void print_row(FILE *out, const table_file *f, const row *r);
 void print_slab(FILE *out, const table_file *f, uint64_t slab);
 void print_bins(FILE *out, const table_file *f, uint64_t slab);
 
-/* walk.c: whether the bits are those of a NaN; the one NaN that a Scalar row holds. */
-enum { TABLE_NAN = 0x7FC00000 };
-bool is_nan(uint32_t bits);
-/* The questions of read, 13 to 17, 23 and a viewer's 24, once more, by the host, for the byte alone: a hint. */
+/* numbers.c: a word of the command line as a number, and as a whole one; false where it is none. */
+bool number_of(const char *word, double *x);
+bool whole_of(const char *word, uint64_t *n);
+
+/* walk.c: the questions of read, 13 to 17, 23 and a viewer's 24, once more, by the host, for the byte alone: a hint. */
 place find_place(const uint8_t *bytes, size_t count, bool atom, bool viewer);
 /* The library's number in words, and the byte where the walk agrees with it. */
 void print_verdict(FILE *out, const table_file *f);
+/* Whether the bits are those of a NaN; the one NaN that a Scalar row holds. */
+bool is_nan(uint32_t bits);
+enum { TABLE_NAN = 0x7FC00000 };
 
 /* resolution.c: for each level of a table how far its vertices lie apart and from a direction, over the meshes of mesh.h, and
  * the rows that have it. */
