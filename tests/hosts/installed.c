@@ -2,6 +2,7 @@
  * where an answer is not as it should be. */
 #include <icotable/environment.h>
 #include <icotable/icotable_journal.h>
+#include <icotable/icotable_slab.h>
 #include <icotable/mesh.h>
 
 #include <stdio.h>
