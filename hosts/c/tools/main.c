@@ -1,6 +1,6 @@
 /* Tools for table files: icotable inspect [--resolution] FILE, verify [--viewer] FILE.., diff A B, map [-o OUT] FILE [FILE],
- * repack IN OUT, size [--json] [--terms N] RMIN RMAX DR [STEP] TOP, --version; and for journals of builds: status JOURNAL,
- * replay [--unguarded] JOURNAL -o FILE, begin JOURNAL OPTION.., collect JOURNAL FOLDER. */
+ * repack IN OUT, import SAVE OUT, size [--json] [--terms N] RMIN RMAX DR [STEP] TOP, --version; and for journals of builds:
+ * status JOURNAL, replay [--unguarded] JOURNAL -o FILE, begin JOURNAL OPTION.., collect JOURNAL FOLDER. */
 #include "tools.h"
 
 #include "environment.h"
@@ -28,6 +28,7 @@ static const tool tools[] = {
     {"map", "map [-o OUT] FILE       a picture of the slabs (SVG) to OUT or to standard output;\n"
             "  icotable map [-o OUT] FILE FILE  two tables side by side, the slabs that differ marked", 1, 4, map_tool},
     {"repack", "repack IN OUT           a loosely packed table to OUT, packed; OUT must not be there yet", 2, 2, repack_tool},
+    {"import", "import SAVE OUT         a save of the Rust's icotable to OUT, its meshes to OUT.mesh, and an audit; neither must be there", 2, 2, import_tool},
     {"size", "size [--json] [--terms N] RMIN RMAX DR STEP TOP  the memory, file and comparisons of a build;\n"
              "  icotable size [--json] RMIN RMAX DR TOP  against an atom", 4, 8, size_tool},
     {"status", "status JOURNAL          how far a build is: slabs, slices, level, and what to sample next", 1, 1, status_tool},

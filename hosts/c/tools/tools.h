@@ -85,6 +85,9 @@ bool whole_of(const char *word, uint64_t *n);
 place find_place(const uint8_t *bytes, size_t count, bool atom, bool viewer);
 /* The library's number in words, and the byte where the walk agrees with it. */
 void print_verdict(FILE *out, const table_file *f);
+/* Whether the bits are those of a NaN; the one NaN that a Scalar row holds. */
+bool is_nan(uint32_t bits);
+enum { TABLE_NAN = 0x7FC00000 };
 
 /* resolution.c: for each level of a table how far its vertices lie apart and from a direction, over the meshes of mesh.h, and
  * the rows that have it. */
@@ -106,6 +109,7 @@ int verify_tool(int count, char **names);
 int diff_tool(int count, char **names);
 int map_tool(int count, char **names);
 int repack_tool(int count, char **names);
+int import_tool(int count, char **names);
 int size_tool(int count, char **names);
 int status_tool(int count, char **names);
 int replay_tool(int count, char **names);

@@ -138,7 +138,7 @@ static place walk_bound(const uint8_t *bytes, const sections *s) {
     return nothing;
 }
 
-static bool is_nan(uint32_t bits) {
+bool is_nan(uint32_t bits) {
     return (bits & 0x7FFFFFFF) > 0x7F800000;
 }
 
@@ -155,7 +155,7 @@ static place walk_row(const uint8_t *bytes, size_t at, size_t slab, size_t level
         return found(15, at + 2, "row %zu (%s) has an offset in a field that is not used", slab, kind_words(kind));
     if (kind != SCALAR && scalar != 0)
         return found(15, at + 6, "row %zu (%s) has a scalar in a field that is not used", slab, kind_words(kind));
-    if (kind == SCALAR && is_nan(scalar) && scalar != 0x7FC00000)
+    if (kind == SCALAR && is_nan(scalar) && scalar != TABLE_NAN)
         return found(15, at + 6, "row %zu has the NaN %08X, and 7FC00000 is the one that a table holds", slab, scalar);
     return nothing;
 }
