@@ -2,7 +2,7 @@
  * meshes; where these are not the library's own (icotable_make_meshes), they are kept beside it. docs/FORMAT.md, Mesh files,
  * says what is in one. Not proved; what is loaded is put to the library's mesh rule.
  *
- * Link with libicotable_host.a before libicotable.a, and with -lm. */
+ * Link with libicotable: cc host.c $(pkg-config --cflags --libs icotable). */
 #ifndef ICOTABLE_MESH_FILE_H
 #define ICOTABLE_MESH_FILE_H
 

@@ -3,7 +3,7 @@
  * and the SHA-256 of the journal. docs/FORMAT.md, Seals, says what is in one. A table without a seal is as good as before.
  * Not proved, and no signature: it finds a table that was altered or exchanged by accident, since anybody can write one.
  *
- * Link with libicotable_host.a before libicotable.a, and with -lm. */
+ * Link with libicotable: cc host.c $(pkg-config --cflags --libs icotable). */
 #ifndef ICOTABLE_SEAL_H
 #define ICOTABLE_SEAL_H
 

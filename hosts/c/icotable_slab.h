@@ -9,7 +9,7 @@
  * checksum, zlib's crc32 of all bytes before it. The hash of a build is FNV-1a of 64 bits (docs/FORMAT.md) of the bytes 12 to
  * 79 of its journal's head: kind, top level, settings, hash of the meshes.
  *
- * Link with libicotable_host.a before libicotable.a, and with -lm. */
+ * Link with libicotable: cc host.c $(pkg-config --cflags --libs icotable). */
 #ifndef ICOTABLE_SLAB_H
 #define ICOTABLE_SLAB_H
 

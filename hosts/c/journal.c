@@ -330,6 +330,10 @@ static uint64_t append(icotable_journal *j, const call *c, const double *energie
     uint8_t head[CALL], tail[ANSWER];
     uint32_t before = j->sum;
     size_t length = c->count * sizeof *energies;
+    if (j->file < 0) { /* begun without a file */
+        j->records++;
+        return 0;
+    }
     make_call(j, c, head);
     j->sum = icotable_crc32_(j->sum, energies, length);
     make_answer(j, a, tail);
@@ -480,6 +484,11 @@ static uint64_t begin(icotable_journal *j, const char *name, const plan *p, unsi
     uint64_t size = 0, number = prepare(j, p, flags);
     if (number != 0)
         return number;
+    if (name == NULL) {
+        j->records = 1;
+        j->state = OPEN;
+        return 0;
+    }
     j->file = open(name, O_RDWR | O_CREAT | O_EXCL | O_CLOEXEC, 0666);
     if (j->file < 0)
         return errno == EEXIST ? say(j, ICOTABLE_JOURNAL_EXISTS, "%s", name) : say_errno(j, ICOTABLE_JOURNAL_TROUBLE);
