@@ -123,7 +123,7 @@ function finiteRange(t, energies, choice) {
 }
 
 function drawScale(scale) {
-    const wide = 340, picture = svg(wide + 60, 34), steps = 85;
+    const wide = Math.max(120, Math.min(340, byId('scale-bar').clientWidth - 60)), picture = svg(wide + 60, 34), steps = 85;
     for (let k = 0; k < steps; k++)
         picture.append(node('rect', {
             x: 30 + k * wide / steps, y: 0, width: wide / steps + 0.5, height: 14, fill: `rgb(${mix(scale.stops, k / (steps - 1))})`,

@@ -1,7 +1,7 @@
 // What is chosen, and what follows from it. The address behind # holds it, so that a place in a table can be sent:
 // #slab=RI,OI&a=V&b=V&low=R&high=R.
 const facts = JSON.parse(byId('facts').textContent);
-const state = {ri: 0, oi: 0, a: 0, b: 0, low: 0, high: 0};
+const state = {ri: 0, oi: 0, level: null, a: 0, b: 0, low: 0, high: 0};
 let table = null, cells = null, binAt = null;
 
 // The file's parts, one script element each, which are not needed any more.
@@ -30,13 +30,26 @@ function whole(text, count) {
     return clamp(Math.trunc(Number(text)), 0, count - 1);
 }
 
-// Both vertices are those of the slab's level.
+// The chosen vertices are of a level; on another one's mesh they become those nearest to them.
 function keepVertices() {
-    const row = table.row(table.slab(state.ri, state.oi)), n = row.kind >= NEAREST ? table.vertices(row.level) : 1;
+    const {kind, level} = table.row(table.slab(state.ri, state.oi));
+    if (kind < NEAREST)
+        return;
     for (const name of ['a', 'b']) {
-        state[name] = clamp(state[name], 0, n - 1);
-        byId(name).max = n - 1;
+        const at = 3 * state[name];
+        if (state.level !== null && state.level !== level)
+            state[name] = nearestOf(facts.vertices[level], facts.vertices[state.level].slice(at, at + 3));
+        state[name] = clamp(state[name], 0, table.vertices(level) - 1);
+        byId(name).max = table.vertices(level) - 1;
     }
+    state.level = level;
+}
+
+// The vertices of a slab's lowest energy, of the first of them.
+function lowestPair(slab) {
+    const row = table.row(slab), at = Math.max(0, table.energies(row).indexOf(table.summary(slab).lowest));
+    const n = table.atom || row.kind < NEAREST ? 1 : table.vertices(row.level);
+    return {a: Math.floor(at / n), b: at % n};
 }
 
 // To the slab with the lowest energy of all, the first of those, and a span around it.
@@ -49,8 +62,7 @@ function startAtWell() {
             least = lowest;
         }
     }
-    const row = table.row(best), at = Math.max(0, table.energies(row).indexOf(least)), n = table.atom ? 1 : Math.sqrt(row.count) || 1;
-    Object.assign(state, {ri: Math.floor(best / table.nOmega), oi: best % table.nOmega, a: Math.floor(at / n), b: at % n});
+    Object.assign(state, {ri: Math.floor(best / table.nOmega), oi: best % table.nOmega, ...lowestPair(best)});
     state.low = clamp(table.distance(state.ri - 2), table.rmin, table.rmax);
     state.high = clamp(table.distance(state.ri + 2), table.rmin, table.rmax);
 }
@@ -63,8 +75,10 @@ function fromAddress() {
         state.oi = whole(oi, table.nOmega);
     }
     for (const name of ['a', 'b'])
-        if (given.has(name))
+        if (given.has(name)) {
             state[name] = whole(given.get(name), Infinity);
+            state.level = null;
+        }
     for (const name of ['low', 'high'])
         if (given.has(name))
             state[name] = numberOf(given.get(name));
@@ -174,7 +188,8 @@ function listen() {
     for (const name of ['low', 'high'])
         for (const id of [name, `${name}-slider`])
             byId(id).addEventListener('input', event => choose({[name]: numberOf(event.target.value)}));
-    for (const id of ['scale', 'other'])
+    byId('to-lowest').addEventListener('click', () => choose(lowestPair(table.slab(state.ri, state.oi))));
+    for (const id of ['scale', 'other', 'reach'])
         byId(id).addEventListener('change', show);
     addEventListener('hashchange', () => {
         fromAddress();

@@ -1,6 +1,6 @@
-// The profile over distance at one dihedral bin, and the span in it. Energies above the depth of the well are cut off, as
-// icotable map does, and drawn at the upper edge.
-const PROFILE = {left: 66, right: 12, top: 10, height: 240, below: 42};
+// The profile over distance at one dihedral bin, and the span in it. Energies beyond a reach, which is the depth of the well
+// as in icotable map, or that of the chosen distance, are drawn at the edge.
+const PROFILE = {left: 66, right: 12, top: 10, height: 300, below: 42};
 
 function profileRows(t, oi) {
     const rows = [];
@@ -10,7 +10,10 @@ function profileRows(t, oi) {
 }
 
 // How far up and down the picture goes.
-function profileDepth(rows) {
+function profileDepth(rows, ri) {
+    const own = Math.max(Math.abs(rows[ri].lowest), Math.abs(rows[ri].highest));
+    if (byId('reach').value === 'slab' && own > 0 && own < Infinity)
+        return own;
     let least = 0, most = 0;
     for (const row of rows)
         if (Number.isFinite(row.lowest)) {
@@ -97,7 +100,7 @@ function profileAxes(at, t) {
 }
 
 function drawProfile(t, state, span) {
-    const holder = byId('profile'), rows = profileRows(t, state.oi), at = profileScale(holder.clientWidth, t, profileDepth(rows));
+    const holder = byId('profile'), rows = profileRows(t, state.oi), at = profileScale(holder.clientWidth, t, profileDepth(rows, state.ri));
     const picture = svg(PROFILE.left + at.wide + PROFILE.right, PROFILE.top + PROFILE.height + PROFILE.below);
     const x = at.x(t.distance(state.ri));
     picture.append(...profileMarks(rows, at, t), ...profileSpan(at, span, state.low, state.high), ...profileBand(rows, at, t));
@@ -105,8 +108,8 @@ function drawProfile(t, state, span) {
     picture.append(node('path', {class: 'here', d: `M${x} ${PROFILE.top}v${PROFILE.height}`}));
     holder.replaceChildren(picture);
     const where = t.atom ? '' : ` at dihedral bin ${state.oi} (${short(t.omega(state.oi) * DEGREES)} degrees)`;
-    byId('profile-words').textContent = `Lowest, mean and highest energy of each distance's row${where}; energies above ${short(at.depth)} `
-        + 'are drawn at the upper edge. A Scalar row has one number. A click chooses a distance.';
+    byId('profile-words').textContent = `Lowest, mean and highest energy of each distance's row${where}; energies beyond ${short(at.depth)} `
+        + 'are drawn at the edge. A Scalar row has one number. A click chooses a distance.';
     if (byId('profile-details').open)
         fillProfileTable(t, rows);
     return px => Math.min(Math.max(Math.round((px - PROFILE.left) / at.wide * (t.nR + 1) - 0.5), 0), t.nR - 1);

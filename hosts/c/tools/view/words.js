@@ -1,17 +1,25 @@
 // Numbers and rows in words, as the tools have them.
 
-// Nine digits, so that a float comes back to the bit; no more than are needed.
+// So many digits at most, without zeros at the end.
+function digits(x, most) {
+    if (!Number.isFinite(x))
+        return Number.isNaN(x) ? 'NaN' : x > 0 ? 'infinity' : '-infinity';
+    const text = Object.is(x, -0) ? '-0' : x.toPrecision(most);
+    return text.includes('.') ? text.replace(/\.?0*(?=e|$)/, '') : text;
+}
+
+// Nine digits, so that a float comes back to the bit.
 function exact(x) {
-    return Number.isFinite(x) ? String(Number(x.toPrecision(9))) : Number.isNaN(x) ? 'NaN' : x > 0 ? 'infinity' : '-infinity';
+    return digits(x, 9);
 }
 
 // A double, to the bit.
 function double(x) {
-    return Number.isFinite(x) ? String(x) : exact(x);
+    return String(x);
 }
 
 function short(x) {
-    return Number.isFinite(x) ? String(Number(x.toPrecision(4))) : exact(x);
+    return digits(x, 4);
 }
 
 function grouped(n) {
