@@ -140,11 +140,11 @@ function directionWords(t, level, v) {
 }
 
 function pairWords(t, row, energies, n, state) {
-    const a = `vertex a = ${state.a}, direction (${directionWords(t, row.level, state.a)})`;
+    const a = `${state.a}, direction (${directionWords(t, row.level, state.a)})`;
     if (t.atom)
-        return `At ${a}: energy ${exact(energies[state.a])}.`;
-    const b = `vertex b = ${state.b}, direction (${directionWords(t, row.level, state.b)})`;
-    return `At ${a} and ${b}: energy ${exact(energies[state.a * n + state.b])}.`;
+        return `At vertex ${a}: energy ${exact(energies[state.a])}.`;
+    const b = `${state.b}, direction (${directionWords(t, row.level, state.b)})`;
+    return `At vertex a = ${a} and vertex b = ${b}: energy ${exact(energies[state.a * n + state.b])}.`;
 }
 
 const OTHER = {lowest: 'lowest energy over all', mean: 'mean energy over all', chosen: 'energy at the chosen'};

@@ -47,16 +47,17 @@ function drawSlabs(t) {
     picture.append(node('rect', {
         class: 'frame-line', x: SLABS.left, y: SLABS.top, width: t.nR * cells.w, height: t.nOmega * cells.h, 'pointer-events': 'none',
     }));
-    picture.append(...slabAxes(t, cells), node('rect', {class: 'chosen', id: 'chosen', width: cells.w, height: cells.h}));
+    const frame = {width: cells.w, height: cells.h};
+    picture.append(...slabAxes(t, cells));
+    picture.append(node('g', {id: 'chosen'}, node('rect', {class: 'around', ...frame}), node('rect', {class: 'chosen', ...frame})));
     holder.replaceChildren(picture);
     return cells;
 }
 
 // The frame of the slab that is chosen, kept in sight.
 function markSlab(cells, ri, oi) {
-    const frame = byId('chosen'), holder = byId('slabs'), x = cells.x(ri), y = cells.y(oi);
-    frame.setAttribute('x', x);
-    frame.setAttribute('y', y);
+    const holder = byId('slabs'), x = cells.x(ri), y = cells.y(oi);
+    byId('chosen').setAttribute('transform', `translate(${x} ${y})`);
     if (x < holder.scrollLeft || x + cells.w > holder.scrollLeft + holder.clientWidth)
         holder.scrollLeft = x - holder.clientWidth / 2;
     if (y < holder.scrollTop || y + cells.h > holder.scrollTop + holder.clientHeight)
