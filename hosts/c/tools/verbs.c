@@ -36,8 +36,8 @@ const verb verbs[] = {
     {"view", "FILE -o PAGE.html", "a page that shows a table in a browser",
      "One page with the whole table in it, which fetches nothing: the map of its slabs, the row and the energies of the slab that is chosen by a click or by "
      "the arrow keys, the profile over distance, and the smallest and largest energy over a span of distances. For tables of two molecules that pass verify "
-     "--viewer, at most 4 levels and 4096 rows, and for tables against an atom of at most 4096 rows; map and export take larger ones. The page is four thirds "
-     "as long as the table.",
+     "--viewer, at most 4 levels and 4096 rows, and for tables against an atom of at most 4096 rows; map and export take larger ones. The page is somewhat "
+     "longer than four thirds of the table.",
      1, 1, {OUTPUT("Where the page goes, a file that must not be there yet; it has to be named. - is standard output.")}, view_tool},
     {"export", "--csv FILE", "the slabs or the energies as text for other programs",
      "A line of column names, then one line a slab: ri, oi, r, omega, kind, level, letter, offset, energies (how many), scalar, lowest, highest. With "
