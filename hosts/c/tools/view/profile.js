@@ -61,6 +61,12 @@ function profileBand(rows, at, t) {
     return parts;
 }
 
+// Where there are not too many, the lowest energies as points, too: a row that stands by itself has no line.
+function profilePoints(rows, at, t) {
+    const drawn = rows.filter(row => rows.length <= 100 && row.kind !== REPULSIVE && !Number.isNaN(row.lowest));
+    return drawn.map(row => node('circle', {class: 'point', cx: at.x(t.distance(row.ri)), cy: at.y(row.lowest), r: 2.5}));
+}
+
 // Walls as columns, NaNs as crosses.
 function profileMarks(rows, at, t) {
     const half = at.wide / (t.nR + 1) / 2, marks = [];
@@ -105,7 +111,7 @@ function drawProfile(t, state, span) {
     const x = at.x(t.distance(state.ri));
     picture.append(...profileMarks(rows, at, t), ...profileSpan(at, span, state.low, state.high), ...profileBand(rows, at, t));
     picture.append(...profileAxes(at, t), ...['highest', 'mean', 'lowest'].map(name => profilePath(rows, at, t, name)));
-    picture.append(node('path', {class: 'here', d: `M${x} ${PROFILE.top}v${PROFILE.height}`}));
+    picture.append(...profilePoints(rows, at, t), node('path', {class: 'here', d: `M${x} ${PROFILE.top}v${PROFILE.height}`}));
     holder.replaceChildren(picture);
     const where = t.atom ? '' : ` at dihedral bin ${state.oi} (${short(t.omega(state.oi) * DEGREES)} degrees)`;
     byId('profile-words').textContent = `Lowest, mean and highest energy of each distance's row${where}; energies beyond ${short(at.depth)} `

@@ -1,5 +1,5 @@
 // The map of slabs: distance to the right, dihedral angle upward.
-const SLABS = {left: 58, right: 12, top: 6, below: 44, least: 5};
+const SLABS = {left: 52, right: 12, top: 22, below: 44, least: 5};
 
 function slabCells(width, t) {
     const room = Math.max(200, width - SLABS.left - SLABS.right);
@@ -23,9 +23,8 @@ function slabAxes(t, cells) {
     for (let oi = 0; !t.atom && oi < t.nOmega; oi += every(t.nOmega, t.nOmega * cells.h / 18))
         labels.push(label(SLABS.left - 6, cells.y(oi) + cells.h / 2 + 4, 'end', short(t.omega(oi) * DEGREES)));
     labels.push(label(SLABS.left, bottom + 36, 'start', 'distance (unit of the table)'));
-    const turned = {transform: `rotate(-90 12 ${SLABS.top + t.nOmega * cells.h / 2})`};
     if (!t.atom)
-        labels.push(label(12, SLABS.top + t.nOmega * cells.h / 2 + 4, 'middle', 'dihedral (degrees)', turned));
+        labels.push(label(0, 12, 'start', 'dihedral (degrees)'));
     return labels;
 }
 

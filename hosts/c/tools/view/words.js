@@ -26,17 +26,21 @@ function grouped(n) {
     return n.toLocaleString('en');
 }
 
+function counted(n, word) {
+    return `${grouped(n)} ${word}${n === 1 ? '' : 's'}`;
+}
+
 function tableWords(t) {
     const parts = [
         t.atom ? 'A table against an atom' : 'A table of two molecules',
-        `${grouped(t.nR)} distances from ${double(t.rmin)} to ${double(t.rmax)} by ${double(t.dr)}`,
+        `${counted(t.nR, 'distance')} from ${double(t.rmin)} to ${double(t.rmax)} by ${double(t.dr)}`,
     ];
     if (!t.atom)
-        parts.push(`${grouped(t.nOmega)} dihedral bins of ${short(t.step)} rad (${short(t.step * DEGREES)} degrees)`);
-    parts.push(`${t.count[2]} levels`, `${grouped(t.count[4])} energies`);
+        parts.push(`${counted(t.nOmega, 'dihedral bin')} of ${short(t.step)} rad (${short(t.step * DEGREES)} degrees)`);
+    parts.push(counted(t.count[2], 'level'), `${grouped(t.count[4])} energies`);
     if (t.terms > 0)
-        parts.push(`a long-range tail of ${grouped(t.terms)} terms, which this page does not show`);
-    return `${parts.join(' · ')} · ${grouped(t.data.byteLength)} bytes`;
+        parts.push(`a long-range tail of ${counted(t.terms, 'term')}, which this page does not show`);
+    return [...parts, counted(t.data.byteLength, 'byte')].join(' · ');
 }
 
 function binWords(t, ri, oi) {
