@@ -1,10 +1,10 @@
 /* Pair-energy tables over distance, dihedral angle and two orientations: build, write, read, look up. The same for one
  * molecule against an atom, over distance and one direction: icotable_atom_ and the same names.
  *
- * Link with libicotable.a (`make -C hosts/c lib` writes it to target/staticlib) and the C library's mathematics (-lm).
- * Nothing checks these declarations against the library's source: they are written by hand and tried by hosts/c.
- * Helpers that are not proved are in libicotable_host.a: meshes (mesh.h), a test of the floating-point environment
- * (environment.h) and journals of builds (icotable_journal.h).
+ * Link with libicotable: cc host.c $(pkg-config --cflags --libs icotable). Nothing checks these declarations against the
+ * library's source: they are written by hand and tried by hosts/c. What is installed also holds helpers that are not proved,
+ * with headers in the folder icotable: meshes, a test of the floating-point environment, journals of builds, and handles that
+ * own lists and files (icotable_handles.h).
  *
  * Answers. Every function returns a number, or a struct whose first field is `number`: 0 where the call was accepted,
  * else the number of the first question that was answered no. A refused call changes nothing. All other fields of a
@@ -54,7 +54,7 @@
 /* The version, raised where a struct, a function or the table file changes (CHANGELOG.md). The pkg-config file and the
  * tool take it from here; a test compares it with hosts/rust. */
 #define ICOTABLE_VERSION_MAJOR 0
-#define ICOTABLE_VERSION_MINOR 20
+#define ICOTABLE_VERSION_MINOR 21
 #define ICOTABLE_VERSION_PATCH 0
 
 #define ICOTABLE_STRING_(x) #x

@@ -4,7 +4,7 @@
  * and fesetround alters the rounding; then a call of the library can give another number or another energy. Ask once
  * before the first call, and in each thread that alters its environment.
  *
- * Link with libicotable_host.a. */
+ * Link with libicotable: cc host.c $(pkg-config --cflags --libs icotable). */
 #ifndef ICOTABLE_ENVIRONMENT_H
 #define ICOTABLE_ENVIRONMENT_H
 

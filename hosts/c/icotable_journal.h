@@ -27,7 +27,7 @@
  * A last record that is not whole, or whose end was never written (its last 8 bytes are 0), is cut off at resume. Any other
  * damage is refused with its record and byte; the calls before it are whole, and a file cut there resumes.
  *
- * Link with libicotable_host.a before libicotable.a, and with -lm. */
+ * Link with libicotable: cc host.c $(pkg-config --cflags --libs icotable). */
 #ifndef ICOTABLE_JOURNAL_H
 #define ICOTABLE_JOURNAL_H
 
@@ -84,6 +84,7 @@ typedef struct icotable_journal {
     uint64_t slabs, set_count, settled_count;
     const uint8_t *set, *settled; /* of each slab, and of each slice: whether it was */
     char said[400];           /* the last refusal in words, with its bins or its place */
+    uint64_t build;           /* hash of kind, top level, settings and meshes, which slab files have (icotable_slab.h) */
 
     const icotable_meshes *meshes;
     double *store, *spare;
@@ -93,19 +94,19 @@ typedef struct icotable_journal {
     uint32_t *values;
     int file, state, broken;
     uint32_t sum;
-    uint32_t table[256];
 } icotable_journal;
 
 /* Begin a journal, or resume one by playing its calls. They answer 0; a number of fresh; or one of the above. Where they
  * refuse, nothing is held; closing does no harm. The settings, the top level and the meshes of a resume have to be those of
- * the begin, to the bit; the meshes may have levels above the top. */
+ * the begin, to the bit; the meshes may have levels above the top. A begin whose name is NULL has no file: the same calls under
+ * the same guard, of which nothing is kept. */
 uint64_t icotable_journal_begin(icotable_journal *j, const char *name, icotable_grid settings, uint64_t top, const icotable_meshes *meshes, unsigned flags);
 uint64_t icotable_journal_resume(icotable_journal *j, const char *name, icotable_grid settings, uint64_t top, const icotable_meshes *meshes, unsigned flags);
 uint64_t icotable_journal_atom_begin(icotable_journal *j, const char *name, icotable_atom_grid settings, uint64_t top, const icotable_meshes *meshes, unsigned flags);
 uint64_t icotable_journal_atom_resume(icotable_journal *j, const char *name, icotable_atom_grid settings, uint64_t top, const icotable_meshes *meshes, unsigned flags);
 void icotable_journal_close(icotable_journal *j);
 
-/* Whose journal it is: fills atom, the settings in builder.grid, and builder.top; nothing stays open. */
+/* Whose journal it is: fills atom, the settings in builder.grid, builder.top and build; nothing stays open. */
 uint64_t icotable_journal_look(icotable_journal *j, const char *name);
 
 /* icotable_set and icotable_settle, kept; against an atom oi is 0. They answer the library's numbers and those above. */

@@ -1,22 +1,18 @@
 #include "icotable_journal.h"
 
 #include "environment.h"
+#include "icotable_mesh_file.h"
+#include "icotable_slab.h"
+#include "support.h"
 
 #include <errno.h>
 #include <fcntl.h>
-#include <stdarg.h>
-#include <stdbool.h>
 #include <stdio.h>
 #include <stdlib.h>
 #include <string.h>
 #include <sys/file.h>
 #include <sys/stat.h>
 #include <unistd.h>
-
-/* Numbers go to the file as they lie in memory. */
-#if !defined __BYTE_ORDER__ || __BYTE_ORDER__ != __ORDER_LITTLE_ENDIAN__
-#error "journal.c needs a little-endian machine"
-#endif
 
 enum { VERSION = 1, HEAD = 84, CALL = 36, ANSWER = 40, LAST = 8, FIRST = HEAD + CALL + ANSWER, CHUNK = 4096 };
 enum kind { FRESH = 1, SET = 2, SETTLE = 3 };
@@ -59,13 +55,10 @@ const char *icotable_journal_words(uint64_t number) {
 
 /* The number's words, and more behind them. */
 static uint64_t say(icotable_journal *j, uint64_t number, const char *more, ...) {
-    int at = snprintf(j->said, sizeof j->said, "%s%s", icotable_journal_words(number), more[0] ? ": " : "");
-    if (at >= 0 && (size_t)at < sizeof j->said) {
-        va_list list;
-        va_start(list, more);
-        vsnprintf(j->said + at, sizeof j->said - (size_t)at, more, list);
-        va_end(list);
-    }
+    va_list list;
+    va_start(list, more);
+    icotable_say_(j->said, sizeof j->said, icotable_journal_words(number), more, list);
+    va_end(list);
     return number;
 }
 
@@ -80,50 +73,6 @@ static uint64_t say_errno(icotable_journal *j, uint64_t number) {
     return say(j, number, "%s", strerror(errno));
 }
 
-/* ---- checksums */
-
-/* zlib's crc32: the polynomial EDB88320, bits from the lowest on, all ones before and behind. */
-static void fill_table(uint32_t table[256]) {
-    for (uint32_t i = 0; i < 256; i++) {
-        uint32_t c = i;
-        for (int k = 0; k < 8; k++)
-            c = c & 1 ? c >> 1 ^ 0xEDB88320u : c >> 1;
-        table[i] = c;
-    }
-}
-
-/* The checksum of what a sum stands for and these bytes behind it. */
-static uint32_t crc32_of(const icotable_journal *j, uint32_t sum, const void *bytes, size_t count) {
-    const uint8_t *b = bytes;
-    uint32_t c = ~sum;
-    for (size_t i = 0; i < count; i++)
-        c = j->table[(c ^ b[i]) & 255] ^ c >> 8;
-    return ~c;
-}
-
-static uint64_t fnv(uint64_t hash, const void *bytes, size_t count) {
-    const uint8_t *b = bytes;
-    for (size_t i = 0; i < count; i++)
-        hash = (hash ^ b[i]) * 0x100000001B3u;
-    return hash;
-}
-
-/* Of levels 0 to the top; a sixth place that no call reads counts as 0. */
-static uint64_t hash_of(const icotable_meshes *m, uint64_t top) {
-    static const uint16_t none = 0;
-    static const double flat = 0;
-    size_t n = 0;
-    for (uint64_t level = 0; level <= top; level++)
-        n += icotable_vertices(level);
-    uint64_t hash = fnv(0xCBF29CE484222325u, m->vertices, 3 * n * sizeof *m->vertices);
-    hash = fnv(hash, m->neighbour_counts, n);
-    for (size_t k = 0; k < 6 * n; k++)
-        hash = fnv(hash, k % 6 < m->neighbour_counts[k / 6] ? &m->neighbours[k] : &none, sizeof none);
-    for (size_t k = 0; k < 6 * n; k++)
-        hash = fnv(hash, k % 6 < m->neighbour_counts[k / 6] ? &m->angles[k] : &flat, sizeof flat);
-    return hash;
-}
-
 /* ---- the bytes of head and records */
 
 static uint8_t *put(uint8_t *at, const void *bytes, size_t count) {
@@ -132,22 +81,38 @@ static uint8_t *put(uint8_t *at, const void *bytes, size_t count) {
 }
 
 static uint8_t *put_sum(icotable_journal *j, uint8_t *from, uint8_t *at) {
-    j->sum = crc32_of(j, j->sum, from, (size_t)(at - from));
+    j->sum = icotable_crc32_(j->sum, from, (size_t)(at - from));
     return put(at, &j->sum, sizeof j->sum);
 }
 
-static void make_head(icotable_journal *j, const plan *p, uint8_t head[HEAD]) {
+static void fill_head(const plan *p, uint8_t head[HEAD]) {
     uint32_t version = VERSION, kind = p->atom ? 1 : 0;
     double settings[] = {p->grid.rmin, p->grid.rmax, p->grid.dr, p->grid.omega_step, p->grid.threshold, p->grid.beta};
-    uint64_t hash = hash_of(p->meshes, p->top);
+    uint64_t hash = icotable_meshes_hash(p->meshes, p->top + 1);
     uint8_t *at = put(head, MAGIC, 8);
     at = put(at, &version, sizeof version);
     at = put(at, &kind, sizeof kind);
     at = put(at, &p->top, sizeof p->top);
     at = put(at, settings, sizeof settings);
-    at = put(at, &hash, sizeof hash);
+    put(at, &hash, sizeof hash);
+}
+
+/* Kind, top level, settings and meshes. */
+static uint64_t build_of(const uint8_t head[HEAD]) {
+    return icotable_fnv_(ICOTABLE_FNV_, head + 12, HEAD - 4 - 12);
+}
+
+static void make_head(icotable_journal *j, const plan *p, uint8_t head[HEAD]) {
+    fill_head(p, head);
+    j->build = build_of(head);
     j->sum = 0;
-    put_sum(j, head, at);
+    put_sum(j, head, head + HEAD - 4);
+}
+
+uint64_t icotable_build_hash(int atom, icotable_grid settings, uint64_t top, const icotable_meshes *meshes) {
+    uint8_t head[HEAD];
+    fill_head(&(plan){atom, settings, top, meshes}, head);
+    return build_of(head);
 }
 
 static void make_call(icotable_journal *j, const call *c, uint8_t bytes[CALL]) {
@@ -159,53 +124,6 @@ static void make_answer(icotable_journal *j, const answer *a, uint8_t bytes[ANSW
 }
 
 /* ---- files */
-
-static bool write_at(int file, const void *bytes, size_t count, uint64_t at) {
-    const uint8_t *b = bytes;
-    while (count > 0) {
-        ssize_t done = pwrite(file, b, count, (off_t)at);
-        if (done < 0 && errno == EINTR)
-            continue;
-        if (done <= 0) {
-            errno = done == 0 ? ENOSPC : errno;
-            return false;
-        }
-        b += done, at += (uint64_t)done, count -= (size_t)done;
-    }
-    return true;
-}
-
-static bool read_at(int file, void *bytes, size_t count, uint64_t at) {
-    uint8_t *b = bytes;
-    while (count > 0) {
-        ssize_t done = pread(file, b, count, (off_t)at);
-        if (done < 0 && errno == EINTR)
-            continue;
-        if (done <= 0) {
-            errno = done == 0 ? EIO : errno;
-            return false;
-        }
-        b += done, at += (uint64_t)done, count -= (size_t)done;
-    }
-    return true;
-}
-
-/* A new name is on disk once its folder is; some file systems do not sync folders. */
-static bool sync_folder(const char *name) {
-    const char *slash = strrchr(name, '/');
-    size_t length = slash == NULL ? 1 : slash == name ? 1 : (size_t)(slash - name);
-    char *folder = malloc(length + 1);
-    if (folder == NULL)
-        return false;
-    memcpy(folder, slash == NULL ? "." : name, length);
-    folder[length] = 0;
-    int file = open(folder, O_RDONLY | O_CLOEXEC);
-    free(folder);
-    bool synced = file >= 0 && (fsync(file) == 0 || errno == EINVAL);
-    if (file >= 0)
-        close(file);
-    return synced;
-}
 
 static bool zeros(const uint8_t *bytes, size_t count) {
     for (size_t i = 0; i < count; i++)
@@ -219,7 +137,7 @@ static bool unwritten(int file, uint64_t from, uint64_t end) {
     uint8_t bytes[CHUNK];
     while (from < end) {
         size_t count = end - from < CHUNK ? (size_t)(end - from) : CHUNK;
-        if (!read_at(file, bytes, count, from) || !zeros(bytes, count))
+        if (!icotable_read_at_(file, bytes, count, from) || !zeros(bytes, count))
             return false;
         from += count;
     }
@@ -412,11 +330,15 @@ static uint64_t append(icotable_journal *j, const call *c, const double *energie
     uint8_t head[CALL], tail[ANSWER];
     uint32_t before = j->sum;
     size_t length = c->count * sizeof *energies;
+    if (j->file < 0) { /* begun without a file */
+        j->records++;
+        return 0;
+    }
     make_call(j, c, head);
-    j->sum = crc32_of(j, j->sum, energies, length);
+    j->sum = icotable_crc32_(j->sum, energies, length);
     make_answer(j, a, tail);
-    bool written = write_at(j->file, head, CALL, j->bytes) && write_at(j->file, energies, length, j->bytes + CALL) &&
-                   write_at(j->file, tail, ANSWER, j->bytes + CALL + length);
+    bool written = icotable_write_at_(j->file, head, CALL, j->bytes) && icotable_write_at_(j->file, energies, length, j->bytes + CALL) &&
+                   icotable_write_at_(j->file, tail, ANSWER, j->bytes + CALL + length);
     bool kept = written && fdatasync(j->file) == 0;
     if (kept) {
         j->bytes += CALL + length + ANSWER;
@@ -516,7 +438,6 @@ static uint64_t prepare(icotable_journal *j, const plan *p, unsigned flags) {
     const icotable_meshes *m = p->meshes;
     const icotable_grid *g = &p->grid;
     *j = (icotable_journal){.atom = p->atom, .guarded = !(flags & ICOTABLE_JOURNAL_UNGUARDED), .meshes = m, .file = -1};
-    fill_table(j->table);
     unsigned environment = icotable_float_environment();
     if (environment != 0)
         return say(j, ICOTABLE_JOURNAL_ENVIRONMENT, "%s", icotable_float_environment_words(environment));
@@ -539,7 +460,7 @@ static void make_first(icotable_journal *j, const plan *p, uint8_t first[FIRST])
 
 /* Head and fresh, in a file that has none of it or a part. */
 static uint64_t begin_file(icotable_journal *j, const char *name, const uint8_t first[FIRST]) {
-    if (!write_at(j->file, first, FIRST, 0) || ftruncate(j->file, FIRST) != 0 || fsync(j->file) != 0 || !sync_folder(name))
+    if (!icotable_write_at_(j->file, first, FIRST, 0) || ftruncate(j->file, FIRST) != 0 || fsync(j->file) != 0 || !icotable_sync_folder_(name))
         return say_errno(j, ICOTABLE_JOURNAL_NOT_WRITTEN);
     j->bytes = FIRST;
     j->records = 1;
@@ -563,6 +484,11 @@ static uint64_t begin(icotable_journal *j, const char *name, const plan *p, unsi
     uint64_t size = 0, number = prepare(j, p, flags);
     if (number != 0)
         return number;
+    if (name == NULL) {
+        j->records = 1;
+        j->state = OPEN;
+        return 0;
+    }
     j->file = open(name, O_RDWR | O_CREAT | O_EXCL | O_CLOEXEC, 0666);
     if (j->file < 0)
         return errno == EEXIST ? say(j, ICOTABLE_JOURNAL_EXISTS, "%s", name) : say_errno(j, ICOTABLE_JOURNAL_TROUBLE);
@@ -588,11 +514,11 @@ static found next_record(icotable_journal *j, uint64_t size, call *c, answer *a,
     *why = "it cannot be read";
     if (left < CALL + ANSWER)
         return TORN;
-    if (!read_at(j->file, head, CALL, j->bytes))
+    if (!icotable_read_at_(j->file, head, CALL, j->bytes))
         return BAD;
     memcpy(c, head, sizeof *c);
     memcpy(&read, head + CALL - 4, 4);
-    j->sum = crc32_of(j, sum, head, CALL - 4);
+    j->sum = icotable_crc32_(sum, head, CALL - 4);
     *why = "the checksum of its bins and counts is another";
     if (read != j->sum)
         return unwritten(j->file, j->bytes + CALL - 1, size) ? TORN : BAD;
@@ -603,10 +529,10 @@ static found next_record(icotable_journal *j, uint64_t size, call *c, answer *a,
     if (left < CALL + length + ANSWER)
         return TORN;
     *why = "it cannot be read";
-    if (!read_at(j->file, j->spare, length, j->bytes + CALL) || !read_at(j->file, tail, ANSWER, j->bytes + CALL + length))
+    if (!icotable_read_at_(j->file, j->spare, length, j->bytes + CALL) || !icotable_read_at_(j->file, tail, ANSWER, j->bytes + CALL + length))
         return BAD;
     memcpy(a, tail, sizeof *a);
-    j->sum = crc32_of(j, j->sum, j->spare, length);
+    j->sum = icotable_crc32_(j->sum, j->spare, length);
     make_answer(j, a, wanted);
     *why = "the checksum of its energies and answer is another";
     if (memcmp(tail, wanted, ANSWER) == 0)
@@ -671,7 +597,7 @@ static uint64_t check_head(icotable_journal *j, const uint8_t head[HEAD]) {
     memcpy(&sum, head + HEAD - 4, 4);
     if (memcmp(head, MAGIC, 8) != 0)
         return say(j, ICOTABLE_JOURNAL_NOT_A_JOURNAL, "it begins otherwise");
-    if (sum != crc32_of(j, 0, head, HEAD - 4))
+    if (sum != icotable_crc32_(0, head, HEAD - 4))
         return say(j, ICOTABLE_JOURNAL_DAMAGED, "the head, bytes 0 to %d", HEAD - 1);
     return version == VERSION ? 0 : say(j, ICOTABLE_JOURNAL_OTHER_VERSION, "%u", (unsigned)version);
 }
@@ -705,7 +631,7 @@ static bool half_begun(const uint8_t *bytes, size_t count, const uint8_t first[F
 static uint64_t resume_first(icotable_journal *j, uint64_t size, const uint8_t first[FIRST]) {
     uint8_t bytes[FIRST];
     size_t count = size < FIRST ? (size_t)size : FIRST;
-    if (!read_at(j->file, bytes, count, 0))
+    if (!icotable_read_at_(j->file, bytes, count, 0))
         return say_errno(j, ICOTABLE_JOURNAL_TROUBLE);
     if (size <= FIRST && half_begun(bytes, count, first))
         return 0;
@@ -789,11 +715,10 @@ uint64_t icotable_journal_look(icotable_journal *j, const char *name) {
     uint8_t head[HEAD];
     uint64_t size = 0;
     *j = (icotable_journal){.file = -1};
-    fill_table(j->table);
     uint64_t number = open_resumed(j, name, true, &size);
     if (number == 0 && size < HEAD)
         number = say(j, ICOTABLE_JOURNAL_NOT_A_JOURNAL, "%llu bytes", (ull)size);
-    if (number == 0 && !read_at(j->file, head, HEAD, 0))
+    if (number == 0 && !icotable_read_at_(j->file, head, HEAD, 0))
         number = say_errno(j, ICOTABLE_JOURNAL_TROUBLE);
     if (number == 0)
         number = check_head(j, head);
@@ -802,6 +727,7 @@ uint64_t icotable_journal_look(icotable_journal *j, const char *name) {
         memcpy(settings, head + 24, sizeof settings);
         memcpy(&j->builder.top, head + 16, 8);
         j->atom = head[12] != 0;
+        j->build = build_of(head);
         j->builder.grid = (icotable_grid){settings[0], settings[1], settings[2], settings[3], settings[4], settings[5], 0, 0};
     }
     icotable_journal_close(j);

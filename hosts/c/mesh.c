@@ -1,4 +1,4 @@
-#include "mesh.h"
+#include "mesh_lists.h"
 
 #include <float.h>
 #include <math.h>
@@ -102,7 +102,7 @@ static void place(const level_part *l, int at, const int corner[3], int i, int j
 }
 
 /* The one function of the C library that is used; volatile, so that it is called and not replaced by a vector of them. */
-static double angle(const double *p, const double *q) {
+double icotable_angle_(const double *p, const double *q) {
     double cosine = dot(p, q);
     volatile double clamped = cosine > 1 ? 1 : cosine < -1 ? -1 : cosine;
     volatile double result = acos(clamped);
@@ -116,7 +116,7 @@ static void tie(const level_part *l, int p, int q) {
             return;
     if (l->counts[p] == 6)
         return;
-    l->angles[6 * p + l->counts[p]] = angle(l->vertices + 3 * p, l->vertices + 3 * q);
+    l->angles[6 * p + l->counts[p]] = icotable_angle_(l->vertices + 3 * p, l->vertices + 3 * q);
     l->neighbours[6 * p + l->counts[p]++] = (uint16_t)q;
 }
 
@@ -156,9 +156,10 @@ static void make_level(const level_part *l) {
     }
 }
 
-static int allocate(icotable_meshes *m) {
+int icotable_allocate_meshes_(icotable_meshes *m, uint64_t top) {
     size_t n = 0, cells = 0;
-    for (uint64_t level = 0; level <= m->top; level++) {
+    *m = (icotable_meshes){.top = top};
+    for (uint64_t level = 0; level <= top; level++) {
         n += icotable_vertices(level);
         cells += icotable_cells(level);
     }
@@ -180,25 +181,33 @@ static int allocate(icotable_meshes *m) {
     return m->vertices && m->neighbour_counts && m->neighbours && m->angles && m->cell_offsets && m->cell_vertices && m->face_offsets && m->faces;
 }
 
+uint64_t icotable_locate_level_(icotable_meshes *m, uint64_t level) {
+    size_t at = 0, cells = 0, n = icotable_vertices(level);
+    for (uint64_t below = 0; below < level; below++) {
+        at += icotable_vertices(below);
+        cells += icotable_cells(below);
+    }
+    return icotable_locator(
+        level, m->vertices + 3 * at, 3 * n, m->neighbour_counts + at, n, m->neighbours + 6 * at, 6 * n, m->angles + 6 * at, 6 * n,
+        m->cell_offsets + cells, icotable_cells(level), m->cell_vertices + 27 * at, 27 * n, m->face_offsets + at + level, n + 1,
+        m->faces + 45 * at, 45 * n);
+}
+
 uint64_t icotable_make_meshes(icotable_meshes *m, uint64_t top) {
     *m = (icotable_meshes){.top = top};
     if (top > 15)
         return ICOTABLE_LEVEL;
-    if (!allocate(m))
+    if (!icotable_allocate_meshes_(m, top))
         return ICOTABLE_NO_MEMORY;
     icosahedron solid = make_icosahedron();
-    size_t at = 0, cells = 0;
+    size_t at = 0;
     for (uint64_t level = 0; level <= top; level++) {
-        size_t n = icotable_vertices(level), offsets = icotable_cells(level);
         level_part l = {&solid, (int)level + 1, m->vertices + 3 * at, m->angles + 6 * at, m->neighbour_counts + at, m->neighbours + 6 * at};
         make_level(&l);
-        uint64_t number = icotable_locator(
-            level, l.vertices, 3 * n, l.counts, n, l.neighbours, 6 * n, l.angles, 6 * n, m->cell_offsets + cells, offsets,
-            m->cell_vertices + 27 * at, 27 * n, m->face_offsets + at + level, n + 1, m->faces + 45 * at, 45 * n);
+        uint64_t number = icotable_locate_level_(m, level);
         if (number != 0)
             return number;
-        at += n;
-        cells += offsets;
+        at += icotable_vertices(level);
     }
     return 0;
 }

@@ -5,7 +5,7 @@
  * A table is read with the vertices that it was built over, bit for bit. docs/FORMAT.md says how they are made and has a
  * checksum of each level; compiler flags do not alter them (mesh.c says which do not let it compile).
  *
- * Link with libicotable_host.a before libicotable.a, and with the C library's mathematics (-lm). */
+ * Link with libicotable: cc host.c $(pkg-config --cflags --libs icotable). */
 #ifndef ICOTABLE_MESH_H
 #define ICOTABLE_MESH_H
 

@@ -106,3 +106,20 @@ double ion_energy(const pose *a, double r) {
     }
     return energy;
 }
+
+void pair_slab(double *energies, pose *turned, const double *directions, size_t n, double r, double omega) {
+    for (size_t i = 0; i < n; i++) {
+        turned[i] = first_pose(directions + 3 * i);
+        turned[n + i] = second_pose(directions + 3 * i, omega);
+    }
+    for (size_t i = 0; i < n; i++)
+        for (size_t j = 0; j < n; j++)
+            energies[i * n + j] = pair_energy(&turned[i], &turned[n + j], r);
+}
+
+void ion_slab(double *energies, const double *directions, size_t n, double r) {
+    for (size_t i = 0; i < n; i++) {
+        pose turned = first_pose(directions + 3 * i);
+        energies[i] = ion_energy(&turned, r);
+    }
+}

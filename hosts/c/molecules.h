@@ -3,6 +3,7 @@
 #ifndef MOLECULES_H
 #define MOLECULES_H
 
+#include <stddef.h>
 #include <stdint.h>
 
 enum { SITES = 4 };
@@ -34,5 +35,10 @@ far_field far_terms(void);
 
 /* The energy of the first molecule with the ion r up the axis. */
 double ion_energy(const pose *first, double r);
+
+/* A slab's energies over n directions, three coordinates each: the first molecule at each of them, the second at each, their
+ * turns in a list of 2n poses; or the ion in each of them. */
+void pair_slab(double *energies, pose *turned, const double *directions, size_t n, double r, double omega);
+void ion_slab(double *energies, const double *directions, size_t n, double r);
 
 #endif

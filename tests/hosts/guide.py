@@ -4,7 +4,7 @@ query, `check`) is declared here."""
 import sys
 
 HEAD = """#include "environment.h"
-#include "icotable_journal.h"
+#include "icotable_handles.h"
 
 #include <stdio.h>
 #include <stdlib.h>
@@ -14,7 +14,9 @@ static double store[store_count], energies[n * n];
 static uint64_t words[slabs];
 static uint8_t kinds[slabs], levels[slabs], output[output_count];
 static uint32_t values[slabs];
-enum { distances = 48 };
+enum { distances = 48, poses_count = 600 };
+static double poses[8 * poses_count], answers[3 * poses_count];
+static uint64_t numbers[poses_count];
 
 static void check(const char *what, uint64_t number) {
     if (number != 0) {
@@ -43,6 +45,22 @@ int main(void) {
 # the three lists that the page moves to words
 LISTS = """    check("rows", icotable_words_to_rows(slabs, words, slabs, kinds, slabs, levels, slabs, values, slabs));
 """
+# by handles: a build and a reader of their own
+HANDLES = """    {
+        double energies[n * n];
+"""
+HANDLED = """        printf("handles %llu\\n", (unsigned long long)number);
+    }
+    {
+        for (int i = 0; i < poses_count; i++) {
+            double pose[8] = {r, omega, ax, ay, az, bx, by, bz};
+            for (int k = 0; k < 8; k++)
+                poses[8 * i + k] = pose[k];
+        }
+"""
+READ = """        printf("handle's energy %g, the last of many %g\\n", found.energy, answers[3 * poses_count - 3]);
+    }
+"""
 # a build of its own, which changes nothing of the page's
 JOURNAL = """    {
         uint64_t ri, oi;
@@ -51,6 +69,7 @@ JOURNAL = """    {
 JOURNALED = """        printf("journal %llu, %llu calls\\n", (unsigned long long)number, (unsigned long long)j.records);
     }
 """
+TABLE = "target/hosts/test/guide.icotable"
 WORDS = """    printf("row %c\\n", letter);
 """
 BETWEEN = """    printf("tail %g of %llu terms\\n", tail.energy, (unsigned long long)far.terms);
@@ -90,7 +109,12 @@ def main():
         "    {\n",
         snippets(page, "Finding a direction without a locator", 4),
         "    }\n",
-        snippets(page, "Building a table", 7),
+        HANDLES,
+        snippets(page, "Building a table", 4).replace("build.journal", "target/hosts/test/handles.journal").replace("table.icotable", TABLE),
+        HANDLED,
+        snippets(page, "Reading in a simulation", 4).replace("table.icotable", TABLE),
+        READ,
+        snippets(page, "Building by the library's own calls", 7),
         JOURNAL,
         snippets(page, "Restarting a job", 4).replace("build.journal", "target/hosts/test/guide.journal"),
         JOURNALED,
@@ -99,7 +123,7 @@ def main():
         WORDS,
         snippets(page, "Beyond the table's distances", 4),
         BETWEEN,
-        snippets(page, "Reading in a simulation", 4),
+        snippets(page, "Reading by the library's own calls", 4),
         snippets(page, "Readings weighted by temperature", 4),
         snippets(page, "Distances known within a span", 4),
         ATOM,

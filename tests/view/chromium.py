@@ -74,7 +74,7 @@ class Browser:
         """A page, and all that it loads."""
         self.events.clear()
         if "loaderId" not in self.call("Page.navigate", url=address):
-            return  # the same page at another place behind #
+            self.call("Page.reload")  # the same page at another place behind # would not be loaded anew
         while not any(e.get("method") == "Page.loadEventFired" for e in self.events):
             self.events.append(self.message())
 

@@ -216,6 +216,14 @@ def looks(look, chosen, over, level, oi):
     browser.scheme("light")
     look.open(f"#slab={over[0]},{oi}&a=1&b=2&low=nothing&high=")
     look.slab_is(over[0], oi)
+    ends_are_no_numbers(look)
+    # another place in the page that is open: it listens before this does
+    look.ask("new Promise(done => { addEventListener('hashchange', () => done(true), {once: true}); location.hash = '#slab=3,0&low=&high=1e999'; })")
+    look.slab_is(3, 0)
+    ends_are_no_numbers(look)
+
+
+def ends_are_no_numbers(look):
     look.check(dict(look.list("span")).get("refused", "").startswith("with 18: "), f"{look.name}: ends that are no numbers")
 
 

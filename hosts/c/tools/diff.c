@@ -1,4 +1,5 @@
-/* diff A B: whether and why two tables differ. A summary first, then the slabs, as many as are wanted. */
+/* diff A B: whether and why two tables differ; where they have seals, by which settings. A summary first, then the slabs, as many
+ * as are wanted. */
 #include "differences.h"
 #include "verbs.h"
 
@@ -150,6 +151,7 @@ static int differ(const table_file *f, const table_file *g, const listing *l) {
     print_settings(&d);
     print_slabs(f, &d);
     print_tails(f, g, &d, l->most);
+    diff_seals(f, g, false);
     if (d.slabs_match && d.differing > 0)
         print_listing(f, g, l);
     return FOUND;
@@ -170,10 +172,12 @@ static int compare(const table_file *f, const table_file *g, const listing *l) {
     }
     if (f->count != g->count || memcmp(f->bytes, g->bytes, f->count) != 0)
         return differ(f, g, l);
-    if (given("--json") != NULL)
+    if (given("--json") != NULL) {
         json_same(f, g);
-    else
+    } else {
         printf("%s and %s are the same table, byte for byte\n", f->name, g->name);
+        diff_seals(f, g, false);
+    }
     return GOOD;
 }
 
@@ -183,9 +187,9 @@ static int listing_of(listing *l) {
     if (limit != NULL && strcmp(limit, "all") == 0)
         l->most = UINT64_MAX;
     else if (limit != NULL && !whole_of(limit, &l->most))
-        return misused(verb_named("diff"), "--limit is a whole number or all", limit);
+        return misused("diff", "--limit", "wants a whole number or the word all");
     if (slice != NULL && !whole_of(slice, &l->slice))
-        return misused(verb_named("diff"), "--slice is a whole number", slice);
+        return misused("diff", "--slice", "wants a whole number");
     return GOOD;
 }
 

@@ -16,6 +16,7 @@ static void json_files(const table_file *f, const table_file *g, bool equal) {
 void json_same(const table_file *f, const table_file *g) {
     json_open(NULL, '{');
     json_files(f, g, true);
+    diff_seals(f, g, true);
     json_close('}');
     json_end();
 }
@@ -139,6 +140,7 @@ void json_differences(const table_file *f, const table_file *g, const difference
         if (d->slabs_match)
             json_slabs(f, d);
         json_tails(f, g, d);
+        diff_seals(f, g, true);
         if (d->slabs_match)
             json_listing(f, g, l);
     }

@@ -102,9 +102,9 @@ int export_tool(int count, char **names) {
     uint64_t slice = 0;
     const char *sliced = given("--slice");
     if (given("--csv") == NULL)
-        return misused(verb_named("export"), "--csv is missing", "");
+        return misused("export", "--csv", "is missing");
     if (sliced != NULL && !whole_of(sliced, &slice))
-        return misused(verb_named("export"), "--slice is a whole number", sliced);
+        return misused("export", "--slice", "wants a whole number");
     table_file f;
     int status = open_table(&f, names[0]);
     if (status == GOOD)

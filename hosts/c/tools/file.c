@@ -4,7 +4,6 @@
 #include <stdlib.h>
 #include <string.h>
 #include <sys/stat.h>
-#include <unistd.h>
 
 static char said[200];
 
@@ -61,21 +60,18 @@ void view_table(table_file *f) {
 }
 
 /* Standard input is read once. */
-static int open_input(table_file *f) {
+static int read_input(table_file *f) {
     static bool taken;
-    *f = (table_file){.name = "standard input"};
+    *f = (table_file){.name = "standard input", .input = true};
     if (taken)
         return trouble(f->name, "is read once, and was");
     taken = true;
-    int status = read_whole(f, stdin);
-    if (status == GOOD)
-        look_over(f);
-    return status;
+    return read_whole(f, stdin);
 }
 
-int open_table(table_file *f, const char *name) {
+int read_named(table_file *f, const char *name) {
     if (strcmp(name, "-") == 0)
-        return open_input(f);
+        return read_input(f);
     *f = (table_file){.name = name};
     struct stat what;
     if (stat(name, &what) != 0)
@@ -87,6 +83,11 @@ int open_table(table_file *f, const char *name) {
         return trouble(name, strerror(errno));
     int status = read_whole(f, in);
     fclose(in);
+    return status;
+}
+
+int open_table(table_file *f, const char *name) {
+    int status = read_named(f, name);
     if (status == GOOD)
         look_over(f);
     return status;
@@ -150,14 +151,16 @@ bool same_slabs(const table_file *f, const table_file *g) {
     return f->atom == g->atom && f->table.grid.n_r == g->table.grid.n_r && f->table.grid.n_omega == g->table.grid.n_omega;
 }
 
+bool same_energies(const table_file *f, const table_file *g, const row *r, const row *s) {
+    return memcmp(f->bytes + f->table.start[4] + 4 * (size_t)r->offset, g->bytes + g->table.start[4] + 4 * (size_t)s->offset, 4 * per_row(f, r)) == 0;
+}
+
 /* As document 01 compares rows: kind, level, flag, scalar bits and each energy's bits. */
 bool same_row(const table_file *f, const table_file *g, uint64_t slab) {
     row r = row_of(f, slab), s = row_of(g, slab);
     if (r.kind != s.kind || r.level != s.level || r.scalar != s.scalar)
         return false;
-    if (r.kind < NEAREST)
-        return true;
-    return memcmp(f->bytes + f->table.start[4] + 4 * (size_t)r.offset, g->bytes + g->table.start[4] + 4 * (size_t)s.offset, 4 * per_row(f, &r)) == 0;
+    return r.kind < NEAREST || same_energies(f, g, &r, &s);
 }
 
 const char *kind_words(unsigned kind) {

@@ -58,8 +58,13 @@ void print_usage(FILE *out, const verb *v) {
 void print_help(FILE *out) {
     fputs("usage: icotable VERB [OPTION].. NAME..\n\n", out);
     for (size_t i = 0; i < verbs_count; i++) {
-        int used = fprintf(out, "  %s %s", verbs[i].name, verbs[i].names);
-        wrapped(out, used, COLUMN, verbs[i].line);
+        int used = fprintf(out, "  %s", verbs[i].name);
+        bool own_line = used + 1 + (int)strlen(verbs[i].names) > COLUMN - 2;
+        if (own_line)
+            wrapped(out, used, 4, verbs[i].names);
+        else
+            used += fprintf(out, " %s", verbs[i].names);
+        wrapped(out, own_line ? 0 : used, COLUMN, verbs[i].line);
     }
     print_options(out, main_options);
     for (size_t i = 0; i < notes_count; i++) {

@@ -2,7 +2,6 @@
  * over the meshes that mesh.h makes, alter nothing of the journal, and may be called while a build has it open. */
 #include "tools.h"
 
-#include "icotable_journal.h"
 #include "verbs.h"
 
 #include <stdlib.h>
@@ -12,12 +11,11 @@ enum { SHOWN = 12 };
 
 typedef unsigned long long ull;
 
-/* A journal is a file of its own, which a build may have open. */
-static int named(const char *name) {
-    return strcmp(name, "-") == 0 ? trouble(name, "a journal is read from a file, not from standard input") : GOOD;
+int journal_named(const char *name) {
+    return strcmp(name, "-") == 0 ? trouble(name, "a journal is a file, and not standard input") : GOOD;
 }
 
-static int refused(const char *name, uint64_t number, const char *said) {
+int refused_journal(const char *name, uint64_t number, const char *said) {
     if (number == ICOTABLE_JOURNAL_OTHER_MESHES)
         said = "the journal is over other meshes than this tool makes (icotable_make_meshes): only the host that has them can play it";
     if (number == ICOTABLE_NO_MEMORY)
@@ -37,9 +35,7 @@ static int refused(const char *name, uint64_t number, const char *said) {
     return cannot ? TROUBLE : FOUND;
 }
 
-/* Plays a journal; the number that refuses it, with its words in said, or 0. Close it and free the meshes in any case. */
-static uint64_t played(icotable_journal *j, icotable_meshes *meshes, const char *name, bool guarded) {
-    unsigned flags = ICOTABLE_JOURNAL_READING | (guarded ? 0u : (unsigned)ICOTABLE_JOURNAL_UNGUARDED);
+uint64_t play_journal(icotable_journal *j, icotable_meshes *meshes, const char *name, unsigned flags) {
     uint64_t number = icotable_journal_look(j, name);
     if (number != 0)
         return number;
@@ -53,6 +49,10 @@ static uint64_t played(icotable_journal *j, icotable_meshes *meshes, const char 
         return number;
     }
     return j->atom ? icotable_journal_atom_resume(j, name, atom, top, meshes, flags) : icotable_journal_resume(j, name, g, top, meshes, flags);
+}
+
+static uint64_t played(icotable_journal *j, icotable_meshes *meshes, const char *name, bool guarded) {
+    return play_journal(j, meshes, name, ICOTABLE_JOURNAL_READING | (guarded ? 0u : (unsigned)ICOTABLE_JOURNAL_UNGUARDED));
 }
 
 static void print_done(const icotable_journal *j) {
@@ -160,14 +160,14 @@ int status_tool(int count, char **names) {
     icotable_journal j;
     icotable_meshes meshes = {0};
     char said[sizeof j.said] = "";
-    if (named(names[0]) != GOOD)
+    if (journal_named(names[0]) != GOOD)
         return TROUBLE;
     uint64_t number = played(&j, &meshes, names[0], true);
     if (by_guard(number)) {
         memcpy(said, j.said, sizeof said);
         number = played(&j, &meshes, names[0], false);
     }
-    int status = number == 0 ? GOOD : refused(names[0], number, j.said);
+    int status = number == 0 ? GOOD : refused_journal(names[0], number, j.said);
     if (status == GOOD)
         (given("--json") != NULL ? json_status : print_status)(&j, names[0], said);
     icotable_journal_close(&j);
@@ -181,7 +181,7 @@ static int written(icotable_journal *j, const char *name, const char *out) {
     if (bytes == NULL)
         return trouble(out, "does not fit into memory");
     icotable_written w = icotable_journal_write(j, bytes, length);
-    int status = w.number != 0 ? refused(name, w.number, j->said) : write_new(out, bytes, (size_t)w.length);
+    int status = w.number != 0 ? refused_journal(name, w.number, j->said) : write_new(out, bytes, (size_t)w.length);
     if (status == GOOD)
         printf("%s: %llu bytes, the table of %llu calls\n", out, (ull)w.length, (ull)j->records);
     free(bytes);
@@ -194,11 +194,11 @@ int replay_tool(int count, char **names) {
     icotable_journal j;
     icotable_meshes meshes = {0};
     if (out == NULL)
-        return misused(verb_named("replay"), "-o FILE is missing", "");
-    if (named(names[0]) != GOOD || free_name(names[0], out) != GOOD)
+        return misused("replay", "-o", "is missing");
+    if (journal_named(names[0]) != GOOD || free_name(names[0], out) != GOOD)
         return TROUBLE;
     uint64_t number = played(&j, &meshes, names[0], given("--unguarded") == NULL);
-    int status = number == 0 ? written(&j, names[0], out) : refused(names[0], number, j.said);
+    int status = number == 0 ? written(&j, names[0], out) : refused_journal(names[0], number, j.said);
     icotable_journal_close(&j);
     icotable_free_meshes(&meshes);
     return status;

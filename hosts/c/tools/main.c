@@ -60,9 +60,9 @@ static int run(const verb *v, int count, char **names) {
     else if (given("--version") != NULL)
         print_version();
     else if (count < v->least)
-        return misused(v, "a word is missing", "");
+        return misused(v->name, v->names, "are its names, and one is missing");
     else if (count > v->most)
-        return misused(v, "a word too many", names[v->most]);
+        return misused(v->name, names[v->most], "is a name too many");
     else
         return choose_colour() == GOOD ? v->run(count, names) : TROUBLE;
     return GOOD;

@@ -1,8 +1,9 @@
 /* New files: under another name in their folder until they are whole, and never in the place of one that is there. */
 #include "tools.h"
 
+#include "support.h"
+
 #include <errno.h>
-#include <stdlib.h>
 #include <string.h>
 #include <sys/stat.h>
 #include <unistd.h>
@@ -18,32 +19,31 @@ int free_name(const char *in, const char *out) {
     return trouble(out, "is there already and is not replaced");
 }
 
+static int not_written(const char *out) {
+    return trouble(out, errno == EEXIST ? "is there already and is not replaced" : strerror(errno));
+}
+
 int begin_new(new_file *n, const char *out) {
     *n = (new_file){.name = out, .to = stdout};
     if (out == NULL || strcmp(out, "-") == 0)
         return GOOD;
-    n->to = NULL;
-    n->under = malloc(strlen(out) + 8);
-    if (n->under == NULL)
-        return trouble(out, "does not fit into memory");
-    strcat(strcpy(n->under, out), ".XXXXXX");
-    int file = mkstemp(n->under);
-    n->to = file < 0 ? NULL : fdopen(file, "wb");
+    n->file = icotable_begin_file_(out, &n->under);
+    if (n->file < 0)
+        return not_written(out);
+    int again = dup(n->file);
+    n->to = again < 0 ? NULL : fdopen(again, "wb");
     if (n->to != NULL)
         return GOOD;
-    int status = trouble(out, strerror(errno));
-    if (file >= 0) {
-        close(file);
-        unlink(n->under);
-    }
-    free(n->under);
-    return status;
+    int why = errno;
+    if (again >= 0)
+        close(again);
+    icotable_end_file_(n->file, n->under, n->name, false, false);
+    errno = why;
+    return not_written(out);
 }
 
-/* To disk, with the rights that a new file has; or false with errno. */
-static bool kept(FILE *to) {
-    mode_t mask = umask(0);
-    umask(mask);
+/* All that was printed is written; or false with errno. */
+static bool arrived(FILE *to) {
     if (ferror(to)) { /* the reason is an earlier call's: a byte more finds it again, and the file is given up in any case */
         clearerr(to);
         errno = 0;
@@ -52,34 +52,22 @@ static bool kept(FILE *to) {
         errno = errno == 0 ? EIO : errno;
         return false;
     }
-    return fflush(to) == 0 && fchmod(fileno(to), 0666 & ~mask) == 0 && fsync(fileno(to)) == 0;
+    return fflush(to) == 0;
 }
 
 int end_new(new_file *n) {
     if (n->under == NULL)
         return GOOD; /* main looks after standard output */
-    bool whole = kept(n->to);
+    bool whole = arrived(n->to);
     int why = errno;
     if (fclose(n->to) != 0 && whole) {
         whole = false;
         why = errno;
     }
-    /* a link does not replace; where a folder has none, a new name does as well */
-    if (whole && link(n->under, n->name) != 0 && (errno == EEXIST || rename(n->under, n->name) != 0)) {
-        whole = false;
-        why = errno;
-    }
-    unlink(n->under);
-    free(n->under);
-    if (whole)
-        return GOOD;
-    return trouble(n->name, why == EEXIST ? "is there already and is not replaced" : strerror(why));
+    errno = why;
+    return icotable_end_file_(n->file, n->under, n->name, whole, false) ? GOOD : not_written(n->name);
 }
 
 int write_new(const char *out, const uint8_t *bytes, size_t count) {
-    new_file n;
-    if (begin_new(&n, out) != GOOD)
-        return TROUBLE;
-    fwrite(bytes, 1, count, n.to);
-    return end_new(&n);
+    return icotable_write_file_(out, bytes, count, false) ? GOOD : not_written(out);
 }

@@ -3,7 +3,7 @@
 #ifndef TOOLS_H
 #define TOOLS_H
 
-#include "icotable.h"
+#include "icotable_journal.h"
 
 #include <stdbool.h>
 #include <stdio.h>
@@ -16,7 +16,7 @@ typedef struct table_file {
     const char *name;
     uint8_t *bytes;
     size_t count;
-    bool atom, viewer;
+    bool atom, viewer, input; /* input: from standard input */
     icotable_table table;
 } table_file;
 
@@ -69,6 +69,8 @@ void json_float(const char *key, float x);
 /* file.c: reads the whole file, or standard input for -, and has the library look it over, as a table against an atom where its first count is that
  * of one. TROUBLE, with a line to standard error, where it cannot be read; GOOD otherwise, whatever the verdict. */
 int open_table(table_file *f, const char *name);
+/* Reads it, and asks nothing of it. */
+int read_named(table_file *f, const char *name);
 /* Looks an open file over once more, under a viewer's bounds: a viewer opens tables of two molecules alone. */
 void view_table(table_file *f);
 void close_table(table_file *f);
@@ -84,6 +86,8 @@ term term_of(const table_file *f, uint64_t i);
 double prefactor_of(const table_file *f);
 bool same_slabs(const table_file *f, const table_file *g);
 bool same_row(const table_file *f, const table_file *g, uint64_t slab);
+/* Of two Mesh rows of one level: whether they hold the same energies, by their bits. */
+bool same_energies(const table_file *f, const table_file *g, const row *r, const row *s);
 float energy_of(const table_file *f, const row *r, uint64_t i);
 /* The energies that a level's Mesh row holds, and those of a row. */
 uint64_t per_level(bool atom, uint64_t level);
@@ -111,6 +115,7 @@ int free_name(const char *in, const char *out);
 typedef struct new_file {
     const char *name;
     char *under;
+    int file;
     FILE *to;
 } new_file;
 int begin_new(new_file *n, const char *out);
@@ -121,9 +126,12 @@ int write_new(const char *out, const uint8_t *bytes, size_t count);
 bool number_of(const char *word, double *x);
 bool whole_of(const char *word, uint64_t *n);
 
-/* walk.c: the questions of read, 13 to 17, 23 and a viewer's 24, once more, by the host, for the byte alone: a hint. */
+/* walk.c: whether the bits are those of a NaN; the one NaN that a Scalar row holds. */
+enum { TABLE_NAN = 0x7FC00000 };
+bool is_nan(uint32_t bits);
+/* The questions of read, 13 to 17, 23 and a viewer's 24, once more, by the host, for the byte alone: a hint. */
 place find_place(const uint8_t *bytes, size_t count, bool atom, bool viewer);
-/* The library's number in words, and the byte where the walk agrees with it. */
+/* verdict.c: the library's number in words, and the byte where the walk agrees with it. */
 void print_verdict(FILE *out, const table_file *f);
 /* The same as items of a JSON object. */
 void json_verdict(const table_file *f);
@@ -138,6 +146,20 @@ void row_colour(FILE *out, const row *r, uint64_t shades);
  * the rows that have it; in lines, or as an item of a JSON object. */
 int print_resolution(const table_file *f, bool json);
 
+/* journal.c: plays a journal over the meshes that mesh.h makes, flags being those of resume; the number that refuses it, with its
+ * words in said, or 0. Close it and free the meshes in any case. */
+uint64_t play_journal(icotable_journal *j, icotable_meshes *meshes, const char *name, unsigned flags);
+/* A journal is a file of its own, which a build may have open: TROUBLE for standard input. */
+int journal_named(const char *name);
+/* A line with the number and its words; TROUBLE where there is nothing to refuse, FOUND otherwise. */
+int refused_journal(const char *name, uint64_t number, const char *said);
+
+/* seal.c: lines on the seal beside a table, or an item of a JSON object, and the verdict on it; GOOD without a word where there is
+ * none. */
+int verify_seal(const table_file *f, bool json);
+/* What the seals of two tables say of samples and settings; nothing where neither has one. */
+void diff_seals(const table_file *f, const table_file *g, bool json);
+
 int inspect_tool(int count, char **names);
 int verify_tool(int count, char **names);
 int diff_tool(int count, char **names);
@@ -145,8 +167,11 @@ int map_tool(int count, char **names);
 int view_tool(int count, char **names);
 int export_tool(int count, char **names);
 int repack_tool(int count, char **names);
+int import_tool(int count, char **names);
 int size_tool(int count, char **names);
 int status_tool(int count, char **names);
 int replay_tool(int count, char **names);
+int begin_tool(int count, char **names);
+int collect_tool(int count, char **names);
 
 #endif

@@ -14,7 +14,7 @@ typedef struct option {
 
 /* A verb: its names as they are called, how many there have to be and may be, a line and a paragraph on it, and its options.
  * It is run with its names alone; options are asked for by given (tools.h). */
-enum { OPTIONS = 8 };
+enum { OPTIONS = 10 };
 typedef struct verb {
     const char *name, *names, *line, *help;
     int least, most;
@@ -35,8 +35,8 @@ const verb *verb_named(const char *name);
 /* words.c: takes the options out of the words behind a verb; what is left are its names. GOOD, or TROUBLE with lines to standard
  * error. */
 int take_options(const verb *v, int *count, char **words);
-/* Why a verb's words are not right, its usage, and TROUBLE. */
-int misused(const verb *v, const char *why, const char *word);
+/* A word of a verb, and why it is not right; its usage, and TROUBLE. */
+int misused(const char *name, const char *word, const char *why);
 
 /* help.c */
 void print_usage(FILE *out, const verb *v);

@@ -20,8 +20,9 @@ const char *given(const char *name) {
     return NULL;
 }
 
-int misused(const verb *v, const char *why, const char *word) {
-    fprintf(stderr, "icotable %s: %s%s%s\n", v->name, why, word[0] ? ": " : "", word);
+int misused(const char *name, const char *word, const char *why) {
+    const verb *v = verb_named(name);
+    fprintf(stderr, "icotable %s: %s %s\n", v->name, word, why);
     print_usage(stderr, v);
     fprintf(stderr, "icotable %s --help tells more\n", v->name);
     return TROUBLE;
@@ -45,14 +46,11 @@ static const option *option_named(const option *options, size_t most, const char
     return NULL;
 }
 
-/* The last value counts. */
 static void keep(const option *o, const char *value) {
-    size_t i = 0;
-    while (i < taken_count && taken[i].option != o)
-        i++;
-    taken[i].option = o;
-    taken[i].value = value;
-    taken_count += i == taken_count;
+    if (given(o->name) != NULL) /* a value would have been refused */
+        return;
+    taken[taken_count].option = o;
+    taken[taken_count++].value = value;
 }
 
 int take_options(const verb *v, int *count, char **words) {
@@ -68,11 +66,13 @@ int take_options(const verb *v, int *count, char **words) {
             continue;
         const option *o = option_named(v->options, OPTIONS, word);
         if (o == NULL && (o = option_named(common_options, OPTIONS, word)) == NULL)
-            return misused(v, "there is no such option", word);
+            return misused(v->name, word, "is not an option");
         if (o->value == NULL && equals != NULL)
-            return misused(v, "this option has no value", word);
+            return misused(v->name, o->name, "has no value");
         if (o->value != NULL && equals == NULL && i + 1 == *count)
-            return misused(v, "a value is missing behind the option", word);
+            return misused(v->name, word, "wants a value");
+        if (o->value != NULL && given(o->name) != NULL)
+            return misused(v->name, o->name, "is there twice");
         keep(o, o->value == NULL ? "" : equals != NULL ? equals + 1 : words[++i]);
     }
     *count = kept;

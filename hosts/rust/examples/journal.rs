@@ -1,9 +1,8 @@
 //! Begins or resumes a build of tests/hosts/journal.c with its journal: journal KIND FILE TABLE [RECORDS] stops after so many
 //! records, and writes the table once all is done. Journal and table are the same as in C, byte for byte.
-use icotable::{atom_settings, settings, vertex_count, AtomBuilder, Builder, Guard, JournalError, JournalRefusal, Mesh, Step};
+use simgrale::{AtomBuilder, Builder, Guard, Mesh, Step, atom_settings, save, settings, vertex_count};
 use std::error::Error;
 use std::process::ExitCode;
-use std::sync::Arc;
 
 const HEIGHTS: [f64; 6] = [1e4, 3.0, 0.05, 3.0, 0.05, 1e-3];
 
@@ -20,28 +19,19 @@ fn energies(count: usize, ri: u64, oi: u64) -> Vec<f64> {
     (0..count as u64).map(|i| base + HEIGHTS[ri as usize % 6] * drawn(i)).collect()
 }
 
-// Begun where there is no journal yet.
-fn begun<T>(resumed: Result<T, JournalError>, begin: impl FnOnce() -> Result<T, JournalError>) -> Result<T, JournalError> {
-    match resumed {
-        Err(error) if error.journal() == Some(JournalRefusal::Absent) => begin(),
-        other => other,
-    }
-}
-
 // The records, and the table once all is done.
 type Done = (u64, Option<Vec<u8>>);
 
 fn pair(name: &str, top: u64, distances: f64, step: f64, most: u64) -> Result<Done, Box<dyn Error>> {
-    let mesh = Arc::new(Mesh::icospheres(top)?);
     let grid = settings(0.0, distances, 1.0, step, 0.5, 1.0);
-    let mut j = begun(Builder::resume(name, grid, mesh.clone(), Guard::On), || Builder::with_journal(name, grid, mesh, Guard::On))?;
+    let mut j = Builder::open_journal(name, grid, Mesh::icospheres(top)?, Guard::On)?;
     while j.records() < most {
         match j.next_step() {
             Step::Set { ri, oi } => {
                 let n = vertex_count(j.builder().level()).ok_or("no such level")?;
                 j.set(ri, oi, &energies(n * n, ri, oi))?
             }
-            Step::Settle { ri } => j.settle(ri).map(|_| ())?,
+            Step::Settle { ri } => drop(j.settle(ri)?),
             Step::Write => return Ok((j.records(), Some(j.write()?))),
         }
     }
@@ -49,16 +39,15 @@ fn pair(name: &str, top: u64, distances: f64, step: f64, most: u64) -> Result<Do
 }
 
 fn atom(name: &str, most: u64) -> Result<Done, Box<dyn Error>> {
-    let mesh = Arc::new(Mesh::icospheres(2)?);
     let grid = atom_settings(0.0, 6.0, 1.0, 0.5, 1.0);
-    let mut j = begun(AtomBuilder::resume(name, grid, mesh.clone(), Guard::On), || AtomBuilder::with_journal(name, grid, mesh, Guard::On))?;
+    let mut j = AtomBuilder::open_journal(name, grid, Mesh::icospheres(2)?, Guard::On)?;
     while j.records() < most {
         match j.next_step() {
             Step::Set { ri, oi } => {
                 let n = vertex_count(j.builder().level()).ok_or("no such level")?;
                 j.set(ri, &energies(n, ri, oi))?
             }
-            Step::Settle { ri } => j.settle(ri).map(|_| ())?,
+            Step::Settle { ri } => drop(j.settle(ri)?),
             Step::Write => return Ok((j.records(), Some(j.write()?))),
         }
     }
@@ -79,7 +68,7 @@ fn run() -> Result<(), Box<dyn Error>> {
     };
     println!("{name}: {}; {records} records", if file.is_some() { "done" } else { "stopped" });
     if let Some(bytes) = file {
-        std::fs::write(table, bytes)?;
+        save(table, &bytes)?;
     }
     Ok(())
 }

@@ -1,5 +1,5 @@
 //! Writes the meshes of all levels, as tests/hosts/meshes.c does: meshes FILE. Both files are the same, byte for byte.
-use icotable::{Level, Mesh};
+use simgrale::{Level, Mesh};
 use std::error::Error;
 
 // Vertices, counts, neighbours, then angles; a sixth place that is not used holds 0.

@@ -1,15 +1,16 @@
 //! Tables of one molecule against an atom: a slab is one distance bin, with an energy for each vertex.
+use crate::Mesh;
 use crate::builder::Settled;
 use crate::environment::FloatEnvironment;
 use crate::error::Error;
 use crate::journal::Kept;
 use crate::journal_file::{Answer, Call, SET};
 use crate::lists::AtomLists;
-use crate::refusal::{answer, Refusal};
+use crate::refusal::{Refusal, answer};
 use crate::row::Row;
 use crate::sizing::atom_sizing;
 use crate::sys::{self, AtomGrid};
-use crate::Mesh;
+use std::path::Path;
 use std::sync::Arc;
 
 // Energies of a slab.
@@ -17,7 +18,25 @@ fn per(level: u64) -> usize {
     sys::vertices(level) as usize
 }
 
-/// A table of one molecule against an atom that is being built: owns its lists, as [`Builder`](crate::Builder) does.
+/// A table of one molecule against an atom that is being built: owns its lists, and is [`Send`], as [`Builder`](crate::Builder) is.
+///
+/// ```
+/// use simgrale::{atom_settings, AtomBuilder, AtomTable, Mesh};
+///
+/// let mut builder = AtomBuilder::new(atom_settings(1.0, 6.0, 1.0, 0.5, 0.4), Mesh::icospheres(3)?)?;
+/// let grid = builder.grid();
+/// for ri in 0..grid.n_r {
+///     let r = grid.rmin + ri as f64 * grid.dr;
+///     let energies: Vec<f64> = builder.directions().iter().map(|d| (3.0 / r).powi(6) * (1.0 + d[2])).collect();
+///     builder.set(ri, &energies)?;
+///     let settled = builder.settle(ri)?;
+///     println!("distance {r}: gradient {}, level {}", settled.gradient, builder.level());
+/// }
+/// let table = AtomTable::read(builder.write()?, builder.mesh().clone())?;
+/// let (read, sampled) = (table.lookup(2.0, [0.0, 3.0, 4.0])?, 1.5f64.powi(6) * 1.8);
+/// assert!((read / sampled - 1.0).abs() < 0.02);
+/// # Ok::<(), simgrale::Error>(())
+/// ```
 #[derive(Clone, Debug, PartialEq)]
 pub struct AtomBuilder {
     held: sys::AtomBuilder,
@@ -27,8 +46,9 @@ pub struct AtomBuilder {
 
 impl AtomBuilder {
     /// A builder with no slab set, at the mesh's top level.
-    pub fn new(settings: AtomGrid, mesh: Arc<Mesh>) -> Result<AtomBuilder, Error> {
+    pub fn new(settings: AtomGrid, mesh: impl Into<Arc<Mesh>>) -> Result<AtomBuilder, Error> {
         FloatEnvironment::ask()?;
+        let mesh = mesh.into();
         let mut lists = AtomLists::of(&atom_sizing(settings, &mesh)?);
         let built = sys::atom_fresh(settings, mesh.top(), &mut lists.lent(), mesh.lent());
         Ok(answer(built.number, AtomBuilder { held: built.builder, mesh, lists })?)
@@ -67,6 +87,7 @@ impl AtomBuilder {
         self.held.level
     }
 
+    /// The meshes that it is built over.
     pub fn mesh(&self) -> &Arc<Mesh> {
         &self.mesh
     }
@@ -126,7 +147,8 @@ impl Kept for AtomBuilder {
     }
 }
 
-/// A file of a table of one molecule against an atom: owns the file and shares the meshes, as [`Table`](crate::Table) does.
+/// A table of one molecule against an atom: owns its file and shares the meshes, and is [`Send`] and [`Sync`], as [`Table`](crate::Table) is.
+/// [`AtomBuilder`] has an example.
 #[derive(Clone, Debug)]
 pub struct AtomTable {
     file: Vec<u8>,
@@ -135,12 +157,34 @@ pub struct AtomTable {
 }
 
 impl AtomTable {
-    /// Looks over a file, all of it. The mesh has to be the one that the table was built over, with at least its levels: a
-    /// file does not hold it. A file of two molecules is refused.
-    pub fn read(file: Vec<u8>, mesh: Arc<Mesh>) -> Result<AtomTable, Error> {
+    /// Reads a file and looks over all of it, as [`read`](AtomTable::read) does. An error names the path. The whole file is held in memory, as by
+    /// [`Table::open`](crate::Table::open).
+    ///
+    /// ```
+    /// use simgrale::{atom_settings, save, AtomBuilder, AtomTable, Error, Mesh};
+    ///
+    /// let builder = AtomBuilder::new(atom_settings(1.0, 4.0, 1.0, 0.5, 0.4), Mesh::icospheres(1)?)?;
+    /// let path = std::env::temp_dir().join(format!("simgrale-atom-{}.icotable", std::process::id()));
+    /// save(&path, &builder.write()?)?;
+    /// let table = AtomTable::open(&path, builder.mesh().clone())?;
+    /// assert_eq!((table.levels(), table.grid().n_r, table.file().len()), (2, 3, 40 + 2 * 4 + 3 * 10));
+    /// let error = AtomTable::open(&path, Mesh::icospheres(0)?).unwrap_err();
+    /// assert_eq!(error, Error::File { path: path.clone(), error: Box::new(Error::Levels { needed: 2, lent: 1 }) });
+    /// # std::fs::remove_file(path)?;
+    /// # Ok::<(), Error>(())
+    /// ```
+    pub fn open(path: impl AsRef<Path>, mesh: impl Into<Arc<Mesh>>) -> Result<AtomTable, Error> {
+        crate::file::opened(path.as_ref(), |file| AtomTable::read(file, mesh))
+    }
+
+    /// Looks over a file that is in memory, all of it. The mesh has to be the one that the table was built over: a file does not hold it. One of
+    /// fewer levels than the table has is refused ([`Error::Levels`]), and so is a file of two molecules.
+    pub fn read(file: Vec<u8>, mesh: impl Into<Arc<Mesh>>) -> Result<AtomTable, Error> {
         FloatEnvironment::ask()?;
-        let held = sys::atom_read(&file);
-        Ok(answer(held.number, AtomTable { file, held, mesh })?)
+        let (mesh, held) = (mesh.into(), sys::atom_read(&file));
+        answer(held.number, ())?;
+        mesh.ask_levels(held.levels)?;
+        Ok(AtomTable { file, held, mesh })
     }
 
     /// The energy at a distance and a direction of any length: infinity inside a repulsive wall, 0 outside the table's distances.
@@ -149,10 +193,22 @@ impl AtomTable {
         answer(value.number, value.energy)
     }
 
-    /// The same, weighted by temperature: where a row is interpolated, the three energies are averaged by their weights and by
+    /// The energy weighted by temperature: where a row is interpolated, the three energies are averaged by their weights and by
     /// exp(-beta·energy), each taken from the least of the three. Where that one's weight is 0 and the others' exponentials are,
     /// too, the answer is infinity. Rows of other kinds answer as in `lookup`; beta is as in
     /// [`Table::lookup_boltzmann`](crate::Table::lookup_boltzmann).
+    ///
+    /// ```
+    /// use simgrale::{atom_settings, AtomBuilder, AtomTable, Mesh, Refusal};
+    ///
+    /// let mut builder = AtomBuilder::new(atom_settings(1.0, 4.0, 1.0, 0.5, 0.4), Mesh::icospheres(0)?)?;
+    /// builder.set(1, &(0..12).map(f64::from).collect::<Vec<_>>())?;
+    /// let table = AtomTable::read(builder.write()?, builder.mesh().clone())?;
+    /// let d = [1.0, 2.0, 3.0];
+    /// assert!(table.lookup_boltzmann(2.0, d, 0.4)? < table.lookup(2.0, d)?);
+    /// assert_eq!(table.lookup_boltzmann(2.0, d, -0.4), Err(Refusal::ReadingBeta));
+    /// # Ok::<(), simgrale::Error>(())
+    /// ```
     pub fn lookup_boltzmann(&self, r: f64, direction: [f64; 3], beta: f64) -> Result<f64, Refusal> {
         let value = sys::atom_boltzmann(&self.held, self.mesh.lent_with(&self.file), r, direction, beta);
         answer(value.number, value.energy)
@@ -163,16 +219,32 @@ impl AtomTable {
         self.held.grid
     }
 
+    /// The levels that the table has, from 0 on.
     pub fn levels(&self) -> u64 {
         self.held.levels
     }
 
+    /// The file, byte for byte.
     pub fn file(&self) -> &[u8] {
         &self.file
     }
 
+    /// The meshes that it is read with.
+    pub fn mesh(&self) -> &Arc<Mesh> {
+        &self.mesh
+    }
+
     /// The row of a distance bin; none beyond the table's.
     pub fn row(&self, ri: u64) -> Option<Row> {
-        (ri < self.grid().n_r).then(|| Row::of(&self.file, &self.held.start, ri, per))
+        (ri < self.grid().n_r).then(|| self.slab(ri))
+    }
+
+    /// Every row with its distance bin. [`Row`] has an example.
+    pub fn rows(&self) -> impl DoubleEndedIterator<Item = (u64, Row)> + ExactSizeIterator {
+        (0..self.grid().n_r as usize).map(|ri| (ri as u64, self.slab(ri as u64)))
+    }
+
+    fn slab(&self, ri: u64) -> Row {
+        Row::of(&self.file, &self.held.start, ri, per)
     }
 }

@@ -1,17 +1,51 @@
 //! A table that is being built.
+use crate::Mesh;
 use crate::environment::FloatEnvironment;
 use crate::error::Error;
 use crate::journal::Kept;
 use crate::journal_file::{Answer, Call, SET};
 use crate::lists::Lists;
-use crate::refusal::{answer, Refusal};
+use crate::refusal::{Refusal, answer};
 use crate::sizing::sizing;
 use crate::sys::{self, Grid};
 use crate::tail::{self, Tail};
-use crate::Mesh;
 use std::sync::Arc;
 
-/// Owns the lists that a table is built in. A refused call leaves all of them, and the builder, as they were.
+/// A table of two molecules that is being built: owns the lists that it is built in. A refused call leaves all of them, and the builder, as they
+/// were.
+///
+/// Slabs are set and slices settled from contact outwards, since the level may drop at each settle. It is [`Send`]: one thread at a time calls
+/// it, whichever that is.
+///
+/// ```
+/// use simgrale::{settings, Builder, Mesh, Table};
+/// use std::sync::Arc;
+///
+/// // any energy of two molecules, at a distance and a dihedral angle, with directions a and b
+/// fn energy(r: f64, omega: f64, a: [f64; 3], b: [f64; 3]) -> f64 {
+///     (3.0 / r).powi(6) * (1.0 + a[2] * b[2] + 0.5 * omega.cos() * a[0] * b[1])
+/// }
+///
+/// let mesh = Arc::new(Mesh::icospheres(2)?);
+/// let mut builder = Builder::new(settings(1.0, 6.0, 1.0, 1.0472, 0.5, 0.4), mesh.clone())?;
+/// let grid = builder.grid();
+/// for ri in 0..grid.n_r {
+///     let (r, directions) = (grid.rmin + ri as f64 * grid.dr, builder.directions());
+///     for oi in 0..grid.n_omega {
+///         let omega = oi as f64 * grid.omega_step;
+///         let energies: Vec<f64> = directions.iter().flat_map(|&a| directions.iter().map(move |&b| energy(r, omega, a, b))).collect();
+///         builder.set(ri, oi, &energies)?;
+///     }
+///     builder.settle(ri)?;
+/// }
+/// let file = builder.write()?;
+/// assert_eq!(file.len() as u64, builder.file_length());
+/// assert!(builder.share() < 1.0 && builder.level() < mesh.top());
+/// let (a, b) = ([0.0, 0.0, 1.0], [0.0, 0.6, 0.8]);
+/// let read = Table::read(file, mesh)?.lookup(3.0, 0.0, a, b)?;
+/// assert!((read - energy(3.0, 0.0, a, b)).abs() < 0.1);
+/// # Ok::<(), simgrale::Error>(())
+/// ```
 #[derive(Clone, Debug, PartialEq)]
 pub struct Builder {
     held: sys::Builder,
@@ -20,7 +54,7 @@ pub struct Builder {
     lists: Lists,
 }
 
-/// What a settle tells of its slice, or of its slab against an atom.
+/// What a settle tells of its slice, or of its slab against an atom. [`Builder::settle`] has an example.
 #[derive(Clone, Copy, Debug, PartialEq)]
 pub struct Settled {
     /// The largest gradient of the slabs that still hold energies; against an atom the slab's own, also where it becomes Scalar.
@@ -37,8 +71,9 @@ pub(crate) fn per(level: u64) -> usize {
 
 impl Builder {
     /// A builder with no slab set, at the mesh's top level.
-    pub fn new(settings: Grid, mesh: Arc<Mesh>) -> Result<Builder, Error> {
+    pub fn new(settings: Grid, mesh: impl Into<Arc<Mesh>>) -> Result<Builder, Error> {
         FloatEnvironment::ask()?;
+        let mesh = mesh.into();
         let size = sizing(settings, &mesh)?;
         let mut lists = Lists::of(&size);
         let built = sys::fresh(settings, mesh.top(), &mut lists.lent(), mesh.lent());
@@ -53,6 +88,22 @@ impl Builder {
     }
 
     /// Settles the slabs of a distance bin. The level may drop.
+    ///
+    /// ```
+    /// use simgrale::{settings, Builder, Mesh, Refusal, Settled};
+    ///
+    /// let mut builder = Builder::new(settings(1.0, 4.0, 1.0, 3.2, 0.5, 0.4), Mesh::icospheres(1)?)?;
+    /// for oi in 0..2 {
+    ///     builder.set(0, oi, &(0..42 * 42).map(|i| f64::from(i % 3) / 10.0).collect::<Vec<_>>())?;
+    /// }
+    /// let Settled { gradient, comparisons } = builder.settle(0)?;
+    /// assert!(gradient > 0.0 && gradient < 0.5);
+    /// // two slabs of 42 vertices with 240 neighbours in all
+    /// assert_eq!((comparisons, builder.level()), (2 * (2 * 42 * 240), 0));
+    /// // the energies are of a level that has gone: settled again they would be taken for others
+    /// assert_eq!(builder.settle(0), Err(Refusal::OtherLevel));
+    /// # Ok::<(), simgrale::Error>(())
+    /// ```
     pub fn settle(&mut self, ri: u64) -> Result<Settled, Refusal> {
         let settled = sys::settle(self.held, &mut self.lists.lent(), self.mesh.lent(), ri);
         self.held = settled.builder;
@@ -68,6 +119,7 @@ impl Builder {
     }
 
     /// The table file with a long-range tail, [`file_length`](Builder::file_length) and, where there are terms, 12 bytes and 20 a term long.
+    /// [`Tail`] has an example.
     pub fn write_tail(&self, tail: &Tail) -> Result<Vec<u8>, Refusal> {
         let mut output = vec![0; self.file_length() as usize + tail.length()];
         let lists = tail::Lists::of(tail);
@@ -76,7 +128,7 @@ impl Builder {
         answer(written.number, output)
     }
 
-    /// The length of the file that [`write`](Builder::write) would give now, in bytes. The builder counts as it is built, so this costs nothing.
+    /// The length of the file that [`write`](Builder::write) would give now, in bytes. The builder counts as it is built, so no row is walked.
     pub fn file_length(&self) -> u64 {
         let grid = self.held.grid;
         52 + 4 * (self.held.top + 1) + 10 * grid.n_r * grid.n_omega + 4 * self.held.packed
@@ -99,10 +151,22 @@ impl Builder {
 
     /// The rows as they are now, a word for each slab, those of a distance bin one after another;
     /// [`words_to_rows`](crate::words_to_rows) takes them apart.
+    ///
+    /// ```
+    /// use simgrale::{settings, words_to_rows, Builder, Mesh};
+    ///
+    /// let mut builder = Builder::new(settings(1.0, 4.0, 1.0, 3.2, 0.5, 0.4), Mesh::icospheres(0)?)?;
+    /// builder.set(1, 0, &[50.0; 144])?;
+    /// assert_eq!(words_to_rows(builder.words())?.kinds, [0, 0, 3, 0, 0, 0]);
+    /// builder.settle(1)?;
+    /// assert_eq!(words_to_rows(builder.words())?.kinds, [0, 0, 1, 0, 0, 0]);
+    /// # Ok::<(), simgrale::Error>(())
+    /// ```
     pub fn words(&self) -> &[u64] {
         &self.lists.words
     }
 
+    /// The meshes that it is built over.
     pub fn mesh(&self) -> &Arc<Mesh> {
         &self.mesh
     }

@@ -6,6 +6,16 @@ use std::hint::black_box;
 /// What of a thread's floating-point environment is not as the library needs it. What is proved of the library holds where a
 /// result is rounded to nearest, ties to even, and where no number is flushed to zero, as IEEE 754 has it and as a program
 /// begins on Linux. A program that gcc links with -ffast-math begins otherwise, and `fesetround` alters the rounding.
+///
+/// ```
+/// use simgrale::FloatEnvironment;
+///
+/// let found = FloatEnvironment::of_thread();
+/// assert!(found.is_default(), "{found}");
+/// assert_eq!(found.to_string(), "as the library needs it");
+/// let flushing = FloatEnvironment { results_flushed: true, ..found };
+/// assert!(!flushing.is_default() && flushing.to_string().contains("flushed to zero"));
+/// ```
 #[derive(Clone, Copy, Debug, Default, PartialEq, Eq, Hash)]
 pub struct FloatEnvironment {
     /// A result is not rounded to nearest, ties to even.
@@ -38,11 +48,7 @@ impl FloatEnvironment {
 
     pub(crate) fn ask() -> Result<(), Error> {
         let found = FloatEnvironment::of_thread();
-        if found.is_default() {
-            Ok(())
-        } else {
-            Err(Error::Environment(found))
-        }
+        if found.is_default() { Ok(()) } else { Err(Error::Environment(found)) }
     }
 }
 

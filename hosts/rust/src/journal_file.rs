@@ -1,6 +1,8 @@
 //! The bytes of a journal, as hosts/c/icotable_journal.h says them, and its file.
-use crate::journal_refusal::{JournalError, JournalRefusal};
 use crate::Mesh;
+use crate::error::Error;
+use crate::file::sync_folder;
+use crate::journal_refusal::JournalRefusal;
 use std::fs::{File, OpenOptions, TryLockError};
 use std::io;
 use std::os::unix::fs::FileExt;
@@ -123,16 +125,16 @@ fn zeros(bytes: &[u8]) -> bool {
     bytes.iter().all(|&b| b == 0)
 }
 
-fn trouble(error: io::Error) -> JournalError {
-    JournalError::of(JournalRefusal::Trouble, error)
+fn trouble(error: io::Error) -> Error {
+    Error::of_journal(JournalRefusal::Trouble, error)
 }
 
-fn not_written(error: io::Error) -> JournalError {
-    JournalError::of(JournalRefusal::NotWritten, error)
+fn not_written(error: io::Error) -> Error {
+    Error::of_journal(JournalRefusal::NotWritten, error)
 }
 
-fn damaged(why: &str) -> JournalError {
-    JournalError::of(JournalRefusal::Damaged, why)
+fn damaged(why: &str) -> Error {
+    Error::of_journal(JournalRefusal::Damaged, why)
 }
 
 /// What stands at a journal's end so far.
@@ -155,27 +157,18 @@ pub(crate) struct JournalFile {
 }
 
 // One handle at a time: the lock goes with the file, and ends with the process.
-fn locked(file: &File) -> Result<u64, JournalError> {
+fn locked(file: &File) -> Result<u64, Error> {
     match file.try_lock() {
         Ok(()) => Ok(file.metadata().map_err(trouble)?.len()),
-        Err(TryLockError::WouldBlock) => Err(JournalError::of(JournalRefusal::InUse, "")),
+        Err(TryLockError::WouldBlock) => Err(Error::of_journal(JournalRefusal::InUse, "")),
         Err(TryLockError::Error(error)) => Err(trouble(error)),
-    }
-}
-
-// A new name is on disk once its folder is; some file systems do not sync folders.
-fn sync_folder(path: &Path) -> io::Result<()> {
-    let folder = path.parent().filter(|p| !p.as_os_str().is_empty()).unwrap_or(Path::new("."));
-    match File::open(folder)?.sync_all() {
-        Err(error) if error.kind() == io::ErrorKind::InvalidInput => Ok(()),
-        other => other,
     }
 }
 
 impl JournalFile {
     /// A new file with head and fresh, on disk.
-    pub(crate) fn begin(path: &Path, plan: &Plan) -> Result<JournalFile, JournalError> {
-        let exists = || JournalError::of(JournalRefusal::Exists, path.display());
+    pub(crate) fn begin(path: &Path, plan: &Plan) -> Result<JournalFile, Error> {
+        let exists = || Error::of_journal(JournalRefusal::Exists, path.display());
         let open = OpenOptions::new().read(true).write(true).create_new(true).open(path);
         let file = open.map_err(|error| if error.kind() == io::ErrorKind::AlreadyExists { exists() } else { trouble(error) })?;
         // another process that was faster may have gone again
@@ -188,7 +181,7 @@ impl JournalFile {
     }
 
     // In a file that has none of it or a part.
-    fn write_first(&mut self, path: &Path, plan: &Plan) -> Result<(), JournalError> {
+    fn write_first(&mut self, path: &Path, plan: &Plan) -> Result<(), Error> {
         let (bytes, sum) = first(plan);
         self.file.write_all_at(&bytes, 0).map_err(not_written)?;
         self.file.set_len(FIRST as u64).map_err(not_written)?;
@@ -198,12 +191,12 @@ impl JournalFile {
     }
 
     /// A file that is there, behind its fresh. One that was killed while it was begun is begun again.
-    pub(crate) fn resume(path: &Path, plan: &Plan) -> Result<JournalFile, JournalError> {
-        let absent = || JournalError::of(JournalRefusal::Absent, path.display());
+    pub(crate) fn resume(path: &Path, plan: &Plan) -> Result<JournalFile, Error> {
+        let absent = || Error::of_journal(JournalRefusal::Absent, path.display());
         let open = OpenOptions::new().read(true).write(true).open(path);
         let file = open.map_err(|error| if error.kind() == io::ErrorKind::NotFound { absent() } else { trouble(error) })?;
         if !file.metadata().map_err(trouble)?.is_file() {
-            return Err(JournalError::of(JournalRefusal::NotAJournal, path.display()));
+            return Err(Error::of_journal(JournalRefusal::NotAJournal, path.display()));
         }
         let size = locked(&file)?;
         let mut bytes = vec![0; size.min(FIRST as u64) as usize];
@@ -219,14 +212,14 @@ impl JournalFile {
         Ok(journal)
     }
 
-    fn read(&self, count: usize, at: u64) -> Result<Vec<u8>, JournalError> {
+    fn read(&self, count: usize, at: u64) -> Result<Vec<u8>, Error> {
         let mut bytes = vec![0; count];
         self.file.read_exact_at(&mut bytes, at).map_err(|_| damaged("it cannot be read"))?;
         Ok(bytes)
     }
 
     // Whether there is nothing but zeros from a place on, as where the file's length reached the disk before its bytes.
-    fn unwritten(&self, mut from: u64) -> Result<bool, JournalError> {
+    fn unwritten(&self, mut from: u64) -> Result<bool, Error> {
         while from < self.size {
             let count = (self.size - from).min(4096);
             if !zeros(&self.read(count as usize, from)?) {
@@ -238,14 +231,14 @@ impl JournalFile {
     }
 
     /// The next record, if there is one. It counts once it is passed. `most` is what a slab holds at the top level.
-    pub(crate) fn next(&mut self, bins: (u64, u64), most: u64) -> Result<Option<Found>, JournalError> {
+    pub(crate) fn next(&mut self, bins: (u64, u64), most: u64) -> Result<Option<Found>, Error> {
         if self.bytes >= self.size {
             return Ok(None);
         }
         self.found(bins, most).map(Some).map_err(|error| error.at(self.records, self.bytes))
     }
 
-    fn found(&mut self, bins: (u64, u64), most: u64) -> Result<Found, JournalError> {
+    fn found(&mut self, bins: (u64, u64), most: u64) -> Result<Found, Error> {
         let left = self.size - self.bytes;
         if left < (CALL + ANSWER) as u64 {
             return Ok(Found::Torn);
@@ -284,7 +277,7 @@ impl JournalFile {
     }
 
     /// Cuts off what is behind the last whole record.
-    pub(crate) fn cut_off(&mut self) -> Result<(), JournalError> {
+    pub(crate) fn cut_off(&mut self) -> Result<(), Error> {
         if self.size > self.bytes {
             self.cut = self.size - self.bytes;
             self.file.set_len(self.bytes).and_then(|()| self.file.sync_data()).map_err(not_written)?;
@@ -305,16 +298,16 @@ impl JournalFile {
     }
 
     /// Refused once a record could not be brought to disk.
-    pub(crate) fn may_call(&self) -> Result<(), JournalError> {
+    pub(crate) fn may_call(&self) -> Result<(), Error> {
         if self.broken {
-            return Err(JournalError::of(JournalRefusal::Broken, ""));
+            return Err(Error::of_journal(JournalRefusal::Broken, ""));
         }
         Ok(())
     }
 
     /// A record behind the last one, on disk. A file that takes no more is cut to what it was; where the disk itself failed,
     /// nothing that is written later could be relied on.
-    pub(crate) fn append(&mut self, call: &Call, energies: &[f64], answer: &Answer) -> Result<(), JournalError> {
+    pub(crate) fn append(&mut self, call: &Call, energies: &[f64], answer: &Answer) -> Result<(), Error> {
         let mut sum = self.sum;
         let bytes = record(call, energies, answer, &mut sum);
         let written = self.file.write_all_at(&bytes, self.bytes);
@@ -338,22 +331,22 @@ fn half_begun(bytes: &[u8], wanted: &[u8]) -> bool {
 }
 
 // A head by itself: magic, checksum, version.
-fn check_head(bytes: &[u8]) -> Result<(), JournalError> {
+fn check_head(bytes: &[u8]) -> Result<(), Error> {
     if &bytes[..8] != MAGIC {
-        return Err(JournalError::of(JournalRefusal::NotAJournal, "it begins otherwise"));
+        return Err(Error::of_journal(JournalRefusal::NotAJournal, "it begins otherwise"));
     }
     if u32_at(bytes, HEAD - 4) != crc32(0, &bytes[..HEAD - 4]) {
         return Err(damaged(&format!("the head, bytes 0 to {}", HEAD - 1)));
     }
     match u32_at(bytes, 8) {
         VERSION => Ok(()),
-        version => Err(JournalError::of(JournalRefusal::OtherVersion, version)),
+        version => Err(Error::of_journal(JournalRefusal::OtherVersion, version)),
     }
 }
 
 // Head and fresh of the file beside those of this build.
-fn same_first(bytes: &[u8], wanted: &[u8]) -> Result<(), JournalError> {
-    let other = |refusal, more: String| Err(JournalError::of(refusal, more));
+fn same_first(bytes: &[u8], wanted: &[u8]) -> Result<(), Error> {
+    let other = |refusal, more: String| Err(Error::of_journal(refusal, more));
     if bytes.len() < HEAD {
         return other(JournalRefusal::NotAJournal, format!("{} bytes, which are not the beginning of this build's", bytes.len()));
     }

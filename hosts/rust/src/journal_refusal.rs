@@ -1,12 +1,22 @@
 //! Why a journal, or a call that it should keep, was refused.
-use crate::environment::FloatEnvironment;
-use crate::error::Error;
-use crate::refusal::Refusal;
 use std::fmt;
 
 macro_rules! refusals {
     ($($number:literal $name:ident $words:literal),* $(,)?) => {
-        /// What a journal refuses with, as hosts/c/icotable_journal.h has it; a test compares the two.
+        /// What a journal refuses with, as hosts/c/icotable_journal.h has it; a test compares the two. [`Error::journal`](crate::Error::journal)
+        /// has it.
+        ///
+        /// ```
+        /// use simgrale::{settings, Builder, Guard, JournalRefusal, Mesh};
+        ///
+        /// let grid = settings(1.0, 4.0, 1.0, 3.2, 0.5, 0.4);
+        /// let error = Builder::resume("no/such/journal", grid, Mesh::icospheres(0)?, Guard::On).unwrap_err();
+        /// assert_eq!(error.journal(), Some(JournalRefusal::Absent));
+        /// assert_eq!((error.number(), JournalRefusal::Absent.number()), (Some(202), 202));
+        /// assert!(error.to_string().contains(JournalRefusal::Absent.words()));
+        /// assert_eq!(JournalRefusal::ALL[0].to_string(), "refused with 201: the file is there already: resume it, or begin another one");
+        /// # Ok::<(), simgrale::Error>(())
+        /// ```
         #[derive(Clone, Copy, Debug, PartialEq, Eq, Hash)]
         #[non_exhaustive]
         pub enum JournalRefusal {
@@ -22,6 +32,7 @@ macro_rules! refusals {
                 self as u64
             }
 
+            /// What was refused.
             pub fn words(self) -> &'static str {
                 match self {
                     $(JournalRefusal::$name => $words,)*
@@ -56,73 +67,10 @@ refusals! {
     225 Unsettled "a table with a slice that was not settled is not written",
 }
 
-/// Why a journal, or a call that it should keep, was refused.
-#[derive(Clone, Debug, PartialEq, Eq, Hash)]
-pub enum JournalError {
-    /// The library refused the call; nothing was altered and nothing recorded.
-    Refused(Refusal),
-    /// The library was not called.
-    Environment(FloatEnvironment),
-    /// The journal or its guard refused; `more` has the bins, the record and the byte, or what the system said.
-    Journal { refusal: JournalRefusal, more: String },
-}
-
-impl JournalError {
-    /// The library's number, or the journal's.
-    pub fn number(&self) -> u64 {
-        match self {
-            JournalError::Refused(refusal) => refusal.number(),
-            JournalError::Environment(_) => JournalRefusal::Environment.number(),
-            JournalError::Journal { refusal, .. } => refusal.number(),
-        }
-    }
-
-    /// The journal's own refusal, if it is one.
-    pub fn journal(&self) -> Option<JournalRefusal> {
-        match self {
-            JournalError::Refused(_) => None,
-            JournalError::Environment(_) => Some(JournalRefusal::Environment),
-            JournalError::Journal { refusal, .. } => Some(*refusal),
-        }
-    }
-
-    pub(crate) fn of(refusal: JournalRefusal, more: impl fmt::Display) -> JournalError {
-        JournalError::Journal { refusal, more: more.to_string() }
-    }
-
-    // The same, of the record that is read.
-    pub(crate) fn at(self, record: u64, byte: u64) -> JournalError {
-        match self {
-            JournalError::Journal { refusal, more } => JournalError::of(refusal, format!("{more} (record {record}, at byte {byte})")),
-            other => other,
-        }
-    }
-}
-
-impl From<Refusal> for JournalError {
-    fn from(refusal: Refusal) -> JournalError {
-        JournalError::Refused(refusal)
-    }
-}
-
-impl From<Error> for JournalError {
-    fn from(error: Error) -> JournalError {
-        match error {
-            Error::Refused(refusal) => JournalError::Refused(refusal),
-            Error::Environment(found) => JournalError::Environment(found),
-        }
-    }
-}
-
-impl fmt::Display for JournalError {
+impl fmt::Display for JournalRefusal {
     fn fmt(&self, f: &mut fmt::Formatter<'_>) -> fmt::Result {
-        match self {
-            JournalError::Refused(refusal) => refusal.fmt(f),
-            JournalError::Environment(found) => write!(f, "refused with {}: {}: {found}", self.number(), JournalRefusal::Environment.words()),
-            JournalError::Journal { refusal, more } if more.is_empty() => write!(f, "refused with {}: {}", self.number(), refusal.words()),
-            JournalError::Journal { refusal, more } => write!(f, "refused with {}: {}: {more}", self.number(), refusal.words()),
-        }
+        write!(f, "refused with {}: {}", self.number(), self.words())
     }
 }
 
-impl std::error::Error for JournalError {}
+impl std::error::Error for JournalRefusal {}

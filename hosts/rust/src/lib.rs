@@ -1,23 +1,59 @@
 //! Pair-energy tables over distance, dihedral angle and two orientations, and of one molecule against an atom over distance
 //! and one orientation: build, write, read, look up.
 //!
-//! A safe wrapper over libicotable.a, whose functions are proved. [`Mesh`] holds the meshes and locators of all levels,
-//! [`Builder`] the lists that a table is built in, [`Table`] a table file; [`AtomBuilder`] and [`AtomTable`] are the same
-//! of one molecule against an atom; [`Tail`] is what a host adds beyond a table's distances; [`sizing`] says beforehand
-//! what a build needs; [`Journaled`] is a builder whose calls are kept in a file; [`search`] finds a direction without a
-//! locator; [`repack`] packs a table file that was loosely packed; [`rows_to_words`] and [`words_to_rows`] move rows
-//! between a builder's words and three lists. What the library refuses is a [`Refusal`], with document 01's number and its
-//! words; a refused call alters nothing. The wrapper itself is not proved: it sizes the lists, hands them over and turns
-//! numbers into the enum.
+//! A safe wrapper over libicotable.a, whose functions are proved. It needs nothing but std and that library.
 //!
-//! The proofs speak of one floating-point environment; [`Builder::new`], [`Table::read`] and the atom's two ask whether the
-//! thread has it ([`FloatEnvironment`]), and calls of a thread that alters it afterwards are not asked again. Settling takes up
-//! to 88 kB of stack (docs/GUIDE.md).
+//! | item | what it is |
+//! |---|---|
+//! | [`Mesh`] | the meshes and locators of all levels; [`search`] finds a direction without a locator |
+//! | [`Builder`], [`AtomBuilder`] | a table that is being built, of two molecules and of one against an atom |
+//! | [`Journaled`] | a builder whose calls are kept in a file, so that a killed job goes on |
+//! | [`Table`], [`AtomTable`] | a table that is read; [`save`] writes its file, [`repack`] packs one that was loosely packed |
+//! | [`Tail`] | what a host adds beyond a table's distances |
+//! | [`sizing`], [`atom_sizing`] | what a build needs, beforehand |
+//! | [`RowLists`] | a builder's rows, in words and in lists |
+//! | [`Refusal`], [`Error`] | why a call was refused, with its number and words; a refused call alters nothing |
+//!
+//! ```
+//! use simgrale::{save, settings, Builder, Mesh, Table};
+//! use std::sync::Arc;
+//!
+//! # let path = std::env::temp_dir().join(format!("simgrale-first-{}.icotable", std::process::id()));
+//! let mesh = Arc::new(Mesh::icospheres(2)?);
+//! let mut builder = Builder::new(settings(1.0, 9.0, 1.0, 1.0472, 0.5, 0.4), mesh.clone())?;
+//! for ri in 0..builder.grid().n_r {
+//!     for oi in 0..builder.grid().n_omega {
+//!         let pairs = builder.directions().len().pow(2);
+//!         builder.set(ri, oi, &vec![-1.0; pairs])?;
+//!     }
+//!     builder.settle(ri)?;
+//! }
+//! save(&path, &builder.write()?)?;
+//!
+//! let table = Table::open(&path, mesh)?;
+//! assert_eq!(table.lookup(4.3, 0.5, [0.0, 0.0, 1.0], [0.0, 1.0, 0.0])?, -1.0);
+//! # std::fs::remove_file(path)?;
+//! # Ok::<(), simgrale::Error>(())
+//! ```
+//!
+//! **Not proved** is the wrapper itself: it sizes the lists, hands them over and turns numbers into the enum. Neither are the makers of meshes and
+//! the journals.
+//!
+//! **Threads.** Meshes, builders, tables and errors are [`Send`] and [`Sync`]: the library keeps no state. Readings of one table may run in any
+//! number of threads at once; a builder's `&mut self` has one caller at a time.
+//!
+//! **Floating point.** The proofs speak of one floating-point environment. [`Builder::new`], [`Table::open`], [`Table::read`], [`Table::view`], the
+//! atom's and the journals' ask whether the thread that calls has it ([`FloatEnvironment`]); a thread that alters it afterwards, or another thread
+//! with another one, is not asked again.
+//!
+//! **Stack.** Settling takes up to 88 kB (docs/GUIDE.md).
+#![deny(missing_docs)]
 
 mod atom;
 mod builder;
 mod environment;
 mod error;
+mod file;
 mod found;
 mod journal;
 mod journal_file;
@@ -37,30 +73,59 @@ pub use atom::{AtomBuilder, AtomTable};
 pub use builder::{Builder, Settled};
 pub use environment::FloatEnvironment;
 pub use error::Error;
-pub use found::{search, Found};
+pub use file::save;
+pub use found::{Found, search};
 pub use journal::{Guard, Journaled, Step};
-pub use journal_refusal::{JournalError, JournalRefusal};
+pub use journal_refusal::JournalRefusal;
 pub use mesh::{Level, Mesh};
 pub use refusal::Refusal;
-pub use repack::{repack, Repacked};
+pub use repack::{Repacked, repack};
 pub use row::{Kind, Row};
-pub use sizing::{atom_sizing, sizing, sizing_with_terms, LevelSizing, Sizing};
+pub use sizing::{LevelSizing, Sizing, atom_sizing, sizing, sizing_with_terms};
 pub use sys::{AtomGrid, Grid};
 pub use table::{Reading, Span, Table};
-pub use tail::{power, Tail, Term};
-pub use words::{rows_to_words, words_to_rows, RowLists};
+pub use tail::{Tail, Term, power};
+pub use words::{RowLists, rows_to_words, words_to_rows};
 
-/// Settings of a new table; the library works out the two bin counts.
+// What the documentation says of threads, for the compiler to check.
+const _: () = {
+    const fn send_and_sync<T: Send + Sync + 'static>() {}
+    send_and_sync::<Mesh>();
+    send_and_sync::<Builder>();
+    send_and_sync::<AtomBuilder>();
+    send_and_sync::<Journaled<Builder>>();
+    send_and_sync::<Journaled<AtomBuilder>>();
+    send_and_sync::<Table>();
+    send_and_sync::<AtomTable>();
+    send_and_sync::<Error>();
+};
+
+/// Settings of a new table; the library works out the two bin counts. Distances have the caller's unit, `omega_step` is in radians, `threshold` per
+/// radian, and `beta` is one over the unit of energies. [`Grid`] has an example.
 pub fn settings(rmin: f64, rmax: f64, dr: f64, omega_step: f64, threshold: f64, beta: f64) -> Grid {
     Grid { rmin, rmax, dr, omega_step, threshold, beta, n_r: 0, n_omega: 0 }
 }
 
-/// Settings of a new table of one molecule against an atom; the library works out the bin count.
+/// Settings of a new table of one molecule against an atom; the library works out the bin count. Units are as in [`settings`].
+///
+/// ```
+/// use simgrale::{atom_settings, AtomBuilder, AtomGrid, Error, Mesh, Refusal};
+///
+/// let grid = atom_settings(1.0, 25.0, 0.5, 0.5, 0.4);
+/// assert_eq!(AtomBuilder::new(grid, Mesh::icospheres(2)?)?.grid(), AtomGrid { n_r: 48, ..grid });
+/// let error = AtomBuilder::new(AtomGrid { dr: 0.0, ..grid }, Mesh::icospheres(2)?).unwrap_err();
+/// assert_eq!(error, Error::Refused(Refusal::Settings));
+/// # Ok::<(), Error>(())
+/// ```
 pub fn atom_settings(rmin: f64, rmax: f64, dr: f64, threshold: f64, beta: f64) -> AtomGrid {
     AtomGrid { rmin, rmax, dr, threshold, beta, n_r: 0 }
 }
 
 /// Vertices of a level; none above level 15.
+///
+/// ```
+/// assert_eq!([0, 1, 15, 16].map(simgrale::vertex_count), [Some(12), Some(42), Some(2562), None]);
+/// ```
 pub fn vertex_count(level: u64) -> Option<usize> {
     let n = sys::vertices(level);
     (n > 0).then_some(n as usize)

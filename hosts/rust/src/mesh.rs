@@ -1,8 +1,23 @@
 //! Meshes of levels 0 to a top one, and their locators; in each list one level's part follows another's.
-use crate::refusal::{answer, Refusal};
+use crate::error::Error;
+use crate::refusal::{Refusal, answer};
 use crate::sys;
 
-/// The meshes that a table is built over and read with.
+/// The meshes that a table is built over and read with, and their locators: levels from 0 to a top one.
+///
+/// Builders and tables share one by an [`Arc`](std::sync::Arc); where only one needs it, hand over the mesh itself. It is [`Send`] and [`Sync`],
+/// and nothing alters it once it is made.
+///
+/// ```
+/// use simgrale::{vertex_count, Mesh, Refusal};
+///
+/// let mesh = Mesh::icospheres(3)?;
+/// assert_eq!((mesh.top(), mesh.directions(3).len(), vertex_count(3)), (3, 162, Some(162)));
+/// assert!(mesh.directions(3).all(|[x, y, z]| (x * x + y * y + z * z - 1.0).abs() < 1e-12));
+/// assert_eq!(mesh.directions(4).len(), 0);
+/// assert_eq!(Mesh::icospheres(16), Err(Refusal::Level));
+/// # Ok::<(), simgrale::Error>(())
+/// ```
 #[derive(Clone, Debug, PartialEq)]
 pub struct Mesh {
     top: u64,
@@ -16,10 +31,12 @@ pub struct Mesh {
     faces: Vec<u16>,
 }
 
-/// One level of a mesh as a host makes it: for each vertex its place, and its neighbours with the angle to each.
+/// One level of a mesh as a host makes it. [`Mesh::new`] has an example.
 #[derive(Clone, Debug, Default, PartialEq)]
 pub struct Level {
+    /// The place of each vertex: a point of the sphere of radius 1, which the mesh rule does not ask.
     pub vertices: Vec<[f64; 3]>,
+    /// For each vertex its neighbours, 5 or 6, with the angle to each in radians.
     pub neighbours: Vec<Vec<(u16, f64)>>,
 }
 
@@ -35,6 +52,18 @@ impl Mesh {
     }
 
     /// Meshes of a host's own, from level 0 on. Refused where one does not keep the mesh rule.
+    ///
+    /// ```
+    /// use simgrale::{Mesh, Refusal};
+    ///
+    /// let mut level = Mesh::icospheres(0)?.level(0).expect("level 0 is there");
+    /// assert_eq!(Mesh::new(std::slice::from_ref(&level))?, Mesh::icospheres(0)?);
+    /// // a vertex that lists one that does not list it in turn
+    /// level.neighbours[0].pop();
+    /// assert_eq!(Mesh::new(&[level]), Err(Refusal::Mesh));
+    /// assert_eq!(Mesh::new(&[]), Err(Refusal::ShortList));
+    /// # Ok::<(), simgrale::Error>(())
+    /// ```
     pub fn new(levels: &[Level]) -> Result<Mesh, Refusal> {
         let Some(top) = levels.len().checked_sub(1) else {
             return Err(Refusal::ShortList);
@@ -61,8 +90,8 @@ impl Mesh {
         self.top
     }
 
-    /// The directions of a level's vertices.
-    pub fn directions(&self, level: u64) -> impl ExactSizeIterator<Item = [f64; 3]> + '_ {
+    /// The directions of a level's vertices, in their order; none above the top.
+    pub fn directions(&self, level: u64) -> impl ExactSizeIterator<Item = [f64; 3]> {
         let at: usize = (0..level.min(self.top + 1)).map(|m| sys::vertices(m) as usize).sum();
         let n = if level > self.top { 0 } else { sys::vertices(level) as usize };
         self.vertices[3 * at..3 * (at + n)].chunks_exact(3).map(|v| [v[0], v[1], v[2]])
@@ -77,6 +106,14 @@ impl Mesh {
         let at: usize = (0..level).map(|m| sys::vertices(m) as usize).sum();
         let list = |v: usize| (6 * v..6 * v + self.counts[v] as usize).map(|k| (self.neighbours[k], self.angles[k])).collect();
         Some(Level { neighbours: (at..at + vertices.len()).map(list).collect(), vertices })
+    }
+
+    // Whether a table of so many levels can be read over them.
+    pub(crate) fn ask_levels(&self, needed: u64) -> Result<(), Error> {
+        match self.top + 1 {
+            lent if lent < needed => Err(Error::Levels { needed, lent }),
+            _ => Ok(()),
+        }
     }
 
     pub(crate) fn lent(&self) -> sys::Meshes<'_> {
@@ -145,7 +182,7 @@ impl Mesh {
     }
 }
 
-/// The icosahedron: its corners, and the number of the edge between two of them.
+// The icosahedron: its corners, and the number of the edge between two of them.
 struct Icosahedron {
     corners: [[f64; 3]; 12],
     edges: [[Option<usize>; 12]; 12],

@@ -2,7 +2,19 @@
 
 macro_rules! refusals {
     ($($number:literal $name:ident $words:literal),* $(,)?) => {
-        /// Why a call was refused: the first question of document 01 that was answered no.
+        /// Why the library refused a call: the first question that was answered no. A refused call alters nothing. docs/REFUSALS.md has an example of
+        /// each.
+        ///
+        /// ```
+        /// use simgrale::{settings, Builder, Mesh, Refusal};
+        ///
+        /// let mut builder = Builder::new(settings(1.0, 4.0, 1.0, 3.2, 0.5, 0.4), Mesh::icospheres(0)?)?;
+        /// let refusal = builder.set(3, 0, &[0.0; 144]).unwrap_err();
+        /// assert_eq!((refusal, refusal.number()), (Refusal::Bin, 8));
+        /// assert_eq!(refusal.to_string(), format!("refused with 8: {}", refusal.words()));
+        /// assert_eq!(Refusal::ALL[7], Refusal::Bin);
+        /// # Ok::<(), simgrale::Error>(())
+        /// ```
         #[derive(Clone, Copy, Debug, PartialEq, Eq, Hash)]
         #[non_exhaustive]
         pub enum Refusal {
@@ -20,7 +32,7 @@ macro_rules! refusals {
                 }
             }
 
-            /// Document 01's number.
+            /// Its number, as include/icotable.h has it.
             pub fn number(self) -> u64 {
                 self as u64
             }

@@ -1,18 +1,44 @@
 //! The rows of a table file.
 
-/// What a slab's row is.
+/// What a slab's row is: what a reading of the slab gives.
 #[derive(Clone, Copy, Debug, PartialEq)]
 pub enum Kind {
+    /// This energy, whatever the directions. A slab that was never set is 0.0.
     Scalar(f32),
+    /// A wall: infinity.
     Repulsive,
-    /// Read at the nearest vertices, or interpolated.
-    Mesh { level: u8, interpolate: bool },
+    /// From the slab's energies.
+    Mesh {
+        /// The mesh that they are of.
+        level: u8,
+        /// Over the faces that the directions meet; else at the nearest vertices.
+        interpolate: bool,
+    },
 }
 
-/// A slab's row, and its energies where it is a Mesh row.
+/// A slab's row, and its energies where it is a Mesh row. [`Table::rows`](crate::Table::rows) and
+/// [`AtomTable::rows`](crate::AtomTable::rows) give one after another.
+///
+/// ```
+/// use simgrale::{atom_settings, AtomBuilder, AtomTable, Kind, Mesh};
+///
+/// let mut builder = AtomBuilder::new(atom_settings(1.0, 4.0, 1.0, 0.5, 0.4), Mesh::icospheres(0)?)?;
+/// builder.set(0, &[100.0; 12])?;
+/// builder.set(1, &[0.0, 9.0, 1.0, 8.0, 2.0, 7.0, 3.0, 6.0, 4.0, 5.0, 0.0, 9.0])?;
+/// for ri in 0..3 {
+///     builder.settle(ri)?;
+/// }
+/// let table = AtomTable::read(builder.write()?, builder.mesh().clone())?;
+/// let kinds: Vec<Kind> = table.rows().map(|(_, row)| row.kind).collect();
+/// assert_eq!(kinds, [Kind::Repulsive, Kind::Mesh { level: 0, interpolate: true }, Kind::Scalar(0.0)]);
+/// assert_eq!(table.row(1).map(|row| row.energies[1]), Some(9.0));
+/// # Ok::<(), simgrale::Error>(())
+/// ```
 #[derive(Clone, Debug, PartialEq)]
 pub struct Row {
+    /// What it is.
     pub kind: Kind,
+    /// That of vertices a and b of its level at a·n + b, against an atom that of vertex a at a; none where it is no Mesh row.
     pub energies: Vec<f32>,
 }
 

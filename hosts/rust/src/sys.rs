@@ -2,17 +2,36 @@
 // checks the declarations against the library but the tests that call each of them; the comparison and the benchmark use this file too.
 #![allow(dead_code)]
 
-/// The settings, and the bin counts that they give.
+/// The settings, and the bin counts that they give. [`settings`](crate::settings) makes one for a new table.
+///
+/// ```
+/// use simgrale::{settings, Builder, Grid, Mesh};
+///
+/// let grid = Builder::new(settings(1.0, 25.0, 0.75, 0.5236, 0.5, 0.4), Mesh::icospheres(1)?)?.grid();
+/// assert_eq!((grid.n_r, grid.n_omega), (32, 12));
+/// // the same, but for two of the settings
+/// let finer = Grid { dr: 0.25, threshold: 0.1, ..grid };
+/// assert_eq!(Builder::new(finer, Mesh::icospheres(1)?)?.grid().n_r, 96);
+/// # Ok::<(), simgrale::Error>(())
+/// ```
 #[repr(C)]
 #[derive(Clone, Copy, Debug, Default, PartialEq)]
 pub struct Grid {
+    /// The distance of the first bin.
     pub rmin: f64,
+    /// The distances end here; of a table that was read its own, rmin + n_r·dr.
     pub rmax: f64,
+    /// From one distance to the next.
     pub dr: f64,
+    /// From one dihedral angle to the next, in radians.
     pub omega_step: f64,
+    /// Settling does not interpolate a slab whose gradient, per radian, is below this; 0 of a table that was read.
     pub threshold: f64,
+    /// One over the unit of energies; 0 of a table that was read.
     pub beta: f64,
+    /// Distance bins. A new table takes no notice of what is handed in.
     pub n_r: u64,
+    /// Dihedral bins. A new table takes no notice of what is handed in.
     pub n_omega: u64,
 }
 
@@ -88,15 +107,22 @@ pub struct Spanned {
     pub scalar_nans: u64,
 }
 
-/// The settings of a table of one molecule against an atom, and the bin count that they give.
+/// The settings of a table of one molecule against an atom, and the bin count that they give: as [`Grid`], without a dihedral angle.
+/// [`atom_settings`](crate::atom_settings) makes one, with an example.
 #[repr(C)]
 #[derive(Clone, Copy, Debug, Default, PartialEq)]
 pub struct AtomGrid {
+    /// The distance of the first bin.
     pub rmin: f64,
+    /// The distances end here; of a table that was read its own, rmin + n_r·dr.
     pub rmax: f64,
+    /// From one distance to the next.
     pub dr: f64,
+    /// Settling does not interpolate a slab whose gradient, per radian, is below this; 0 of a table that was read.
     pub threshold: f64,
+    /// One over the unit of energies; 0 of a table that was read.
     pub beta: f64,
+    /// Distance bins. A new table takes no notice of what is handed in.
     pub n_r: u64,
 }
 
@@ -166,7 +192,7 @@ pub struct Found {
 }
 
 #[rustfmt::skip]
-extern "C" {
+unsafe extern "C" {
     fn icotable_fresh(
         grid: Grid, top: u64, store: *mut f64, a: usize, words: *mut u64, b: usize,
         vertices: *const f64, c: usize, counts: *const u8, d: usize, neighbours: *const u16, e: usize, angles: *const f64, f: usize,

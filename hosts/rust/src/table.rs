@@ -1,15 +1,43 @@
 //! A table file that the library accepted.
+use crate::Mesh;
 use crate::builder::per;
 use crate::environment::FloatEnvironment;
 use crate::error::Error;
-use crate::refusal::{answer, Refusal};
+use crate::refusal::{Refusal, answer};
 use crate::row::Row;
 use crate::sys::{self, Grid};
 use crate::tail::{Tail, Term};
-use crate::Mesh;
+use std::path::Path;
 use std::sync::Arc;
 
-/// Owns a table file and shares the meshes that it was built over. Readings take `&self` and may run in any number of threads.
+/// A table of two molecules: owns its file and shares the meshes that it was built over.
+///
+/// It is [`Send`] and [`Sync`]: readings take `&self`, keep nothing and may run in any number of threads at once, each with the same answers.
+/// The floating-point environment is asked of the thread that opens the table; every thread that reads needs the same ([`FloatEnvironment`]).
+///
+/// ```
+/// use simgrale::{settings, Builder, Kind, Mesh, Refusal, Table};
+/// use std::sync::Arc;
+///
+/// let mesh = Arc::new(Mesh::icospheres(1)?);
+/// let mut builder = Builder::new(settings(1.0, 4.0, 1.0, 3.2, 0.5, 0.4), mesh.clone())?;
+/// # let (a, b) = ([0.3, -0.2, 0.9], [0.0, 1.0, 0.5]);
+/// let energies: Vec<f64> = (0..42 * 42).map(|i| f64::from(i % 7)).collect();
+/// builder.set(1, 0, &energies)?;
+///
+/// let table = Table::read(builder.write()?, mesh)?;
+/// let energy = table.lookup(2.0, 0.1, a, b)?;
+/// assert!(energy.is_finite());
+/// // each thread reads the same
+/// std::thread::scope(|s| {
+///     let threads: Vec<_> = (0..2).map(|_| s.spawn(|| table.lookup(2.0, 0.1, a, b))).collect();
+///     threads.into_iter().for_each(|thread| assert_eq!(thread.join().unwrap(), Ok(energy)));
+/// });
+/// // a direction of no length is refused; a distance outside the table reads 0
+/// assert_eq!(table.lookup(2.0, 0.1, [0.0; 3], b), Err(Refusal::Query));
+/// assert_eq!(table.lookup(9.0, 0.1, a, b), Ok(0.0));
+/// # Ok::<(), simgrale::Error>(())
+/// ```
 #[derive(Clone, Debug)]
 pub struct Table {
     file: Vec<u8>,
@@ -17,7 +45,7 @@ pub struct Table {
     mesh: Arc<Mesh>,
 }
 
-/// What a reading answers.
+/// What [`Table::reading`] answers.
 #[derive(Clone, Copy, Debug, PartialEq)]
 pub struct Reading {
     /// Infinity inside a repulsive wall, 0 outside the table's distances.
@@ -36,37 +64,79 @@ impl Reading {
     }
 }
 
-/// What the distances of a span have in common.
+/// What the distances of a span have in common; [`Table::span`] has an example.
 #[derive(Clone, Copy, Debug, PartialEq)]
 pub struct Span {
-    /// The distance bin of the low end, and of the high end: every distance between them falls in one from the first to the last.
+    /// The distance bin of the low end: every distance of the span falls in one from the first to the last.
     pub first: u64,
+    /// The distance bin of the high end.
     pub last: u64,
-    /// The smallest and the largest energy in the rows of these bins, at the given dihedral angle: both a NaN where there is none. A reading
-    /// there lies between them, unless it is a NaN or its row is interpolated.
+    /// The smallest energy in the rows of these bins, at the given dihedral angle; a NaN where there is none. A reading there lies between the
+    /// smallest and the largest, unless it is a NaN or its row is interpolated.
     pub smallest: f64,
+    /// The largest one.
     pub largest: f64,
     /// How many Scalar rows among them hold a NaN.
     pub scalar_nans: u64,
 }
 
 impl Table {
-    /// Looks over a file, all of it. The mesh has to be the one that the table was built over, with at least its levels: a
-    /// file does not hold it. A file of one molecule against an atom is refused.
-    pub fn read(file: Vec<u8>, mesh: Arc<Mesh>) -> Result<Table, Error> {
-        Table::opened(sys::read, file, mesh)
+    /// Reads a file and looks over all of it, as [`read`](Table::read) does. An error names the path.
+    ///
+    /// The whole file is held in memory: std has no memory map, and this package needs nothing but std. Where the number of levels is not known
+    /// beforehand, [`Mesh::icospheres(15)`](Mesh::icospheres) serves every table that was built over icospheres of this package or of hosts/c.
+    ///
+    /// ```
+    /// use simgrale::{save, settings, Builder, Error, Mesh, Table};
+    /// use std::sync::Arc;
+    ///
+    /// let mesh = Arc::new(Mesh::icospheres(1)?);
+    /// let path = std::env::temp_dir().join(format!("simgrale-open-{}.icotable", std::process::id()));
+    /// save(&path, &Builder::new(settings(1.0, 4.0, 1.0, 3.2, 0.5, 0.4), mesh.clone())?.write()?)?;
+    ///
+    /// let table = Table::open(&path, mesh)?;
+    /// assert_eq!((table.levels(), table.grid().n_r, table.grid().n_omega), (2, 3, 2));
+    /// assert_eq!(table.file(), std::fs::read(&path)?);
+    /// // meshes of too few levels are refused here, not at each reading
+    /// let error = Table::open(&path, Mesh::icospheres(0)?).unwrap_err();
+    /// assert_eq!(error, Error::File { path: path.clone(), error: Box::new(Error::Levels { needed: 2, lent: 1 }) });
+    /// # std::fs::remove_file(path)?;
+    /// # Ok::<(), Error>(())
+    /// ```
+    pub fn open(path: impl AsRef<Path>, mesh: impl Into<Arc<Mesh>>) -> Result<Table, Error> {
+        crate::file::opened(path.as_ref(), |file| Table::read(file, mesh))
     }
 
-    /// The same under the bounds of a viewer: a file of more than 4 levels or 4,096 rows is refused (`Refusal::ViewerBound`). What it
-    /// accepts `read` accepts, as the same table.
-    pub fn view(file: Vec<u8>, mesh: Arc<Mesh>) -> Result<Table, Error> {
-        Table::opened(sys::view, file, mesh)
+    /// Looks over a file that is in memory, all of it. The mesh has to be the one that the table was built over: a file does not hold it, and
+    /// over other vertices a reading takes other energies, which nothing tells. One of fewer levels than the table has is refused
+    /// ([`Error::Levels`]), and so is a file of one molecule against an atom.
+    pub fn read(file: Vec<u8>, mesh: impl Into<Arc<Mesh>>) -> Result<Table, Error> {
+        Table::opened(sys::read, file, mesh.into())
+    }
+
+    /// The same under the bounds of a viewer: a file of more than 4 levels or 4,096 rows is refused ([`Refusal::ViewerBound`]). What it
+    /// accepts [`read`](Table::read) accepts, as the same table.
+    ///
+    /// ```
+    /// use simgrale::{settings, Builder, Error, Mesh, Refusal, Table};
+    /// use std::sync::Arc;
+    ///
+    /// let mesh = Arc::new(Mesh::icospheres(4)?);
+    /// let file = |top| Builder::new(settings(1.0, 4.0, 1.0, 3.2, 0.5, 0.4), Mesh::icospheres(top)?)?.write().map_err(Error::from);
+    /// assert!(Table::view(file(3)?, mesh.clone()).is_ok());
+    /// assert_eq!(Table::view(file(4)?, mesh).unwrap_err(), Error::Refused(Refusal::ViewerBound));
+    /// # Ok::<(), Error>(())
+    /// ```
+    pub fn view(file: Vec<u8>, mesh: impl Into<Arc<Mesh>>) -> Result<Table, Error> {
+        Table::opened(sys::view, file, mesh.into())
     }
 
     fn opened(reader: fn(&[u8]) -> sys::Table, file: Vec<u8>, mesh: Arc<Mesh>) -> Result<Table, Error> {
         FloatEnvironment::ask()?;
         let held = reader(&file);
-        Ok(answer(held.number, Table { file, held, mesh })?)
+        answer(held.number, ())?;
+        mesh.ask_levels(held.levels)?;
+        Ok(Table { file, held, mesh })
     }
 
     /// The energy at a distance, a dihedral angle and two directions of any length: infinity inside a repulsive wall, 0 outside the table's
@@ -76,13 +146,41 @@ impl Table {
     }
 
     /// The same, and how far the vertices lie that it was read at: whether a level is fine enough (docs/GUIDE.md).
+    ///
+    /// ```
+    /// # use simgrale::{settings, Builder, Mesh, Reading, Table};
+    /// # let mut builder = Builder::new(settings(1.0, 3.0, 1.0, 3.2, 0.5, 0.4), Mesh::icospheres(0)?)?;
+    /// # builder.set(0, 0, &(0..144).map(|i| f64::from(i % 7)).collect::<Vec<_>>())?;
+    /// # builder.set(1, 0, &(0..144).map(|i| f64::from(i % 7) / 10.0).collect::<Vec<_>>())?;
+    /// # (0..2).try_for_each(|ri| builder.settle(ri).map(|_| ()))?;
+    /// # let table = Table::read(builder.write()?, builder.mesh().clone())?;
+    /// # let (a, b) = ([0.3, -0.2, 0.9], [0.0, 1.0, 0.5]);
+    /// // an interpolated row shows no distances, one that is read at the nearest vertices does
+    /// let (steep, smooth) = (table.reading(1.0, 0.0, a, b)?, table.reading(2.0, 0.0, a, b)?);
+    /// assert_eq!(steep, Reading { energy: table.lookup(1.0, 0.0, a, b)?, distance_a: 0.0, distance_b: 0.0 });
+    /// assert!(smooth.distance_a > 0.0 && smooth.distance_a < 0.42);
+    /// # Ok::<(), simgrale::Error>(())
+    /// ```
     pub fn reading(&self, r: f64, omega: f64, a: [f64; 3], b: [f64; 3]) -> Result<Reading, Refusal> {
         Reading::of(sys::reading(&self.held, self.mesh.lent_with(&self.file), &sys::Query { r, omega, a, b }))
     }
 
-    /// The same, weighted by temperature: where a row is interpolated, the nine energies are averaged by their weights and by
+    /// The energy weighted by temperature: where a row is interpolated, the nine energies are averaged by their weights and by
     /// exp(-beta·energy). Rows of other kinds answer as in `lookup`. Beta is the reading's own, one over the unit of energies,
-    /// finite and above 0, or the reading is refused (`Refusal::ReadingBeta`), whatever the row and the distance are.
+    /// finite and above 0, or the reading is refused ([`Refusal::ReadingBeta`]), whatever the row and the distance are.
+    ///
+    /// ```
+    /// # use simgrale::{settings, Builder, Mesh, Refusal, Table};
+    /// # let mut builder = Builder::new(settings(1.0, 3.0, 1.0, 3.2, 0.5, 0.4), Mesh::icospheres(0)?)?;
+    /// # builder.set(0, 0, &(0..144).map(|i| f64::from(i % 7)).collect::<Vec<_>>())?;
+    /// # let table = Table::read(builder.write()?, builder.mesh().clone())?;
+    /// # let (a, b) = ([0.3, -0.2, 0.9], [0.0, 1.0, 0.5]);
+    /// let (plain, weighted) = (table.lookup(1.0, 0.0, a, b)?, table.lookup_boltzmann(1.0, 0.0, a, b, 0.4)?);
+    /// assert!(weighted < plain);
+    /// assert_eq!(table.reading_boltzmann(1.0, 0.0, a, b, 0.4)?.energy, weighted);
+    /// assert_eq!(table.lookup_boltzmann(1.0, 0.0, a, b, 0.0), Err(Refusal::ReadingBeta));
+    /// # Ok::<(), simgrale::Error>(())
+    /// ```
     pub fn lookup_boltzmann(&self, r: f64, omega: f64, a: [f64; 3], b: [f64; 3], beta: f64) -> Result<f64, Refusal> {
         self.reading_boltzmann(r, omega, a, b, beta).map(|reading| reading.energy)
     }
@@ -99,8 +197,19 @@ impl Table {
         answer(value.number, value.energy)
     }
 
-    /// The bins and the energies of all distances from `low` to `high` at a dihedral angle. Refused (`Refusal::Span`) where `low` is above `high`
+    /// The bins and the energies of all distances from `low` to `high` at a dihedral angle. Refused ([`Refusal::Span`]) where `low` is above `high`
     /// or an end is outside the table's distances.
+    ///
+    /// ```
+    /// # use simgrale::{settings, Builder, Mesh, Refusal, Table};
+    /// # let mut builder = Builder::new(settings(1.0, 4.0, 1.0, 3.2, 0.5, 0.4), Mesh::icospheres(0)?)?;
+    /// # builder.set(1, 0, &(0..144).map(|i| f64::from(i % 7)).collect::<Vec<_>>())?;
+    /// # let table = Table::read(builder.write()?, builder.mesh().clone())?;
+    /// let span = table.span(1.2, 2.3, 0.0)?;
+    /// assert_eq!((span.first, span.last, span.smallest, span.largest, span.scalar_nans), (0, 1, 0.0, 6.0, 0));
+    /// assert_eq!(table.span(2.0, 9.0, 0.0), Err(Refusal::Span));
+    /// # Ok::<(), simgrale::Error>(())
+    /// ```
     pub fn span(&self, low: f64, high: f64, omega: f64) -> Result<Span, Refusal> {
         let sys::Spanned { number, first, last, smallest, largest, scalar_nans } = sys::span(&self.held, &self.file, low, high, omega);
         answer(number, Span { first, last, smallest, largest, scalar_nans })
@@ -111,7 +220,7 @@ impl Table {
         Tail::of(&self.file, self.held.start[5], self.held.terms)
     }
 
-    /// Its terms.
+    /// The terms of the long-range tail.
     pub fn terms(&self) -> Vec<Term> {
         self.tail().terms
     }
@@ -121,17 +230,52 @@ impl Table {
         self.held.grid
     }
 
+    /// The levels that the table has, from 0 on.
     pub fn levels(&self) -> u64 {
         self.held.levels
     }
 
+    /// The file, byte for byte.
     pub fn file(&self) -> &[u8] {
         &self.file
+    }
+
+    /// The meshes that it is read with.
+    pub fn mesh(&self) -> &Arc<Mesh> {
+        &self.mesh
     }
 
     /// The row of a distance bin and a dihedral bin; none beyond the table's.
     pub fn row(&self, ri: u64, oi: u64) -> Option<Row> {
         let grid = self.grid();
-        (ri < grid.n_r && oi < grid.n_omega).then(|| Row::of(&self.file, &self.held.start, ri * grid.n_omega + oi, per))
+        (ri < grid.n_r && oi < grid.n_omega).then(|| self.slab(ri * grid.n_omega + oi))
+    }
+
+    /// Every row with its distance bin and its dihedral bin, those of a distance one after another. A row's energies are copied from the file as
+    /// the iterator comes to it.
+    ///
+    /// ```
+    /// use simgrale::{settings, Builder, Kind, Mesh, Table};
+    ///
+    /// let mut builder = Builder::new(settings(1.0, 4.0, 1.0, 3.2, 0.5, 0.4), Mesh::icospheres(0)?)?;
+    /// builder.set(1, 1, &[50.0; 144])?;
+    /// builder.set(2, 0, &(0..144).map(f64::from).collect::<Vec<_>>())?;
+    /// builder.settle(1)?;
+    /// let table = Table::read(builder.write()?, builder.mesh().clone())?;
+    ///
+    /// let walls: Vec<_> = table.rows().filter(|(_, _, row)| row.kind == Kind::Repulsive).map(|(ri, oi, _)| (ri, oi)).collect();
+    /// assert_eq!((table.rows().len(), walls), (6, vec![(1, 1)]));
+    /// let (ri, oi, row) = table.rows().max_by_key(|(_, _, row)| row.energies.len()).unwrap();
+    /// assert_eq!((ri, oi, row.energies[143]), (2, 0, 143.0));
+    /// assert_eq!(table.row(2, 0), Some(row));
+    /// # Ok::<(), simgrale::Error>(())
+    /// ```
+    pub fn rows(&self) -> impl DoubleEndedIterator<Item = (u64, u64, Row)> + ExactSizeIterator {
+        let Grid { n_r, n_omega, .. } = self.grid();
+        (0..(n_r * n_omega) as usize).map(move |s| (s as u64 / n_omega, s as u64 % n_omega, self.slab(s as u64)))
+    }
+
+    fn slab(&self, s: u64) -> Row {
+        Row::of(&self.file, &self.held.start, s, per)
     }
 }

@@ -1,18 +1,37 @@
 //! The long-range tail of a table: what a host adds beyond its distances.
 use crate::sys;
 
-/// coefficient · exp(-kappa·r) / r^power, as the Rust's `TailCorrectionTerm`.
+/// A term of a [`Tail`]: coefficient · exp(-kappa·r) / r^power, as the Rust crate's `TailCorrectionTerm`.
 #[derive(Clone, Copy, Debug, PartialEq)]
 pub struct Term {
+    /// Finite.
     pub coefficient: f64,
+    /// One over the screening length, or 0; finite.
     pub kappa: f64,
     /// At most 2147483647.
     pub power: u32,
 }
 
-/// The prefactor times the sum of the terms. Without terms nothing of it is stored, and its energy is 0.
+/// A long-range tail: the prefactor times the sum of the terms. Without terms nothing of it is stored, and its energy is 0.
+///
+/// ```
+/// use simgrale::{settings, Builder, Mesh, Refusal, Table, Tail, Term};
+///
+/// let builder = Builder::new(settings(1.0, 4.0, 1.0, 3.2, 0.5, 0.4), Mesh::icospheres(0)?)?;
+/// let mut tail = Tail { terms: vec![Term { coefficient: -2.0, kappa: 0.1, power: 1 }], prefactor: Some(17.7) };
+/// let table = Table::read(builder.write_tail(&tail)?, builder.mesh().clone())?;
+/// assert_eq!((table.tail(), table.terms()), (tail.clone(), tail.terms.clone()));
+/// // beyond the table a host takes the tail: the reading is 0 there
+/// let (r, a) = (40.0, [0.0, 0.0, 1.0]);
+/// let energy = if r > table.grid().rmax { table.tail_energy(r)? } else { table.lookup(r, 0.0, a, a)? };
+/// assert!((energy - 17.7 * -2.0 * (-0.1 * r).exp() / r).abs() < 1e-12);
+/// tail.prefactor = None;
+/// assert_eq!(builder.write_tail(&tail), Err(Refusal::Prefactor));
+/// # Ok::<(), simgrale::Error>(())
+/// ```
 #[derive(Clone, Debug, Default, PartialEq)]
 pub struct Tail {
+    /// In the order of the file.
     pub terms: Vec<Term>,
     /// None is refused where there are terms.
     pub prefactor: Option<f64>,
@@ -65,6 +84,11 @@ impl Tail {
 
 /// r to the power n as a tail has it: 1 for n = 0, else that of n/2, rounded down, squared, and times r where n is odd, each product
 /// rounded.
+///
+/// ```
+/// assert_eq!(simgrale::power(1.5, 0), 1.0);
+/// assert_eq!(simgrale::power(1.5, 3), 1.5 * 1.5 * 1.5);
+/// ```
 pub fn power(r: f64, n: u32) -> f64 {
     sys::power(r, n)
 }

@@ -1,6 +1,6 @@
 //! The wrapper's tables of one molecule against an atom, used as a host does.
-use icotable::{
-    atom_settings, atom_sizing, settings, vertex_count, AtomBuilder, AtomGrid, AtomTable, Builder, Error, Kind, Mesh, Refusal, Settled, Table,
+use simgrale::{
+    AtomBuilder, AtomGrid, AtomTable, Builder, Error, Kind, Mesh, Refusal, Settled, Table, atom_settings, atom_sizing, settings, vertex_count,
 };
 use std::sync::Arc;
 
@@ -157,15 +157,6 @@ fn a_file_of_the_other_kind_is_refused() {
     let refused = Some(Error::Refused(Refusal::Sections));
     assert_eq!(AtomTable::read(pair, mesh.clone()).err(), refused);
     assert_eq!(Table::read(atom, mesh).err(), refused);
-}
-
-#[test]
-fn a_mesh_with_too_few_levels_is_refused_where_it_is_touched() {
-    let mut b = builder(1);
-    b.set(0, &smooth(1)).unwrap();
-    let t = AtomTable::read(b.write().unwrap(), mesh(0)).unwrap();
-    assert_eq!(t.lookup(0.0, [1.0, 0.0, 0.0]), Err(Refusal::NotLent));
-    assert_eq!(t.lookup(1.0, [1.0, 0.0, 0.0]), Ok(0.0));
 }
 
 #[test]

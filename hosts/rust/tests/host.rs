@@ -1,7 +1,7 @@
 //! The wrapper, used as a host does.
-use icotable::{
-    atom_settings, power, repack, rows_to_words, search, settings, sizing, sizing_with_terms, vertex_count, words_to_rows, AtomBuilder, AtomTable, Builder, Error,
-    FloatEnvironment, Grid, Kind, Level, Mesh, Refusal, Repacked, RowLists, Span, Table, Tail, Term,
+use simgrale::{
+    AtomBuilder, AtomTable, Builder, Error, FloatEnvironment, Grid, Kind, Level, Mesh, Refusal, Repacked, RowLists, Span, Table, Tail, Term,
+    atom_settings, power, repack, rows_to_words, search, settings, sizing, sizing_with_terms, vertex_count, words_to_rows,
 };
 use std::sync::Arc;
 
@@ -78,7 +78,7 @@ fn meshes_have_the_pages_checksums() {
 }
 
 // What is found in a thread of its own with these bits set in MXCSR, the register that x86-64 keeps the environment in.
-fn found_with(bits: u32) -> (FloatEnvironment, [Option<Error>; 4]) {
+fn found_with(bits: u32) -> (FloatEnvironment, Vec<Option<Error>>) {
     let file = builder(0).write().unwrap();
     let (mesh, atom) = (mesh(0), atom_settings(0.0, 2.0, 1.0, 0.1, 1.0));
     let atom_file = AtomBuilder::new(atom, mesh.clone()).unwrap().write().unwrap();
@@ -88,10 +88,10 @@ fn found_with(bits: u32) -> (FloatEnvironment, [Option<Error>; 4]) {
         let now = was | bits;
         unsafe { std::arch::asm!("ldmxcsr [{}]", in(reg) &now) };
         let found = FloatEnvironment::of_thread();
-        let pair = [Builder::new(small(), mesh.clone()).err(), Table::read(file, mesh.clone()).err()];
-        let [built, read] = [AtomBuilder::new(atom, mesh.clone()).err(), AtomTable::read(atom_file, mesh).err()];
+        let mut errors = vec![Builder::new(small(), mesh.clone()).err(), Table::read(file, mesh.clone()).err()];
+        errors.extend([AtomBuilder::new(atom, mesh.clone()).err(), AtomTable::read(atom_file, mesh).err()]);
         unsafe { std::arch::asm!("ldmxcsr [{}]", in(reg) &was) };
-        (found, [pair[0], pair[1], built, read])
+        (found, errors)
     });
     thread.join().unwrap()
 }
@@ -102,7 +102,7 @@ fn another_float_environment_is_told() {
     const UP: u32 = 0x4000;
     const FLUSH_RESULTS: u32 = 0x8000;
     const FLUSH_OPERANDS: u32 = 0x40;
-    assert_eq!(found_with(0), (FloatEnvironment::default(), [None; 4]));
+    assert_eq!(found_with(0), (FloatEnvironment::default(), vec![None; 4]));
     for (bits, flags) in [
         (DOWN, (true, false, false)),
         (UP, (true, false, false)),
@@ -114,7 +114,7 @@ fn another_float_environment_is_told() {
         let (rounding, results_flushed, operands_flushed) = flags;
         let wanted = FloatEnvironment { rounding, results_flushed, operands_flushed };
         let error = Some(Error::Environment(wanted));
-        assert_eq!(found_with(bits), (wanted, [error; 4]), "with {bits:X}");
+        assert_eq!(found_with(bits), (wanted, vec![error; 4]), "with {bits:X}");
     }
 }
 
@@ -455,29 +455,6 @@ fn damaged_files_are_refused() {
     assert_eq!(with(36, 3), refused(Refusal::FileGrid));
     assert_eq!(with(52, 4), refused(Refusal::Row));
     assert_eq!(with(54, 1), refused(Refusal::Tiling));
-}
-
-#[test]
-fn a_mesh_with_too_few_levels_is_refused_where_it_is_touched() {
-    let mut b = builder(1);
-    b.set(0, 0, &smooth(1)).unwrap();
-    let t = Table::read(b.write().unwrap(), mesh(0)).unwrap();
-    assert_eq!(t.lookup(0.0, 0.0, [1.0, 0.0, 0.0], [0.0, 1.0, 0.0]), Err(Refusal::NotLent));
-    assert_eq!(t.lookup(1.0, 0.0, [1.0, 0.0, 0.0], [0.0, 1.0, 0.0]), Ok(0.0));
-}
-
-#[test]
-fn readings_run_in_threads() {
-    let mut b = builder(1);
-    b.set(0, 0, &smooth(1)).unwrap();
-    let t = Table::read(b.write().unwrap(), b.mesh().clone()).unwrap();
-    let one = || (0..1000).map(|i| t.lookup(0.0, 0.0, [1.0, i as f64, 0.0], [0.0, 1.0, i as f64]).unwrap().to_bits()).collect::<Vec<_>>();
-    let alone = one();
-    std::thread::scope(|s| {
-        for thread in (0..4).map(|_| s.spawn(one)).collect::<Vec<_>>() {
-            assert!(thread.join().unwrap() == alone);
-        }
-    });
 }
 
 // What the builder says while it is built is the length of the file that it then writes.

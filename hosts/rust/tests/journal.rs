@@ -1,6 +1,6 @@
 //! Builders with a journal, used as a host does. tests/hosts/journal.c has the kills, the full disks and the damage; here is what the
 //! wrapper itself decides.
-use icotable::{atom_settings, settings, AtomBuilder, Builder, Grid, Guard, JournalError, JournalRefusal, Journaled, Mesh, Refusal, Step};
+use simgrale::{AtomBuilder, Builder, Error, Grid, Guard, JournalRefusal, Journaled, Mesh, Refusal, Step, atom_settings, settings};
 use std::path::{Path, PathBuf};
 use std::sync::Arc;
 
@@ -39,7 +39,7 @@ fn begin(name: &Name) -> Journaled<Builder> {
     Builder::with_journal(name, small(), mesh(0), Guard::On).expect("begin")
 }
 
-fn resume(name: &Name) -> Result<Journaled<Builder>, JournalError> {
+fn resume(name: &Name) -> Result<Journaled<Builder>, Error> {
     Builder::resume(name, small(), mesh(0), Guard::On)
 }
 
@@ -58,9 +58,9 @@ fn go_on(j: &mut Journaled<Builder>, calls: usize) {
     }
 }
 
-fn refused<T>(result: Result<T, JournalError>) -> (u64, String) {
+fn refused<T>(result: Result<T, Error>) -> (u64, String) {
     let error = result.err().expect("refused");
-    (error.number(), error.to_string())
+    (error.number().expect("a number"), error.to_string())
 }
 
 #[test]
@@ -166,9 +166,9 @@ fn without_the_guard_the_library_decides() {
 fn refused_calls_are_not_recorded() {
     let name = Name::new("refused");
     let mut j = begin(&name);
-    assert_eq!(j.set(0, 0, &[1.0]), Err(JournalError::Refused(Refusal::EnergyCount)));
-    assert_eq!(j.set(0, 2, &energies(0, 0)), Err(JournalError::Refused(Refusal::Bin)));
-    assert_eq!(j.set(0, 0, &[f64::NAN; 144]), Err(JournalError::Refused(Refusal::NanEnergy)));
+    assert_eq!(j.set(0, 0, &[1.0]), Err(Error::Refused(Refusal::EnergyCount)));
+    assert_eq!(j.set(0, 2, &energies(0, 0)), Err(Error::Refused(Refusal::Bin)));
+    assert_eq!(j.set(0, 0, &[f64::NAN; 144]), Err(Error::Refused(Refusal::NanEnergy)));
     assert_eq!((j.records(), j.bytes()), (1, 160));
 }
 

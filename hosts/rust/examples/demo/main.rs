@@ -2,8 +2,8 @@
 //! against an ion. The files are the same as those that are written there, byte for byte.
 mod molecules;
 
-use icotable::{atom_settings, settings, AtomBuilder, AtomTable, Builder, Mesh, Refusal, Table};
-use molecules::{first_pose, ion_energy, pair_energy, second_pose, Pose, BETA};
+use molecules::{BETA, Pose, first_pose, ion_energy, pair_energy, second_pose};
+use simgrale::{AtomBuilder, AtomTable, Builder, Mesh, Refusal, Table, atom_settings, save, settings};
 use std::error::Error;
 use std::sync::Arc;
 
@@ -45,8 +45,8 @@ fn ion(name: &str) -> Result<(), Box<dyn Error>> {
     let mut builder = AtomBuilder::new(atom_settings(1.0, 25.0, 0.5, 0.5, BETA), mesh.clone())?;
     build_ion(&mut builder)?;
     let file = builder.write()?;
-    std::fs::write(name, &file)?;
-    let table = AtomTable::read(std::fs::read(name)?, mesh)?;
+    save(name, &file)?;
+    let table = AtomTable::open(name, mesh)?;
     let up = [0.0, 0.6, 0.8];
     let (plain, weighted) = (table.lookup(5.5, up)?, table.lookup_boltzmann(5.5, up, BETA)?);
     println!("{name}: {} bytes; at distance 5.5 the energy is {plain}, weighted by temperature {weighted}", file.len());
@@ -64,8 +64,8 @@ fn main() -> Result<(), Box<dyn Error>> {
         Ok(_) => return Err("a slice of another level was settled again".into()),
     }
     let file = builder.write()?;
-    std::fs::write(&name, &file)?;
-    let table = Table::read(std::fs::read(&name)?, mesh)?;
+    save(&name, &file)?;
+    let table = Table::open(&name, mesh)?;
     println!("{name}: {} bytes; at distance 5.5 the energy is {}", file.len(), table.lookup(5.5, 0.5, [0.0, 0.0, 1.0], [0.0, 1.0, 0.0])?);
     names.next().map_or(Ok(()), |name| ion(&name))
 }

@@ -1,0 +1,216 @@
+#include "handles.h"
+
+#include <errno.h>
+#include <stdlib.h>
+#include <string.h>
+
+struct icotable_build {
+    icotable_journal journal;
+    icotable_meshes meshes;
+    int own_meshes;
+    char *journal_name; /* NULL: none */
+    icotable_fault fault;
+};
+
+/* ---- opening */
+
+static uint64_t begin(icotable_build *b, const icotable_build_settings *s) {
+    const icotable_grid *g = &s->grid;
+    if (!s->atom)
+        return icotable_journal_begin(&b->journal, s->journal, *g, s->top, &b->meshes, s->flags);
+    icotable_atom_grid atom = {g->rmin, g->rmax, g->dr, g->threshold, g->beta, 0};
+    return icotable_journal_atom_begin(&b->journal, s->journal, atom, s->top, &b->meshes, s->flags);
+}
+
+static uint64_t resume(icotable_build *b, const icotable_build_settings *s) {
+    const icotable_grid *g = &s->grid;
+    if (!s->atom)
+        return icotable_journal_resume(&b->journal, s->journal, *g, s->top, &b->meshes, s->flags);
+    icotable_atom_grid atom = {g->rmin, g->rmax, g->dr, g->threshold, g->beta, 0};
+    return icotable_journal_atom_resume(&b->journal, s->journal, atom, s->top, &b->meshes, s->flags);
+}
+
+/* One that is only looked at is not begun. */
+static uint64_t resume_or_begin(icotable_build *b, const icotable_build_settings *s) {
+    if (s->journal == NULL)
+        return begin(b, s);
+    uint64_t number = resume(b, s);
+    return number == ICOTABLE_JOURNAL_ABSENT && !(s->flags & ICOTABLE_JOURNAL_READING) ? begin(b, s) : number;
+}
+
+/* The meshes, then the journal, which asks for the environment. */
+static uint64_t fill(icotable_build *b, const icotable_build_settings *s, uint64_t (*opening)(icotable_build *, const icotable_build_settings *),
+                     icotable_fault *fault) {
+    uint64_t number = s->top > 15 ? REFUSE(fault, ICOTABLE_LEVEL, "top level %llu", (ull)s->top)
+                                  : icotable_handle_meshes_(&b->meshes, s->meshes, s->top + 1, fault);
+    if (number != 0)
+        return number;
+    b->own_meshes = s->meshes == NULL || icotable_meshes_own(&b->meshes, s->top + 1);
+    number = opening(b, s);
+    if (number == 0)
+        return icotable_accepted_(fault);
+    return icotable_fault_(fault, number, b->journal.said, "%s", s->journal == NULL ? "a build without a journal" : s->journal);
+}
+
+static icotable_build *made(const icotable_build_settings *s, uint64_t (*opening)(icotable_build *, const icotable_build_settings *), icotable_fault *fault) {
+    icotable_build *b = calloc(1, sizeof *b);
+    char *name = s->journal == NULL ? NULL : strdup(s->journal);
+    if (b == NULL || (name == NULL && s->journal != NULL)) {
+        free(b);
+        free(name);
+        REFUSE(fault, ICOTABLE_HANDLE_NO_ROOM, "a build");
+        return NULL;
+    }
+    b->journal_name = name;
+    b->journal.file = -1;
+    if (fill(b, s, opening, fault) == 0)
+        return b;
+    icotable_build_close(b);
+    return NULL;
+}
+
+icotable_build *icotable_build_begin(const icotable_build_settings *s, icotable_fault *fault) {
+    return made(s, begin, fault);
+}
+
+icotable_build *icotable_build_resume(const icotable_build_settings *s, icotable_fault *fault) {
+    if (s->journal != NULL)
+        return made(s, resume, fault);
+    REFUSE(fault, ICOTABLE_HANDLE_NO_JOURNAL, "icotable_build_resume");
+    return NULL;
+}
+
+icotable_build *icotable_build_open(const icotable_build_settings *s, icotable_fault *fault) {
+    return made(s, resume_or_begin, fault);
+}
+
+void icotable_build_close(icotable_build *b) {
+    if (b == NULL)
+        return;
+    icotable_journal_close(&b->journal);
+    icotable_free_meshes(&b->meshes);
+    free(b->journal_name);
+    free(b);
+}
+
+/* ---- calls */
+
+/* What the journal said of a refusal becomes the build's. */
+static uint64_t answered(icotable_build *b, uint64_t number) {
+    if (number != 0) {
+        b->fault.number = number;
+        memcpy(b->fault.said, b->journal.said, sizeof b->fault.said);
+    }
+    return number;
+}
+
+uint64_t icotable_build_set(icotable_build *b, uint64_t ri, uint64_t oi, const double *energies, size_t count) {
+    return b == NULL ? ICOTABLE_HANDLE_NO_HANDLE : answered(b, icotable_journal_set(&b->journal, ri, oi, energies, count));
+}
+
+icotable_journal_settled icotable_build_settle(icotable_build *b, uint64_t ri) {
+    if (b == NULL)
+        return (icotable_journal_settled){.number = ICOTABLE_HANDLE_NO_HANDLE};
+    icotable_journal_settled s = icotable_journal_settle(&b->journal, ri);
+    answered(b, s.number);
+    return s;
+}
+
+icotable_progress icotable_build_progress(const icotable_build *b) {
+    icotable_progress p = {0};
+    if (b == NULL)
+        return p;
+    const icotable_journal *j = &b->journal;
+    p = (icotable_progress){j->builder.grid.n_r, j->builder.grid.n_omega, j->builder.top, j->builder.level, j->slabs, j->set_count, j->settled_count,
+                            icotable_journal_length(j), ICOTABLE_JOURNAL_TO_WRITE, 0, 0};
+    p.step = icotable_journal_next(j, &p.ri, &p.oi);
+    return p;
+}
+
+const double *icotable_build_vertices(const icotable_build *b, uint64_t level, uint64_t *count) {
+    bool there = b != NULL && level <= b->journal.builder.top;
+    if (count != NULL)
+        *count = there ? icotable_vertices(level) : 0;
+    return there ? icotable_level_vertices(&b->meshes, level) : NULL;
+}
+
+const icotable_journal *icotable_build_state(const icotable_build *b) {
+    return b == NULL ? NULL : &b->journal;
+}
+
+const char *icotable_build_said(const icotable_build *b) {
+    return b == NULL ? icotable_handle_words(ICOTABLE_HANDLE_NO_HANDLE) : b->fault.said;
+}
+
+/* ---- writing */
+
+/* The table in memory, to be freed; NULL where it is refused. */
+static uint8_t *table_of(icotable_build *b, const icotable_terms *tail, size_t *length) {
+    icotable_journal *j = &b->journal;
+    size_t terms = tail == NULL ? 0 : tail->count;
+    uint64_t number = answered(b, icotable_journal_whole(j));
+    if (number != 0)
+        return NULL;
+    if (j->atom && terms > 0) {
+        REFUSE(&b->fault, ICOTABLE_HANDLE_OTHER_KIND, "a table against an atom has no long-range tail");
+        return NULL;
+    }
+    *length = icotable_journal_length(j) + (terms == 0 ? 0 : 12 + 20 * terms);
+    uint8_t *output = terms > SIZE_MAX / 64 ? NULL : malloc(*length);
+    if (output == NULL) {
+        REFUSE(&b->fault, ICOTABLE_HANDLE_NO_ROOM, "the table's %zu bytes", *length);
+        return NULL;
+    }
+    if (terms == 0)
+        number = answered(b, icotable_journal_write(j, output, *length).number);
+    else if ((number = icotable_write_tail(j->builder, ICOTABLE_JOURNAL_LISTS(j), ICOTABLE_MESHES(&b->meshes), tail->coefficients, terms, tail->kappas, terms,
+                                           tail->powers, terms, &tail->prefactor, 1, output, *length).number) != 0)
+        REFUSE(&b->fault, number, "a tail of %zu terms", terms);
+    if (number == 0)
+        return output;
+    free(output);
+    return NULL;
+}
+
+/* What the seal says of this table. */
+static uint64_t seal_of(icotable_build *b, const uint8_t *table, size_t length, icotable_seal *s) {
+    const icotable_builder *k = &b->journal.builder;
+    *s = (icotable_seal){.table_length = length, .atom = b->journal.atom, .grid = k->grid, .top = k->top, .levels = k->top + 1, .own_meshes = b->own_meshes,
+                         .journaled = b->journal_name != NULL};
+    icotable_sha256_(table, length, s->sha256);
+    s->meshes_hash = icotable_meshes_hash(&b->meshes, s->levels);
+    strcpy(s->version, icotable_version());
+    if (s->journaled && !icotable_sha256_file_(b->journal_name, s->journal_sha256))
+        return REFUSE(&b->fault, ICOTABLE_HANDLE_NOT_WRITTEN, "its journal %s cannot be read for the seal: %s", b->journal_name, strerror(errno));
+    return 0;
+}
+
+/* Mesh file, table, seal: until the last is there, the reader refuses what it could mistake. */
+static uint64_t write_files(icotable_build *b, const char *path, const uint8_t *table, size_t length) {
+    icotable_seal seal;
+    uint64_t number = seal_of(b, table, length, &seal);
+    if (number == 0 && !b->own_meshes) {
+        char *mesh = icotable_beside_(path, ".mesh");
+        number = mesh == NULL ? REFUSE(&b->fault, ICOTABLE_HANDLE_NO_ROOM, "a name") : icotable_meshes_save(&b->meshes, mesh, &b->fault);
+        free(mesh);
+    }
+    if (number == 0 && !icotable_write_file_(path, table, length, true))
+        number = REFUSE(&b->fault, ICOTABLE_HANDLE_NOT_WRITTEN, "%s: %s", path, strerror(errno));
+    return number != 0 ? number : icotable_seal_write(&seal, path, &b->fault);
+}
+
+uint64_t icotable_build_write_tail(icotable_build *b, const char *path, const icotable_terms *tail) {
+    if (b == NULL)
+        return ICOTABLE_HANDLE_NO_HANDLE;
+    if (path == NULL)
+        return REFUSE(&b->fault, ICOTABLE_HANDLE_NOT_WRITTEN, "there is no name for it");
+    size_t length = 0;
+    uint8_t *table = table_of(b, tail, &length);
+    uint64_t number = table == NULL ? b->fault.number : write_files(b, path, table, length);
+    free(table);
+    return number;
+}
+
+uint64_t icotable_build_write(icotable_build *b, const char *path) {
+    return icotable_build_write_tail(b, path, NULL);
+}

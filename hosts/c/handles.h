@@ -1,0 +1,29 @@
+/* What builds and readers share. Not installed; names end in an underscore. */
+#ifndef HANDLES_H
+#define HANDLES_H
+
+#include "icotable_handles.h"
+#include "support.h"
+
+typedef unsigned long long ull;
+
+/* A refusal with its words and what is handed over behind them; gives the number. */
+#define REFUSE(fault, number, ...) icotable_fault_(fault, number, icotable_handle_words(number), __VA_ARGS__)
+
+/* The floating-point environment: 0, or refused. */
+uint64_t icotable_handle_environment_(icotable_fault *fault);
+
+/* The meshes of so many levels or more, of a mesh file, or the library's own where name is NULL. Free in any case. */
+uint64_t icotable_handle_meshes_(icotable_meshes *m, const char *name, uint64_t levels, icotable_fault *fault);
+
+/* What a reader holds: reader.c opens it, energies.c asks it. */
+struct icotable_reader {
+    int atom;
+    const uint8_t *file;
+    size_t length;
+    icotable_table table;
+    icotable_atom_table atom_table;
+    icotable_meshes meshes;
+};
+
+#endif
