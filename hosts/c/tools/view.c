@@ -158,7 +158,7 @@ int view_tool(int count, char **names) {
     (void)count;
     const char *out = given("-o");
     if (out == NULL)
-        return misused(verb_named("view"), "-o PAGE.html is missing", "");
+        return misused("view", "-o", "is missing");
     table_file f;
     int status = open_table(&f, names[0]);
     if (status == GOOD)
