@@ -289,11 +289,12 @@ def colours(tool, folder):
     print(f"{asked} times with and without colour, {wrong} wrong")
 
 
-if sys.argv[1] == "tables":
-    tables(sys.argv[2])
-elif sys.argv[1] == "loose":
-    loose(sys.argv[2])
-elif sys.argv[1] == "answers":
-    answers(*sys.argv[2:])
-else:
-    colours(*sys.argv[2:])
+if __name__ == "__main__":
+    if sys.argv[1] == "tables":
+        tables(sys.argv[2])
+    elif sys.argv[1] == "loose":
+        loose(sys.argv[2])
+    elif sys.argv[1] == "answers":
+        answers(*sys.argv[2:])
+    else:
+        colours(*sys.argv[2:])

@@ -18,7 +18,7 @@ typedef struct panel {
     double *lowest;                 /* for each distance; infinite where it is a wall */
 } panel;
 
-static void escaped(FILE *out, const char *text) {
+void escaped(FILE *out, const char *text) {
     for (; *text; text++)
         switch (*text) {
         case '&': fputs("&amp;", out); break;
@@ -29,7 +29,7 @@ static void escaped(FILE *out, const char *text) {
         }
 }
 
-static const char *base_name(const char *name) {
+const char *base_name(const char *name) {
     const char *slash = strrchr(name, '/');
     return slash ? slash + 1 : name;
 }
@@ -45,7 +45,7 @@ static void level_colour(FILE *out, unsigned level, uint64_t shades) {
     fprintf(out, "#%02x%02x%02x", (unsigned)c[0], (unsigned)c[1], (unsigned)c[2]);
 }
 
-static void colour(FILE *out, const row *r, uint64_t shades) {
+void row_colour(FILE *out, const row *r, uint64_t shades) {
     if (r->kind == REPULSIVE)
         fputs("#2b2b2b", out);
     else if (r->kind == SCALAR)
@@ -92,7 +92,7 @@ static void cell(FILE *out, const panel *p, uint64_t column, uint64_t line) {
     double x = p->x + w * (double)column, y = TOP + h * (double)(p->lines - 1 - line);
     rectangle(out, x, y, w, h);
     fputs(" shape-rendering=\"crispEdges\" fill=\"", out);
-    colour(out, &r, p->shades);
+    row_colour(out, &r, p->shades);
     fputs("\"><title>", out);
     print_bins(out, p->file, slab);
     fputs(": ", out);
@@ -176,7 +176,7 @@ static row legend_item(unsigned k, uint64_t levels, char *words, size_t room) {
 static void legend_box(FILE *out, const panel *p, const row *r, double x, double y) {
     rectangle(out, x, y, 14, 14);
     fputs(" stroke=\"#999\" fill=\"", out);
-    colour(out, r, p->shades);
+    row_colour(out, r, p->shades);
     fputs("\"/>\n", out);
     if (r->kind == NEAREST) {
         rectangle(out, x, y, 14, 14);

@@ -136,6 +136,12 @@ void print_verdict(FILE *out, const table_file *f);
 /* The same as items of a JSON object. */
 void json_verdict(const table_file *f);
 
+/* map.c: a text in HTML or SVG, a file's name without its folder, and a row's colour in a picture whose finest table has so many
+ * levels, such as #efece2. */
+void escaped(FILE *out, const char *text);
+const char *base_name(const char *name);
+void row_colour(FILE *out, const row *r, uint64_t shades);
+
 /* resolution.c: for each level of a table how far its vertices lie apart and from a direction, over the meshes of mesh.h, and
  * the rows that have it; in lines, or as an item of a JSON object. */
 int print_resolution(const table_file *f, bool json);
@@ -158,6 +164,7 @@ int inspect_tool(int count, char **names);
 int verify_tool(int count, char **names);
 int diff_tool(int count, char **names);
 int map_tool(int count, char **names);
+int view_tool(int count, char **names);
 int export_tool(int count, char **names);
 int repack_tool(int count, char **names);
 int import_tool(int count, char **names);

@@ -34,6 +34,12 @@ const verb verbs[] = {
      "Distance against dihedral angle or, against an atom, a strip over distance, coloured by kind and level, with the lowest energy of each distance below. "
      "Two files stand side by side; a level has one colour in both, and slabs whose rows differ have a frame.",
      1, 2, {OUTPUT("Write to a file, which must not be there yet, and not to standard output.")}, map_tool},
+    {"view", "FILE -o PAGE.html", "a page that shows a table in a browser",
+     "One page with the whole table in it, which fetches nothing: the map of its slabs, the row and the energies of the slab that is chosen by a click or by "
+     "the arrow keys, the profile over distance, and the smallest and largest energy over a span of distances. For tables of two molecules that pass verify "
+     "--viewer, at most 4 levels and 4096 rows, and for tables against an atom of at most 4096 rows; map and export take larger ones. The page is somewhat "
+     "longer than four thirds of the table.",
+     1, 1, {OUTPUT("Where the page goes, a file that must not be there yet; it has to be named. - is standard output.")}, view_tool},
     {"export", "--csv FILE", "the slabs or the energies as text for other programs",
      "A line of column names, then one line a slab: ri, oi, r, omega, kind, level, letter, offset, energies (how many), scalar, lowest, highest. With "
      "--energies one line an energy: ri, oi, r, omega, level, a, b, energy. Against an atom there are no columns oi, omega and b. Distances r have the table's "
