@@ -36,6 +36,10 @@ static uint64_t map_file(icotable_reader *t, const char *path, icotable_fault *f
     return number;
 }
 
+static const char *kind_words(int atom) {
+    return atom ? "against an atom" : "of two molecules";
+}
+
 /* A grid of two numbers is that of a table against an atom. */
 static uint64_t look_over(icotable_reader *t, const char *path, icotable_fault *fault) {
     uint64_t number;
@@ -44,7 +48,7 @@ static uint64_t look_over(icotable_reader *t, const char *path, icotable_fault *
         number = (t->atom_table = icotable_atom_read(t->file, t->length)).number;
     else
         number = (t->table = icotable_read(t->file, t->length)).number;
-    return number == 0 ? 0 : REFUSE(fault, number, "%s, as a table %s; `icotable verify` names the byte", path, t->atom ? "against an atom" : "of two molecules");
+    return number == 0 ? 0 : REFUSE(fault, number, "%s, as a table %s; `icotable verify` names the byte", path, kind_words(t->atom));
 }
 
 static uint64_t levels_of(const icotable_reader *t) {
@@ -53,7 +57,7 @@ static uint64_t levels_of(const icotable_reader *t) {
 
 static uint64_t check_seal(const icotable_reader *t, const icotable_seal *s, const char *path, icotable_fault *fault) {
     if (!s->atom != !t->atom || s->levels != levels_of(t))
-        return REFUSE(fault, ICOTABLE_HANDLE_OTHER_TABLE, "%s is of a table %s with %llu levels", path, s->atom ? "against an atom" : "of two molecules", (ull)s->levels);
+        return REFUSE(fault, ICOTABLE_HANDLE_OTHER_TABLE, "%s is sealed as a table %s with %llu levels", path, kind_words(s->atom), (ull)s->levels);
     return icotable_seal_check(s, t->file, t->length, fault);
 }
 

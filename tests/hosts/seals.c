@@ -25,13 +25,13 @@ static uint64_t drawn(void) {
     return z ^ z >> 31;
 }
 
-/* Any double that is a number: of all bits, small, infinite, and those of a hand. */
+/* Any finite double: of all bits, small, and those of a hand. */
 static double any_number(void) {
-    static const double few[] = {0, -0.0, 0.1, 0.4, 0.5, 1, 1e300, 5e-324, INFINITY, -INFINITY};
+    static const double few[] = {0, -0.0, 0.1, 0.4, 0.5, 1, 1e300, 5e-324};
     uint64_t bits = drawn();
     double x;
     memcpy(&x, &bits, sizeof x);
-    return bits % 5 == 0 ? few[drawn() % (sizeof few / sizeof few[0])] : x != x ? 1.0 / 3 : x;
+    return bits % 5 == 0 ? few[drawn() % (sizeof few / sizeof few[0])] : isfinite(x) ? x : 1.0 / 3;
 }
 
 static void any_digits(char digits[65]) {
@@ -79,7 +79,8 @@ static bool read_refuses(const char *name) {
     icotable_seal s, none = {0};
     snprintf(table, sizeof table, "%.*s", (int)strlen(name) - 5, name);
     uint64_t number = icotable_seal_read(&s, table, &fault);
-    check(number == fault.number && (number == 0 ? same_seal(&s, &sealed) : same_seal(&s, &none) && strlen(fault.said) > 20), "an altered seal is read as another one", fault.said);
+    bool said = number == fault.number && (number == 0 || strlen(fault.said) > 20);
+    check(said && same_seal(&s, number == 0 ? &sealed : &none), "an altered seal is read as another one", fault.said);
     return number >= 251 && number <= 259;
 }
 
@@ -102,7 +103,8 @@ static void altered(const char *good, const char *from, const char *to, uint64_t
 
 static void damages(void) {
     size_t count;
-    sealed = (icotable_seal){.table_length = 70, .grid = {1, 25, 0.75, 0.5, 0.4, 1, 32, 12}, .top = 3, .levels = 4, .meshes_hash = 255, .own_meshes = 1, .version = "0.20.0"};
+    sealed = (icotable_seal){.table_length = 70, .grid = {1, 25, 0.75, 0.5, 0.4, 1, 32, 12}, .top = 3, .levels = 4, .own_meshes = 1, .version = "0.20.0"};
+    sealed.meshes_hash = 255;
     memset(sealed.sha256, 'a', 64);
     check(icotable_seal_write(&sealed, path("good"), &fault) == 0, "a seal is not written", fault.said);
     char *good = (char *)get_file(path("good.meta"), &count);
@@ -118,7 +120,8 @@ static void damages(void) {
     altered(good, "length 70", "length -1", 254, "line 4 ");
     altered(good, "aaaa", "AAAA", 254, ": a SHA-256 of the table");
     altered(good, "threshold 0.40000000000000002", "threshold 0.4", 254, "line 10 is not as this library writes it");
-    altered(good, "beta 1", "beta nan", 254, "a setting that is not a number");
+    altered(good, "beta 1", "beta nan", 254, "a setting that is not finite");
+    altered(good, "beta 1", "beta inf", 254, "a setting that is not finite");
     altered(good, "beta 1", "gamma 1", 254, "line 11 is not its 'beta'");
     altered(good, "beta 1\n", "beta 1\ncolour red\n", 254, "line 12 is not its 'n_r'");
     altered(good, "beta 1\n", "", 254, "line 11 is not its 'beta'");
@@ -139,7 +142,7 @@ static void not_written(icotable_seal s, const char *why) {
 static void unfit(void) {
     icotable_seal s = sealed;
     not_written((icotable_seal){0}, "version");
-    s.grid.beta = NAN, not_written(s, "not a number"), s = sealed;
+    s.grid.beta = NAN, not_written(s, "not finite"), s = sealed;
     strcpy(s.version, "a b"), not_written(s, "version"), s = sealed;
     memset(s.version, 'a', sizeof s.version), not_written(s, "version"), s = sealed;
     memset(s.sha256, 'a', sizeof s.sha256), not_written(s, "64 hexadecimal digits"), s = sealed;
@@ -182,7 +185,8 @@ static void troubles(void) {
     refused(256, icotable_seal_write(&s, path("good"), &fault), "File too large");
     setrlimit(RLIMIT_FSIZE, &was);
     free(get_file(path("good.meta"), &count));
-    check(icotable_seal_read(&s, path("good"), &fault) == 0 && same_seal(&s, &sealed) && files() == before, "a seal that was not written alters the one before it", fault.said);
+    check(icotable_seal_read(&s, path("good"), &fault) == 0 && same_seal(&s, &sealed), "a seal that was not written alters the one before it", fault.said);
+    check(files() == before, "a seal that was not written leaves a file", "");
 }
 
 /* ---- a small table for the tools */
@@ -261,7 +265,7 @@ int main(int count, char **words) {
     unfit();
     tables();
     troubles();
-    printf("seals: %llu checks, %llu wrong; locale %s, point '%s'\n", (unsigned long long)checks, (unsigned long long)wrong, locale == NULL ? "not there" : locale,
-           localeconv()->decimal_point);
+    printf("seals: %llu checks, %llu wrong; locale %s, point '%s'\n", (unsigned long long)checks, (unsigned long long)wrong,
+           locale == NULL ? "not there" : locale, localeconv()->decimal_point);
     return wrong != 0;
 }
