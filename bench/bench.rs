@@ -83,6 +83,8 @@ mod shape;
 mod landed;
 #[cfg(not(landed))]
 use new as landed;
+#[cfg(not(atom))]
+mod batches;
 mod builds;
 mod new;
 mod readings;
@@ -234,6 +236,19 @@ fn by_size(random: &mut Random) {
     }
 }
 
+// Readings by a call for each and by one call for all, at level 3; in brackets the ratios to a call for each and to the Rust.
+#[cfg(not(atom))]
+fn by_call(random: &mut Random) {
+    println!("\n| rows | file | a call for each, ns | one call for all, ns | the Rust, ns |");
+    println!("|---|---|---|---|---|");
+    for (n_r, queries, rounds) in [(1, 4096, 400), (36, 200_000, 10), (360, 400_000, 6)] {
+        for (what, rows, beta) in [("Scalar", Rows::Scalar, None), ("nearest", Rows::Nearest, None), ("interpolated", Rows::Interpolated, None), ("weighted", Rows::Interpolated, Some(0.4))] {
+            let ([one, many, rust], megabytes) = readings::batch(rows, beta, [n_r, 8], queries, rounds, random);
+            println!("| {what} | {} | {} | {} ({}, {}) | {} |", size(megabytes), figure(one), figure(many), figure(many / one), figure(many / rust), figure(rust));
+        }
+    }
+}
+
 // Settle and write by their stages.
 fn by_stage(random: &mut Random) {
     for level in [0, 5] {
@@ -255,7 +270,9 @@ fn only(what: &str, random: &mut Random) {
         "nearest" => reading(Rows::Nearest, random),
         "interpolated" => reading(Rows::Interpolated, random),
         "weighted" => used(readings::weighted(Caller::C, 3, [1, 8], 4096, 1000, random)),
-        _ => panic!("settle, stages, file, scalar, nearest, interpolated or weighted"),
+        #[cfg(not(atom))]
+        "many" => by_call(random),
+        _ => panic!("settle, stages, file, scalar, nearest, interpolated, weighted or many"),
     }
 }
 
@@ -278,6 +295,11 @@ fn main() {
     by_level(&mut random);
     println!("\nHow a reading's cost grows with the table, Mesh rows at level 3; in brackets the ratio to the Rust's.");
     by_size(&mut random);
+    #[cfg(not(atom))]
+    {
+        println!("\nMany readings: a call for each, and one call for all; in brackets the ratios to a call for each and to the Rust's time.");
+        by_call(&mut random);
+    }
     println!("\nWhere the time goes in settle and write:\n");
     by_stage(&mut random);
 }

@@ -1,4 +1,6 @@
 // A reading beside the Rust's lookup. All answers are compared first, bit for bit.
+#[cfg(not(atom))]
+use crate::batches::Batch;
 use crate::icotable::Query;
 use crate::library::add_level;
 use crate::meshes::{icosphere, Random};
@@ -8,6 +10,8 @@ use crate::pack::packed;
 use crate::reader::Lists;
 use crate::rust::{MeshLevel, SlabResolution};
 use crate::shape::{self, lookup, lookup_boltzmann, RustTable};
+#[cfg(not(atom))]
+use crate::timing::least_of_three;
 use crate::timing::{each, least, used};
 use crate::weighted::Weighted;
 use crate::{landed, new};
@@ -143,6 +147,24 @@ pub fn measure(caller: Caller, rows: Rows, level: usize, bins: [usize; 2], queri
     let time = match caller {
         Caller::C => least(rounds, queries.len(), [&mut || a.from_c(), &mut || b.from_c(), &mut rust]),
         Caller::Rust => least(rounds, queries.len(), [&mut || a.from_rust(), &mut || b.from_rust(), &mut rust]),
+    };
+    (time, megabytes)
+}
+
+// Nanoseconds of a reading by a call for each, by one call for all, and in the Rust; and the megabytes of the file. Weighted ones stand beside the Rust's with the machine's `exp` and `ln`.
+#[cfg(not(atom))]
+pub fn batch(rows: Rows, beta: Option<f64>, bins: [usize; 2], queries: usize, rounds: usize, random: &mut Random) -> ([f64; 3], f64) {
+    let (t, lists) = made(rows, 3, bins[0], bins[1], random);
+    let megabytes = lists.file.len() as f64 / 1e6;
+    let queries = drawn(queries, &t, random);
+    let wanted: Vec<u64> = queries.iter().map(|q| beta.map_or_else(|| lookup(&t, q), |b| lookup_boltzmann(&t, q, b)).to_bits()).collect();
+    let mut many = Batch::new(lists.clone(), &queries, beta, &wanted);
+    let time = if let Some(b) = beta {
+        let (mut one, t) = (Weighted::new(lists, &queries, b, &wanted), native(t));
+        least_of_three(rounds, queries.len(), [&mut || one.from_c(), &mut || many.read(), &mut || each(&queries, |q| used(native_boltzmann(&t, q, b)))])
+    } else {
+        let mut one = new::side::Readings::new(lists, &queries, &wanted);
+        least_of_three(rounds, queries.len(), [&mut || one.from_c(), &mut || many.read(), &mut || each(&queries, |q| used(lookup(&t, q)))])
     };
     (time, megabytes)
 }

@@ -37,12 +37,22 @@ fn clock() -> i64 {
 // Nanoseconds of each side for each of `parts` parts; NaN for the landed library where it takes no part. The sides take turns, round after round; the least counts, since whatever disturbs a round
 // makes it longer.
 pub fn least(rounds: usize, parts: usize, sides: [&mut dyn FnMut(); 3]) -> [f64; 3] {
+    turns(rounds, parts, sides, landed())
+}
+
+// The same of any three sides.
+#[cfg(not(atom))]
+pub fn least_of_three(rounds: usize, parts: usize, sides: [&mut dyn FnMut(); 3]) -> [f64; 3] {
+    turns(rounds, parts, sides, true)
+}
+
+fn turns(rounds: usize, parts: usize, sides: [&mut dyn FnMut(); 3], first: bool) -> [f64; 3] {
     let mut least = [i64::MAX; 3];
     for round in 0..rounds {
         for turn in 0..3 {
             // each side comes after each of the others, and none after itself, whose lists would still be in the cache
             let k = if round % 2 == 0 { turn } else { (3 - turn) % 3 };
-            if k > 0 || landed() {
+            if k > 0 || first {
                 let start = clock();
                 sides[k]();
                 least[k] = least[k].min(clock() - start);

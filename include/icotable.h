@@ -40,8 +40,8 @@
  * no small number is flushed to zero: not in a program that is linked with -ffast-math, nor after fesetround. There an
  * answer can be another one. icotable_float_environment() of environment.h answers 0 where it is as it should be.
  *
- * Stack. No theorem bounds it. As measured on x86-64 and rounded up, settle takes 88 kB, locator 10 kB, sizing 4 kB, a
- * reading 3 kB and every other function 2 kB, whatever the level.
+ * Stack. No theorem bounds it. As measured on x86-64 and rounded up, settle takes 88 kB, locator 10 kB, readings 7 kB,
+ * sizing 4 kB, a reading 3 kB and every other function 2 kB, whatever the level.
  *
  * Numbers. ICOTABLE_REFUSALS below has each one in words, and docs/REFUSALS.md an example of each.
  */
@@ -334,6 +334,26 @@ icotable_value icotable_boltzmann(
     double ax, double ay, double az,
     double bx, double by, double bz,
     double beta);
+
+/* Many readings in one call, each that of icotable_reading, or of icotable_boltzmann where there is a beta: its first
+ * entry, for every pose, and further entries do not count. A pose is eight numbers, r, omega, ax, ay, az, bx, by, bz;
+ * answers has three for each, energy, distance_a, distance_b, and numbers the number. As many poses are answered as the
+ * shortest of poses, numbers and answers has room for, and the call returns how many; entries beyond stay as they are. A
+ * refused pose has its number and 0 three times, and does not keep the next from being answered: no call is refused as a
+ * whole. With a table that is larger than the processor's cache it is faster than so many single readings, since poses
+ * wait for memory together (docs/PERFORMANCE.md). */
+uint64_t icotable_readings(
+    const icotable_table *table,
+    const uint8_t *file, size_t file_count,
+    const double *vertices, size_t vertices_count,
+    const uint32_t *cell_offsets, size_t cell_offsets_count,
+    const uint16_t *cell_vertices, size_t cell_vertices_count,
+    const uint32_t *face_offsets, size_t face_offsets_count,
+    const uint16_t *faces, size_t faces_count,
+    const double *poses, size_t poses_count,
+    const double *beta, size_t beta_count,
+    uint64_t *numbers, size_t numbers_count,
+    double *answers, size_t answers_count);
 
 /* The long-range tail at distance r, from a file and what read answered for it. No reading includes it: a host adds it
  * where r is beyond rmax and icotable_reading gives 0. It is 0 without terms, and both distances are 0. It answers

@@ -16,6 +16,11 @@ uint64_t icotable_handle_environment_(icotable_fault *fault);
 /* The meshes of so many levels or more, of a mesh file, or the library's own where name is NULL. Free in any case. */
 uint64_t icotable_handle_meshes_(icotable_meshes *m, const char *name, uint64_t levels, icotable_fault *fault);
 
+/* runs.c: splits 0 to count into as many runs of equal length as there are threads, the caller's own among them; gives the sum of
+ * what work gives for each. No thread is started for fewer than 256, and the caller does the run of one that cannot be started. */
+typedef uint64_t (*icotable_work_)(const void *with, size_t from, size_t to);
+uint64_t icotable_in_runs_(size_t count, unsigned threads, icotable_work_ work, const void *with);
+
 /* What a reader holds: reader.c opens it, energies.c asks it. */
 struct icotable_reader {
     int atom;

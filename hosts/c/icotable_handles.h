@@ -162,15 +162,16 @@ icotable_energy icotable_reader_atom_boltzmann(const icotable_reader *t, double 
 uint64_t icotable_reader_energies(const icotable_reader *t, const double *poses, size_t poses_count, const double *beta, uint64_t *numbers, double *answers,
                                   unsigned threads);
 
-/* The same of poses that are columns: eight, of r, omega and the coordinates of a and b, against an atom four. first: where the
- * first pose's number is, a double at any byte; stride: how many bytes on the next one's is, of any sign; 0 where all poses have
- * the same. */
-typedef struct icotable_column {
-    const void *first;
-    ptrdiff_t stride;
-} icotable_column;
-uint64_t icotable_reader_columns(const icotable_reader *t, const icotable_column *columns, size_t poses_count, const double *beta, uint64_t *numbers,
-                                 double *answers, unsigned threads);
+/* The same of poses whose parts are lists of their own, for a host that has them so: r and omega a double each, a and b three; against
+ * an atom r and a alone, which is the direction. Each is where the first pose's is, at any byte, and its stride how many bytes on the
+ * next one's, of any sign, 0 where all poses have the same. energies: one a pose; distances: two a pose, or NULL, and not looked at
+ * against an atom; numbers: one a pose, or NULL. Gives how many poses are refused: all of them where t is NULL. */
+typedef struct icotable_columns {
+    const void *r, *omega, *a, *b;
+    ptrdiff_t r_stride, omega_stride, a_stride, b_stride;
+} icotable_columns;
+uint64_t icotable_reader_columns(const icotable_reader *t, const icotable_columns *poses, size_t poses_count, const double *beta, double *energies, double *distances,
+                                 uint64_t *numbers, unsigned threads);
 
 /* A slab's row. kind: 0 Scalar, 1 Repulsive, 2 Mesh read at the nearest vertices, 3 Mesh interpolated. level and offset (of its
  * first energy in the table's): a Mesh row's; 0 of any other. scalar: a Scalar row's energy; 0 of any other. Refused with 8

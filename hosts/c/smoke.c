@@ -399,6 +399,42 @@ static void weighted_readings(void) {
     expect("the same with beta 0", weighted(0.5, a, b, 0).number, 21);
 }
 
+/* Poses of small_table, one answer after another beside the single reading; `kept` marks entries that have to stay. */
+static int batch_differs(const double *poses, size_t count, const double *beta, size_t betas) {
+    enum { ROOM = 4 };
+    static const uint64_t kept = 77;
+    uint64_t numbers[ROOM] = {kept, kept, kept, kept};
+    double answers[3 * ROOM] = {77, 77, 77, 77, 77, 77, 77, 77, 77, 77, 77, 77};
+    size_t held = icotable_readings(&table, file, file_count, vertices, 3 * N, cell_offsets, CELLS, cell_vertices, 27 * N, face_offsets,
+                                    N + 1, faces, faces_count, poses, 8 * count + 7, beta, betas, numbers, ROOM, answers, 3 * ROOM);
+    int differ = held != count || (count < ROOM && (numbers[count] != kept || answers[3 * count] != 77));
+    for (size_t i = 0; i < held; i++) {
+        const double *q = poses + 8 * i;
+        icotable_value v = betas ? weighted(q[0], q + 2, q + 5, *beta) : reading(q[0], q + 2, q + 5);
+        differ |= numbers[i] != v.number || memcmp(answers + 3 * i, &v.energy, 3 * sizeof(double)) != 0;
+    }
+    return differ;
+}
+
+/* Inside, beyond rmax, of no direction, at a NaN; by the sum, at the nearest vertices, Scalar and of no row; with no beta, with one,
+ * with one that is refused, and with two, of which the first counts. */
+static void many_readings(void) {
+    static const double betas[] = {1, NAN, 2};
+    double poses[5 * 8] = {0.5, 0.1, 1, 2, 3, 3, -2, 1, 1.5, 0.1, 1, 2, 3, 3, -2, 1, 0.5, 0.1, 0, 0, 0, 3, -2, 1, NAN, 0.1, 1, 2, 3, 3, -2, 1};
+    small_table();
+    for (int kind = 3; kind >= 0; kind--) {
+        file[ROW] = (uint8_t)kind;
+        for (size_t count = 0; count <= 4; count++) {
+            expect("many readings", batch_differs(poses, count, betas, 0), 0);
+            expect("many weighted ones", batch_differs(poses, count, betas, 1), 0);
+            expect("many with a beta that is refused", batch_differs(poses, count, betas + 1, 1), 0);
+            expect("many with two betas", batch_differs(poses, count, betas, 2), 0);
+        }
+    }
+    table.rows = 0;
+    expect("many readings of a table that says it has no rows", batch_differs(poses, 4, betas, 0), 0);
+}
+
 static int no_distance(icotable_value v) {
     return v.distance_a == 0 && v.distance_b == 0 && !signbit(v.distance_a) && !signbit(v.distance_b);
 }
@@ -959,6 +995,7 @@ int main(void) {
     locator();
     readings();
     weighted_readings();
+    many_readings();
     distances();
     empty_spans();
     tail_bytes();

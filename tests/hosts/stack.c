@@ -96,6 +96,18 @@ static void reading(void) {
     }
 }
 
+static void readings(void) {
+    enum { POSES = 1000 };
+    static double poses[8 * POSES], answers[3 * POSES];
+    static uint64_t given[POSES];
+    static const double beta = 1;
+    for (int i = 0; i < 8 * POSES; i++)
+        poses[i] = i % 8 == 0 ? i / 8 % 5 - 0.25 : i % 13 - 6.5;
+    for (size_t betas = 0; betas <= 1; betas++)
+        sink = (double)icotable_readings(
+            &table, file, length, ICOTABLE_LOCATORS(&meshes), poses, 8 * POSES, &beta, betas, given, POSES, answers, 3 * POSES);
+}
+
 static void sizing(void) {
     sink = (double)icotable_sizing(settings, TOP, meshes.neighbour_counts, meshes.neighbour_counts_count, meshes.neighbours, meshes.neighbours_count, 7).file;
     sink = (double)icotable_atom_sizing(atom_settings, TOP, meshes.neighbour_counts, meshes.neighbour_counts_count, meshes.neighbours, meshes.neighbours_count).file;
@@ -142,6 +154,7 @@ static const operation operations[] = {
     {"rows_to_words, words_to_rows", nothing, moves, 2},
     {"locator", nothing, locator, 10},
     {"reading, boltzmann, tail, span", nothing, reading, 3},
+    {"readings", nothing, readings, 7},
     {"sizing", nothing, sizing, 4},
     {"search", nothing, search, 2},
     {"root, exp, ln, power, mul_add, narrow, narrow_case, vertices, cells", nothing, numbers, 2},

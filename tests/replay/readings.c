@@ -32,11 +32,18 @@ typedef struct lengths {
     l->file, n.file, l->vertices, n.vertices, l->cell_offsets, n.cell_offsets, l->cell_vertices, n.cell_vertices, \
         l->face_offsets, n.face_offsets, l->faces, n.faces
 
+/* Every reading stands once by itself and once as the only pose of a call for many: where the two differ it is answered 999, which
+ * no stored answer is. */
 static icotable_value of_molecules(
     const icotable_table *t, const lists *l, lengths n, const double q[8], const double *beta) {
-    if (beta)
-        return icotable_boltzmann(t, LENT, q[0], q[1], q[2], q[3], q[4], q[5], q[6], q[7], *beta);
-    return icotable_reading(t, LENT, q[0], q[1], q[2], q[3], q[4], q[5], q[6], q[7]);
+    icotable_value v = beta ? icotable_boltzmann(t, LENT, q[0], q[1], q[2], q[3], q[4], q[5], q[6], q[7], *beta)
+                            : icotable_reading(t, LENT, q[0], q[1], q[2], q[3], q[4], q[5], q[6], q[7]);
+    uint64_t count, number = 0;
+    double x[3] = {0};
+    count = icotable_readings(t, LENT, q, 8, beta, beta != NULL, &number, 1, x, 3);
+    bool alike = count == 1 && number == v.number && bits(x[0]) == bits(v.energy) && bits(x[1]) == bits(v.distance_a) &&
+                 bits(x[2]) == bits(v.distance_b);
+    return alike ? v : (icotable_value){.number = 999};
 }
 
 static icotable_value of_atom(

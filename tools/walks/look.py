@@ -4,6 +4,7 @@ import elements
 from calls import Call
 from frame import Value, Walk
 from params import Plain, Slice, Struct
+from text import applied
 
 
 class Look(Walk):
@@ -21,24 +22,29 @@ class Look(Walk):
         self.calls = [self.call]
 
     def about(self):
-        return ('The struct is looked into and copied, and `%s` is called with the copy and the rest, of each `&` list '
+        said = ('The struct is looked into and copied, and `%s` is called with the copy and the rest, of each `&` list '
                 'with a copy.' % self.call.function.name)
+        return said + (' The `&mut` lists are given up for good.' if self.longs() else '')
 
     def spelt(self):
         return ['T', getattr(self.result, 'letter', '')]
 
     def steps(self):
-        """The locals: the result, the parameters, the copy."""
+        """The locals: the result, the parameters, the copy, a pointer and a list for each `&mut` list."""
         self.copied = len(self.params) + 1
-        context = self.entered(self.copied + 1)
+        again = {param.name: self.copied + 1 + 2 * at for at, param in enumerate(self.longs())}
+        context = self.entered(self.copied + 1 + 2 * len(again))
         self.copy(context)
+        for param in self.longs():
+            elements.borrows_again(context, param, again[param.name])
         context.note('the call')
         elements.taken(context, self.params[1:])
-        self.call.make(context, [self.copied] + self.places({}), 0, known='g')
+        self.call.make(context, [self.copied] + self.places(again), 0, known='g')
         context.leave()
         context.keep(*self.remains())
-        answer = self.call.answer
-        context.finish('by ! (exits %s e (%s))' % (answer, self.result.known(answer)))
+        answer, changed = self.call.answer, self.call.changed()
+        ends = [answer] + [self.call.end(part) for part in changed] + ['e'] + [part.long for part in changed]
+        context.finish('by ! (%s)' % applied('exits', *(ends + [self.result.known(answer)])))
         return self.call.bindings() + self.walk_lines(context)
 
     def copy(self, context):

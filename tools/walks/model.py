@@ -64,6 +64,9 @@ class Number(Type):
     def holds(self, known):
         return '(refl, %s)' % known
 
+    def known(self, x):
+        return 'is .1'
+
     def typed(self, x, known):
         return '(tt, record { fits = %s })' % known
 

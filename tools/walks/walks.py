@@ -12,6 +12,7 @@ def walks():
     return [
         Look('icotable', 'lib', 'icotable_reading'),
         Look('icotable', 'lib', 'icotable_boltzmann'),
+        Look('icotable', 'many', 'icotable_readings'),
         Look('icotable', 'tails', 'icotable_tail'),
         Look('icotable', 'spans', 'icotable_span'),
         Look('icotable', 'atom', 'icotable_atom_reading'),

@@ -33,6 +33,7 @@ use writer::Written;
 
 mod atom;
 mod found;
+mod many;
 mod moves;
 mod repacks;
 mod spans;

@@ -5,3 +5,6 @@ pub mod Parts
 pub mod AtomPicked
 pub mod AtomStages
 pub mod AtomShown
+pub mod Ready
+pub mod Stored
+pub mod Ways

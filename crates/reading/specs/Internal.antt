@@ -4,7 +4,7 @@ use mathlib.Core.Bool.{Bool, false, cond, _&&_}
 use mathlib.Core.List.{List}
 use Prim.Native.Nat.{ℕ, _+_, _-_, _*_, _/_, _≤_, _<_, min}
 use lib.ListN.{length}
-use lib.Dec.{leb, ltb}
+use lib.Dec.{leb, ltb, eqb}
 use lib.Ieee.{Float, inf, binary64, ofBits, neg, add, sub, mul, div, lt, le}
 use Rattle.float.specs.Order.{smaller}
 use Rattle.float.specs.Exp.{exponential}
@@ -22,10 +22,13 @@ use Rattle.search.specs.declared.Located.{Located}
 use Rattle.table.specs.Bytes.{numberAt}
 use Rattle.table.specs.declared.Table.{Table}
 use Rattle.table.specs.declared.AtomTable.{AtomTable}
-use Rattle.reading.specs.Resolve.{ReadingValues, noDistance, plain, Query, Way, linear, boltzmann, widened, infinite}
-use Rattle.reading.specs.Reading.{searchIn, readPicks}
+use Rattle.reading.specs.Resolve.{ReadingValues, readingValues, noDistance, plain, Query, Way, linear, boltzmann, resolve, widened, infinite}
+use Rattle.reading.specs.Reading.{searchIn, readPicks, readSlab}
+use Rattle.reading.specs.Poses.{poseAt}
 use Rattle.reading.specs.declared.Reading.{Reading}
 use Rattle.reading.specs.declared.Reading.the-variants.{Refused}
+use Rattle.reading.specs.declared.Staged.{Staged}
+use Rattle.reading.specs.declared.Value.{Value}
 
 -- how many of a section's items, w bytes each from byte start on, are below its count and inside a file of n bytes
 unfoldable pub itemsInside : ℕ → ℕ → ℕ → ℕ → ℕ
@@ -146,3 +149,36 @@ faceAverage file start o n f g p q beta =
 unfoldable pub faceTerms : List ℕ → ℕ → ℕ → ℕ → Face → Face → Weights → Weights → Float
 faceTerms file start o n f g p q =
     rowTerms file start o (f .c * n) g (p .c) q (rowTerms file start o (f .b * n) g (p .b) q (rowTerms file start o (f .a * n) g (p .a) q (ofBits binary64 0)))
+
+-- ---- the two stages of many readings
+
+abbrev pub stagedWith : ℕ → ℕ → Float → Float → Float → Staged
+stagedWith kind place energy da db =
+    let none : Face = record { a = 0; b = 0; c = 0 } in
+    let z = ofBits binary64 0 in
+    record { kind = kind; place = place; n = 0; f = none; g = none; p = record { a = energy; b = da; c = db }; q = record { a = z; b = z; c = z } }
+
+-- what the second stage makes of what the first left: the answer as it is, of one energy, or of nine
+unfoldable pub finished : List ℕ → ℕ → Staged → ReadingValues
+finished file start z =
+    cond (eqb (z .kind) 0) (record { number = z .place; energy = z .p .a; distanceA = z .p .b; distanceB = z .p .c })
+    (cond (eqb (z .kind) 1) (record { number = 0; energy = widened (numberAt 4 file (start + z .place * 4)); distanceA = z .p .b; distanceB = z .p .c })
+    (record { number = 0; energy = faceTerms file start (z .place) (z .n) (z .f) (z .g) (z .p) (z .q); distanceA = noDistance; distanceB = noDistance }))
+
+-- what it loads is inside the file
+pub record StagedInside (file : List ℕ) (start : ℕ) (z : Staged) : Type 0 where
+  pub one : z .kind ≡ 1 → PlaceInside file start (z .place)
+  pub nine : (z .kind ≡ 0 → ⊥) → (z .kind ≡ 1 → ⊥) → RowInside file start (z .place) (z .f .a * z .n) (z .g) × RowInside file start (z .place) (z .f .b * z .n) (z .g) × RowInside file start (z .place) (z .f .c * z .n) (z .g)
+
+-- .. and it makes this answer
+pub record Ready (file : List ℕ) (start : ℕ) (z : Staged) (answer : Reading) : Type 0 where
+  pub inside : StagedInside file start z
+  pub is : finished file start z ≡ readingValues answer
+
+-- the number and values that the struct holds
+unfoldable pub valueIn : Value → ReadingValues
+valueIn v = record { number = v .number; energy = v .energy; distanceA = v .«distance_a»; distanceB = v .«distance_b» }
+
+-- pose i, where 21 was asked of the beta already
+unfoldable pub poseReading : List ℕ → Table → List Float → Locator → Float → Bool → List Float → ℕ → Reading
+poseReading file t vs l beta valid poses i = readSlab file t vs l (wayOf beta) (poseAt poses i) (resolve valid (t .grid) (poseAt poses i))

@@ -18,7 +18,7 @@ use search::Weights;
 use table::Table;
 
 // 19 for either direction before 20 for either.
-fn joint(a: u64, b: u64) -> u64
+pub(crate) fn joint(a: u64, b: u64) -> u64
     ensures { λ r. ⌜ r ≡ joint a b ⌝ }
 {
     if (a == 19) | (b == 19) {
@@ -71,7 +71,7 @@ pub(crate) fn places_below(held: u64, offset: u64, k: u64, f: Face) -> bool
     (offset + (k + a) < held) & ((offset + (k + b) < held) & (offset + (k + c) < held))
 }
 
-fn face_places_below(held: u64, offset: u64, n: u64, f: Face, g: Face) -> bool
+pub(crate) fn face_places_below(held: u64, offset: u64, n: u64, f: Face, g: Face) -> bool
     requires { ⌜ (offset < 4294967296) × (n ≤ 655362) × Small f × Small g ⌝ }
     ensures { λ r. ⌜ r ≡ facePlacesBelow held offset n f g ⌝ }
 {
@@ -83,7 +83,7 @@ fn face_places_below(held: u64, offset: u64, n: u64, f: Face, g: Face) -> bool
 }
 
 // A vertex's three terms of the sum, added to x.
-fn row_terms(
+pub(crate) fn row_terms(
     file: &[u8],
     start: u64,
     offset: u64,

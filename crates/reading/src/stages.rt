@@ -115,7 +115,7 @@ pub(crate) fn rows_table(levels: u64, start: u64, count: u64) -> Table
 
 // The answer of the row that starts at a byte. Both readings call it, so it is compiled apart: it is handed numbers, since
 // a struct would be copied.
-fn read_row(
+pub(crate) fn read_row(
     levels: u64,
     start: u64,
     count: u64,

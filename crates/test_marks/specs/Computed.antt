@@ -39,6 +39,7 @@ use Rattle.table.specs.Read.{layout, laidOut, tableLaidOut, tailAt, gridOf, tab
 use Rattle.reading.specs.Resolve.{wayValid, queryValid, outside, resolve, joint, nearestPick, facePick, nineTerms, combined}
 use Rattle.reading.specs.Reading.{rowInside, energyInside, entryAt, energyAt, searchIn, readEntry, readingBy}
 use Rattle.reading.specs.Rule.{search, ruledBy}
+use Rattle.reading.specs.Poses.{poseAt, wayBy, posesHeld, readingsOut}
 use Rattle.ledger.specs.Ledger.{Call, called, run, opened, ledgerQuestion, setEntered, settleEntered, entered, ledger}
 use Rattle.ledger.specs.Promise.{History, ended, file, rows}
 use Rattle.ledger.specs.Replies.{replied, replies}
@@ -120,7 +121,7 @@ unfolding bytesOf numberOf numberAt packed section items entryBytes entryOf entr
 tables x = x
 
 unfoldable readings : {A : Type 0} → A → A
-unfolding queryValid outside resolve joint nearestPick facePick nineTerms combined rowInside energyInside entryAt energyAt searchIn readEntry readingBy wayValid search ruledBy
+unfolding queryValid outside resolve joint nearestPick facePick nineTerms combined rowInside energyInside entryAt energyAt searchIn readEntry readingBy wayValid search ruledBy poseAt wayBy posesHeld readingsOut
 readings x = x
 
 unfoldable runs : {A : Type 0} → A → A

@@ -19,6 +19,7 @@ use Rattle.table.specs.Read.{readOut}
 use Rattle.reading.specs.Resolve.{Query, boltzmann, ReadingValues}
 use Rattle.reading.specs.Reading.{readingBy, readingOut}
 use Rattle.reading.specs.Rule.{ruled}
+use Rattle.reading.specs.Poses.{wayBy, ReadingsOut, readingsOut}
 use Rattle.ledger.specs.Ledger.{set-call}
 use Rattle.ledger.specs.Promise.{History, file, rows}
 use Rattle.test_marks.specs.Icospheres.{icosahedron}
@@ -281,3 +282,31 @@ no-energy = refl
 pub empty-before-energy : computed (without nearestFile emptied (query 0 ahead down) .number) ≡ 20
 unfolding computed
 empty-before-energy = refl
+
+-- ---- many readings in one call
+
+abbrev posed : Query → List Float
+posed q = q .r ∷ q .omega ∷ q .a .x ∷ q .a .y ∷ q .a .z ∷ q .b .x ∷ q .b .y ∷ q .b .z ∷ []
+
+-- the nearest row at the directions above, one of no direction, and a number more; with room for three numbers and for two answers and two thirds
+abbrev many : List Float → ReadingsOut
+many betas =
+    readingsOut nearestFile (readOut nearestFile .table) (icosahedron .vertices) made (wayBy betas) (posed slanted ++ (posed (query 0 none-at-all down) ++ (f64 0 ∷ []))) (7 ∷ 7 ∷ 7 ∷ []) (replicate 8 (f64 0x4022_0000_0000_0000))
+
+pub two-poses : computed (many [] .count) ≡ 2
+unfolding computed
+two-poses = refl
+
+pub their-numbers : computed (many [] .numbers) ≡ 0 ∷ 18 ∷ 7 ∷ []
+unfolding computed
+their-numbers = refl
+
+-- vertices 8 and 5: energy 8·12 + 5 = 101
+pub their-values : computed (map (toBits binary64) (many [] .answers)) ≡ 0x4059_4000_0000_0000 ∷ 0x3FD1_C484_DB23_FC60 ∷ 0x3FCE_11C8_16C1_8EEC ∷ 0 ∷ 0 ∷ 0 ∷ 0x4022_0000_0000_0000 ∷ 0x4022_0000_0000_0000 ∷ []
+unfolding computed
+their-values = refl
+
+-- of two betas the first counts, after 18
+pub first-beta : computed (many (f64 0 ∷ f64 0x3FF0_0000_0000_0000 ∷ []) .numbers) ≡ 21 ∷ 18 ∷ 7 ∷ []
+unfolding computed
+first-beta = refl

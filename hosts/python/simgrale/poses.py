@@ -3,7 +3,6 @@
 from __future__ import annotations
 
 import operator
-from collections.abc import Sequence
 from ctypes import byref, c_double
 from typing import Any, Optional
 
@@ -17,10 +16,8 @@ from .refused import Refused
 
 Floats = npt.NDArray[np.float64]
 
-# Poses in one call of the library for each thread: their answers stay in a core's cache, and the interpreter can be interrupted
-# between two calls. Fewer, and the cost of a call shows.
-BLOCK = 8192
-BLOCK_OF_A_THREAD = 65536
+# Poses in one call of the library: the interpreter can be interrupted between two calls, some tenths of a second.
+BLOCK = 1 << 18
 
 
 def floats(values: npt.ArrayLike, what: str) -> Floats:
@@ -39,76 +36,97 @@ def directions(values: npt.ArrayLike, what: str) -> Floats:
     return array
 
 
+def _address(array: npt.NDArray[Any], start: int = 0) -> int:
+    """Where an entry of the first axis is."""
+    return int(array.__array_interface__["data"][0]) + start * array.strides[0]
+
+
 class Poses:
-    """Scalars and directions, broadcast against each other. shape is that of their answers."""
+    """r, omega, a and b, or against an atom r and a, broadcast against each other. shape is that of their answers."""
 
-    def __init__(self, scalars: Sequence[Floats], vectors: Sequence[Floats]) -> None:
-        self.shape = np.broadcast_shapes(*(x.shape for x in scalars), *(v.shape[:-1] for v in vectors))
-        # what is not a view already is copied by reshape; the arrays are held as long as the columns are used
-        flat = [np.broadcast_to(x, self.shape).reshape(-1) for x in scalars]
-        for vector in vectors:
-            wide = np.broadcast_to(vector, self.shape + (3,)).reshape(-1, 3)
-            flat += [wide[:, k] for k in range(3)]
-        self._flat = flat
-        self.count = flat[0].size
+    def __init__(self, scalars: dict[str, Floats], vectors: dict[str, Floats]) -> None:
+        self.shape = np.broadcast_shapes(*(x.shape for x in scalars.values()), *(v.shape[:-1] for v in vectors.values()))
+        # what is not a view is copied by reshape; the arrays are held here as long as the library looks at them
+        self._flat = {name: np.broadcast_to(x, self.shape).reshape(-1) for name, x in scalars.items()}
+        for name, vector in vectors.items():
+            packed = vector if vector.strides[-1] == vector.itemsize else np.ascontiguousarray(vector)
+            self._flat[name] = np.broadcast_to(packed, self.shape + (3,)).reshape(-1, 3)
+        self.count = len(self._flat["r"])
 
-    def columns(self, start: int) -> Any:
-        """The columns from a pose on."""
-        columns = (structs.column * len(self._flat))()
-        for column, x in zip(columns, self._flat):
-            column.first = x.__array_interface__["data"][0] + start * x.strides[0]
-            column.stride = x.strides[0]
+    def columns(self, start: int) -> structs.columns:
+        """Where the poses from one on are."""
+        columns = structs.columns()
+        for name, x in self._flat.items():
+            setattr(columns, name, _address(x, start))
+            setattr(columns, name + "_stride", x.strides[0])
         return columns
 
 
 class Answers:
-    """What many poses are answered: energies, and where they are wanted numbers and both squared distances, each of the poses' shape."""
+    """What many poses are answered: energies, and where they are wanted both squared distances and numbers, in the poses' shape."""
 
-    def __init__(self, count: int, numbers: bool, distances: bool) -> None:
-        self.energies = np.empty(count)
-        self.numbers = np.empty(count, np.uint64) if numbers else None
-        self.distances = np.empty((count, 2)) if distances else None
+    def __init__(self, poses: Poses, distances: bool, numbers: bool) -> None:
+        self._shape = poses.shape
+        self._energies = np.empty(poses.count)
+        self._distances = np.empty((poses.count, 2)) if distances else None
+        self._numbers = np.empty(poses.count, np.uint64) if numbers else None
 
-    def take(self, start: int, numbers: npt.NDArray[np.uint64], answers: Floats) -> None:
-        """Those of one call. Refused poses, which have 0 there, are NaN here."""
-        stop = start + len(numbers)
-        self.energies[start:stop] = answers[:, 0]
-        if self.distances is not None:
-            self.distances[start:stop] = answers[:, 1:]
-        if self.numbers is not None:
-            self.numbers[start:stop] = numbers
-            refused = numbers != 0
-            self.energies[start:stop][refused] = np.nan
-            if self.distances is not None:
-                self.distances[start:stop][refused] = np.nan
+    def places(self, start: int) -> list[Optional[int]]:
+        """Where those of the poses from one on go."""
+        return [None if x is None else _address(x, start) for x in (self._energies, self._distances, self._numbers)]
+
+    def strike(self) -> None:
+        """Refused poses, whose energy and distances the library leaves 0, are NaN."""
+        refused = self.numbers != 0
+        self._energies[refused.reshape(-1)] = np.nan
+        if self._distances is not None:
+            self._distances[refused.reshape(-1)] = np.nan
+
+    def refuse_first(self) -> None:
+        """Raises Refused at the first pose whose number is not 0."""
+        first = int(np.flatnonzero(self.numbers)[0])
+        number = int(self.numbers.reshape(-1)[first])
+        raise Refused(number, words(number), tuple(int(i) for i in np.unravel_index(first, self._shape)) if self._shape else None)
+
+    # a single pose is answered with numbers, not arrays
+    @property
+    def energies(self) -> Floats:
+        return self._energies.reshape(self._shape)[()]
+
+    @property
+    def distances(self) -> tuple[Floats, Floats]:
+        assert self._distances is not None
+        return self._distances[:, 0].reshape(self._shape)[()], self._distances[:, 1].reshape(self._shape)[()]
+
+    @property
+    def numbers(self) -> npt.NDArray[np.uint64]:
+        assert self._numbers is not None
+        return self._numbers.reshape(self._shape)[()]
 
 
-def _refuse_first(start: int, numbers: npt.NDArray[np.uint64], shape: tuple[int, ...]) -> None:
-    """Raises Refused at the first refused pose, if there is one."""
-    if not numbers.any():
-        return
-    first = int(np.flatnonzero(numbers)[0])
-    place = tuple(int(i) for i in np.unravel_index(start + first, shape)) if shape else None
-    raise Refused(int(numbers[first]), words(int(numbers[first])), place)
+def _ask(pointer: int, poses: Poses, answers: Answers, beta: Optional[float], threads: int) -> int:
+    """Fills the answers; how many poses are refused."""
+    weight = None if beta is None else byref(c_double(beta))
+    refused = 0
+    for start in range(0, poses.count, BLOCK * threads):
+        count = min(BLOCK * threads, poses.count - start)
+        refused += call("reader_columns", pointer, byref(poses.columns(start)), count, weight, *answers.places(start), threads)
+    return refused
 
 
-def read(handle: Handle, poses: Poses, wide: int, beta: Optional[float], threads: int, numbers: bool, distances: bool) -> Answers:
-    """Answers every pose. wide: how many numbers the library answers a pose with. Without numbers a refused pose raises Refused."""
+def read(handle: Handle, poses: Poses, beta: Optional[float] = None, threads: int = 1, distances: bool = False, numbers: bool = False) -> Answers:
+    """Answers every pose. Unless numbers are wanted, a refused one raises Refused."""
     threads = operator.index(threads)
     if not 1 <= threads <= 256:
         raise ValueError(f"threads from 1 to 256, not {threads}")
     check_environment()
-    block = BLOCK if threads == 1 else BLOCK_OF_A_THREAD * threads
-    weight = None if beta is None else byref(c_double(beta))
-    room = min(block, poses.count)
-    said, answered = np.empty(room, np.uint64), np.empty((room, wide))
-    places = said.__array_interface__["data"][0], answered.__array_interface__["data"][0]
-    answers = Answers(poses.count, numbers, distances)
+    answers = Answers(poses, distances, numbers)
     with handle.lent() as pointer:
-        for start in range(0, poses.count, block):
-            count = min(block, poses.count - start)
-            call("reader_columns", pointer, poses.columns(start), count, weight, *places, threads)
-            if not numbers:
-                _refuse_first(start, said[:count], poses.shape)
-            answers.take(start, said[:count], answered[:count])
+        refused = _ask(pointer, poses, answers, beta, threads)
+        if refused and not numbers:
+            answers = Answers(poses, False, True)
+            _ask(pointer, poses, answers, beta, threads)
+            answers.refuse_first()
+    if refused:
+        answers.strike()
     return answers

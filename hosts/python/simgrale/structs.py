@@ -40,8 +40,8 @@ class spanned(Structure):
     _fields_ = [("number", c_uint64), ("first", c_uint64), ("last", c_uint64), ("smallest", c_double), ("largest", c_double), ("scalar_nans", c_uint64)]
 
 
-class column(Structure):
-    _fields_ = [("first", c_void_p), ("stride", c_ssize_t)]
+class columns(Structure):
+    _fields_ = [(name, c_void_p) for name in ("r", "omega", "a", "b")] + [(name + "_stride", c_ssize_t) for name in ("r", "omega", "a", "b")]
 
 
 class row(Structure):
@@ -79,5 +79,5 @@ class seal(Structure):
     _fields_ += [("meshes_hash", c_uint64), ("own_meshes", c_int), ("version", c_char * 32), ("journaled", c_int), ("journal_sha256", c_char * 65)]
 
 
-ALL = (fault, grid, atom_grid, builder, table, atom_table, value, spanned, column, row, build_settings, journal_settled, progress, journal, terms, seal)
+ALL = (fault, grid, atom_grid, builder, table, atom_table, value, spanned, columns, row, build_settings, journal_settled, progress, journal, terms, seal)
 LEADING = (journal,)

@@ -140,13 +140,8 @@ class _Reader:
         return seal_of(seal)
 
 
-def _shaped(poses: Poses, answers: Answers, numbers: bool) -> Any:
-    """Energies in the poses' shape, a single one as a float64; with numbers both."""
-    energies = answers.energies.reshape(poses.shape)[()]
-    if not numbers:
-        return energies
-    assert answers.numbers is not None
-    return energies, answers.numbers.reshape(poses.shape)[()]
+def _energies(answers: Answers, numbers: bool) -> Union[Floats, tuple[Floats, Numbers]]:
+    return (answers.energies, answers.numbers) if numbers else answers.energies
 
 
 class Table(_Reader):
@@ -177,18 +172,16 @@ class Table(_Reader):
         it was accepted, and the energy of a refused one is NaN.
         """
         poses = self._poses(r, omega, a, b)
-        return _shaped(poses, read(self._handle, poses, 3, beta, threads, numbers, False), numbers)  # type: ignore[no-any-return]
+        return _energies(read(self._handle, poses, beta, threads, numbers=numbers), numbers)
 
     def distances(self, r: npt.ArrayLike, omega: npt.ArrayLike, a: npt.ArrayLike, b: npt.ArrayLike, threads: int = 1) -> tuple[Floats, Floats]:
         """For each pose how far the vertices lie that stand for a and b, squared; 0 where the row is not read at the nearest ones."""
         poses = self._poses(r, omega, a, b)
-        answers = read(self._handle, poses, 3, None, threads, False, True)
-        assert answers.distances is not None
-        return answers.distances[:, 0].reshape(poses.shape)[()], answers.distances[:, 1].reshape(poses.shape)[()]
+        return read(self._handle, poses, None, threads, distances=True).distances
 
     @staticmethod
     def _poses(r: npt.ArrayLike, omega: npt.ArrayLike, a: npt.ArrayLike, b: npt.ArrayLike) -> Poses:
-        return Poses([floats(r, "r"), floats(omega, "omega")], [directions(a, "a"), directions(b, "b")])
+        return Poses({"r": floats(r, "r"), "omega": floats(omega, "omega")}, {"a": directions(a, "a"), "b": directions(b, "b")})
 
     def tail(self, r: npt.ArrayLike) -> Floats:
         """The long-range tail at each distance, one call each; 0 where the table has none. No reading includes it."""
@@ -235,8 +228,8 @@ class AtomTable(_Reader):
     def energies(self, r: npt.ArrayLike, direction: npt.ArrayLike, beta: Optional[float] = None, threads: int = 1,
                  *, numbers: bool = False) -> Union[Floats, tuple[Floats, Numbers]]:  # fmt: skip
         """The energy of each pose, as Table.energies; to the bit that of icotable_atom_reading or icotable_atom_boltzmann."""
-        poses = Poses([floats(r, "r")], [directions(direction, "direction")])
-        return _shaped(poses, read(self._handle, poses, 1, beta, threads, numbers, False), numbers)  # type: ignore[no-any-return]
+        poses = Poses({"r": floats(r, "r")}, {"a": directions(direction, "direction")})
+        return _energies(read(self._handle, poses, beta, threads, numbers=numbers), numbers)
 
     def slab(self, ri: int) -> npt.NDArray[np.float32]:
         """The energies of slab ri, (n,). ValueError where its row holds none."""

@@ -239,6 +239,11 @@ unsafe extern "C" {
         table: *const Table, file: *const u8, a: usize, vertices: *const f64, b: usize, cell_offsets: *const u32, c: usize, cell_vertices: *const u16, d: usize,
         face_offsets: *const u32, e: usize, faces: *const u16, f: usize, r: f64, omega: f64, ax: f64, ay: f64, az: f64, bx: f64, by: f64, bz: f64, beta: f64,
     ) -> Value;
+    fn icotable_readings(
+        table: *const Table, file: *const u8, a: usize, vertices: *const f64, b: usize, cell_offsets: *const u32, c: usize, cell_vertices: *const u16, d: usize,
+        face_offsets: *const u32, e: usize, faces: *const u16, f: usize, poses: *const f64, g: usize, beta: *const f64, h: usize,
+        numbers: *mut u64, i: usize, answers: *mut f64, j: usize,
+    ) -> u64;
     fn icotable_atom_fresh(
         grid: AtomGrid, top: u64, store: *mut f64, a: usize, kinds: *mut u8, b: usize, levels: *mut u8, c: usize, values: *mut u32, d: usize,
         vertices: *const f64, e: usize, counts: *const u8, f: usize, neighbours: *const u16, g: usize, angles: *const f64, h: usize,
@@ -492,6 +497,15 @@ pub fn reading(table: &Table, l: Lent, q: &Query) -> Value {
 pub fn boltzmann(table: &Table, l: Lent, q: &Query, beta: f64) -> Value {
     let (a, b) = (q.a, q.b);
     with_lent!(icotable_boltzmann, table, l, q.r, q.omega, a[0], a[1], a[2], b[0], b[1], b[2], beta)
+}
+
+// As many poses as the shortest of the three lists has.
+#[rustfmt::skip]
+pub fn readings(table: &Table, l: Lent, poses: &[[f64; 8]], beta: &[f64], numbers: &mut [u64], answers: &mut [[f64; 3]]) -> u64 {
+    with_lent!(
+        icotable_readings, table, l, poses.as_ptr().cast(), 8 * poses.len(), beta.as_ptr(), beta.len(), numbers.as_mut_ptr(), numbers.len(),
+        answers.as_mut_ptr().cast(), 3 * answers.len()
+    )
 }
 
 pub fn atom_fresh(grid: AtomGrid, top: u64, l: &mut AtomLists, m: Meshes) -> AtomBuilt {

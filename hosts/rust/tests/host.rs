@@ -236,6 +236,32 @@ fn a_table_gives_its_energies_back() {
 }
 
 #[test]
+fn many_readings_are_the_single_ones() {
+    let mut b = builder(0);
+    let n = vertex_count(0).unwrap();
+    b.set(1, 0, &(0..n * n).map(|i| i as f64).collect::<Vec<f64>>()).unwrap();
+    let t = Table::read(b.write().unwrap(), b.mesh().clone()).unwrap();
+    let pose = |i: usize| {
+        let x = i as f64;
+        [0.05 * x, x, 1.0, (0.3 * x).sin(), x.cos(), (0.7 * x).cos(), if i % 5 == 0 { f64::NAN } else { 1.0 }, 0.2]
+    };
+    let poses: Vec<[f64; 8]> = (0..70).map(pose).collect();
+    for beta in [None, Some(0.5), Some(0.0)] {
+        let many = t.readings(&poses, beta);
+        assert_eq!(many.len(), poses.len());
+        for (answer, [r, omega, ax, ay, az, bx, by, bz]) in many.into_iter().zip(&poses) {
+            let (first, second) = ([*ax, *ay, *az], [*bx, *by, *bz]);
+            let single = match beta {
+                None => t.reading(*r, *omega, first, second),
+                Some(beta) => t.reading_boltzmann(*r, *omega, first, second, beta),
+            };
+            assert_eq!(answer, single);
+        }
+    }
+    assert!(t.readings(&[], None).is_empty());
+}
+
+#[test]
 fn a_reading_is_weighted_by_temperature() {
     let mut b = builder(0);
     let n = vertex_count(0).unwrap();
