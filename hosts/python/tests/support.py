@@ -25,7 +25,8 @@ def carry_out(build, step):
     atom = isinstance(build, simgrale.AtomBuilder)
     if step.do is simgrale.Do.SETTLE:
         return build.settle(step.ri)
-    energies = sampled(step, len(build.vertices()), atom)
+    # in Fortran's order, which is not the library's
+    energies = np.asfortranarray(sampled(step, len(build.vertices()), atom))
     return build.set(step.ri, energies) if atom else build.set(step.ri, step.oi, energies)
 
 

@@ -118,7 +118,7 @@ class Builds(InFolder):
         self.assertEqual(first, simgrale.Step(simgrale.Do.SET, 0, 0, 2, 1.0, 0.0))
         self.assertRaisesRegex(RuntimeError, "slab .0, 0. was not carried out", next, steps)
         self.assertEqual([step.oi for step in build.missing()], [0, 1, 2])
-        build.set(0, 1, np.asfortranarray(sampled(build.missing()[1], 92, False)))
+        build.set(0, 1, sampled(build.missing()[1], 92, False))
         self.assertEqual([step.oi for step in build.missing()], [0, 2])
         for step in build.missing():
             carry_out(build, step)

@@ -11,7 +11,7 @@ import unittest
 import numpy as np
 
 import simgrale
-from support import KINDS, InFolder
+from support import KINDS, InFolder, sampled
 
 COUNT = 3000
 ANSWER = np.dtype([("number", "u8"), ("energy", "f8"), ("a", "f8"), ("b", "f8")])
@@ -80,6 +80,9 @@ class Arrays(InFolder):
         layouts = [np.asfortranarray, lambda x: np.repeat(x, 2, axis=0)[::2], lambda x: x[::-1].copy()[::-1], lambda x: x.astype(">f8")]
         for layout in layouts:
             self.equal_bits(self.table.energies(*map(layout, (self.r, self.omega, self.a, self.b))), self.wanted)
+        flat = [x.reshape((30,) + x.shape[2:]) for x in (self.r, self.omega, self.a, self.b)]
+        self.equal_bits(self.table.energies(flat[0], flat[1], np.asfortranarray(flat[2]), np.repeat(flat[3], 2, axis=1)[:, ::2]), self.wanted.reshape(30))
+        self.equal_bits(self.table.energies(2, 0, np.broadcast_to(1.0, 3), [0, 0, 1]), self.table.energies(2, 0, [1, 1, 1], [0, 0, 1]))
         odd = np.zeros((6, 5), [("x", "u1"), ("r", "f8"), ("a", "f8", 3)])
         odd["r"], odd["a"] = self.r, self.a
         self.equal_bits(self.table.energies(odd["r"], self.omega, odd["a"], self.b), self.wanted)
@@ -173,7 +176,8 @@ class Contents(InFolder):
                 for ri, oi in np.ndindex(4, 3):
                     self.assertEqual(simgrale.library.call("reader_row", pointer, ri, oi, ctypes.byref(row)), 0)
                     self.assertEqual(tuple(rows[ri, oi]), (row.kind, row.level, row.offset, row.scalar))
-            self.assertEqual(table.slab(1, 2).shape, (92, 92))
+            step = simgrale.Step(simgrale.Do.SET, 1, 2, 2, 2.0, 4.2)
+            self.equal_bits(table.slab(1, 2), sampled(step, 92, False).astype(np.float32))
             at = table.vertices(2)
             self.equal_bits(table.slab(2, 1).astype("f8"), table.energies(3, 2.1, at[:, None], at))
             self.assertRaises(ValueError, table.slab, 0, 0)
