@@ -193,12 +193,22 @@ impl Table {
     /// Many readings in one call: for each pose, r, omega, and x, y, z of both directions, what `reading` answers, or
     /// `reading_boltzmann` with a beta. A refused pose keeps no other from being answered. With a table larger than the processor's cache
     /// it is faster than so many calls, since poses wait for memory together.
+    ///
+    /// ```
+    /// # use simgrale::{settings, Builder, Mesh, Refusal, Table};
+    /// # let mut builder = Builder::new(settings(1.0, 3.0, 1.0, 3.2, 0.5, 0.4), Mesh::icospheres(0)?)?;
+    /// # builder.set(0, 0, &(0..144).map(|i| f64::from(i % 7)).collect::<Vec<_>>())?;
+    /// # let table = Table::read(builder.write()?, builder.mesh().clone())?;
+    /// let poses = [[1.0, 0.0, 0.3, -0.2, 0.9, 0.0, 1.0, 0.5], [f64::NAN, 0.0, 1.0, 0.0, 0.0, 1.0, 0.0, 0.0]];
+    /// let answers = table.readings(&poses, None);
+    /// assert_eq!(answers[0], table.reading(1.0, 0.0, [0.3, -0.2, 0.9], [0.0, 1.0, 0.5]));
+    /// assert_eq!(answers[1], Err(Refusal::Query));
+    /// # Ok::<(), simgrale::Error>(())
+    /// ```
     pub fn readings(&self, poses: &[[f64; 8]], beta: Option<f64>) -> Vec<Result<Reading, Refusal>> {
         let (mut numbers, mut answers) = (vec![0; poses.len()], vec![[0.0; 3]; poses.len()]);
         sys::readings(&self.held, self.mesh.lent_with(&self.file), poses, beta.as_slice(), &mut numbers, &mut answers);
-        let value = |(number, [energy, distance_a, distance_b]): (u64, [f64; 3])| {
-            Reading::of(sys::Value { number, energy, distance_a, distance_b })
-        };
+        let value = |(number, [energy, distance_a, distance_b]): (u64, [f64; 3])| Reading::of(sys::Value { number, energy, distance_a, distance_b });
         numbers.into_iter().zip(answers).map(value).collect()
     }
 
