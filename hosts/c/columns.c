@@ -66,8 +66,8 @@ static uint64_t answer(const void *what, size_t from, size_t to) {
     return refused;
 }
 
-uint64_t icotable_reader_columns(const icotable_reader *t, const icotable_columns *poses, size_t poses_count, const double *beta, double *energies, double *distances,
-                                 uint64_t *numbers, unsigned threads) {
+uint64_t icotable_reader_columns(const icotable_reader *t, const icotable_columns *poses, size_t poses_count, const double *beta, double *energies,
+                                 double *distances, uint64_t *numbers, unsigned threads) {
     if (t == NULL)
         return poses_count;
     return icotable_in_runs_(poses_count, threads, answer, &(query){t, poses, beta, energies, t->atom ? NULL : distances, numbers});

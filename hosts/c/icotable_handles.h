@@ -170,8 +170,8 @@ typedef struct icotable_columns {
     const void *r, *omega, *a, *b;
     ptrdiff_t r_stride, omega_stride, a_stride, b_stride;
 } icotable_columns;
-uint64_t icotable_reader_columns(const icotable_reader *t, const icotable_columns *poses, size_t poses_count, const double *beta, double *energies, double *distances,
-                                 uint64_t *numbers, unsigned threads);
+uint64_t icotable_reader_columns(const icotable_reader *t, const icotable_columns *poses, size_t poses_count, const double *beta, double *energies,
+                                 double *distances, uint64_t *numbers, unsigned threads);
 
 /* A slab's row. kind: 0 Scalar, 1 Repulsive, 2 Mesh read at the nearest vertices, 3 Mesh interpolated. level and offset (of its
  * first energy in the table's): a Mesh row's; 0 of any other. scalar: a Scalar row's energy; 0 of any other. Refused with 8

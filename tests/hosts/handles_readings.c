@@ -49,7 +49,8 @@ static void columns(const icotable_reader *t, const double *poses, const double 
     for (size_t i = 0; i < POSES; i++)
         memcpy(bytes + 1 + wide * sizeof(double) * (POSES - 1 - i), poses + wide * i, wide * sizeof(double));
     char *last = bytes + 1 + wide * sizeof(double) * (POSES - 1);
-    icotable_columns c = {last, last + 8, last + (atom ? 8 : 16), last + 40, back, back, back, back}, one = {poses, poses + 1, poses + (atom ? 1 : 2), poses + 5, 0, 0, 0, 0};
+    icotable_columns c = {last, last + 8, last + (atom ? 8 : 16), last + 40, back, back, back, back};
+    icotable_columns one = {poses, poses + 1, poses + (atom ? 1 : 2), poses + 5, 0, 0, 0, 0};
     for (size_t i = 0; i < POSES; i++)
         refused += wanted_numbers[i] != 0;
     for (unsigned threads = 0; threads <= THREADS; threads++) {

@@ -62,7 +62,8 @@ def draw_slab(axes, figure, table, ri, oi):
     else:
         slab = table.slab(ri, oi)
         drawn = axes.imshow(slab, origin="lower", **limits(slab))
-        axes.set(xlabel="vertex of direction b", ylabel="vertex of direction a", title=f"slab ({ri}, {oi}), distance {table.grid.r[ri]:g}, dihedral {table.grid.omega[oi]:.3g}")
+        where = f"distance {table.grid.r[ri]:g}, dihedral {table.grid.omega[oi]:.3g}"
+        axes.set(xlabel="vertex of direction b", ylabel="vertex of direction a", title=f"slab ({ri}, {oi}), {where}")
     figure.colorbar(drawn, ax=axes, extend="max", label="energy")
 
 

@@ -46,14 +46,12 @@ class Builds(InFolder):
         return int(last)
 
     def test_killed(self):
-        for kind, made in ("pair", lambda: simgrale.Builder.resume(PAIR, self.at("killed"))), ("atom", lambda: simgrale.AtomBuilder.resume(ATOM, self.at("killed"))):
-            answered = 0
+        for kind, builder, settings in ("pair", simgrale.Builder, PAIR), ("atom", simgrale.AtomBuilder, ATOM):
             for calls in 3, 2:
                 answered = self.kill_after(kind, calls)
-                build = made()
-                self.assertGreaterEqual(build.progress().records, answered)
-                build.close()
-            finish(made(), self.at("resumed"))
+                with builder.resume(settings, self.at("killed")) as build:
+                    self.assertGreaterEqual(build.progress().records, answered)
+            finish(builder.resume(settings, self.at("killed")), self.at("resumed"))
             self.assertEqual(self.bytes_of("resumed"), self.bytes_of(kind))
             os.remove(self.at("killed"))
 

@@ -34,7 +34,8 @@ def programs():
 class Guide(unittest.TestCase):
     def run_in(self, folder, program, *arguments):
         environment = {**os.environ, "PYTHONPATH": os.pathsep.join(path for path in sys.path if path)}
-        return subprocess.run([sys.executable, "-c", program, *arguments], cwd=folder, env=environment, stdout=subprocess.PIPE, stderr=subprocess.STDOUT, text=True)
+        command = [sys.executable, "-c", program, *arguments]
+        return subprocess.run(command, cwd=folder, env=environment, stdout=subprocess.PIPE, stderr=subprocess.STDOUT, text=True)
 
     def test_followed(self):
         build, read = programs()

@@ -48,7 +48,8 @@ class Found(unittest.TestCase):
     def imported(self, named="", **more):
         """What a new process says that imports the copy of the package."""
         environment = {**os.environ, "PYTHONPATH": str(self.folder), "ICOTABLE_LIBRARY": str(named), **more}
-        done = subprocess.run([sys.executable, "-c", IMPORT], env=environment, cwd=self.folder, stdout=subprocess.PIPE, stderr=subprocess.STDOUT, text=True)
+        command = [sys.executable, "-c", IMPORT]
+        done = subprocess.run(command, env=environment, cwd=self.folder, stdout=subprocess.PIPE, stderr=subprocess.STDOUT, text=True)
         self.assertIn(str(self.folder), done.stdout)
         return done.stdout
 

@@ -243,7 +243,7 @@ fn many_readings_are_the_single_ones() {
     let t = Table::read(b.write().unwrap(), b.mesh().clone()).unwrap();
     let pose = |i: usize| {
         let x = i as f64;
-        [0.05 * x, x, 1.0, (0.3 * x).sin(), x.cos(), (0.7 * x).cos(), if i % 5 == 0 { f64::NAN } else { 1.0 }, 0.2]
+        [0.05 * x, x, 1.0, (0.3 * x).sin(), x.cos(), (0.7 * x).cos(), if i.is_multiple_of(5) { f64::NAN } else { 1.0 }, 0.2]
     };
     let poses: Vec<[f64; 8]> = (0..70).map(pose).collect();
     for beta in [None, Some(0.5), Some(0.0)] {
