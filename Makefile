@@ -1,6 +1,6 @@
 # What a visitor types. All of it is done elsewhere: hosts/c/Makefile, .ci/run, tools/dist.
 #   make demo      builds a table of two molecules and one of a molecule against an ion, reads and shows them
-#   make test      the C host's own checks; a minute at most once the library is there
+#   make test      the C host's own checks, in seconds once the library is there
 #   make install   libraries, headers, pkg-config file, tool, man page and completion under PREFIX (/usr/local)
 # and in the repository, which needs the Rattle kit:
 #   make gate      every proof, program and test: .ci/run
