@@ -71,12 +71,12 @@ class Browser:
             self.events.append(answer)
 
     def open(self, address):
-        """A page, and all that it loads."""
-        self.events.clear()
-        if "loaderId" not in self.call("Page.navigate", url=address):
-            self.call("Page.reload")  # the same page at another place behind # would not be loaded anew
-        while not any(e.get("method") == "Page.loadEventFired" for e in self.events):
-            self.events.append(self.message())
+        """A page, and all that it loads; by way of an empty one, since the same page at another place behind # would not be loaded anew."""
+        for each in ("about:blank", address):
+            self.events.clear()
+            self.call("Page.navigate", url=each)
+            while not any(e.get("method") == "Page.loadEventFired" for e in self.events):
+                self.events.append(self.message())
 
     def ask(self, expression):
         """What an expression in the page comes to, as JSON."""
