@@ -56,9 +56,9 @@ static void set_slab(icotable_build *b, uint64_t level, uint64_t ri, uint64_t oi
         stop("set", number, icotable_build_said(b));
 }
 
-/* A slab's row as a letter: # Repulsive, . Scalar, a digit for the level of a Mesh row. */
+/* A slab's row as a letter, as icotable inspect has it: # Repulsive, . Scalar, A, B, .. Mesh interpolated of level 0, 1, .., a, b, .. nearest. */
 static int letter(uint64_t kind, uint8_t level) {
-    return kind == 0 ? '.' : kind == 1 ? '#' : '0' + level;
+    return kind == 0 ? '.' : kind == 1 ? '#' : (kind == 2 ? 'a' : 'A') + level;
 }
 
 static void show_slice(const icotable_build *b, uint64_t ri) {
@@ -72,7 +72,7 @@ static void build(icotable_build *b) {
     icotable_progress p = icotable_build_progress(b);
     printf("Meshes of levels 0 to %llu, and a builder of %llu distances by %llu dihedral angles\n", (unsigned long long)p.top, (unsigned long long)p.n_r,
            (unsigned long long)p.n_omega);
-    puts("\nslice  distance  level  largest gradient  done  file bytes  slabs (# wall, . one number, digit: mesh of that level)");
+    puts("\nslice  distance  level  largest gradient  done  file bytes  slabs (# wall, . one number, A B C D mesh of level 0 to 3, a b c d read at the nearest vertices)");
     for (uint64_t ri = 0; ri < N_R; ri++) {
         uint64_t level = p.level;
         for (uint64_t oi = 0; oi < N_OMEGA; oi++)

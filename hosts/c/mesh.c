@@ -102,7 +102,7 @@ static void place(const level_part *l, int at, const int corner[3], int i, int j
 }
 
 /* The one function of the C library that is used; volatile, so that it is called and not replaced by a vector of them. */
-static double angle(const double *p, const double *q) {
+double icotable_angle_(const double *p, const double *q) {
     double cosine = dot(p, q);
     volatile double clamped = cosine > 1 ? 1 : cosine < -1 ? -1 : cosine;
     volatile double result = acos(clamped);
@@ -116,7 +116,7 @@ static void tie(const level_part *l, int p, int q) {
             return;
     if (l->counts[p] == 6)
         return;
-    l->angles[6 * p + l->counts[p]] = angle(l->vertices + 3 * p, l->vertices + 3 * q);
+    l->angles[6 * p + l->counts[p]] = icotable_angle_(l->vertices + 3 * p, l->vertices + 3 * q);
     l->neighbours[6 * p + l->counts[p]++] = (uint16_t)q;
 }
 

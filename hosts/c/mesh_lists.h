@@ -1,4 +1,4 @@
-/* What mesh.c and mesh_file.c share; not installed. */
+/* What mesh.c, mesh_file.c and the tools' import share; not installed. */
 #ifndef MESH_LISTS_H
 #define MESH_LISTS_H
 
@@ -9,5 +9,8 @@ int icotable_allocate_meshes_(icotable_meshes *m, uint64_t top);
 
 /* The locator of a level that was filled in. The library puts the level to its mesh rule: 0, or its number. */
 uint64_t icotable_locate_level_(icotable_meshes *m, uint64_t level);
+
+/* The angle between two vertices, as the meshes of mesh.h have it. */
+double icotable_angle_(const double *p, const double *q);
 
 #endif

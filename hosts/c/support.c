@@ -111,29 +111,43 @@ static bool fill(int file, const icotable_part_ *parts, size_t parts_count) {
             return false;
         at += parts[i].count;
     }
-    return fsync(file) == 0;
+    return true;
 }
 
-static bool filled(int file, const icotable_part_ *parts, size_t parts_count) {
-    bool whole = fill(file, parts, parts_count);
-    int why = errno;
-    if (close(file) != 0 && whole)
-        return false;
-    errno = why;
-    return whole;
-}
-
-bool icotable_write_parts_(const char *name, const icotable_part_ *parts, size_t parts_count, bool replace) {
+int icotable_begin_file_(const char *name, char **other) {
     size_t room = strlen(name) + 48;
-    char *other = malloc(room);
-    int file = other == NULL ? -1 : open_beside(name, other, room);
-    bool done = file >= 0 && filled(file, parts, parts_count) && named(other, name, replace);
+    *other = malloc(room);
+    int file = *other == NULL ? -1 : open_beside(name, *other, room), why = errno;
+    if (file < 0) {
+        free(*other);
+        *other = NULL;
+        errno = why;
+    }
+    return file;
+}
+
+bool icotable_end_file_(int file, char *other, const char *name, bool written, bool replace) {
+    bool done = written && fsync(file) == 0;
     int why = errno;
-    if (file >= 0 && !done)
+    if (close(file) != 0 && done) {
+        done = false;
+        why = errno;
+    }
+    if (done && !named(other, name, replace)) {
+        done = false;
+        why = errno;
+    }
+    if (!done)
         unlink(other);
     free(other);
     errno = why;
     return done && icotable_sync_folder_(name);
+}
+
+bool icotable_write_parts_(const char *name, const icotable_part_ *parts, size_t parts_count, bool replace) {
+    char *other;
+    int file = icotable_begin_file_(name, &other);
+    return file >= 0 && icotable_end_file_(file, other, name, fill(file, parts, parts_count), replace);
 }
 
 bool icotable_write_file_(const char *name, const void *bytes, size_t count, bool replace) {

@@ -45,6 +45,11 @@ typedef struct icotable_part_ {
 bool icotable_write_parts_(const char *name, const icotable_part_ *parts, size_t parts_count, bool replace);
 bool icotable_write_file_(const char *name, const void *bytes, size_t count, bool replace);
 
+/* The same for a file that is written in between: the number of a file beside it, whose name goes to other, to be freed by end; or
+ * -1 with errno. End closes it, where all was written brings it to disk and gives it its own name, and otherwise removes it. */
+int icotable_begin_file_(const char *name, char **other);
+bool icotable_end_file_(int file, char *other, const char *name, bool written, bool replace);
+
 /* A regular file in memory, to be freed. NULL, and errno: EFBIG where it has more than most bytes, EINVAL where it is none. */
 uint8_t *icotable_read_file_(const char *path, size_t most, size_t *count);
 

@@ -416,4 +416,5 @@ def main():
     return 1 if wrong or differing or atom_differing else 0
 
 
-sys.exit(main())
+if __name__ == "__main__":
+    sys.exit(main())

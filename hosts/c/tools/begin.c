@@ -2,63 +2,31 @@
  * mesh.h makes; with --atom in the place of --omega-step, of a table against an atom. Where the journal is there already with the
  * same settings nothing is altered but a torn end, so that a job that is started again can begin with it. */
 #include "tools.h"
-
-#include <string.h>
+#include "verbs.h"
 
 enum { RMIN, RMAX, DR, OMEGA_STEP, THRESHOLD, BETA, NUMBERS };
 static const char *const options[NUMBERS] = {"--rmin", "--rmax", "--dr", "--omega-step", "--threshold", "--beta"};
 
 typedef struct settings {
     double x[NUMBERS];
-    bool given[NUMBERS], atom, top_given;
+    bool atom;
     uint64_t top;
 } settings;
 
-static int usage(const char *option, const char *why) {
-    fprintf(stderr, "icotable: begin: %s %s\n"
-                    "usage: icotable begin JOURNAL --rmin X --rmax X --dr X (--omega-step X | --atom) --threshold X --beta X --top N\n", option, why);
-    return TROUBLE;
-}
-
-static int read_number(settings *s, const char *option, const char *word) {
-    int k = 0;
-    while (k < NUMBERS && strcmp(options[k], option) != 0)
-        k++;
-    if (k == NUMBERS)
-        return usage(option, "is not an option");
-    if (s->given[k])
-        return usage(option, "is there twice");
-    if (word == NULL || !number_of(word, &s->x[k]))
-        return usage(option, "wants a number");
-    s->given[k] = true;
-    return GOOD;
-}
-
-static int read_top(settings *s, const char *word) {
-    if (s->top_given)
-        return usage("--top", "is there twice");
-    if (word == NULL || !whole_of(word, &s->top))
-        return usage("--top", "wants a whole number");
-    s->top_given = true;
-    return GOOD;
-}
-
-static int read_options(settings *s, int count, char **words) {
-    for (int i = 0; i < count; i++) {
-        const char *next = i + 1 < count ? words[i + 1] : NULL;
-        if (strcmp(words[i], "--atom") == 0) {
-            s->atom = true;
-            continue;
-        }
-        int status = strcmp(words[i], "--top") == 0 ? read_top(s, next) : read_number(s, words[i], next);
-        if (status != GOOD)
-            return status;
-        i++;
+static int read_options(settings *s) {
+    const char *top = given("--top");
+    s->atom = given("--atom") != NULL;
+    for (int k = 0; k < NUMBERS; k++) {
+        const char *word = given(options[k]);
+        bool wanted = !(s->atom && k == OMEGA_STEP);
+        if ((word != NULL) != wanted)
+            return misused("begin", options[k], wanted ? "is missing" : "is not there against an atom");
+        if (wanted && !number_of(word, &s->x[k]))
+            return misused("begin", options[k], "wants a number");
     }
-    for (int k = 0; k < NUMBERS; k++)
-        if (s->given[k] == (s->atom && k == OMEGA_STEP))
-            return usage(options[k], s->given[k] ? "is not there against an atom" : "is missing");
-    return s->top_given ? GOOD : usage("--top", "is missing");
+    if (top == NULL)
+        return misused("begin", "--top", "is missing");
+    return whole_of(top, &s->top) ? GOOD : misused("begin", "--top", "wants a whole number");
 }
 
 static uint64_t open_journal(icotable_journal *j, const settings *s, const icotable_meshes *m, const char *name, bool there) {
@@ -73,9 +41,10 @@ int begin_tool(int count, char **names) {
     settings s = {0};
     icotable_meshes meshes = {0};
     icotable_journal j = {.file = -1};
-    int status = read_options(&s, count - 1, names + 1);
-    if (status != GOOD)
-        return status;
+    (void)count;
+    int status = read_options(&s);
+    if (status != GOOD || journal_named(names[0]) != GOOD)
+        return TROUBLE;
     uint64_t number = icotable_make_meshes(&meshes, s.top);
     if (number != 0) {
         snprintf(j.said, sizeof j.said, "%s", icotable_words(number));

@@ -202,6 +202,8 @@ int collect_tool(int count, char **names) {
     (void)count;
     icotable_journal j = {.file = -1};
     icotable_meshes meshes = {0};
+    if (journal_named(names[0]) != GOOD)
+        return TROUBLE;
     DIR *folder = opendir(names[1]);
     if (folder == NULL)
         return trouble(names[1], strerror(errno));

@@ -1,36 +1,65 @@
-/* diff A B: why two tables differ; where they have seals, by which settings. */
-#include "tools.h"
+/* diff A B: whether and why two tables differ; where they have seals, by which settings. A summary first, then the slabs, as many
+ * as are wanted. */
+#include "differences.h"
+#include "verbs.h"
 
-#include <math.h>
 #include <string.h>
 
-static bool same_bits(double x, double y) {
-    return memcmp(&x, &y, sizeof x) == 0;
+enum { LISTED = 20 };
+
+typedef unsigned long long ull;
+
+static void print_causes(const differences *d) {
+    const char *before = "causes: ";
+    paint(stdout, BOLD);
+    if (d->settings_differ) {
+        printf("%ssettings", before);
+        before = ", ";
+    }
+    for (enum cause c = OTHER_KIND; c < CAUSES; c++)
+        if (d->slabs[c] > 0) {
+            printf("%s%s", before, cause_name(c));
+            before = ", ";
+        }
+    if (d->tail_differs)
+        printf("%stail", before);
+    paint(stdout, PLAIN);
+    putchar('\n');
 }
 
-static void number_differs(const char *what, double x, double y) {
-    if (!same_bits(x, y))
-        printf("  %-12s %.17g and %.17g\n", what, x, y);
+static void print_settings(const differences *d) {
+    puts(d->settings_differ ? "the settings differ:" : "the settings are equal");
+    for (int i = 0; i < SETTINGS; i++) {
+        const setting *s = &d->settings[i];
+        if (s->differs && s->count)
+            printf("  %-12s %llu and %llu\n", s->name, (ull)s->counts[0], (ull)s->counts[1]);
+        else if (s->differs)
+            printf("  %-12s %.17g and %.17g\n", s->name, s->number[0], s->number[1]);
+    }
 }
 
-static void count_differs(const char *what, uint64_t x, uint64_t y) {
-    if (x != y)
-        printf("  %-12s %llu and %llu\n", what, (unsigned long long)x, (unsigned long long)y);
-}
-
-/* Grids are equal by the bits of rmin, dr and step and by both counts. */
-static bool diff_grids(const icotable_table *a, const icotable_table *b) {
-    const icotable_grid *g = &a->grid, *h = &b->grid;
-    bool same = same_bits(g->rmin, h->rmin) && same_bits(g->dr, h->dr) && same_bits(g->omega_step, h->omega_step) && g->n_r == h->n_r &&
-                g->n_omega == h->n_omega && a->levels == b->levels;
-    puts(same ? "grids and level counts are equal" : "grids or level counts differ:");
-    number_differs("rmin", g->rmin, h->rmin);
-    number_differs("dr", g->dr, h->dr);
-    number_differs("omega step", g->omega_step, h->omega_step);
-    count_differs("distances", g->n_r, h->n_r);
-    count_differs("dihedrals", g->n_omega, h->n_omega);
-    count_differs("levels", a->levels, b->levels);
-    return same;
+static void print_slabs(const table_file *f, const differences *d) {
+    static const char *const words[CAUSES] = {"", "of another kind", "of another level", "Scalar of another number", "of other energies alone"};
+    if (!d->slabs_match) {
+        puts("with other bin counts the slabs are not the same ones, and are not set side by side");
+        return;
+    }
+    if (d->differing == 0) {
+        puts("every slab has the same row");
+        return;
+    }
+    printf("%llu of %llu slabs have another row; the first is ", (ull)d->differing, (ull)f->table.rows);
+    print_slab(stdout, f, d->first);
+    putchar('\n');
+    for (enum cause c = OTHER_KIND; c < CAUSES; c++)
+        if (d->slabs[c] > 0)
+            printf("  %-12llu %s\n", (ull)d->slabs[c], words[c]);
+    printf("%llu of %llu energies that stand side by side differ", (ull)d->energies_differing, (ull)d->energies);
+    if (d->energies_differing > 0) {
+        printf(", by at most %g, in slab ", d->most);
+        print_slab(stdout, f, d->most_slab);
+    }
+    putchar('\n');
 }
 
 static void print_term(const table_file *f, uint64_t i) {
@@ -42,92 +71,93 @@ static void print_term(const table_file *f, uint64_t i) {
     printf("%.17g, %.17g, %u", t.coefficient, t.kappa, t.power);
 }
 
-static bool same_term(const table_file *f, const table_file *g, uint64_t i) {
-    return i < f->table.terms && i < g->table.terms && memcmp(f->bytes + f->table.start[5] + 20 * i, g->bytes + g->table.start[5] + 20 * i, 20) == 0;
-}
-
-/* Terms are equal by their bits, and prefactors where both tables have terms; one without terms has none. */
-static void diff_tails(const table_file *f, const table_file *g) {
-    uint64_t a = f->table.terms, b = g->table.terms, most = a > b ? a : b, differing = 0;
-    if (most == 0)
+static void print_tails(const table_file *f, const table_file *g, const differences *d, uint64_t most) {
+    if (!d->tails)
         return;
-    for (uint64_t i = 0; i < most; i++)
-        differing += !same_term(f, g, i);
-    bool both = a > 0 && b > 0, factors = !both || same_bits(prefactor_of(f), prefactor_of(g));
-    puts(differing == 0 && factors ? "the long-range tails are equal" : "the long-range tails differ:");
-    count_differs("terms", a, b);
-    for (uint64_t i = 0; i < most; i++)
+    puts(d->tail_differs ? "the long-range tails differ:" : "the long-range tails are equal");
+    if (f->table.terms != g->table.terms)
+        printf("  %-12s %llu and %llu\n", "terms", (ull)f->table.terms, (ull)g->table.terms);
+    uint64_t shown = 0;
+    for (uint64_t i = 0; shown < d->terms_differing && shown < most; i++)
         if (!same_term(f, g, i)) {
-            printf("  term %-7llu ", (unsigned long long)i);
+            printf("  term %-7llu ", (ull)i);
             print_term(f, i);
             fputs(" and ", stdout);
             print_term(g, i);
             fputs(" (coefficient, kappa, power)\n", stdout);
+            shown++;
         }
-    if (both)
-        number_differs("prefactor", prefactor_of(f), prefactor_of(g));
+    if (shown < d->terms_differing)
+        printf("  and %llu more terms\n", (ull)(d->terms_differing - shown));
+    if (d->prefactor_differs)
+        printf("  %-12s %.17g and %.17g\n", "prefactor", prefactor_of(f), prefactor_of(g));
 }
 
-static double apart(float x, float y) {
-    return x == y ? 0 : fabs((double)x - (double)y);
-}
-
-/* How many energies differ in their bits, and by how much at most; rows of one level alone can be set side by side. */
-static void diff_energies(const table_file *f, const table_file *g, const row *r, const row *s) {
-    uint64_t differing = 0;
-    double most = 0;
-    for (uint64_t i = 0; i < per_row(f, r); i++) {
-        float x = energy_of(f, r, i), y = energy_of(g, s, i);
-        differing += memcmp(&x, &y, sizeof x) != 0;
-        most = apart(x, y) > most ? apart(x, y) : most;
-    }
-    printf("%llu of %llu energies differ, by at most %g", (unsigned long long)differing, (unsigned long long)per_row(f, r), most);
-}
-
-static void diff_row(const table_file *f, const table_file *g, uint64_t slab) {
+static void print_difference(const table_file *f, const table_file *g, uint64_t slab, const row_difference *d) {
     row r = row_of(f, slab), s = row_of(g, slab);
     fputs("  slab ", stdout);
     print_slab(stdout, f, slab);
     fputs(", ", stdout);
     print_bins(stdout, f, slab);
     fputs(": ", stdout);
-    bool meshes = r.kind >= NEAREST && s.kind >= NEAREST && r.level == s.level;
-    if (r.kind == s.kind && meshes) {
-        printf("%s level %u, ", kind_words(r.kind), r.level);
-        diff_energies(f, g, &r, &s);
+    if (d->cause == OTHER_ENERGIES) {
+        printf("%s level %u (%c), ", kind_words(r.kind), r.level, row_letter(r.kind, r.level));
     } else {
         print_row(stdout, f, &r);
         fputs(" against ", stdout);
         print_row(stdout, g, &s);
-        if (r.kind == SCALAR && s.kind == SCALAR)
-            printf(", apart by %g", apart(f32_of(r.scalar), f32_of(s.scalar)));
-        if (meshes) {
-            fputs("; ", stdout);
-            diff_energies(f, g, &r, &s);
-        }
+        fputs(d->compared ? "; " : "", stdout);
     }
+    if (d->cause == OTHER_SCALAR)
+        printf(", apart by %g", apart(f32_of(r.scalar), f32_of(s.scalar)));
+    if (d->compared)
+        printf("%llu of %llu energies differ, by at most %g", (ull)d->differing, (ull)d->energies, d->most);
     putchar('\n');
 }
 
-static void diff_rows(const table_file *f, const table_file *g) {
-    uint64_t slabs = f->table.rows, differing = 0, first = slabs;
-    for (uint64_t s = 0; s < slabs; s++)
-        if (!same_row(f, g, s)) {
-            first = differing++ == 0 ? s : first;
-        }
-    if (differing == 0) {
-        puts("every slab has the same row");
-        return;
+static void print_listing(const table_file *f, const table_file *g, const listing *l) {
+    uint64_t first, end, found = 0;
+    listed_slabs(l, f, &first, &end);
+    for (uint64_t slab = first; slab < end; slab++) {
+        if (same_row(f, g, slab) || ++found > l->most)
+            continue;
+        if (found == 1)
+            printf(l->sliced ? "slabs of distance bin %llu that differ:\n" : "slabs that differ:\n", (ull)l->slice);
+        row_difference d = row_differs(f, g, slab);
+        print_difference(f, g, slab, &d);
     }
-    printf("%llu of %llu slabs have another row; the first is ", (unsigned long long)differing, (unsigned long long)slabs);
-    print_slab(stdout, f, first);
-    putchar('\n');
-    for (uint64_t s = first; s < slabs; s++)
-        if (!same_row(f, g, s))
-            diff_row(f, g, s);
+    if (l->sliced && found == 0)
+        printf("no slab of distance bin %llu differs\n", (ull)l->slice);
+    if (found > l->most)
+        printf("%llu slabs%s that differ are not listed: --limit %llu\n", (ull)(found - l->most), l->sliced ? " of the slice" : "", (ull)found);
 }
 
-static int compare(const table_file *f, const table_file *g) {
+static int differ(const table_file *f, const table_file *g, const listing *l) {
+    differences d = differences_of(f, g);
+    if (given("--json") != NULL) {
+        json_differences(f, g, &d, l);
+        return FOUND;
+    }
+    printf("%s and %s ", f->name, g->name);
+    paint(stdout, RED);
+    fputs("differ", stdout);
+    paint(stdout, PLAIN);
+    putchar('\n');
+    if (d.kinds) {
+        printf("they are of two kinds: %s and %s\n", table_words(f->atom), table_words(g->atom));
+        return FOUND;
+    }
+    print_causes(&d);
+    print_settings(&d);
+    print_slabs(f, &d);
+    print_tails(f, g, &d, l->most);
+    diff_seals(f, g, false);
+    if (d.slabs_match && d.differing > 0)
+        print_listing(f, g, l);
+    return FOUND;
+}
+
+static int compare(const table_file *f, const table_file *g, const listing *l) {
     if (f->table.number != 0 || g->table.number != 0) {
         if (f->table.number != 0)
             print_verdict(stderr, f);
@@ -135,31 +165,42 @@ static int compare(const table_file *f, const table_file *g) {
             print_verdict(stderr, g);
         return TROUBLE;
     }
-    if (f->count == g->count && memcmp(f->bytes, g->bytes, f->count) == 0) {
+    if (l->sliced && (l->slice >= f->table.grid.n_r || l->slice >= g->table.grid.n_r)) {
+        fprintf(stderr, "icotable diff: --slice %llu: the distance bins are 0 to %llu and 0 to %llu\n", (ull)l->slice, (ull)(f->table.grid.n_r - 1),
+                (ull)(g->table.grid.n_r - 1));
+        return TROUBLE;
+    }
+    if (f->count != g->count || memcmp(f->bytes, g->bytes, f->count) != 0)
+        return differ(f, g, l);
+    if (given("--json") != NULL) {
+        json_same(f, g);
+    } else {
         printf("%s and %s are the same table, byte for byte\n", f->name, g->name);
-        diff_seals(f, g);
-        return GOOD;
+        diff_seals(f, g, false);
     }
-    printf("%s and %s differ\n", f->name, g->name);
-    if (f->atom != g->atom) {
-        printf("they are of two kinds: %s and %s\n", table_words(f->atom), table_words(g->atom));
-        return FOUND;
-    }
-    diff_grids(&f->table, &g->table);
-    if (same_slabs(f, g))
-        diff_rows(f, g);
-    else
-        puts("with other bin counts the slabs are not the same ones, and are not set side by side");
-    diff_tails(f, g);
-    diff_seals(f, g);
-    return FOUND;
+    return GOOD;
+}
+
+static int listing_of(listing *l) {
+    const char *limit = given("--limit"), *slice = given("--slice");
+    *l = (listing){.most = LISTED, .sliced = slice != NULL};
+    if (limit != NULL && strcmp(limit, "all") == 0)
+        l->most = UINT64_MAX;
+    else if (limit != NULL && !whole_of(limit, &l->most))
+        return misused("diff", "--limit", "wants a whole number or the word all");
+    if (slice != NULL && !whole_of(slice, &l->slice))
+        return misused("diff", "--slice", "wants a whole number");
+    return GOOD;
 }
 
 int diff_tool(int count, char **names) {
     table_file f, g;
+    listing l;
     (void)count;
+    if (listing_of(&l) != GOOD)
+        return TROUBLE;
     int first = open_table(&f, names[0]), second = open_table(&g, names[1]);
-    int status = first != GOOD || second != GOOD ? TROUBLE : compare(&f, &g);
+    int status = first != GOOD || second != GOOD ? TROUBLE : compare(&f, &g, &l);
     close_table(&f);
     close_table(&g);
     return status;

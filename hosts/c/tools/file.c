@@ -1,15 +1,20 @@
 #include "tools.h"
 
-#include "support.h"
-
 #include <errno.h>
 #include <stdlib.h>
 #include <string.h>
 #include <sys/stat.h>
 
+static char said[200];
+
 int trouble(const char *name, const char *why) {
     fprintf(stderr, "icotable: %s: %s\n", name, why);
+    snprintf(said, sizeof said, "%s", why);
     return TROUBLE;
+}
+
+const char *last_trouble(void) {
+    return said;
 }
 
 static int read_whole(table_file *f, FILE *in) {
@@ -54,7 +59,19 @@ void view_table(table_file *f) {
     f->table = icotable_view(f->bytes, f->count);
 }
 
-int open_table(table_file *f, const char *name) {
+/* Standard input is read once. */
+static int read_input(table_file *f) {
+    static bool taken;
+    *f = (table_file){.name = "standard input", .input = true};
+    if (taken)
+        return trouble(f->name, "is read once, and was");
+    taken = true;
+    return read_whole(f, stdin);
+}
+
+int read_named(table_file *f, const char *name) {
+    if (strcmp(name, "-") == 0)
+        return read_input(f);
     *f = (table_file){.name = name};
     struct stat what;
     if (stat(name, &what) != 0)
@@ -66,6 +83,11 @@ int open_table(table_file *f, const char *name) {
         return trouble(name, strerror(errno));
     int status = read_whole(f, in);
     fclose(in);
+    return status;
+}
+
+int open_table(table_file *f, const char *name) {
+    int status = read_named(f, name);
     if (status == GOOD)
         look_over(f);
     return status;
@@ -146,19 +168,32 @@ const char *kind_words(unsigned kind) {
     return kind <= INTERPOLATED ? words[kind] : "unknown";
 }
 
+char row_letter(unsigned kind, unsigned level) {
+    return kind == SCALAR ? '.' : kind == REPULSIVE ? '#' : (char)((kind == NEAREST ? 'a' : 'A') + (int)level);
+}
+
+void energy_span(const table_file *f, const row *r, float *least, float *most) {
+    *least = *most = energy_of(f, r, 0);
+    for (uint64_t i = 1; i < per_row(f, r); i++) {
+        float e = energy_of(f, r, i);
+        *least = e < *least ? e : *least;
+        *most = e > *most ? e : *most;
+    }
+}
+
 void print_row(FILE *out, const table_file *f, const row *r) {
     fputs(kind_words(r->kind), out);
     if (r->kind == SCALAR)
         fprintf(out, " %g", (double)f32_of(r->scalar));
     if (r->kind < NEAREST)
         return;
-    float least = energy_of(f, r, 0), most = least;
-    for (uint64_t i = 1; i < per_row(f, r); i++) {
-        float e = energy_of(f, r, i);
-        least = e < least ? e : least;
-        most = e > most ? e : most;
-    }
-    fprintf(out, " level %u, energies from %g to %g", r->level, (double)least, (double)most);
+    float least, most;
+    energy_span(f, r, &least, &most);
+    fprintf(out, " level %u (%c), energies from %g to %g", r->level, row_letter(r->kind, r->level), (double)least, (double)most);
+}
+
+double distance_of(const icotable_grid *g, uint64_t ri) {
+    return g->rmin + (double)ri * g->dr;
 }
 
 void print_slab(FILE *out, const table_file *f, uint64_t slab) {
@@ -171,22 +206,7 @@ void print_slab(FILE *out, const table_file *f, uint64_t slab) {
 
 void print_bins(FILE *out, const table_file *f, uint64_t slab) {
     const icotable_grid *g = &f->table.grid;
-    fprintf(out, "distance %g", g->rmin + (double)(slab / g->n_omega) * g->dr);
+    fprintf(out, "distance %g", distance_of(g, slab / g->n_omega));
     if (!f->atom)
-        fprintf(out, ", dihedral %g", (double)(slab % g->n_omega) * g->omega_step);
-}
-
-int free_name(const char *in, const char *out) {
-    struct stat a, b;
-    if (lstat(out, &b) != 0)
-        return errno == ENOENT ? GOOD : trouble(out, strerror(errno));
-    if (stat(in, &a) == 0 && stat(out, &b) == 0 && a.st_dev == b.st_dev && a.st_ino == b.st_ino)
-        return trouble(out, "is the input itself, which is never written to");
-    return trouble(out, "is there already and is not replaced");
-}
-
-int write_new(const char *out, const uint8_t *bytes, size_t count) {
-    if (icotable_write_file_(out, bytes, count, false))
-        return GOOD;
-    return trouble(out, errno == EEXIST ? "is there already and is not replaced" : strerror(errno));
+        fprintf(out, ", dihedral %g rad (%.4g degrees)", (double)(slab % g->n_omega) * g->omega_step, (double)(slab % g->n_omega) * g->omega_step * DEGREES);
 }

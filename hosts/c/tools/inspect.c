@@ -2,7 +2,6 @@
 #include "tools.h"
 
 #include <math.h>
-#include <string.h>
 
 enum { LEVELS = 16, SHOWN = 400, ACROSS = 50, TERMS = 20 };
 
@@ -43,8 +42,8 @@ static void print_rows(const table_file *f, const tally *t) {
         const char *before = " (";
         for (unsigned m = 0; m < LEVELS; m++)
             if (t->level[m][kind] > 0) {
-                printf("%s%llu of level %u", before, (unsigned long long)t->level[m][kind], m);
-                before = ", ";
+                printf("%s%llu of level %u, %c", before, (unsigned long long)t->level[m][kind], m, row_letter(kind, m));
+                before = "; ";
             }
         puts(t->kind[kind] > 0 ? ")" : "");
     }
@@ -64,22 +63,26 @@ static void print_terms(const table_file *f) {
         printf("  and %llu more\n", (unsigned long long)(terms - TERMS));
 }
 
-static char letter(const row *r) {
-    return r->kind == SCALAR ? '.' : r->kind == REPULSIVE ? '#' : r->kind == NEAREST ? (char)('a' + r->level) : (char)('A' + r->level);
-}
-
 /* A letter for each slab: a line for each distance or, against an atom, for ACROSS distances. */
 static void print_slabs(const table_file *f) {
     const icotable_grid *g = &f->table.grid;
     uint64_t across = f->atom ? ACROSS : g->n_omega;
     printf("\nslabs, a letter for each %s: # Repulsive, . Scalar, A Mesh interpolated of level 0, B of level 1 and so on, a, b, .. Mesh nearest",
            f->atom ? "distance" : "dihedral bin");
+    row before = {0};
     for (uint64_t s = 0; s < f->table.rows; s++) {
         row r = row_of(f, s);
-        if (s % across == 0)
-            printf("\n%10g  ", g->rmin + (double)(s / g->n_omega) * g->dr);
-        putchar(letter(&r));
+        bool first = s % across == 0;
+        if (first) {
+            paint(stdout, PLAIN);
+            printf("\n%10g  ", distance_of(g, s / g->n_omega));
+        }
+        if (first || r.kind != before.kind || r.level != before.level)
+            paint_row(r.kind, r.level);
+        putchar(row_letter(r.kind, r.level));
+        before = r;
     }
+    paint(stdout, PLAIN);
     putchar('\n');
 }
 
@@ -102,26 +105,93 @@ static void print_table(const table_file *f) {
         print_slabs(f);
 }
 
+static void json_levels(const char *key, const table_file *f, const tally *t, unsigned kind) {
+    json_open(key, '[');
+    for (uint64_t m = 0; m < f->table.levels; m++)
+        json_count(NULL, t->level[m][kind]);
+    json_close(']');
+}
+
+static void json_rows(const table_file *f, const tally *t) {
+    json_count("rows", f->table.rows);
+    json_count("repulsive", t->kind[REPULSIVE]);
+    json_count("scalar", t->kind[SCALAR]);
+    json_levels("nearest", f, t, NEAREST);
+    json_levels("interpolated", f, t, INTERPOLATED);
+    json_count("energies", f->table.energies);
+    json_count("infinite", t->infinite);
+    if (t->least <= t->most) {
+        json_float("lowest", (float)t->least);
+        json_float("highest", (float)t->most);
+    }
+}
+
+static void json_terms(const table_file *f) {
+    if (f->table.terms == 0)
+        return;
+    json_double("prefactor", prefactor_of(f));
+    json_open("terms", '[');
+    for (uint64_t i = 0; i < f->table.terms; i++) {
+        term t = term_of(f, i);
+        json_open(NULL, '{');
+        json_double("coefficient", t.coefficient);
+        json_double("kappa", t.kappa);
+        json_count("power", t.power);
+        json_close('}');
+    }
+    json_close(']');
+}
+
+static void json_table(const table_file *f) {
+    const icotable_grid *g = &f->table.grid;
+    tally seen = count_rows(f);
+    json_count("bytes", f->count);
+    json_double("rmin", g->rmin);
+    json_double("rmax", g->rmax);
+    json_double("dr", g->dr);
+    json_count("n_r", g->n_r);
+    if (!f->atom) {
+        json_double("omega_step", g->omega_step);
+        json_count("n_omega", g->n_omega);
+    }
+    json_count("levels", f->table.levels);
+    json_rows(f, &seen);
+    json_terms(f);
+}
+
+/* Of a table that is accepted, its items or its resolution; of any other, what refuses it. */
+static int json_inspect(const table_file *f, bool resolution) {
+    int status = f->table.number != 0 ? FOUND : GOOD;
+    json_open(NULL, '{');
+    json_verdict(f);
+    if (status == GOOD && resolution)
+        status = print_resolution(f, true);
+    else if (status == GOOD)
+        json_table(f);
+    json_close('}');
+    json_end();
+    return status;
+}
+
+static int inspect(const table_file *f, bool resolution) {
+    if (f->table.number != 0) {
+        print_verdict(stdout, f);
+        return FOUND;
+    }
+    printf("%s: %s, %zu bytes\n", f->name, table_words(f->atom), f->count);
+    if (resolution)
+        return print_resolution(f, false);
+    print_table(f);
+    return GOOD;
+}
+
 int inspect_tool(int count, char **names) {
     table_file f;
-    bool resolution = strcmp(names[0], "--resolution") == 0;
-    if (count != 1 + resolution) {
-        fputs("usage: icotable inspect [--resolution] FILE\n", stderr);
-        return TROUBLE;
-    }
-    if (open_table(&f, names[resolution]) != GOOD)
-        return TROUBLE;
-    int status = GOOD;
-    if (f.table.number != 0) {
-        print_verdict(stdout, &f);
-        status = FOUND;
-    } else {
-        printf("%s: %s, %zu bytes\n", f.name, table_words(f.atom), f.count);
-        if (resolution)
-            status = print_resolution(&f);
-        else
-            print_table(&f);
-    }
+    (void)count;
+    bool resolution = given("--resolution") != NULL;
+    int status = open_table(&f, names[0]);
+    if (status == GOOD)
+        status = given("--json") != NULL ? json_inspect(&f, resolution) : inspect(&f, resolution);
     close_table(&f);
     return status;
 }

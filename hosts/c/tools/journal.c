@@ -2,6 +2,8 @@
  * over the meshes that mesh.h makes, alter nothing of the journal, and may be called while a build has it open. */
 #include "tools.h"
 
+#include "verbs.h"
+
 #include <stdlib.h>
 #include <string.h>
 
@@ -9,12 +11,26 @@ enum { SHOWN = 12 };
 
 typedef unsigned long long ull;
 
+int journal_named(const char *name) {
+    return strcmp(name, "-") == 0 ? trouble(name, "a journal is a file, and not standard input") : GOOD;
+}
+
 int refused_journal(const char *name, uint64_t number, const char *said) {
     if (number == ICOTABLE_JOURNAL_OTHER_MESHES)
         said = "the journal is over other meshes than this tool makes (icotable_make_meshes): only the host that has them can play it";
     if (number == ICOTABLE_NO_MEMORY)
         said = "no memory for the meshes";
-    printf("%s: refused with %llu: %s\n", name, (ull)number, said);
+    if (given("--json") != NULL) {
+        json_open(NULL, '{');
+        json_text("journal", name);
+        json_flag("accepted", false);
+        json_count("number", number);
+        json_text("words", said);
+        json_close('}');
+        json_end();
+    } else {
+        printf("%s: refused with %llu: %s\n", name, (ull)number, said);
+    }
     bool cannot = number == ICOTABLE_JOURNAL_ABSENT || number == ICOTABLE_JOURNAL_TROUBLE || number == ICOTABLE_JOURNAL_NO_ROOM || number == ICOTABLE_NO_MEMORY;
     return cannot ? TROUBLE : FOUND;
 }
@@ -65,7 +81,7 @@ static void print_missing(const icotable_journal *j, uint64_t ri) {
 static void print_next(const icotable_journal *j) {
     uint64_t ri, oi;
     enum icotable_journal_step step = icotable_journal_next(j, &ri, &oi);
-    double distance = j->builder.grid.rmin + (double)ri * j->builder.grid.dr;
+    double distance = distance_of(&j->builder.grid, ri);
     if (step == ICOTABLE_JOURNAL_TO_WRITE) {
         puts("next         every slice is settled: icotable replay writes the table");
     } else if (step == ICOTABLE_JOURNAL_TO_SETTLE) {
@@ -84,25 +100,76 @@ static bool by_guard(uint64_t number) {
     return number == ICOTABLE_JOURNAL_SLICE_SETTLED || number == ICOTABLE_JOURNAL_SLAB_MISSING || number == ICOTABLE_JOURNAL_NEARER_UNSETTLED;
 }
 
+static void json_next(const icotable_journal *j) {
+    static const char *const steps[] = {"sample", "settle", "write"};
+    uint64_t ri, oi, n_omega = j->builder.grid.n_omega;
+    enum icotable_journal_step step = icotable_journal_next(j, &ri, &oi);
+    json_open("next", '{');
+    json_text("step", steps[step]);
+    if (step != ICOTABLE_JOURNAL_TO_WRITE) {
+        json_count("ri", ri);
+        json_double("distance", distance_of(&j->builder.grid, ri));
+    }
+    if (step == ICOTABLE_JOURNAL_TO_SET) {
+        json_count("level", j->builder.level);
+        json_open("missing", '[');
+        for (oi = 0; oi < n_omega; oi++)
+            if (!j->set[ri * n_omega + oi])
+                json_count(NULL, oi);
+        json_close(']');
+    }
+    json_close('}');
+}
+
+static void json_status(const icotable_journal *j, const char *name, const char *said) {
+    const icotable_builder *b = &j->builder;
+    json_open(NULL, '{');
+    json_text("journal", name);
+    json_text("kind", j->atom ? "atom" : "pair");
+    json_flag("accepted", true);
+    json_count("calls", j->records);
+    json_count("bytes", j->bytes);
+    json_count("bytes_not_whole", j->cut);
+    json_count("slabs", j->slabs);
+    json_count("slabs_set", j->set_count);
+    json_count("slices", b->grid.n_r);
+    json_count("slices_settled", j->settled_count);
+    json_count("level", b->level);
+    json_count("top", b->top);
+    json_count("table_bytes", icotable_journal_length(j));
+    if (said[0] != 0)
+        json_text("guard", said);
+    else
+        json_null("guard");
+    json_next(j);
+    json_close('}');
+    json_end();
+}
+
+static void print_status(const icotable_journal *j, const char *name, const char *said) {
+    printf("%s: a journal of %s\n", name, table_words(j->atom));
+    print_done(j);
+    if (said[0] != 0)
+        printf("the guard    refuses it: %s\n", said);
+    print_next(j);
+}
+
 /* A journal that was kept without the guard is shown all the same, and what the guard says of it. */
 int status_tool(int count, char **names) {
     (void)count;
     icotable_journal j;
     icotable_meshes meshes = {0};
     char said[sizeof j.said] = "";
+    if (journal_named(names[0]) != GOOD)
+        return TROUBLE;
     uint64_t number = played(&j, &meshes, names[0], true);
     if (by_guard(number)) {
         memcpy(said, j.said, sizeof said);
         number = played(&j, &meshes, names[0], false);
     }
     int status = number == 0 ? GOOD : refused_journal(names[0], number, j.said);
-    if (status == GOOD) {
-        printf("%s: a journal of %s\n", names[0], table_words(j.atom));
-        print_done(&j);
-        if (said[0] != 0)
-            printf("the guard    refuses it: %s\n", said);
-        print_next(&j);
-    }
+    if (status == GOOD)
+        (given("--json") != NULL ? json_status : print_status)(&j, names[0], said);
     icotable_journal_close(&j);
     icotable_free_meshes(&meshes);
     return status;
@@ -122,19 +189,16 @@ static int written(icotable_journal *j, const char *name, const char *out) {
 }
 
 int replay_tool(int count, char **names) {
-    bool guarded = strcmp(names[0], "--unguarded") != 0;
-    char **words = names + !guarded;
+    (void)count;
+    const char *out = given("-o");
     icotable_journal j;
     icotable_meshes meshes = {0};
-    if (count != 3 + !guarded || strcmp(words[1], "-o") != 0) {
-        fputs("usage: icotable replay [--unguarded] JOURNAL -o FILE\n", stderr);
+    if (out == NULL)
+        return misused("replay", "-o", "is missing");
+    if (journal_named(names[0]) != GOOD || free_name(names[0], out) != GOOD)
         return TROUBLE;
-    }
-    int status = free_name(words[0], words[2]);
-    if (status != GOOD)
-        return status;
-    uint64_t number = played(&j, &meshes, words[0], guarded);
-    status = number == 0 ? written(&j, words[0], words[2]) : refused_journal(words[0], number, j.said);
+    uint64_t number = played(&j, &meshes, names[0], given("--unguarded") == NULL);
+    int status = number == 0 ? written(&j, names[0], out) : refused_journal(names[0], number, j.said);
     icotable_journal_close(&j);
     icotable_free_meshes(&meshes);
     return status;

@@ -1,63 +1,81 @@
-/* Tools for table files: icotable inspect [--resolution] FILE, verify [--viewer] FILE.., diff A B, map [-o OUT] FILE [FILE],
- * repack IN OUT, size [--json] [--terms N] RMIN RMAX DR [STEP] TOP, --version; and for journals of builds: status JOURNAL,
- * replay [--unguarded] JOURNAL -o FILE, begin JOURNAL OPTION.., collect JOURNAL FOLDER. */
+/* icotable VERB ..: tools for table files and journals of builds. The verbs are those of verbs.c. */
 #include "tools.h"
 
 #include "environment.h"
+#include "verbs.h"
 
+#include <errno.h>
+#include <fcntl.h>
 #include <string.h>
+#include <unistd.h>
 
-typedef struct tool {
-    const char *name, *usage;
-    int least, most;
-    int (*run)(int count, char **names);
-} tool;
-
-static int version_tool(int count, char **names) {
-    (void)count, (void)names;
-    puts("icotable " ICOTABLE_VERSION);
+/* A file that is opened must not get the number of a standard stream that is closed. */
+static int streams(void) {
+    for (int file = 0; file <= 2; file++)
+        if (fcntl(file, F_GETFD) < 0) {
+            if (file == 1)
+                return trouble("standard output", "is closed");
+            if (open("/dev/null", O_RDWR) != file)
+                return TROUBLE;
+        }
     return GOOD;
 }
 
-static const tool tools[] = {
-    {"inspect", "inspect FILE            what a table holds, or what refuses it;\n"
-                "  icotable inspect --resolution FILE  how far the vertices of its levels lie", 1, 2, inspect_tool},
-    {"verify", "verify FILE..           accepted, or the number, its words and the byte; and its seal FILE.meta, if any;\n"
-               "  icotable verify --viewer FILE..  the same under the bounds of a viewer: 4 levels, 4096 rows", 1, 1 << 20, verify_tool},
-    {"diff", "diff FILE FILE          why two tables differ", 2, 2, diff_tool},
-    {"map", "map [-o OUT] FILE       a picture of the slabs (SVG) to OUT or to standard output;\n"
-            "  icotable map [-o OUT] FILE FILE  two tables side by side, the slabs that differ marked", 1, 4, map_tool},
-    {"repack", "repack IN OUT           a loosely packed table to OUT, packed; OUT must not be there yet", 2, 2, repack_tool},
-    {"size", "size [--json] [--terms N] RMIN RMAX DR STEP TOP  the memory, file and comparisons of a build;\n"
-             "  icotable size [--json] RMIN RMAX DR TOP  against an atom", 4, 8, size_tool},
-    {"status", "status JOURNAL          how far a build is: slabs, slices, level, and what to sample next", 1, 1, status_tool},
-    {"replay", "replay JOURNAL -o FILE  the table of a journal's calls to FILE, which must not be there yet;\n"
-               "  icotable replay --unguarded JOURNAL -o FILE  also with slabs missing or slices unsettled", 3, 4, replay_tool},
-    {"begin", "begin JOURNAL --rmin X --rmax X --dr X --omega-step X --threshold X --beta X --top N  a new journal;\n"
-              "  icotable begin JOURNAL .. --atom ..  with --atom for --omega-step: against an atom", 1, 32, begin_tool},
-    {"collect", "collect JOURNAL FOLDER  slab files into a journal; what to sample next. Status 1: there is more to sample", 2, 2, collect_tool},
-    {"--version", "--version               the version", 0, 0, version_tool},
-};
+/* What was written has arrived; or TROUBLE. */
+static int flushed(int status) {
+    if (fflush(stdout) != 0)
+        return trouble("standard output", strerror(errno));
+    return ferror(stdout) ? trouble("standard output", "could not be written whole") : status;
+}
 
-static int usage(void) {
-    fputs("usage:\n", stderr);
-    for (size_t i = 0; i < sizeof tools / sizeof tools[0]; i++)
-        fprintf(stderr, "  icotable %s\n", tools[i].usage);
-    fputs("The status is 0 for good or equal, 1 for refused or different, 2 for trouble. No input is ever written to; collect adds to its journal.\n", stderr);
-    return TROUBLE;
+static void print_version(void) {
+    puts("icotable " ICOTABLE_VERSION);
+}
+
+static int instead_of_a_verb(int count, const char *word) {
+    if (count != 2)
+        print_help(stderr);
+    else if (strcmp(word, "--help") == 0 || strcmp(word, "-h") == 0)
+        print_help(stdout);
+    else if (strcmp(word, "--version") == 0)
+        print_version();
+    else if (strcmp(word, "--man") == 0)
+        print_man();
+    else if (strcmp(word, "--completion") == 0)
+        print_completion();
+    else {
+        fprintf(stderr, "icotable: there is no verb %s\n", word);
+        print_help(stderr);
+        return TROUBLE;
+    }
+    return count == 2 ? GOOD : TROUBLE;
+}
+
+static int run(const verb *v, int count, char **names) {
+    int status = take_options(v, &count, names);
+    if (status != GOOD)
+        return status;
+    if (given("--help") != NULL)
+        print_verb_help(v);
+    else if (given("--version") != NULL)
+        print_version();
+    else if (count < v->least)
+        return misused(v->name, v->names, "are its names, and one is missing");
+    else if (count > v->most)
+        return misused(v->name, names[v->most], "is a name too many");
+    else
+        return choose_colour() == GOOD ? v->run(count, names) : TROUBLE;
+    return GOOD;
 }
 
 int main(int count, char **names) {
+    if (streams() != GOOD)
+        return TROUBLE;
     unsigned environment = icotable_float_environment();
     if (environment != 0) {
         fprintf(stderr, "icotable: the floating-point environment: %s\n", icotable_float_environment_words(environment));
         return TROUBLE;
     }
-    for (size_t i = 0; count > 1 && i < sizeof tools / sizeof tools[0]; i++)
-        if (strcmp(names[1], tools[i].name) == 0) {
-            if (count - 2 < tools[i].least || count - 2 > tools[i].most)
-                return usage();
-            return tools[i].run(count - 2, names + 2);
-        }
-    return usage();
+    const verb *v = count > 1 ? verb_named(names[1]) : NULL;
+    return flushed(v != NULL ? run(v, count - 2, names + 2) : instead_of_a_verb(count, count > 1 ? names[1] : ""));
 }

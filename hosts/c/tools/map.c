@@ -1,9 +1,8 @@
 /* map [-o OUT] FILE [FILE]: a picture of the slabs as SVG, distance against dihedral angle or, of a table against an atom, a
  * strip over distance, coloured by kind and level, with the lowest energy of each distance below. Two files stand side by
- * side, and slabs whose rows differ have a frame. */
+ * side, a level has one colour in both, and slabs whose rows differ have a frame. */
 #include "tools.h"
 
-#include <errno.h>
 #include <math.h>
 #include <stdlib.h>
 #include <string.h>
@@ -14,11 +13,12 @@ enum { WIDE = 560, HIGH = 260, STRIP = 40, LEFT = 64, TOP = 60, CURVE = 90, GAP 
 typedef struct panel {
     const table_file *file, *other; /* other: to be compared with, or none */
     uint64_t n_r, n_omega, columns, lines;
+    uint64_t shades; /* levels of the picture's finest table, which share the colours */
     double x, width, height;
     double *lowest;                 /* for each distance; infinite where it is a wall */
 } panel;
 
-static void escaped(FILE *out, const char *text) {
+void escaped(FILE *out, const char *text) {
     for (; *text; text++)
         switch (*text) {
         case '&': fputs("&amp;", out); break;
@@ -29,15 +29,15 @@ static void escaped(FILE *out, const char *text) {
         }
 }
 
-static const char *base_name(const char *name) {
+const char *base_name(const char *name) {
     const char *slash = strrchr(name, '/');
     return slash ? slash + 1 : name;
 }
 
 /* From light at level 0 to dark at the top: more vertices, more ink. */
-static void level_colour(FILE *out, unsigned level, uint64_t levels) {
+static void level_colour(FILE *out, unsigned level, uint64_t shades) {
     static const int stops[5][3] = {{200, 226, 112}, {94, 190, 110}, {33, 145, 140}, {52, 96, 141}, {68, 36, 100}};
-    double t = levels < 2 ? 2 : 4.0 * level / (double)(levels - 1);
+    double t = shades < 2 ? 2 : 4.0 * level / (double)(shades - 1);
     int k = t >= 4 ? 3 : (int)t;
     int c[3];
     for (int i = 0; i < 3; i++)
@@ -45,13 +45,13 @@ static void level_colour(FILE *out, unsigned level, uint64_t levels) {
     fprintf(out, "#%02x%02x%02x", (unsigned)c[0], (unsigned)c[1], (unsigned)c[2]);
 }
 
-static void colour(FILE *out, const row *r, uint64_t levels) {
+void row_colour(FILE *out, const row *r, uint64_t shades) {
     if (r->kind == REPULSIVE)
         fputs("#2b2b2b", out);
     else if (r->kind == SCALAR)
         fputs("#efece2", out);
     else
-        level_colour(out, r->level, levels);
+        level_colour(out, r->level, shades);
 }
 
 static void rectangle(FILE *out, double x, double y, double w, double h) {
@@ -92,7 +92,7 @@ static void cell(FILE *out, const panel *p, uint64_t column, uint64_t line) {
     double x = p->x + w * (double)column, y = TOP + h * (double)(p->lines - 1 - line);
     rectangle(out, x, y, w, h);
     fputs(" shape-rendering=\"crispEdges\" fill=\"", out);
-    colour(out, &r, p->file->table.levels);
+    row_colour(out, &r, p->shades);
     fputs("\"><title>", out);
     print_bins(out, p->file, slab);
     fputs(": ", out);
@@ -125,22 +125,22 @@ static void dihedral_numbers(FILE *out, const panel *p) {
     double step = p->file->table.grid.omega_step;
     uint64_t every = p->n_omega <= 6 ? 1 : (p->n_omega + 5) / 6;
     for (uint64_t oi = 0; oi < p->n_omega; oi += every)
-        numbered(out, p->x - 8, TOP + p->height * (1 - ((double)oi + 0.5) / (double)p->n_omega) + 4, "end", (double)oi * step * 57.29577951308232);
+        numbered(out, p->x - 8, TOP + p->height * (1 - ((double)oi + 0.5) / (double)p->n_omega) + 4, "end", (double)oi * step * DEGREES);
 }
 
 static void axes(FILE *out, const panel *p) {
     const icotable_grid *g = &p->file->table.grid;
     uint64_t every = p->n_r <= 8 ? 1 : (p->n_r + 7) / 8;
     for (uint64_t ri = 0; ri < p->n_r; ri += every)
-        numbered(out, p->x + p->width * ((double)ri + 0.5) / (double)p->n_r, TOP + p->height + 16, "middle", g->rmin + (double)ri * g->dr);
+        numbered(out, p->x + p->width * ((double)ri + 0.5) / (double)p->n_r, TOP + p->height + 16, "middle", distance_of(g, ri));
     if (!p->file->atom)
         dihedral_numbers(out, p);
-    label(out, p->x + p->width / 2, TOP + p->height + 33, "middle", "", "distance");
+    label(out, p->x + p->width / 2, TOP + p->height + 33, "middle", "", "distance r (unit of the table)");
     if (p->file->atom)
         return;
     char turned[80];
     snprintf(turned, sizeof turned, " transform=\"rotate(-90 %.1f %.1f)\"", p->x - 46, TOP + p->height / 2);
-    label(out, p->x - 46, TOP + p->height / 2, "middle", turned, "dihedral, degrees");
+    label(out, p->x - 46, TOP + p->height / 2, "middle", turned, "dihedral omega (degrees)");
 }
 
 /* The lowest energy of each distance, cut off above at the depth of the well. */
@@ -160,38 +160,53 @@ static void curve(FILE *out, const panel *p) {
     fputs("\"/>\n", out);
     numbered(out, p->x - 8, zero + 4, "end", 0);
     numbered(out, p->x - 8, top + CURVE, "end", -depth);
-    label(out, p->x + p->width / 2, top + CURVE + 16, "middle", "", "lowest energy of each distance (cut off above)");
+    label(out, p->x + p->width / 2, top + CURVE + 16, "middle", "", "lowest energy of each distance (unit of the table's energies; cut off above)");
 }
 
-/* In two lines where there are more levels than one has room for, which are six. */
-static void legend(FILE *out, const panel *p, double y) {
-    const uint64_t levels = p->file->table.levels;
+/* An item of the legend: Repulsive, Scalar, the levels, nearest. */
+static row legend_item(unsigned k, uint64_t levels, char *words, size_t room) {
+    row r = {k == 0 ? REPULSIVE : k == 1 ? SCALAR : k == levels + 2 ? NEAREST : INTERPOLATED, k < 2 || k > levels + 1 ? 0 : k - 2, 0, 0};
+    if (r.kind == INTERPOLATED)
+        snprintf(words, room, "%u %c", r.level, row_letter(r.kind, r.level));
+    else
+        snprintf(words, room, "%s", r.kind == NEAREST ? "nearest a, b" : r.kind == SCALAR ? "Scalar ." : "Repulsive #");
+    return r;
+}
+
+static void legend_box(FILE *out, const panel *p, const row *r, double x, double y) {
+    rectangle(out, x, y, 14, 14);
+    fputs(" stroke=\"#999\" fill=\"", out);
+    row_colour(out, r, p->shades);
+    fputs("\"/>\n", out);
+    if (r->kind == NEAREST) {
+        rectangle(out, x, y, 14, 14);
+        fputs(" fill=\"url(#nearest)\"/>\n", out);
+    }
+}
+
+/* In as many lines as it needs, which is what it answers; without a file they are only counted. */
+static int legend(FILE *out, const panel *p, double y) {
     double x = p->x;
-    static const row wall = {REPULSIVE, 0, 0, 0}, scalar = {SCALAR, 0, 0, 0};
-    for (unsigned k = 0; k < levels + 3; k++) {
+    int lines = 1;
+    for (unsigned k = 0; k < p->file->table.levels + 3; k++) {
         char words[40];
-        row mesh = {k == levels + 1 ? NEAREST : INTERPOLATED, k == 0 || k > levels ? 0 : k - 1, 0, 0};
-        snprintf(words, sizeof words, "%u", mesh.level);
-        const char *named = k == 0 ? "wall" : k == levels + 1 ? "nearest" : k == levels + 2 ? "one number" : words;
-        if (x + 7.0 * (double)strlen(named) > p->x + p->width) {
+        row r = legend_item(k, p->file->table.levels, words, sizeof words);
+        double wide = 18 + 5.8 * (double)strlen(words);
+        if (x + wide > p->x + p->width) {
             x = p->x;
             y += SECOND;
+            lines++;
         }
-        rectangle(out, x, y, 14, 14);
-        fputs(" stroke=\"#999\" fill=\"", out);
-        colour(out, k == 0 ? &wall : k == levels + 2 ? &scalar : &mesh, levels);
-        fputs("\"/>\n", out);
-        if (mesh.kind == NEAREST) {
-            rectangle(out, x, y, 14, 14);
-            fputs(" fill=\"url(#nearest)\"/>\n", out);
+        if (out != NULL && k == 2)
+            label(out, x, y + 12, "start", "", "Mesh of level");
+        x += k == 2 ? 84 : 0;
+        if (out != NULL) {
+            legend_box(out, p, &r, x, y);
+            label(out, x + 18, y + 12, "start", "", words);
         }
-        label(out, x + 18, y + 12, "start", "", named);
-        x += 34 + 7.0 * (double)strlen(named);
-        if (k == 0) {
-            label(out, x, y + 12, "start", "", "mesh of level");
-            x += 92;
-        }
+        x += wide + 10;
     }
+    return lines;
 }
 
 static void draw(FILE *out, const panel *p, uint64_t differing) {
@@ -217,9 +232,9 @@ static void draw(FILE *out, const panel *p, uint64_t differing) {
     legend(out, p, TOP + p->height + GAP + CURVE + 30);
 }
 
-static bool prepare(panel *p, const table_file *f, const table_file *other, int place) {
+static bool prepare(panel *p, const table_file *f, const table_file *other, int place, uint64_t shades) {
     const icotable_grid *g = &f->table.grid;
-    *p = (panel){.file = f, .other = other, .n_r = g->n_r, .n_omega = g->n_omega, .x = LEFT + PANEL * place, .width = WIDE, .height = f->atom ? STRIP : HIGH};
+    *p = (panel){.file = f, .other = other, .shades = shades, .n_r = g->n_r, .n_omega = g->n_omega, .x = LEFT + PANEL * place, .width = WIDE, .height = f->atom ? STRIP : HIGH};
     p->columns = g->n_r < COLUMNS ? g->n_r : COLUMNS;
     p->lines = g->n_omega < LINES ? g->n_omega : LINES;
     p->lowest = calloc(g->n_r, sizeof *p->lowest);
@@ -243,7 +258,7 @@ static void picture(FILE *out, const panel *panels, int count) {
         differing += !same_row(panels[0].file, panels[0].other, s);
     int wide = PANEL * count, high = 0;
     for (int i = 0; i < count; i++) {
-        int own = TOP + (int)panels[i].height + GAP + CURVE + 60 + (panels[i].file->table.levels > 6 ? SECOND : 0);
+        int own = TOP + (int)panels[i].height + GAP + CURVE + 40 + SECOND * legend(NULL, &panels[i], 0);
         high = own > high ? own : high;
     }
     fprintf(out, "<svg xmlns=\"http://www.w3.org/2000/svg\" viewBox=\"0 0 %d %d\" width=\"%d\" height=\"%d\" font-family=\"sans-serif\" font-size=\"12\">\n", wide, high, wide, high);
@@ -255,19 +270,13 @@ static void picture(FILE *out, const panel *panels, int count) {
     fputs("</svg>\n", out);
 }
 
-/* To a new file or to standard output; a file that is there is left alone, so that no input can be written over. */
+/* To a new file or to standard output. */
 static int show(const char *name, const panel *panels, int count) {
-    FILE *out = name == NULL ? stdout : fopen(name, "wbx");
-    if (out == NULL) {
-        fprintf(stderr, "icotable: %s: %s%s\n", name, strerror(errno), errno == EEXIST ? "; nothing is written over, remove it or choose another name" : "");
+    new_file out;
+    if (begin_new(&out, name) != GOOD)
         return TROUBLE;
-    }
-    picture(out, panels, count);
-    if (fflush(out) != 0 || (name != NULL && fclose(out) != 0)) {
-        fprintf(stderr, "icotable: %s: %s\n", name == NULL ? "standard output" : name, strerror(errno));
-        return TROUBLE;
-    }
-    return GOOD;
+    picture(out.to, panels, count);
+    return end_new(&out);
 }
 
 static int map_files(const char *name, table_file *files, int count) {
@@ -281,8 +290,11 @@ static int map_files(const char *name, table_file *files, int count) {
         return status;
     bool compared = count == 2 && same_slabs(&files[0], &files[1]);
     panel panels[2] = {{0}, {0}};
+    uint64_t shades = 0;
     for (int i = 0; i < count; i++)
-        if (!prepare(&panels[i], &files[i], compared ? &files[1 - i] : NULL, i))
+        shades = files[i].table.levels > shades ? files[i].table.levels : shades;
+    for (int i = 0; i < count; i++)
+        if (!prepare(&panels[i], &files[i], compared ? &files[1 - i] : NULL, i, shades))
             status = TROUBLE;
     if (status == GOOD)
         status = show(name, panels, count);
@@ -292,23 +304,13 @@ static int map_files(const char *name, table_file *files, int count) {
 }
 
 int map_tool(int count, char **names) {
-    const char *name = NULL;
-    if (count > 2 && strcmp(names[0], "-o") == 0) {
-        name = names[1];
-        names += 2;
-        count -= 2;
-    }
-    if (count > 2 || names[0][0] == '-') {
-        fputs("usage: icotable map [-o OUT] FILE [FILE]\n", stderr);
-        return TROUBLE;
-    }
     table_file files[2] = {{0}, {0}};
     int status = GOOD;
     for (int i = 0; i < count; i++)
         if (open_table(&files[i], names[i]) != GOOD)
             status = TROUBLE;
     if (status == GOOD)
-        status = map_files(name, files, count);
+        status = map_files(given("-o"), files, count);
     for (int i = 0; i < count; i++)
         close_table(&files[i]);
     return status;

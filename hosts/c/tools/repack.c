@@ -41,13 +41,13 @@ int repack_tool(int count, char **names) {
         if (bytes == NULL) {
             status = trouble(out, "does not fit into memory");
         } else if (done.number != 0) {
-            printf("%s: refused with %llu: %s\n", in, (unsigned long long)done.number, icotable_words(done.number));
+            printf("%s: refused with %llu: %s\n", f.name, (unsigned long long)done.number, icotable_words(done.number));
             status = FOUND;
         } else {
             status = write_new(out, bytes, (size_t)done.length);
         }
         if (status == GOOD)
-            printf("%s: %llu bytes, where %s has %zu; %llu rows have another offset\n", out, (unsigned long long)done.length, in, f.count, (unsigned long long)done.moved);
+            printf("%s: %llu bytes, where %s has %zu; %llu rows have another offset\n", out, (unsigned long long)done.length, f.name, f.count, (unsigned long long)done.moved);
         free(bytes);
     }
     close_table(&f);

@@ -75,7 +75,40 @@ static uint64_t rows_at(const table_file *f, unsigned kind, uint64_t level) {
     return count;
 }
 
-int print_resolution(const table_file *f) {
+static void json_level(uint64_t level, uint64_t n, const uint64_t rows[2], const spread *s) {
+    json_open(NULL, '{');
+    json_count("level", level);
+    json_count("vertices", n);
+    json_count("nearest", rows[0]);
+    json_count("interpolated", rows[1]);
+    json_double("least_apart", s->least);
+    json_double("most_apart", s->most);
+    json_double("farthest", 2 * asin(sqrt(s->farthest) / 2));
+    json_double("farthest_squared", s->farthest);
+    json_close('}');
+}
+
+static void print_heading(void) {
+    puts("Over the icospheres of mesh.h. Apart: the angle between neighbouring vertices, in radians. Farthest: how far from its");
+    puts("nearest vertex a direction can lie, in radians, and squared, as a nearest reading of two molecules shows it.");
+    puts("level  vertices     nearest  interpolated  apart, least  apart, most  farthest  farthest, squared");
+}
+
+static void print_levels(const table_file *f, const icotable_meshes *m, bool json) {
+    uint64_t below = 0;
+    for (uint64_t level = 0; level < f->table.levels; level++) {
+        uint64_t n = icotable_vertices(level), rows[2] = {rows_at(f, NEAREST, level), rows_at(f, INTERPOLATED, level)};
+        spread s = spread_of(m->vertices + 3 * below, m->angles + 6 * below, m->neighbour_counts + below, m->neighbours + 6 * below, n);
+        if (json)
+            json_level(level, n, rows, &s);
+        else
+            printf("%5llu  %8llu  %10llu  %12llu  %12.4f  %11.4f  %8.4f  %17.5f\n", (unsigned long long)level, (unsigned long long)n, (unsigned long long)rows[0],
+                   (unsigned long long)rows[1], s.least, s.most, 2 * asin(sqrt(s.farthest) / 2), s.farthest);
+        below += n;
+    }
+}
+
+int print_resolution(const table_file *f, bool json) {
     icotable_meshes m;
     uint64_t number = icotable_make_meshes(&m, f->table.levels - 1);
     if (number != 0) {
@@ -83,18 +116,13 @@ int print_resolution(const table_file *f) {
         fprintf(stderr, "icotable: the meshes cannot be made: %llu\n", (unsigned long long)number);
         return TROUBLE;
     }
-    puts("Over the icospheres of mesh.h. Apart: the angle between neighbouring vertices, in radians. Farthest: how far from its");
-    puts("nearest vertex a direction can lie, in radians, and squared, as a nearest reading of two molecules shows it.");
-    puts("level  vertices     nearest  interpolated  apart, least  apart, most  farthest  farthest, squared");
-    uint64_t below = 0;
-    for (uint64_t level = 0; level < f->table.levels; level++) {
-        uint64_t n = icotable_vertices(level);
-        spread s = spread_of(m.vertices + 3 * below, m.angles + 6 * below, m.neighbour_counts + below, m.neighbours + 6 * below, n);
-        printf("%5llu  %8llu  %10llu  %12llu  %12.4f  %11.4f  %8.4f  %17.5f\n", (unsigned long long)level, (unsigned long long)n,
-               (unsigned long long)rows_at(f, NEAREST, level), (unsigned long long)rows_at(f, INTERPOLATED, level), s.least, s.most,
-               2 * asin(sqrt(s.farthest) / 2), s.farthest);
-        below += n;
-    }
+    if (json)
+        json_open("resolution", '[');
+    else
+        print_heading();
+    print_levels(f, &m, json);
+    if (json)
+        json_close(']');
     icotable_free_meshes(&m);
     return GOOD;
 }

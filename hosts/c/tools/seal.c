@@ -12,6 +12,8 @@ typedef unsigned long long ull;
 
 /* A table's seal: 0, ICOTABLE_SEAL_ABSENT, or what refuses it or says that it is another table's. */
 static uint64_t read_seal(const table_file *f, icotable_seal *s, icotable_fault *fault) {
+    if (f->input)
+        return ICOTABLE_SEAL_ABSENT;
     uint64_t number = icotable_seal_read(s, f->name, fault);
     return number != 0 ? number : icotable_seal_check(s, f->bytes, f->count, fault);
 }
@@ -39,77 +41,153 @@ static bool fits(const table_file *f, const icotable_seal *s) {
            g->n_r == h->n_r && g->n_omega == h->n_omega && f->table.levels == s->levels;
 }
 
+/* The verdict on a seal, and lines on it: the table's name goes before each. */
+typedef struct verdict {
+    int status;
+    bool there, read;
+    icotable_seal seal;
+    char said[500], meshes[500];
+} verdict;
+
 /* The mesh file beside a table whose meshes are not the library's own. */
-static int check_meshes(const table_file *f, const icotable_seal *s) {
+static int check_meshes(const table_file *f, verdict *v) {
     icotable_meshes m;
     icotable_fault fault;
     char *path = icotable_beside_(f->name, ".mesh");
     if (path == NULL)
         return trouble(f->name, "does not fit into memory");
-    uint64_t number = icotable_meshes_load(&m, path, &fault), hash = icotable_meshes_hash(&m, s->levels);
+    uint64_t number = icotable_meshes_load(&m, path, &fault), hash = icotable_meshes_hash(&m, v->seal.levels), sealed = v->seal.meshes_hash;
     if (number != 0)
-        printf("%s: its meshes are refused with %llu: %s\n", f->name, (ull)number, fault.said);
-    else if (hash != s->meshes_hash)
-        printf("%s: the meshes of %s have the hash %016llX, and %016llX was sealed\n", f->name, path, (ull)hash, (ull)s->meshes_hash);
+        snprintf(v->meshes, sizeof v->meshes, "its meshes are refused with %llu: %s", (ull)number, fault.said);
+    else if (hash != sealed)
+        snprintf(v->meshes, sizeof v->meshes, "the meshes of %s have the hash %016llX, and %016llX was sealed", path, (ull)hash, (ull)sealed);
     else
-        printf("%s: its meshes are those of %s\n", f->name, path);
-    bool good = number == 0 && hash == s->meshes_hash;
+        snprintf(v->meshes, sizeof v->meshes, "its meshes are those of %s", path);
     icotable_free_meshes(&m);
     free(path);
-    return number == ICOTABLE_MESH_FILE_TROUBLE || number == ICOTABLE_MESH_FILE_NO_ROOM ? TROUBLE : good ? GOOD : FOUND;
+    if (number == ICOTABLE_MESH_FILE_TROUBLE || number == ICOTABLE_MESH_FILE_NO_ROOM)
+        return TROUBLE;
+    return number == 0 && hash == sealed ? GOOD : FOUND;
 }
 
-static void print_sealed(const table_file *f, const icotable_seal *s) {
+static void say_sealed(verdict *v) {
+    const icotable_seal *s = &v->seal;
     char threshold[32], beta[32];
     show_number(threshold, s->grid.threshold);
     show_number(beta, s->grid.beta);
-    printf("%s: sealed: version %s, threshold %s, beta %s, %s meshes, ", f->name, s->version, threshold, beta, s->own_meshes ? "the library's own" : "other");
-    puts(s->journaled ? "with a journal" : "without a journal");
+    snprintf(v->said, sizeof v->said, "sealed: version %s, threshold %s, beta %s, %s meshes, %s", s->version, threshold, beta,
+             s->own_meshes ? "the library's own" : "other", s->journaled ? "with a journal" : "without a journal");
 }
 
-int verify_seal(const table_file *f) {
-    icotable_seal s;
+static void judge(const table_file *f, verdict *v) {
     icotable_fault fault;
-    uint64_t number = read_seal(f, &s, &fault);
-    if (number == ICOTABLE_SEAL_ABSENT)
-        return GOOD;
+    uint64_t number = read_seal(f, &v->seal, &fault);
+    *v = (verdict){.seal = v->seal, .there = number != ICOTABLE_SEAL_ABSENT, .read = number == 0};
+    if (!v->there)
+        return;
     if (number != 0) {
-        printf("%s: its seal: refused with %llu: %s\n", f->name, (ull)number, fault.said);
-        return number == ICOTABLE_SEAL_TROUBLE ? TROUBLE : FOUND;
+        snprintf(v->said, sizeof v->said, "its seal: refused with %llu: %s", (ull)number, fault.said);
+        v->status = number == ICOTABLE_SEAL_TROUBLE ? TROUBLE : FOUND;
+        return;
     }
-    print_sealed(f, &s);
-    if (f->table.number == 0 && !fits(f, &s)) {
-        printf("%s: its seal has other settings than the table\n", f->name);
-        return FOUND;
+    say_sealed(v);
+    if (f->table.number == 0 && !fits(f, &v->seal)) {
+        snprintf(v->meshes, sizeof v->meshes, "its seal has other settings than the table");
+        v->status = FOUND;
+    } else if (!v->seal.own_meshes) {
+        v->status = check_meshes(f, v);
     }
-    return s.own_meshes ? GOOD : check_meshes(f, &s);
+}
+
+static void json_seal(const verdict *v) {
+    json_open("seal", '{');
+    json_flag("accepted", v->status == GOOD);
+    json_text("words", v->meshes[0] != 0 && v->status != GOOD ? v->meshes : v->said);
+    if (v->read) {
+        json_text("version", v->seal.version);
+        json_double("threshold", v->seal.grid.threshold);
+        json_double("beta", v->seal.grid.beta);
+        json_flag("own_meshes", v->seal.own_meshes);
+        json_flag("journaled", v->seal.journaled);
+    }
+    json_close('}');
+}
+
+int verify_seal(const table_file *f, bool json) {
+    verdict v;
+    judge(f, &v);
+    if (!v.there)
+        return GOOD;
+    if (json) {
+        json_seal(&v);
+        return v.status;
+    }
+    printf("%s: %s\n", f->name, v.said);
+    if (v.meshes[0] != 0)
+        printf("%s: %s\n", f->name, v.meshes);
+    return v.status;
 }
 
 /* ---- diff */
 
-static void number_differs(const char *name, double x, double y) {
+static void number_differs(const char *name, double x, double y, bool json) {
     char one[32], other[32];
     if (same_bits(x, y))
         return;
+    if (json) {
+        json_open(name, '[');
+        json_double(NULL, x);
+        json_double(NULL, y);
+        json_close(']');
+        return;
+    }
     show_number(one, x);
     show_number(other, y);
     printf(", %s %s against %s", name, one, other);
 }
 
-static void settings_differ(const icotable_seal *s, const icotable_seal *t) {
+static void tops_differ(uint64_t x, uint64_t y, bool json) {
+    if (x == y)
+        return;
+    if (!json) {
+        printf(", top level %llu against %llu", (ull)x, (ull)y);
+        return;
+    }
+    json_open("top", '[');
+    json_count(NULL, x);
+    json_count(NULL, y);
+    json_close(']');
+}
+
+static void versions_differ(const char *x, const char *y, bool json) {
+    if (strcmp(x, y) == 0)
+        return;
+    if (!json) {
+        printf(", version %s against %s", x, y);
+        return;
+    }
+    json_open("version", '[');
+    json_text(NULL, x);
+    json_text(NULL, y);
+    json_close(']');
+}
+
+static void settings_differ(const icotable_seal *s, const icotable_seal *t, bool json) {
     const icotable_grid *g = &s->grid, *h = &t->grid;
-    number_differs("rmin", g->rmin, h->rmin);
-    number_differs("rmax", g->rmax, h->rmax);
-    number_differs("dr", g->dr, h->dr);
-    number_differs("omega_step", g->omega_step, h->omega_step);
-    number_differs("threshold", g->threshold, h->threshold);
-    number_differs("beta", g->beta, h->beta);
-    if (s->top != t->top)
-        printf(", top level %llu against %llu", (ull)s->top, (ull)t->top);
-    if (s->levels == t->levels && s->meshes_hash != t->meshes_hash)
-        fputs(", other meshes", stdout);
-    if (strcmp(s->version, t->version) != 0)
-        printf(", version %s against %s", s->version, t->version);
+    number_differs("rmin", g->rmin, h->rmin, json);
+    number_differs("rmax", g->rmax, h->rmax, json);
+    number_differs("dr", g->dr, h->dr, json);
+    number_differs("omega_step", g->omega_step, h->omega_step, json);
+    number_differs("threshold", g->threshold, h->threshold, json);
+    number_differs("beta", g->beta, h->beta, json);
+    tops_differ(s->top, t->top, json);
+    if (s->levels == t->levels && s->meshes_hash != t->meshes_hash) {
+        if (json)
+            json_flag("other_meshes", true);
+        else
+            fputs(", other meshes", stdout);
+    }
+    versions_differ(s->version, t->version, json);
 }
 
 /* Slabs whose rows hold energies of one level in both tables, and those of them that hold the same. */
@@ -131,45 +209,76 @@ static shared share(const table_file *f, const table_file *g) {
 
 /* What two tables show of the energies that they were built from. A journal has all of them. A table has those of its Mesh
  * rows, narrowed, and they belong to one another where slab, level and mesh are the same: of no other slab is anything said. */
-static void print_samples(const table_file *f, const table_file *g, const icotable_seal *s, const icotable_seal *t) {
+static void say_samples(char *said, size_t room, const table_file *f, const table_file *g, const icotable_seal *s, const icotable_seal *t) {
     if (s->journaled && t->journaled && strcmp(s->journal_sha256, t->journal_sha256) == 0) {
-        fputs("samples equal: the journals are the same", stdout);
+        snprintf(said, room, "samples equal: the journals are the same");
         return;
     }
     bool comparable = same_slabs(f, g) && same_bits(s->grid.rmin, t->grid.rmin) && same_bits(s->grid.dr, t->grid.dr) &&
                       same_bits(s->grid.omega_step, t->grid.omega_step) && s->levels == t->levels && s->meshes_hash == t->meshes_hash;
     shared n = comparable ? share(f, g) : (shared){0, 0};
     if (!comparable || n.both == 0)
-        printf("samples not compared: %s", comparable ? "no slab holds energies of one level in both" : "grids or meshes are others");
+        snprintf(said, room, "samples not compared: %s", comparable ? "no slab holds energies of one level in both" : "grids or meshes are others");
     else if (n.same == f->table.rows)
-        printf("samples equal in all %llu slabs", (ull)n.same);
+        snprintf(said, room, "samples equal in all %llu slabs", (ull)n.same);
     else if (n.same == n.both)
-        printf("samples equal in the %llu of %llu slabs that hold them in both", (ull)n.both, (ull)f->table.rows);
+        snprintf(said, room, "samples equal in the %llu of %llu slabs that hold them in both", (ull)n.both, (ull)f->table.rows);
     else
-        printf("samples differ in %llu of the %llu slabs that hold them in both", (ull)(n.both - n.same), (ull)n.both);
+        snprintf(said, room, "samples differ in %llu of the %llu slabs that hold them in both", (ull)(n.both - n.same), (ull)n.both);
 }
 
 /* A seal that cannot be used is named; one that is not there where the other table has one, too. */
-static bool usable(const table_file *f, uint64_t number, const icotable_fault *fault) {
+static void say_unusable(const table_file *f, uint64_t number, const icotable_fault *fault, bool json) {
+    char said[600] = "";
     if (number == ICOTABLE_SEAL_ABSENT)
-        printf("seals: %s has none, and settings like the threshold are not compared\n", f->name);
+        snprintf(said, sizeof said, "%s has none, and settings like the threshold are not compared", f->name);
     else if (number != 0)
-        printf("seals: that of %s is not used: refused with %llu: %s\n", f->name, (ull)number, fault->said);
-    return number == 0;
+        snprintf(said, sizeof said, "that of %s is not used: refused with %llu: %s", f->name, (ull)number, fault->said);
+    if (said[0] != 0 && json)
+        json_text(NULL, said);
+    else if (said[0] != 0)
+        printf("seals: %s\n", said);
 }
 
-void diff_seals(const table_file *f, const table_file *g) {
+static void json_seals(const char *samples, const icotable_seal *s, const icotable_seal *t) {
+    json_open("seals", '{');
+    json_text("samples", samples);
+    json_open("settings", '{');
+    settings_differ(s, t, true);
+    json_close('}');
+    json_close('}');
+}
+
+static void compare_seals(const table_file *f, const table_file *g, const icotable_seal *s, const icotable_seal *t, bool json) {
+    char samples[120];
+    say_samples(samples, sizeof samples, f, g, s, t);
+    if (json) {
+        json_seals(samples, s, t);
+        return;
+    }
+    printf("seals: %s", samples);
+    settings_differ(s, t, false);
+    putchar('\n');
+}
+
+void diff_seals(const table_file *f, const table_file *g, bool json) {
     icotable_seal s, t;
     icotable_fault one, other;
     uint64_t first = read_seal(f, &s, &one), second = read_seal(g, &t, &other);
     if (first == ICOTABLE_SEAL_ABSENT && second == ICOTABLE_SEAL_ABSENT)
         return;
-    bool both = usable(f, first, &one);
-    both = usable(g, second, &other) && both;
-    if (!both)
+    if (first == 0 && second == 0) {
+        compare_seals(f, g, &s, &t, json);
         return;
-    fputs("seals: ", stdout);
-    print_samples(f, g, &s, &t);
-    settings_differ(&s, &t);
-    putchar('\n');
+    }
+    if (json) {
+        json_open("seals", '{');
+        json_open("not_used", '[');
+    }
+    say_unusable(f, first, &one, json);
+    say_unusable(g, second, &other, json);
+    if (json) {
+        json_close(']');
+        json_close('}');
+    }
 }

@@ -6,8 +6,6 @@
 
 #include "mesh.h"
 
-#include <string.h>
-
 /* Nanoseconds of settle for each comparison: what bench/run measures from level 1 on (docs/PERFORMANCE.md, 28.6 ns an
  * energy, of which each takes part in some 12 comparisons). */
 static const double NANOSECONDS = 2.4;
@@ -112,45 +110,68 @@ static void print_words(const build *b) {
                (unsigned long long)b->distances, (double)b->distances * seconds_of(b, b->top), NANOSECONDS);
 }
 
-static void print_json(const build *b) {
+static void json_level(const build *b, uint64_t m) {
     const icotable_size *s = &b->size;
-    printf("{\"kind\": \"%s\", \"top\": %llu, \"terms\": %llu, \"distances\": %llu, \"slabs\": %llu, \"store\": %llu, \"store_bytes\": %llu, \"row_bytes\": %llu, "
-           "\"mesh_bytes\": %llu, \"locator_bytes\": %llu, \"memory_bytes\": %llu, \"file_bytes\": %llu, \"levels\": [",
-           b->atom ? "atom" : "pair", (unsigned long long)b->top, (unsigned long long)b->terms, (unsigned long long)b->distances,
-           (unsigned long long)b->slabs, (unsigned long long)s->store, (unsigned long long)b->store, (unsigned long long)b->rows, (unsigned long long)b->meshes,
-           (unsigned long long)b->locators, (unsigned long long)memory_of(b), (unsigned long long)s->file);
-    for (uint64_t m = 0; m <= b->top; m++) {
-        printf("%s{\"level\": %llu, \"vertices\": %llu, \"cell_offsets\": %llu, \"cell_vertices\": %llu, \"face_offsets\": %llu, \"faces\": %llu, "
-               "\"comparisons\": %llu",
-               m > 0 ? ", " : "", (unsigned long long)m, (unsigned long long)icotable_vertices(m), (unsigned long long)s->cell_offsets[m],
-               (unsigned long long)s->cell_vertices[m], (unsigned long long)s->face_offsets[m], (unsigned long long)s->faces[m],
-               (unsigned long long)s->comparisons[m]);
-        if (!b->atom)
-            printf(", \"estimated_settle_seconds\": %.6g", seconds_of(b, m));
-        putchar('}');
-    }
-    fputs("]", stdout);
+    json_open(NULL, '{');
+    json_count("level", m);
+    json_count("vertices", icotable_vertices(m));
+    json_count("cell_offsets", s->cell_offsets[m]);
+    json_count("cell_vertices", s->cell_vertices[m]);
+    json_count("face_offsets", s->face_offsets[m]);
+    json_count("faces", s->faces[m]);
+    json_count("comparisons", s->comparisons[m]);
     if (!b->atom)
-        printf(", \"estimated_nanoseconds_per_comparison\": %g", NANOSECONDS);
-    puts("}");
+        json_double("estimated_settle_seconds", seconds_of(b, m));
+    json_close('}');
 }
 
-/* The options, and how many words they take; -1 where one is wrong. */
-static int options_of(build *b, bool *json, int count, char **words) {
-    int at = 0;
-    for (; at < count && strncmp(words[at], "--", 2) == 0; at++)
-        if (strcmp(words[at], "--json") == 0)
-            *json = true;
-        else if (strcmp(words[at], "--terms") != 0 || ++at == count || !whole_of(words[at], &b->terms))
-            return -1;
-    return at;
+static void print_json(const build *b) {
+    json_text("kind", b->atom ? "atom" : "pair");
+    json_count("top", b->top);
+    json_count("terms", b->terms);
+    json_count("distances", b->distances);
+    json_count("slabs", b->slabs);
+    json_count("store", b->size.store);
+    json_count("store_bytes", b->store);
+    json_count("row_bytes", b->rows);
+    json_count("mesh_bytes", b->meshes);
+    json_count("locator_bytes", b->locators);
+    json_count("memory_bytes", memory_of(b));
+    json_count("file_bytes", b->size.file);
+    json_open("levels", '[');
+    for (uint64_t m = 0; m <= b->top; m++)
+        json_level(b, m);
+    json_close(']');
+    if (!b->atom)
+        json_double("estimated_nanoseconds_per_comparison", NANOSECONDS);
+}
+
+static int said(build *b, uint64_t number, bool json) {
+    if (number == 0)
+        count_bytes(b);
+    if (!json) {
+        if (number == 0)
+            print_words(b);
+        else
+            printf("refused with %llu: %s\n", (unsigned long long)number, icotable_words(number));
+        return number == 0 ? GOOD : FOUND;
+    }
+    json_open(NULL, '{');
+    json_flag("accepted", number == 0);
+    json_count("number", number);
+    if (number == 0)
+        print_json(b);
+    else
+        json_text("words", icotable_words(number));
+    json_close('}');
+    json_end();
+    return number == 0 ? GOOD : FOUND;
 }
 
 int size_tool(int count, char **names) {
     build b = {0};
-    bool json = false;
-    int options = options_of(&b, &json, count, names);
-    if (options < 0 || !settings_of(&b, count - options, names + options)) {
+    const char *terms = given("--terms");
+    if ((terms != NULL && !whole_of(terms, &b.terms)) || !settings_of(&b, count, names)) {
         fputs("icotable size: RMIN RMAX DR [STEP] TOP are numbers, TOP and the N of --terms whole ones; without STEP there are no terms\n", stderr);
         return TROUBLE;
     }
@@ -163,14 +184,5 @@ int size_tool(int count, char **names) {
         fputs("icotable size: no memory for the meshes\n", stderr);
         return TROUBLE;
     }
-    if (number != 0) {
-        printf("refused with %llu: %s\n", (unsigned long long)number, icotable_words(number));
-        return FOUND;
-    }
-    count_bytes(&b);
-    if (json)
-        print_json(&b);
-    else
-        print_words(&b);
-    return GOOD;
+    return said(&b, number, given("--json") != NULL);
 }

@@ -2,29 +2,49 @@
  * is a seal beside it, the table has to be the sealed one. */
 #include "tools.h"
 
-#include <string.h>
-
-static int judge(const table_file *f) {
-    print_verdict(stdout, f);
-    int verdict = f->table.number != 0 ? FOUND : GOOD, seal = verify_seal(f);
+static int judge(const table_file *f, bool json) {
+    if (json)
+        json_verdict(f);
+    else
+        print_verdict(stdout, f);
+    int verdict = f->table.number != 0 ? FOUND : GOOD, seal = verify_seal(f, json);
     return seal > verdict ? seal : verdict;
+}
+
+static int verify(const char *name, bool json) {
+    table_file f;
+    int status = open_table(&f, name);
+    if (json)
+        json_open(NULL, '{');
+    if (status == GOOD) {
+        if (given("--viewer") != NULL)
+            view_table(&f);
+        status = judge(&f, json);
+    } else if (json) {
+        json_text("file", name);
+        json_text("trouble", last_trouble());
+    }
+    if (json)
+        json_close('}');
+    close_table(&f);
+    return status;
 }
 
 int verify_tool(int count, char **names) {
     int status = GOOD;
-    bool viewer = strcmp(names[0], "--viewer") == 0;
-    if (viewer && count == 1) {
-        fputs("icotable: verify --viewer: a file is missing\n", stderr);
-        return TROUBLE;
+    bool json = given("--json") != NULL;
+    if (json) {
+        json_open(NULL, '{');
+        json_open("files", '[');
     }
-    for (int i = viewer; i < count; i++) {
-        table_file f;
-        int opened = open_table(&f, names[i]);
-        if (opened == GOOD && viewer)
-            view_table(&f);
-        int verdict = opened == GOOD ? judge(&f) : opened;
+    for (int i = 0; i < count; i++) {
+        int verdict = verify(names[i], json);
         status = verdict > status ? verdict : status;
-        close_table(&f);
+    }
+    if (json) {
+        json_close(']');
+        json_close('}');
+        json_end();
     }
     return status;
 }

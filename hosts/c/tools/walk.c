@@ -138,7 +138,7 @@ static place walk_bound(const uint8_t *bytes, const sections *s) {
     return nothing;
 }
 
-static bool is_nan(uint32_t bits) {
+bool is_nan(uint32_t bits) {
     return (bits & 0x7FFFFFFF) > 0x7F800000;
 }
 
@@ -155,7 +155,7 @@ static place walk_row(const uint8_t *bytes, size_t at, size_t slab, size_t level
         return found(15, at + 2, "row %zu (%s) has an offset in a field that is not used", slab, kind_words(kind));
     if (kind != SCALAR && scalar != 0)
         return found(15, at + 6, "row %zu (%s) has a scalar in a field that is not used", slab, kind_words(kind));
-    if (kind == SCALAR && is_nan(scalar) && scalar != 0x7FC00000)
+    if (kind == SCALAR && is_nan(scalar) && scalar != TABLE_NAN)
         return found(15, at + 6, "row %zu has the NaN %08X, and 7FC00000 is the one that a table holds", slab, scalar);
     return nothing;
 }
@@ -213,16 +213,4 @@ place find_place(const uint8_t *bytes, size_t count, bool atom, bool viewer) {
     for (size_t k = 0; p.number == 0 && k < sizeof walks / sizeof walks[0]; k++)
         p = walks[k](bytes, &s);
     return p;
-}
-
-void print_verdict(FILE *out, const table_file *f) {
-    uint64_t number = f->table.number;
-    if (number == 0) {
-        fprintf(out, "%s: %s, accepted%s\n", f->name, table_words(f->atom), f->viewer ? " under a viewer's bounds" : "");
-        return;
-    }
-    fprintf(out, "%s: refused with %llu as %s: %s\n", f->name, (unsigned long long)number, table_words(f->atom), icotable_words(number));
-    place p = find_place(f->bytes, f->count, f->atom, f->viewer);
-    if (p.number == number)
-        fprintf(out, "%s: at byte %zu: %s\n", f->name, p.byte, p.why);
 }

@@ -60,7 +60,7 @@ class NoLibrary(ImportError):
 
 
 def _repository() -> Optional[Path]:
-    """The folder of the repository that this package lies in, if it does."""
+    """The folder of the repository or the release archive that this package lies in, if it does."""
     top = Path(__file__).resolve().parents[3]
     return top if (top / "include" / "icotable.h").is_file() else None
 
@@ -73,7 +73,8 @@ def _places() -> list[str]:
     places = [str(path) for path in sorted(Path(__file__).resolve().parent.glob("libicotable.so*"))]
     top = _repository()
     if top is not None:
-        places += [str(path) for path in sorted((top / "target" / "hosts" / "whole").glob("libicotable.so*"))]
+        # what make leaves, or what a release archive has
+        places += [str(path) for folder in ("target/hosts/whole", "lib") for path in sorted((top / folder).glob("libicotable.so*"))]
     return places + [SONAME, "libicotable.so"]
 
 
