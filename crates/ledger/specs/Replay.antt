@@ -29,8 +29,8 @@ pub data Kind : Type 0 where
   settles : ℕ → Kind
   writes : Kind
 
--- the calls and their kinds; how many distance bins there are, and dihedral bins in each; the fresh ledger; the number that a call is answered, 0 where it is
--- accepted; and the ledger after it
+-- the calls and their kinds; how many distance bins there are, and dihedral bins in each; the fresh ledger; the number that a set or a settle is
+-- answered, 0 where it is accepted (of a write nothing is asked: 0); and the ledger after it
 pub record Keeping : Type 1 where
   pub Calls : Type 0
   pub kind : Calls → Kind
@@ -218,6 +218,7 @@ abbrev pub atomWithCalls : AtomHistory → List AtomCall → AtomHistory
 atomWithCalls h cs = record { grid = h .grid; top = h .top; meshes = h .meshes; lists = h .lists; calls = cs; output = h .output }
 
 -- other calls after the same fresh, and both writes accepted: where the ledgers are equal the files are, byte for byte. So each law is about files, too
+-- (S26.7)
 abbrev pub EqualFiles : Type 0
 EqualFiles = (h : History) (ds : List Call) → Accepted h → Accepted (withCalls h ds) → after (keepingOf h) ds ≡ after (keepingOf h) (h .calls) → file (withCalls h ds) ≡ file h
 
