@@ -1,13 +1,15 @@
 """The files of specs/ and proofs/: what they use, and what they declare."""
 import re
 
-from tokens import Group, grouped, split, tokens_of
+from tokens import Group, grouped, tokens_of, word
 from wrong import Wrong
 
 MARKS = re.compile(r'^(\s*)((?:(?:unfoldable|abbrev|pub|axiom) )*)')
 SHAPES = 'data', 'record'
 # chunks that declare nothing: fixity, and what proofs hand to tactics
 ASIDE = 'infix', 'infixl', 'infixr', 'ruleset'
+UNREAD = 'open', 'mutual', 'deriving'
+SIGNATURE = re.compile(r'\s*(«[^»]*»|[^\s(){}.;,@"«»]+)( \{[^:}]*\})? :( |$)')
 
 
 class Chunk:
@@ -51,16 +53,15 @@ def chunks(lines):
 
 
 class Definition:
-    """What a file declares: its words, its text, and what stands in it."""
+    """What a file declares: its words, its text, and what stands in it. `sections` are the heads of the blocks around
+    it, the outermost first."""
 
-    def __init__(self, module, kind, name, chunk, section):
-        self.module, self.kind, self.name, self.section = module, kind, name, section
+    def __init__(self, module, kind, name, chunk, sections):
+        self.module, self.kind, self.name, self.sections = module, kind, name, sections
         self.line = chunk.lines[0][0]
-        self.comment, self.shown = chunk.comment, list(chunk.bare())
+        self.comment, self.head, self.shown = chunk.comment, chunk.bare(), chunk.bare()
+        self.marks = MARKS.match(chunk.lines[0][1]).group(2).split()
         self.fields, self.constructors, self.clauses = [], [], []
-
-    def place(self):
-        return self.module.place
 
     def key(self):
         return '%s %s' % (self.module.crate, self.module.place), self.name
@@ -68,10 +69,15 @@ class Definition:
     def where(self):
         return '%s:%d' % (self.module.file, self.line)
 
-    def text(self):
-        """The comment and the declaration, under the line of its section."""
-        head = [text for _, text in self.section.lines] if self.section else []
-        return '\n'.join(head + [text for _, text in self.comment + self.shown])
+    def signature(self):
+        """Of a function: its level parameters, None where there are none, and its type."""
+        items = grouped(tokens_of(self.head, self.module.file))[1:]
+        return (items[0], items[2:]) if isinstance(items[0], Group) else (None, items[1:])
+
+    def text(self, whole=True, heads=True):
+        """The comment and the declaration, under the heads of its sections; or no more than its type."""
+        above = [line for head in self.sections for line in head.comment + head.lines] if heads else []
+        return '\n'.join(text for _, text in above + self.comment + (self.shown if whole else self.head))
 
 
 def before(items, text):
@@ -90,22 +96,19 @@ class Module:
         self.place = '%s/%s' % (folder, name.replace('.', '/'))
         self.uses, self.modules, self.shared = {}, {}, set()
         self.defined, self.built = {}, {}
-        self.block(list(enumerate(text.split('\n'), 1)), None)
+        self.block(list(enumerate(text.split('\n'), 1)), ())
 
-    def block(self, lines, section):
+    def block(self, lines, sections):
         current = None
         for chunk in chunks(lines):
             first = chunk.first()
             if first == 'use':
                 self.use(chunk)
             elif first == 'module':
-                head = Chunk([], chunk.lines[:1])
-                head.items = grouped(tokens_of(head.lines, self.file))
-                if head.items[-1].text != 'where' or section:
-                    raise Wrong('%s:%d' % (self.file, head.lines[0][0]), 'a block that is not read by this program')
-                self.block(chunk.lines[1:], head)
+                head, rest = self.head(chunk.lines)
+                self.block(rest, sections + (Chunk(chunk.comment, head),))
             elif first not in ('mod',) + ASIDE:
-                current = self.declares(chunk, section, current)
+                current = self.declares(chunk, sections, current)
 
     def use(self, chunk):
         """use M.{a, b as c}; use M; use M as N"""
@@ -123,47 +126,33 @@ class Module:
             if 'pub' in marked:
                 self.shared.add(name or parts[-1])
 
-    def declares(self, chunk, section, current):
-        """A data type, a record, a signature, or a line of the function whose signature came last."""
-        first = chunk.first()
+    def declares(self, chunk, sections, current):
+        """A data type, a record, a signature, or a clause of the function whose signature came last."""
+        first, place = chunk.first(), '%s:%d' % (self.file, chunk.lines[0][0])
         if first in SHAPES:
-            return self.shape(chunk, section)
+            return self.shape(chunk, sections)
         if first == 'unfolding':
             return current
-        if first in ('open', 'axiom', 'mutual', 'unfoldable', 'deriving'):
-            if self.folder == 'specs':
-                raise Wrong('%s:%d' % (self.file, chunk.lines[0][0]), '`%s` is not read by this program' % first)
-            return None
-        if self.folder == 'proofs' and not self.signature_line(chunk):
-            if current:
-                current.clauses.append(chunk)
-                current.shown += chunk.comment + chunk.lines
-            return current
-        items = grouped(tokens_of(chunk.bare(), self.file))
-        name, rest = items[0].text, items[1:]
-        levels = rest.pop(0) if rest and isinstance(rest[0], Group) and rest[0].text == '{' else None
-        if rest and rest[0].text == ':':
-            found = Definition(self, 'function', name, chunk, section)
-            found.levels, found.signature = levels, rest[1:]
-            self.add(found)
-            return found
-        if current is None or current.kind != 'function':
-            raise Wrong('%s:%d' % (self.file, chunk.lines[0][0]), 'a line that belongs to no declaration')
-        current.clauses.append(chunk)
-        current.shown += chunk.comment + chunk.lines
+        if first in UNREAD or chunk.lines[0][1].strip().startswith('axiom'):
+            raise Wrong(place, '`%s` is not read by this program' % chunk.lines[0][1].strip())
+        signed = SIGNATURE.match(chunk.bare()[0][1])
+        if signed:
+            current = Definition(self, 'function', word(signed.group(1), 0)[1], chunk, sections)
+            self.add(current)
+        elif current is None or current.kind != 'function':
+            raise Wrong(place, 'a line that belongs to no declaration')
+        else:
+            current.clauses.append(chunk)
+            current.shown = current.shown + chunk.comment + chunk.lines
         return current
 
-    @staticmethod
-    def signature_line(chunk):
-        return re.match(r'\s*[^\s(){}.;,@"]+( \{[^:}]*\})? :( |$)', chunk.bare()[0][1])
-
-    def shape(self, chunk, section):
+    def shape(self, chunk, sections):
         """data NAME PARAMETERS : TYPE where, and its constructors; a record likewise, and its fields."""
         kind = chunk.first()
         lines = chunk.bare()
         head, rest = self.head(lines)
         items = grouped(tokens_of(head, self.file))
-        found = Definition(self, kind, items[1].text, chunk, section)
+        found = Definition(self, kind, items[1].text, chunk, sections)
         found.parameters, found.result = before(before(items, 'where')[0][2:], ':')
         found.shown = head
         for inner in chunks(rest):
@@ -197,6 +186,3 @@ def telescope(items):
     while at < len(items) and isinstance(items[at], Group) and items[at].has(':'):
         at += 1
     return items[:at], items[at:]
-
-
-__all__ = ['Definition', 'Module', 'before', 'split', 'telescope']

@@ -30,9 +30,6 @@ class Declared:
         self.line = source.bare.count('\n', 0, start) + 1
         self.fields, self.constructors = [], []
 
-    def place(self):
-        return self.source.place
-
     def key(self):
         return '%s %s' % (self.source.crate, self.source.place), self.name
 

@@ -5,9 +5,12 @@ from antt import Definition
 from kit import CLAUSE, FIELDS
 from rattle import Declared
 from terms import Reader, Scope
-from tokens import grouped, tokens_of
+from tokens import grouped, split, tokens_of
 from tree import Constructor, Kit
 from wrong import Wrong
+
+# what the type of a law ends in, where a promised type names that law
+PROPOSITIONS = '≡', '≤', '<', '↔', '⊥'
 
 
 class Named:
@@ -71,8 +74,16 @@ class Graph:
 
 
 def is_law(found):
-    """A declaration of proofs/ with a body counts as its type, but where the body says what it is: an abbreviation."""
-    return isinstance(found, Definition) and found.kind == 'function' and found.module.folder == 'proofs'
+    """Whether a declaration counts by its type alone: one of proofs/ that is no abbreviation and states something."""
+    if not isinstance(found, Definition) or found.kind != 'function' or found.module.folder != 'proofs':
+        return False
+    return 'abbrev' not in found.marks and 'unfoldable' not in found.marks
+
+
+def states(found):
+    """Whether the type of a function of proofs/ ends in a proposition, as far as its text tells."""
+    result = split(found.signature()[1], '→')[-1]
+    return any(item.text in PROPOSITIONS for item in result) or result[0].text == 'T'
 
 
 class Reached:
@@ -81,6 +92,9 @@ class Reached:
     def __init__(self, graph, promise):
         self.promise, self.items, self.kit = promise, [promise], set()
         for found in self.items:
+            if found is not promise and is_law(found) and not states(found):
+                raise Wrong(found.where(), '`%s` is named in a promise: a definition of specs/ or an abbreviation is '
+                            'read whole, a law by its type, and this is neither' % found.name)
             named = graph.named(found)
             self.kit |= named.kit
             self.items += [item for item in named.items if item not in self.items]

@@ -3,7 +3,7 @@ prelude's; anything else is an error."""
 from antt import before, telescope
 from kit import CLAUSE, CONSTRUCTORS, FORMS, HIDDEN, NOTATION, PRELUDE
 from tokens import NUMERAL, RESERVED, Group, grouped, split, tokens_of
-from tree import Constructor, Kit, is_function
+from tree import Constructor, Kit
 from wrong import Wrong
 
 
@@ -177,20 +177,26 @@ class Reader:
 
     # ---- declarations
 
-    def section(self, chunk):
-        """The names that a section's parameters bind."""
+    def sections(self, found):
+        """The names that the parameters of its sections bind."""
         bound = set()
-        for group in chunk.items[2:-1] if chunk else []:
-            self.group(group, bound)
+        for head in found.sections:
+            items = grouped(tokens_of(head.lines, found.module.file))
+            groups, rest = telescope(items[2:])
+            if [item.text for item in items[:2] + rest] != ['module', '_', 'where']:
+                raise Wrong('%s:%d' % (found.module.file, head.lines[0][0]), 'a block that is not read by this program')
+            for group in groups:
+                self.group(group, bound)
         return bound
 
     def definition(self, found, whole):
         """All of a definition; of a law its type alone."""
-        bound = self.section(found.section)
+        bound = self.sections(found)
         if found.kind == 'function':
-            if found.levels:
-                bound |= self.simple(found.levels.items)
-            self.term(found.signature, bound)
+            levels, signature = found.signature()
+            if levels:
+                bound |= self.simple(levels.items)
+            self.term(signature, bound)
             for chunk in found.clauses if whole else []:
                 self.clause(found, chunk, bound)
             return
@@ -212,6 +218,3 @@ class Reader:
         inner = set(bound)
         self.pattern(left[1:], inner)
         self.term(value, inner)
-
-
-__all__ = ['Reader', 'Scope', 'is_function']

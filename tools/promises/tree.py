@@ -3,7 +3,7 @@ import glob
 import os
 import re
 
-from antt import Definition, Module
+from antt import Module
 from rattle import PRIMITIVE, Source
 from wrong import Wrong
 
@@ -147,7 +147,3 @@ class Tree:
                 if there and path[-1] in there.used:
                     return self.item(there, there.used[path[-1]], place, kind)
         raise Wrong(place, '`%s` is nothing that the repository declares' % '::'.join(path))
-
-
-def is_function(found):
-    return isinstance(found, Definition) and found.kind == 'function'
