@@ -14,14 +14,25 @@ PROPOSITIONS = '≡', '≤', '<', '↔', '⊥'
 
 
 class Named:
-    """What one declaration names: other declarations in the order of their first mention, names of the kit, and fields
-    and record literals, whose records are looked for among all that is reached."""
+    """What one declaration names: other declarations in the order of their first mention, names of the kit, all names by
+    their spelling, and fields and record literals, whose records are looked for among all that is reached."""
 
     def __init__(self, reader):
-        homes = [found.home if isinstance(found, Constructor) else found for found in reader.named]
+        homes = [found.home if isinstance(found, Constructor) else found for _, found in reader.named]
         self.items = list(dict.fromkeys(found for found in homes if not isinstance(found, Kit)))
         self.kit = {found.path for found in homes if isinstance(found, Kit)}
+        self.spelled = {(name, meant(found)) for name, found in reader.named}
         self.fields, self.literals = reader.fields, reader.literals
+
+
+def meant(found):
+    """What a name means: where it is declared, the name that it has there and, of a constructor, its type's; of the kit
+    its path."""
+    if isinstance(found, Kit):
+        return '', found.path, ''
+    if isinstance(found, Constructor):
+        return found.home.key()[0], found.name, found.home.name
+    return found.key() + ('',)
 
 
 class Graph:
@@ -53,7 +64,7 @@ class Graph:
             for word in re.findall(r"'?[A-Za-z_][\w:]*", text):
                 item = word[0] != "'" and word not in ('mut',) and self.tree.typed(source, word.split('::'), found.where())
                 if item:
-                    reader.named.append(item)
+                    reader.named.append((word.split('::')[-1], item))
         for lines in found.clauses if found.kind == 'fn' else []:
             reader.term(grouped(tokens_of(lines, source.file)), set(found.parameters))
         return reader
@@ -90,7 +101,7 @@ class Reached:
     """All that a promise reaches, by depth and in the order of first mention, and the names of the kit."""
 
     def __init__(self, graph, promise):
-        self.promise, self.items, self.kit = promise, [promise], set()
+        self.graph, self.promise, self.items, self.kit = graph, promise, [promise], set()
         for found in self.items:
             if found is not promise and is_law(found) and not states(found):
                 raise Wrong(found.where(), '`%s` is named in a promise: a definition of specs/ or an abbreviation is '
@@ -99,19 +110,26 @@ class Reached:
             self.kit |= named.kit
             self.items += [item for item in named.items if item not in self.items]
         self.edges = {found: [item for item in graph.named(found).items if item is not found] for found in self.items}
-        self.whole(graph)
+        self.whole()
 
-    def whole(self, graph):
+    def whole(self):
         """Each field that is read is one of a reached record, and so are those of each literal, all of one."""
         records = [frozenset(name for names, _ in found.fields for name in names) for found in self.items]
         fields = set().union(*records)
         for found in self.items:
-            for name, place in graph.named(found).fields:
+            for name, place in self.graph.named(found).fields:
                 if name not in fields and name not in FIELDS:
                     raise Wrong(place, '`.%s` is a field of nothing that is reached' % name)
-            for labels, place in graph.named(found).literals:
+            for labels, place in self.graph.named(found).literals:
                 if labels not in records:
                     raise Wrong(place, 'a record with the fields %s is not reached' % ', '.join(sorted(labels)))
+
+    def spelled(self):
+        """What each spelling means, at all places of the promise together."""
+        found = {}
+        for name, target in sorted(one for item in self.items for one in self.graph.named(item).spelled):
+            found.setdefault(name, set()).add(target)
+        return found
 
     def sections(self):
         """What is reached but for the promise itself, by file: a file before those that it uses, and in a file each

@@ -16,7 +16,7 @@ class Scope:
         self.operators = {}
         for name in names:
             if '_' in name and not name.startswith('«'):
-                for part in name.split('_'):
+                for part in filter(None, name.split('_')):
                     self.operators.setdefault(part, []).append(name)
 
     def lookup(self, name, place):
@@ -27,12 +27,14 @@ class Scope:
             return self.tree.found(self.uses[name], place)
         if name in self.lent:
             return Kit(CLAUSE[name])
-        spelled = self.operators.get(name, [])
-        if len(spelled) > 1:
-            raise Wrong(place, '`%s` is a part of %s' % (name, ' and of '.join('`%s`' % one for one in spelled)))
-        if spelled and name:
-            return self.lookup(spelled[0], place)
         return Kit(PRELUDE[name]) if name in PRELUDE else None
+
+    def spelled(self, name, place):
+        """The name itself, or the operator of which it is a part."""
+        whole = self.operators.get(name, []) if self.lookup(name, place) is None else []
+        if len(whole) > 1:
+            raise Wrong(place, '`%s` is a part of %s' % (name, ' and of '.join('`%s`' % one for one in whole)))
+        return whole[0] if whole else name
 
     def path(self, parts, place):
         """What a path means whose first part is not bound nearby."""
@@ -59,10 +61,11 @@ class Reader:
         if parts[0] in bound:
             self.fields += [(part, place) for part in parts[1:] if not NUMERAL.match(part)]
             return
-        found = self.scope.path(parts, place) if len(parts) > 1 else self.scope.lookup(parts[0], place)
+        name = self.scope.spelled(parts[0], place) if len(parts) == 1 else '.'.join(parts)
+        found = self.scope.path(parts, place) if len(parts) > 1 else self.scope.lookup(name, place)
         if found is None:
-            raise Wrong(place, '`%s` is nothing that is known here' % '.'.join(parts))
-        self.named.append(found)
+            raise Wrong(place, '`%s` is nothing that is known here' % name)
+        self.named.append((name, found))
 
     def term(self, items, bound):
         """A term, or several with commas between them."""
@@ -165,11 +168,12 @@ class Reader:
                 raise Wrong(item.place(), 'a pattern that is not read by this program')
 
     def leaf(self, item, bound):
-        found = self.scope.lookup(item.text, item.place()) if len(item.parts) == 1 else None
+        name = self.scope.spelled(item.text, item.place())
+        found = self.scope.lookup(name, item.place())
         if len(item.parts) > 1:
             self.refer(item, set())
         elif isinstance(found, Constructor) or isinstance(found, Kit) and found.path in CONSTRUCTORS:
-            self.named.append(found)
+            self.named.append((name, found))
         elif isinstance(found, Kit) and found.path not in HIDDEN:
             raise Wrong(item.place(), 'a pattern has `%s`: say in kit.py whether it is a constructor' % found.path)
         else:
