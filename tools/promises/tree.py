@@ -25,7 +25,9 @@ class Constructor:
 
 
 class Tree:
-    """The crates under a root folder."""
+    """The crates under a root folder. A file that was read before, with the same text, is not read again."""
+
+    read = {}
 
     def __init__(self, root):
         self.root, self.modules, self.sources, self.crates = root, {}, {}, self.listed(root)
@@ -41,22 +43,28 @@ class Tree:
         with open(os.path.join(self.root, file), encoding='utf-8') as opened:
             return opened.read()
 
-    def exists(self, file):
-        return os.path.isfile(os.path.join(self.root, file))
+    def once(self, kind, file, *names):
+        """A file as it was read, None where there is none."""
+        if not os.path.isfile(os.path.join(self.root, file)):
+            return None
+        key = file, self.content(file)
+        if key not in Tree.read:
+            Tree.read[key] = kind(*names, *key)
+        return Tree.read[key]
 
     def module(self, crate, folder, name):
         """A file of specs/ or proofs/, None where there is none."""
         key = crate, folder, name
         if key not in self.modules:
             file = 'crates/%s/%s/%s.antt' % (crate, folder, name.replace('.', '/'))
-            self.modules[key] = self.exists(file) and Module(crate, folder, name, file, self.content(file)) or None
+            self.modules[key] = self.once(Module, file, crate, folder, name)
         return self.modules[key]
 
     def source(self, crate, module):
         key = crate, module
         if key not in self.sources:
             file = 'crates/%s/src/%s.rt' % (crate, module)
-            self.sources[key] = self.exists(file) and Source(crate, module, file, self.content(file)) or None
+            self.sources[key] = self.once(Source, file, crate, module)
         return self.sources[key]
 
     def names(self, crate, folder, ending):
