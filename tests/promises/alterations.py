@@ -208,6 +208,14 @@ def checks(folder):
     print('--check: names what differs')
 
 
+def links():
+    """The index points to files that are there."""
+    page = [sys.executable, 'tests/hosts/links.py', 'docs/promises/README.md']
+    done = subprocess.run(page, capture_output=True, text=True, cwd=ROOT)
+    expect(done.returncode == 0, done.stdout + done.stderr)
+    print('the index: ' + done.stdout.strip().split('\n')[-1])
+
+
 def main():
     with tempfile.TemporaryDirectory() as folder:
         copied(folder)
@@ -217,6 +225,7 @@ def main():
         reordered(folder, before)
         fails(folder)
         checks(folder)
+    links()
     print('tests/promises: %d wrong' % len(wrong))
     sys.exit(bool(wrong))
 

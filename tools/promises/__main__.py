@@ -10,7 +10,8 @@ It reads crates/*/src/*.rt, specs/*.antt and proofs/*.antt itself and needs no k
 definition that it reaches is bound where it stands, or is a definition of the repository, or a name of the kit; any
 other is an error, which says file, line and name. tokens.py and antt.py read antt, rattle.py reads Rattle, tree.py says
 what a path means, terms.py what a name means in a term, reach.py what is reached, page.py what docs/PROMISE.md names,
-text.py and index.py write, stored.py compares; kit.py has what has to be known of the kit, operations.py the order of the index."""
+text.py and index.py write, stored.py compares; kit.py has what has to be known of the kit, operations.py the order of the
+index."""
 import argparse
 import os
 import sys

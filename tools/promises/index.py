@@ -3,34 +3,36 @@ import re
 import subprocess
 
 from operations import OPERATIONS
-from text import number
 from wrong import Wrong
 
 HEAD = '''# All that has to be believed
 
-One file for each promise: the contract of each export, the contract of each function that
-[PROMISE](../PROMISE.md) names, and the type of each law that it names. A file has the promise, every definition of
-this repository that it reaches, and the names of the kit that these use. Nothing else has to be read to know what is
-promised. There are %(count)s files, with %(reached)s different definitions. The longest is
-[%(longest)s](%(file)s), with %(lines)s lines; half of them have fewer than %(middle)s.
+One file for each promise: the contract of each export, the contract of each function that [PROMISE](../PROMISE.md)
+names, and the type of each law that it names. A file has the promise, every definition of this repository that it
+reaches, and the names of the kit that these use. To know what is promised you need to read nothing else.
 
-`tools/promises/run` writes the files from crates/, and the gate compares them (`tools/promises/run --check`). A landing
-moves no promise where `git diff` of this folder is empty; where it is not, the diff shows what moved.
+There are %(count)s files, with %(reached)s different definitions. The longest is [%(longest)s](%(file)s), with %(lines)s
+lines; half of the files have fewer than %(middle)s.
 
-## How to read one
+`tools/promises/run` writes the files from crates/, and the gate compares them (`tools/promises/run --check`). If
+`git diff` of this folder is empty, no promise has moved. If it is not, the diff shows what moved.
+
+## How to read a file
 
 - A contract is `ensures { λ r. ⌜ .. ⌝ }`: what is between the corners holds of the result r, whatever the arguments.
   `now (x .entry)` is what the lent list or struct x holds when the call begins, `now (x .exit)` what it holds when the
-  call has returned. No export has a condition on its arguments.
+  call has returned. No contract here has a condition that the caller must meet.
 - A law is a name and its type. The type is the statement; the proof is not shown.
 - The definitions come by file, a file before those that it uses, and in a file each definition before those that it
   uses. A heading says where they are: `` `grid` specs/Settings `` is crates/grid/specs/Settings.antt, and
   `` `grid` src/lib `` is crates/grid/src/lib.rt.
-- Of a definition the comment and all clauses are shown. Marks and lines that say who may name or unfold it (`pub`,
-  `abbrev`, `unfoldable`, `unfolding`) are left out: they do not alter what it is. Fields and clauses stay in their
-  order; where a definition stands in its file does not matter.
+- A name means the definition of that name in the file at hand, or the kit's. Where a name is declared under another
+  one, or where two things of a file have one name, a line below the heading (`Here`) says which is meant.
+- The comment and all clauses of a definition are shown. Marks and lines that say who may name or unfold it (`pub`,
+  `abbrev`, `unfoldable`, `unfolding`) are left out: they do not alter what it is.
 - A struct or an enum is shown as the code declares it. In the logic it is a record or a data type with the same fields
-  or variants: an unsigned integer is a natural number, a float is a `Float`, an array or a slice is a list.
+  or variants. An unsigned integer is a natural number, a signed one an integer, a float is a `Float`; an array or a
+  slice is a list.
 
 ## The boundary
 
@@ -48,7 +50,7 @@ How Rattle reads a contract and checks a proof is the kit's too. What else is tr
 |---|---|---|
 '''
 TAIL = '''
-A law whose type is a name:
+The types of the laws, where they are names:
 
 | law | type |
 |---|---|
@@ -89,6 +91,3 @@ def index(promises, texts, stored):
     typed = [one for one in promises.values() if one.typed()]
     rows = ['| [%s](%s) | `%s` |\n' % (one.name, one.file, one.typed()) for one in typed]
     return text + TAIL + ''.join(rows)
-
-
-__all__ = ['index', 'number']

@@ -105,14 +105,14 @@ class Source:
             at = result.end()
             typed.append(result.group(1))
         while True:
-            clause = re.compile(r'\s*(?:(?:requires|ensures|measure|decreases)(?: \w+)?)\s*\{').match(self.bare, at)
+            clause = re.compile(r'\s*ensures(?: \w+)?\s*\{').match(self.bare, at)
             if not clause:
                 break
             at = closing(self.bare, clause.end() - 1, self.file)
             clauses.append((clause.end(), at))
             at += 1
-        if not re.compile(r'\s*\{').match(self.bare, at):
-            raise Wrong('%s: %s' % (self.file, name), 'the contract is not read by this program')
+        if not clauses or not re.compile(r'\s*\{').match(self.bare, at):
+            raise Wrong('%s: %s' % (self.file, name), 'a contract that has a condition, or none, or is not read')
         item = Declared(self, 'fn', name, start, at)
         item.types, item.parameters = typed, [escaped(name) for name, _ in parameters]
         item.clauses = [self.lines(*clause) for clause in clauses]
