@@ -1,6 +1,7 @@
 #!/usr/bin/env python3
-"""The snippets of docs/GUIDE.md as one program, in the page's order but for one: guide.py GUIDE > PROGRAM.c. What the page leaves to the host (lists, bins, a
-query, `check`) is declared here. The program leaves guide.icotable and two journals in the folder that it is started in."""
+"""The snippets of docs/GUIDE.md as one program, in the page's order but for one: guide.py GUIDE > PROGRAM.c. What the
+page leaves to the host (lists, bins, a query, `check`) is declared here. The program leaves guide.icotable and two
+journals in the folder that it is started in."""
 import sys
 
 HEAD = """#include "environment.h"
@@ -110,7 +111,9 @@ def main():
         snippets(page, "Finding a direction without a locator", 4),
         "    }\n",
         HANDLES,
-        snippets(page, "Building a table", 4).replace("build.journal", "handles.journal").replace("table.icotable", TABLE),
+        snippets(page, "Building a table", 4)
+        .replace("build.journal", "handles.journal")
+        .replace("table.icotable", TABLE),
         HANDLED,
         snippets(page, "Reading in a simulation", 4).replace("table.icotable", TABLE),
         READ,

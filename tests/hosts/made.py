@@ -22,7 +22,8 @@ def tailed():
     file("no_tail", plain)
 
     def made(name, terms, prefactor, count=None, more=b""):
-        tail = struct.pack("<I", len(terms) if count is None else count) + b"".join(struct.pack("<ddI", *term) for term in terms)
+        tail = struct.pack("<I", len(terms) if count is None else count)
+        tail += b"".join(struct.pack("<ddI", *term) for term in terms)
         file(name, plain, tail, b"".join(struct.pack("<d", x) for x in prefactor), more)
 
     first, second, inf = (-1.5, 0.0, 6), (2.0, 0.25, 1), float("inf")
@@ -58,7 +59,8 @@ def views():
 def loose():
     def made(name, rows, count, offsets):
         head = grid(rows) + struct.pack("<3I", 1, 12, rows)
-        file(name, head, b"".join(struct.pack("<BBII", 3, 0, o, 0) for o in offsets), struct.pack(f"<I{count}f", count, *range(count)))
+        energies = struct.pack(f"<I{count}f", count, *range(count))
+        file(name, head, b"".join(struct.pack("<BBII", 3, 0, o, 0) for o in offsets), energies)
 
     made("loose", 1, 146, [2])
     made("packed", 1, 144, [0])
@@ -72,7 +74,8 @@ def large():
         rows = bytearray(struct.pack("<BBII", 0, 0, NO_OFFSET, 0) * slabs)
         if altered is not None:
             rows[10 * altered + 9] = 0x3F
-        head = struct.pack(f"<I{len(floats)}d", len(floats), *floats) + struct.pack(f"<{len(bins) + 1}I", len(bins), *bins)
+        head = struct.pack(f"<I{len(floats)}d", len(floats), *floats)
+        head += struct.pack(f"<{len(bins) + 1}I", len(bins), *bins)
         file(name, head, struct.pack("<3I", 1, 12, slabs), bytes(rows), bytes(4))
 
     for name, slab in ("large", None), ("larger", 1000):
