@@ -214,7 +214,7 @@ static void draw(list *l) {
     s->grid.omega_step = steps[below(l, 3)];
     s->grid.threshold = thresholds[below(l, 3)];
     s->flags = below(l, 4) == 0 ? ICOTABLE_JOURNAL_UNGUARDED : 0;
-    s->meshes = below(l, 8) == 0 ? "../turned.mesh" : NULL;
+    s->meshes = below(l, 8) != 0 ? NULL : s->top == 0 ? "../turned0.mesh" : "../turned1.mesh";
 }
 
 static void read_pose(list *l, const icotable_reader *t) {
@@ -288,15 +288,15 @@ static int compare(FILE *stored) {
 }
 
 /* The library's meshes with the axes turned round. */
-static void turned(void) {
+static void turned(const char *name, uint64_t top) {
     icotable_meshes m;
-    if (icotable_make_meshes(&m, 1) != 0)
+    if (icotable_make_meshes(&m, top) != 0)
         exit(2);
     for (size_t v = 0; v < m.vertices_count; v += 3) {
         double x = m.vertices[v];
         m.vertices[v] = m.vertices[v + 1], m.vertices[v + 1] = m.vertices[v + 2], m.vertices[v + 2] = x;
     }
-    if (icotable_meshes_save(&m, "../turned.mesh", NULL) != 0)
+    if (icotable_meshes_save(&m, name, NULL) != 0)
         exit(2);
     icotable_free_meshes(&m);
 }
@@ -306,7 +306,8 @@ int main(int count, char **words) {
     FILE *stored = count == 4 && strcmp(words[1], "check") == 0 ? fopen(words[2], "r") : NULL;
     if ((!making && stored == NULL) || chdir(words[3]) != 0)
         return fprintf(stderr, "usage: lists make COUNT FOLDER, lists check FILE FOLDER\n"), 2;
-    turned();
+    turned("../turned0.mesh", 0);
+    turned("../turned1.mesh", 1);
     if (!making)
         return compare(stored);
     make(strtoull(words[2], NULL, 10));
