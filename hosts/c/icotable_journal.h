@@ -123,7 +123,8 @@ icotable_journal_settled icotable_journal_settle(icotable_journal *j, uint64_t r
 uint64_t icotable_journal_length(const icotable_journal *j);
 icotable_written icotable_journal_write(icotable_journal *j, uint8_t *output, size_t output_count);
 
-/* What the guard says of a table now: 0, HOLES or UNSETTLED; for a host that writes with a tail:
+/* Whether the table may be written now: 0; NOT_OPEN; BROKEN after a record that could not be brought to disk; or what the guard
+ * says, HOLES or UNSETTLED. icotable_journal_write asks it, and so does a host that writes with a tail, before
  * icotable_write_tail(j.builder, ICOTABLE_JOURNAL_LISTS(&j), ICOTABLE_MESHES(j.meshes), ..). */
 uint64_t icotable_journal_whole(icotable_journal *j);
 #define ICOTABLE_JOURNAL_LISTS(j) (j)->store, (j)->store_count, (j)->words, (size_t)(j)->slabs

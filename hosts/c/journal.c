@@ -301,6 +301,8 @@ uint64_t icotable_journal_whole(icotable_journal *j) {
     uint64_t ri, slab = 0;
     if (j->state == SHUT)
         return say(j, ICOTABLE_JOURNAL_NOT_OPEN, "");
+    if (j->broken)
+        return say(j, ICOTABLE_JOURNAL_BROKEN, "");
     if (!j->guarded)
         return 0;
     if (j->set_count < j->slabs) {
@@ -402,7 +404,7 @@ uint64_t icotable_journal_length(const icotable_journal *j) {
 }
 
 icotable_written icotable_journal_write(icotable_journal *j, uint8_t *output, size_t output_count) {
-    icotable_written w = {.number = j->broken ? may_call(j) : icotable_journal_whole(j)};
+    icotable_written w = {.number = icotable_journal_whole(j)};
     if (w.number != 0)
         return w;
     w = j->atom ? icotable_atom_write(atom_of(&j->builder), ATOM_LISTS(j), ICOTABLE_MESHES(j->meshes), output, output_count)
