@@ -1,8 +1,10 @@
-/* begin JOURNAL --rmin X --rmax X --dr X --omega-step X --threshold X --beta X --top N: a new journal over the meshes that
- * mesh.h makes; with --atom in the place of --omega-step, of a table against an atom. Where the journal is there already with the
- * same settings nothing is altered but a torn end, so that a job that is started again can begin with it. */
+/* begin JOURNAL --rmin X --rmax X --dr X --omega-step X --threshold X --beta X --top N [--label TEXT] [--id HEX]: a new journal over the
+ * meshes that mesh.h makes; with --atom in the place of --omega-step, of a table against an atom. Where the journal is there already with
+ * the same settings, label and id nothing is altered but a torn end, so that a job that is started again can begin with it. */
 #include "tools.h"
 #include "verbs.h"
+
+#include <string.h>
 
 enum { RMIN, RMAX, DR, OMEGA_STEP, THRESHOLD, BETA, NUMBERS };
 static const char *const options[NUMBERS] = {"--rmin", "--rmax", "--dr", "--omega-step", "--threshold", "--beta"};
@@ -11,7 +13,18 @@ typedef struct settings {
     double x[NUMBERS];
     bool atom;
     uint64_t top;
+    icotable_identity identity;
 } settings;
+
+/* The label and the id, where they are given. */
+static int read_identity(settings *s) {
+    const char *label = given("--label"), *id = given("--id");
+    if (label != NULL && strlen(label) > ICOTABLE_LABEL)
+        return misused("begin", "--label", "has at most 4096 bytes");
+    if (label != NULL)
+        strcpy(s->identity.label, label);
+    return id == NULL || (id_of(id, s->identity.id) && has_id(&s->identity)) ? GOOD : misused("begin", "--id", "wants 32 hexadecimal digits, not all 0");
+}
 
 static int read_options(settings *s) {
     const char *top = given("--top");
@@ -26,19 +39,26 @@ static int read_options(settings *s) {
     }
     if (top == NULL)
         return misused("begin", "--top", "is missing");
-    return whole_of(top, &s->top) ? GOOD : misused("begin", "--top", "wants a whole number");
+    return whole_of(top, &s->top) ? read_identity(s) : misused("begin", "--top", "wants a whole number");
 }
 
 static uint64_t open_journal(icotable_journal *j, const settings *s, const icotable_meshes *m, const char *name, bool there) {
     icotable_grid g = {s->x[RMIN], s->x[RMAX], s->x[DR], s->x[OMEGA_STEP], s->x[THRESHOLD], s->x[BETA], 0, 0};
-    icotable_atom_grid atom = {g.rmin, g.rmax, g.dr, g.threshold, g.beta, 0};
     if (there)
-        return s->atom ? icotable_journal_atom_resume(j, name, atom, s->top, m, 0) : icotable_journal_resume(j, name, g, s->top, m, 0);
-    return s->atom ? icotable_journal_atom_begin(j, name, atom, s->top, m, 0) : icotable_journal_begin(j, name, g, s->top, m, 0);
+        return icotable_journal_resume_as(j, name, s->atom, g, s->top, m, 0, given("--label"));
+    return icotable_journal_begin_as(j, name, s->atom, g, s->top, m, 0, &s->identity);
+}
+
+/* A journal that was there has the id that was asked for, if one was. */
+static int check_id(const settings *s, const icotable_journal *j, const char *name) {
+    if (!has_id(&s->identity) || memcmp(s->identity.id, j->identity.id, sizeof j->identity.id) == 0)
+        return GOOD;
+    printf("%s: is there already, and its id is %s\n", name, id_digits(j->identity.id));
+    return FOUND;
 }
 
 int begin_tool(int count, char **names) {
-    settings s = {0};
+    static settings s;
     icotable_meshes meshes = {0};
     icotable_journal j = {.file = -1};
     (void)count;
@@ -55,9 +75,11 @@ int begin_tool(int count, char **names) {
     }
     if (number != 0)
         status = refused_journal(names[0], number, j.said);
-    else
+    else if ((status = check_id(&s, &j, names[0])) == GOOD) {
         printf("%s: %s, %llu distances, %llu slabs, levels 0 to %llu; %llu calls\n", names[0], table_words(s.atom), (unsigned long long)j.builder.grid.n_r,
                (unsigned long long)j.slabs, (unsigned long long)s.top, (unsigned long long)j.records);
+        print_identity(&j.identity);
+    }
     icotable_journal_close(&j);
     icotable_free_meshes(&meshes);
     return status;

@@ -41,14 +41,13 @@ uint64_t play_journal(icotable_journal *j, icotable_meshes *meshes, const char *
         return number;
     icotable_grid g = j->builder.grid;
     uint64_t top = j->builder.top;
-    icotable_atom_grid atom = {g.rmin, g.rmax, g.dr, g.threshold, g.beta, 0};
     icotable_free_meshes(meshes);
     number = icotable_make_meshes(meshes, top);
     if (number != 0) {
         snprintf(j->said, sizeof j->said, "%s", icotable_words(number));
         return number;
     }
-    return j->atom ? icotable_journal_atom_resume(j, name, atom, top, meshes, flags) : icotable_journal_resume(j, name, g, top, meshes, flags);
+    return icotable_journal_resume_as(j, name, j->atom, g, top, meshes, flags, NULL);
 }
 
 static uint64_t played(icotable_journal *j, icotable_meshes *meshes, const char *name, bool guarded) {
@@ -127,6 +126,7 @@ static void json_status(const icotable_journal *j, const char *name, const char 
     json_text("journal", name);
     json_text("kind", j->atom ? "atom" : "pair");
     json_flag("accepted", true);
+    json_identity(&j->identity);
     json_count("calls", j->records);
     json_count("bytes", j->bytes);
     json_count("bytes_not_whole", j->cut);
@@ -148,10 +148,25 @@ static void json_status(const icotable_journal *j, const char *name, const char 
 
 static void print_status(const icotable_journal *j, const char *name, const char *said) {
     printf("%s: a journal of %s\n", name, table_words(j->atom));
+    print_identity(&j->identity);
     print_done(j);
     if (said[0] != 0)
         printf("the guard    refuses it: %s\n", said);
     print_next(j);
+}
+
+/* The id, from the head alone. */
+static int print_id(const char *name) {
+    static icotable_journal j;
+    uint64_t number = icotable_journal_look(&j, name);
+    if (number != 0)
+        return refused_journal(name, number, j.said);
+    if (!has_id(&j.identity)) {
+        printf("%s: a journal of version 1 has no id\n", name);
+        return FOUND;
+    }
+    puts(id_digits(j.identity.id));
+    return GOOD;
 }
 
 /* A journal that was kept without the guard is shown all the same, and what the guard says of it. */
@@ -162,6 +177,8 @@ int status_tool(int count, char **names) {
     char said[sizeof j.said] = "";
     if (journal_named(names[0]) != GOOD)
         return TROUBLE;
+    if (given("--id") != NULL)
+        return print_id(names[0]);
     uint64_t number = played(&j, &meshes, names[0], true);
     if (by_guard(number)) {
         memcpy(said, j.said, sizeof said);

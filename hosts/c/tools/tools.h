@@ -154,6 +154,13 @@ int journal_named(const char *name);
 /* A line with the number and its words; TROUBLE where there is nothing to refuse, FOUND otherwise. */
 int refused_journal(const char *name, uint64_t number, const char *said);
 
+/* slab.c: the id of a build in 32 hexadecimal digits, and from them; whether there is one; id and label as lines, and in JSON. */
+const char *id_digits(const uint8_t id[16]);
+bool id_of(const char *digits, uint8_t id[16]);
+bool has_id(const icotable_identity *i);
+void print_identity(const icotable_identity *i);
+void json_identity(const icotable_identity *i);
+
 /* seal.c: lines on the seal beside a table, or an item of a JSON object, and the verdict on it; GOOD without a word where there is
  * none. */
 int verify_seal(const table_file *f, bool json);
@@ -170,6 +177,7 @@ int repack_tool(int count, char **names);
 int import_tool(int count, char **names);
 int size_tool(int count, char **names);
 int status_tool(int count, char **names);
+int slab_tool(int count, char **names);
 int replay_tool(int count, char **names);
 int begin_tool(int count, char **names);
 int collect_tool(int count, char **names);
