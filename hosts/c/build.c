@@ -1,33 +1,30 @@
 #include "handles.h"
 
-#include <errno.h>
 #include <stdlib.h>
 #include <string.h>
 
 struct icotable_build {
     icotable_journal journal;
     icotable_meshes meshes;
-    int own_meshes;
+    bool lent_meshes;
     char *journal_name; /* NULL: none */
     icotable_fault fault;
 };
 
 /* ---- opening */
 
+static icotable_grid grid_of(const icotable_build_settings *s) {
+    icotable_grid g = s->grid;
+    g.omega_step = s->atom ? 0 : g.omega_step;
+    return g;
+}
+
 static uint64_t begin(icotable_build *b, const icotable_build_settings *s) {
-    const icotable_grid *g = &s->grid;
-    if (!s->atom)
-        return icotable_journal_begin(&b->journal, s->journal, *g, s->top, &b->meshes, s->flags);
-    icotable_atom_grid atom = {g->rmin, g->rmax, g->dr, g->threshold, g->beta, 0};
-    return icotable_journal_atom_begin(&b->journal, s->journal, atom, s->top, &b->meshes, s->flags);
+    return icotable_journal_begin_as(&b->journal, s->journal, s->atom, grid_of(s), s->top, &b->meshes, s->flags, s->label, NULL);
 }
 
 static uint64_t resume(icotable_build *b, const icotable_build_settings *s) {
-    const icotable_grid *g = &s->grid;
-    if (!s->atom)
-        return icotable_journal_resume(&b->journal, s->journal, *g, s->top, &b->meshes, s->flags);
-    icotable_atom_grid atom = {g->rmin, g->rmax, g->dr, g->threshold, g->beta, 0};
-    return icotable_journal_atom_resume(&b->journal, s->journal, atom, s->top, &b->meshes, s->flags);
+    return icotable_journal_resume_as(&b->journal, s->journal, s->atom, grid_of(s), s->top, &b->meshes, s->flags, s->label);
 }
 
 /* One that is only looked at is not begun. */
@@ -42,10 +39,10 @@ static uint64_t resume_or_begin(icotable_build *b, const icotable_build_settings
 static uint64_t fill(icotable_build *b, const icotable_build_settings *s, uint64_t (*opening)(icotable_build *, const icotable_build_settings *),
                      icotable_fault *fault) {
     uint64_t number = s->top > 15 ? REFUSE(fault, ICOTABLE_LEVEL, "top level %llu", (ull)s->top)
-                                  : icotable_handle_meshes_(&b->meshes, s->meshes, s->top + 1, fault);
+                                  : icotable_handle_meshes_(&b->meshes, s->lent, s->meshes, s->top + 1, fault);
+    b->lent_meshes = s->lent != NULL;
     if (number != 0)
         return number;
-    b->own_meshes = s->meshes == NULL || icotable_meshes_own(&b->meshes, s->top + 1);
     number = opening(b, s);
     if (number == 0)
         return icotable_accepted_(fault);
@@ -88,7 +85,8 @@ void icotable_build_close(icotable_build *b) {
     if (b == NULL)
         return;
     icotable_journal_close(&b->journal);
-    icotable_free_meshes(&b->meshes);
+    if (!b->lent_meshes)
+        icotable_free_meshes(&b->meshes);
     free(b->journal_name);
     free(b);
 }
@@ -172,31 +170,16 @@ static uint8_t *table_of(icotable_build *b, const icotable_terms *tail, size_t *
     return NULL;
 }
 
-/* What the seal says of this table. */
-static uint64_t seal_of(icotable_build *b, const uint8_t *table, size_t length, icotable_seal *s) {
+/* The same files as of a table that a host has in memory. */
+static uint64_t save(icotable_build *b, const char *path, const uint8_t *table, size_t length) {
     const icotable_builder *k = &b->journal.builder;
-    *s = (icotable_seal){.table_length = length, .atom = b->journal.atom, .grid = k->grid, .top = k->top, .levels = k->top + 1, .own_meshes = b->own_meshes,
-                         .journaled = b->journal_name != NULL};
-    icotable_sha256_(table, length, s->sha256);
-    s->meshes_hash = icotable_meshes_hash(&b->meshes, s->levels);
-    strcpy(s->version, icotable_version());
-    if (s->journaled && !icotable_sha256_file_(b->journal_name, s->journal_sha256))
-        return REFUSE(&b->fault, ICOTABLE_HANDLE_NOT_WRITTEN, "its journal %s cannot be read for the seal: %s", b->journal_name, strerror(errno));
-    return 0;
-}
-
-/* Mesh file, table, seal: until the last is there, the reader refuses what it could mistake. */
-static uint64_t write_files(icotable_build *b, const char *path, const uint8_t *table, size_t length) {
-    icotable_seal seal;
-    uint64_t number = seal_of(b, table, length, &seal);
-    if (number == 0 && !b->own_meshes) {
-        char *mesh = icotable_beside_(path, ".mesh");
-        number = mesh == NULL ? REFUSE(&b->fault, ICOTABLE_HANDLE_NO_ROOM, "a name") : icotable_meshes_save(&b->meshes, mesh, &b->fault);
-        free(mesh);
-    }
-    if (number == 0 && !icotable_write_file_(path, table, length, true))
-        number = REFUSE(&b->fault, ICOTABLE_HANDLE_NOT_WRITTEN, "%s: %s", path, strerror(errno));
-    return number != 0 ? number : icotable_seal_write(&seal, path, &b->fault);
+    icotable_build_settings s = {.atom = b->journal.atom, .grid = k->grid, .top = k->top, .journal = b->journal_name,
+                                 .lent = &b->meshes};
+    icotable_fault fault;
+    uint64_t number = icotable_table_save(&s, table, length, path, &fault);
+    if (number != 0)
+        b->fault = fault;
+    return number;
 }
 
 uint64_t icotable_build_write_tail(icotable_build *b, const char *path, const icotable_terms *tail) {
@@ -206,7 +189,7 @@ uint64_t icotable_build_write_tail(icotable_build *b, const char *path, const ic
         return REFUSE(&b->fault, ICOTABLE_HANDLE_NOT_WRITTEN, "there is no name for it");
     size_t length = 0;
     uint8_t *table = table_of(b, tail, &length);
-    uint64_t number = table == NULL ? b->fault.number : write_files(b, path, table, length);
+    uint64_t number = table == NULL ? b->fault.number : save(b, path, table, length);
     free(table);
     return number;
 }

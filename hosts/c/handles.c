@@ -29,15 +29,24 @@ uint64_t icotable_handle_environment_(icotable_fault *fault) {
     return environment == 0 ? 0 : REFUSE(fault, ICOTABLE_HANDLE_ENVIRONMENT, "%s", icotable_float_environment_words(environment));
 }
 
-uint64_t icotable_handle_meshes_(icotable_meshes *m, const char *name, uint64_t levels, icotable_fault *fault) {
+/* Of a mesh file, or of those that are lent. */
+static uint64_t enough(const icotable_meshes *m, const char *whose, uint64_t levels, icotable_fault *fault) {
+    if (m->top + 1 >= levels)
+        return 0;
+    return REFUSE(fault, ICOTABLE_HANDLE_LEVEL_MISSING, "%s has levels 0 to %llu, of 0 to %llu", whose, (ull)m->top,
+                  (ull)(levels - 1));
+}
+
+uint64_t icotable_handle_meshes_(icotable_meshes *m, const icotable_meshes *lent, const char *name, uint64_t levels,
+                                 icotable_fault *fault) {
     uint64_t number;
-    *m = (icotable_meshes){0};
+    *m = lent == NULL ? (icotable_meshes){0} : *lent;
+    if (lent != NULL)
+        return enough(m, "what is lent", levels, fault);
     if (name == NULL) {
         number = icotable_make_meshes(m, levels - 1);
         return number == 0 ? 0 : REFUSE(fault, number, "the library's own meshes, top level %llu", (ull)(levels - 1));
     }
     number = icotable_meshes_load(m, name, fault);
-    if (number == 0 && m->top + 1 < levels)
-        number = REFUSE(fault, ICOTABLE_HANDLE_LEVEL_MISSING, "%s has levels 0 to %llu, of 0 to %llu", name, (ull)m->top, (ull)(levels - 1));
-    return number;
+    return number != 0 ? number : enough(m, name, levels, fault);
 }

@@ -13,8 +13,10 @@ typedef unsigned long long ull;
 /* The floating-point environment: 0, or refused. */
 uint64_t icotable_handle_environment_(icotable_fault *fault);
 
-/* The meshes of so many levels or more, of a mesh file, or the library's own where name is NULL. Free in any case. */
-uint64_t icotable_handle_meshes_(icotable_meshes *m, const char *name, uint64_t levels, icotable_fault *fault);
+/* The meshes of so many levels or more: those that are lent; else of a mesh file; or the library's own where both are NULL. Free
+ * them in any case, unless they are lent. */
+uint64_t icotable_handle_meshes_(icotable_meshes *m, const icotable_meshes *lent, const char *name, uint64_t levels,
+                                 icotable_fault *fault);
 
 /* runs.c: splits 0 to count into as many runs of equal length as there are threads, the caller's own among them; gives the sum of
  * what work gives for each. No thread is started for fewer than 256, and the caller does the run of one that cannot be started. */
@@ -24,6 +26,7 @@ uint64_t icotable_in_runs_(size_t count, unsigned threads, icotable_work_ work, 
 /* What a reader holds: reader.c opens it, energies.c asks it. */
 struct icotable_reader {
     int atom;
+    bool mapped, lent_meshes;
     const uint8_t *file;
     size_t length;
     icotable_table table;

@@ -15,7 +15,8 @@
  * NULL where it is refused, and fills the fault with the number, its words and the place. A handle that is NULL is refused by
  * every call, and closing it does nothing.
  *
- * Threads. One thread at a time uses a build. Any number of threads use one reader at once, but for its close.
+ * Threads. One thread at a time uses a build; calls that take it as const may run at once while no other call does. Any number
+ * of threads use one reader at once, but for its close.
  *
  * Floating point. Builds and readers are refused where the environment of the calling thread is not the one that the library
  * needs (environment.h). It is asked when they are opened, and not again. The threads that icotable_reader_energies starts
@@ -44,7 +45,7 @@ extern "C" {
     X(265, NO_JOURNAL, "a build is resumed from its journal, and no journal was named") \
     X(266, TROUBLE, "the table cannot be opened or read") \
     X(267, NOT_WRITTEN, "the table could not be written to disk: what was there stays") \
-    X(268, LEVEL_MISSING, "the mesh file does not have all levels of the table") \
+    X(268, LEVEL_MISSING, "the meshes do not have all levels of the table") \
     X(269, OTHER_MESHES, "the meshes are not those that the table was built over, by its seal") \
     X(270, NO_SEAL, "there is a mesh file beside the table and no seal that says whether it is the table's: name the mesh file") \
     X(271, OTHER_TABLE, "the seal is of the other kind of table, or of another number of levels")
@@ -70,6 +71,8 @@ typedef struct icotable_build_settings {
     const char *journal; /* its name, or NULL: the build is in memory alone and ends with the process */
     const char *meshes;  /* the name of a mesh file, or NULL: the library's own meshes */
     unsigned flags;      /* a sum of icotable_journal_flag, or 0 */
+    const icotable_meshes *lent; /* meshes in memory, or NULL. Their lists stay until the build is closed; meshes is not read */
+    const char *label;   /* your words for what is sampled, or NULL: none at begin, any at resume (icotable_journal.h) */
 } icotable_build_settings;
 
 /* A build that begins; one that resumes from its journal; or one that resumes where the journal is there and begins it where it
@@ -111,6 +114,11 @@ typedef struct icotable_terms {
 } icotable_terms;
 uint64_t icotable_build_write_tail(icotable_build *b, const char *path, const icotable_terms *tail);
 
+/* Writes a table that the host has in memory, as icotable_build_write does: s is what it was built with. The library looks
+ * the table over first, and refuses one that it does not read; 271 where it is of another kind or number of levels than s. */
+uint64_t icotable_table_save(const icotable_build_settings *s, const uint8_t *table, size_t length, const char *path,
+                             icotable_fault *fault);
+
 /* The builder, its lists and counts, to look at, or to lend to the library's own calls that alter nothing. */
 const icotable_journal *icotable_build_state(const icotable_build *b);
 
@@ -131,6 +139,14 @@ typedef struct icotable_reader icotable_reader;
  * opened; where another program writes into it, readings change; and where it is cut short, a reading beyond its end ends the
  * process (SIGBUS). icotable_build_write and the tools never write into a file: they rename. */
 icotable_reader *icotable_reader_open(const char *path, const char *meshes, icotable_fault *fault);
+
+/* The same with meshes in memory, whose lists and locators stay until the reader is closed. Where there is a seal, they have to
+ * be those of the seal. */
+icotable_reader *icotable_reader_open_over(const char *path, const icotable_meshes *meshes, icotable_fault *fault);
+
+/* A reader of a table that is in memory, with such meshes; NULL: the library's own. The bytes stay as they are until it is closed.
+ * No seal is asked. */
+icotable_reader *icotable_reader_over(const uint8_t *file, size_t length, const icotable_meshes *meshes, icotable_fault *fault);
 void icotable_reader_close(icotable_reader *t);
 
 /* Whose table it is, what read answered for it (NULL for the other kind), its bytes and its meshes: for the library's own

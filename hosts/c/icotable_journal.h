@@ -74,7 +74,8 @@ const char *icotable_journal_words(uint64_t number);
 /* How a journal is opened: a sum of these, or 0. */
 enum icotable_journal_flag {
     ICOTABLE_JOURNAL_UNGUARDED = 1, /* without the guard */
-    ICOTABLE_JOURNAL_READING = 2    /* resume alone: to look at. The file is not locked and not altered, no call is taken */
+    ICOTABLE_JOURNAL_READING = 2,   /* resume alone: to look at. The file is not locked and not altered, no call is taken */
+    ICOTABLE_JOURNAL_FORMAT_1 = 4   /* begin alone: a file of version 1, without id and label, for a library before 0.24 */
 };
 
 /* Which build it is, beside its settings. */
@@ -118,10 +119,10 @@ uint64_t icotable_journal_resume(icotable_journal *j, const char *name, icotable
 uint64_t icotable_journal_atom_begin(icotable_journal *j, const char *name, icotable_atom_grid settings, uint64_t top, const icotable_meshes *meshes, unsigned flags);
 uint64_t icotable_journal_atom_resume(icotable_journal *j, const char *name, icotable_atom_grid settings, uint64_t top, const icotable_meshes *meshes, unsigned flags);
 
-/* The same for both kinds of table; against an atom omega_step is 0. identity: the id and the label of a build that begins. NULL: an
- * id at random and no label; an id that is all 0: one at random. label: the one that a journal has to have to be resumed; NULL: any. */
+/* The same for both kinds of table; against an atom omega_step is 0. label: that of a build that begins, NULL for none; the one that a
+ * journal has to have to be resumed, NULL for any. id: 16 bytes, or NULL: drawn at random. */
 uint64_t icotable_journal_begin_as(icotable_journal *j, const char *name, int atom, icotable_grid settings, uint64_t top, const icotable_meshes *meshes, unsigned flags,
-                                   const icotable_identity *identity);
+                                   const char *label, const uint8_t *id);
 uint64_t icotable_journal_resume_as(icotable_journal *j, const char *name, int atom, icotable_grid settings, uint64_t top, const icotable_meshes *meshes, unsigned flags,
                                     const char *label);
 void icotable_journal_close(icotable_journal *j);
@@ -144,7 +145,8 @@ icotable_journal_settled icotable_journal_settle(icotable_journal *j, uint64_t r
 uint64_t icotable_journal_length(const icotable_journal *j);
 icotable_written icotable_journal_write(icotable_journal *j, uint8_t *output, size_t output_count);
 
-/* What the guard says of a table now: 0, HOLES or UNSETTLED; for a host that writes with a tail:
+/* Whether the table may be written now: 0; NOT_OPEN; BROKEN after a record that could not be brought to disk; or what the guard
+ * says, HOLES or UNSETTLED. icotable_journal_write asks it, and so does a host that writes with a tail, before
  * icotable_write_tail(j.builder, ICOTABLE_JOURNAL_LISTS(&j), ICOTABLE_MESHES(j.meshes), ..). */
 uint64_t icotable_journal_whole(icotable_journal *j);
 #define ICOTABLE_JOURNAL_LISTS(j) (j)->store, (j)->store_count, (j)->words, (size_t)(j)->slabs

@@ -22,14 +22,14 @@ static const char END[] = "end\n";
 
 typedef unsigned long long ull;
 
-/* The kind of table, its settings, top level and meshes; the identity of a build that begins, and the label of one that resumes. */
+/* The kind of table, its settings, top level and meshes; its label and, where it begins, its id. Either may be NULL. */
 typedef struct plan {
     int atom;
     icotable_grid grid;
     uint64_t top;
     const icotable_meshes *meshes;
-    const icotable_identity *identity;
     const char *label;
+    const uint8_t *id;
 } plan;
 
 typedef struct call {
@@ -289,6 +289,8 @@ uint64_t icotable_journal_whole(icotable_journal *j) {
     uint64_t ri, slab = 0;
     if (j->state == SHUT)
         return say(j, ICOTABLE_JOURNAL_NOT_OPEN, "");
+    if (j->broken)
+        return say(j, ICOTABLE_JOURNAL_BROKEN, "");
     if (!j->guarded)
         return 0;
     if (j->set_count < j->slabs) {
@@ -390,7 +392,7 @@ uint64_t icotable_journal_length(const icotable_journal *j) {
 }
 
 icotable_written icotable_journal_write(icotable_journal *j, uint8_t *output, size_t output_count) {
-    icotable_written w = {.number = j->broken ? may_call(j) : icotable_journal_whole(j)};
+    icotable_written w = {.number = icotable_journal_whole(j)};
     if (w.number != 0)
         return w;
     w = j->atom ? icotable_atom_write(atom_of(&j->builder), ATOM_LISTS(j), ICOTABLE_MESHES(j->meshes), output, output_count)
@@ -464,18 +466,22 @@ static uint64_t begin_file(icotable_journal *j, const char *name, const icotable
     return 0;
 }
 
-/* The head of a build that begins, with the identity that was asked for, or with an id at random. */
-static uint64_t new_head(icotable_journal *j, const plan *p, icotable_head_ *h) {
-    static const uint8_t none[16];
+/* The head of a build that begins. */
+static uint64_t new_head(icotable_journal *j, const plan *p, unsigned flags, icotable_head_ *h) {
+    icotable_identity *i = &h->identity;
     *h = icotable_head_of_(p->atom, &p->grid, p->top, p->meshes);
-    if (p->identity != NULL) {
-        if (!icotable_label_fits_(p->identity->label))
-            return say(j, ICOTABLE_JOURNAL_LABEL, "");
-        h->identity = *p->identity;
-    } else if (p->label != NULL) {
-        snprintf(h->identity.label, sizeof h->identity.label, "%s", p->label);
+    if (p->label != NULL && !icotable_label_fits_(p->label))
+        return say(j, ICOTABLE_JOURNAL_LABEL, "");
+    if (flags & ICOTABLE_JOURNAL_FORMAT_1) {
+        h->version = 1;
+        memset(h->library, 0, sizeof h->library);
+        return 0;
     }
-    if (memcmp(h->identity.id, none, sizeof none) == 0 && getrandom(h->identity.id, sizeof none, 0) != (ssize_t)sizeof none)
+    if (p->label != NULL)
+        strcpy(i->label, p->label);
+    if (p->id != NULL)
+        memcpy(i->id, p->id, sizeof i->id);
+    else if (getrandom(i->id, sizeof i->id, 0) != (ssize_t)sizeof i->id)
         return say_errno(j, ICOTABLE_JOURNAL_TROUBLE);
     return 0;
 }
@@ -495,7 +501,7 @@ static uint64_t begin(icotable_journal *j, const char *name, const plan *p, unsi
     icotable_head_ head;
     uint64_t size = 0, number = prepare(j, p, flags);
     if (number == 0)
-        number = new_head(j, p, &head);
+        number = new_head(j, p, flags, &head);
     if (number != 0)
         return number;
     if (name == NULL) {
@@ -720,7 +726,7 @@ static uint64_t resume(icotable_journal *j, const char *name, const plan *p, uns
         return say(j, ICOTABLE_JOURNAL_NOT_A_JOURNAL, "%llu bytes", (ull)size);
     if (j->records == 0) {
         j->cut = size;
-        number = new_head(j, p, &head);
+        number = new_head(j, p, flags, &head);
         return number != 0 ? number : begin_file(j, name, &head);
     }
     number = play_all(j, size);
@@ -740,17 +746,17 @@ static uint64_t opened(icotable_journal *j, uint64_t number) {
 }
 
 uint64_t icotable_journal_begin_as(icotable_journal *j, const char *name, int atom, icotable_grid settings, uint64_t top, const icotable_meshes *meshes, unsigned flags,
-                                   const icotable_identity *identity) {
-    return opened(j, begin(j, name, &(plan){atom, settings, top, meshes, identity, NULL}, flags));
+                                   const char *label, const uint8_t *id) {
+    return opened(j, begin(j, name, &(plan){atom, settings, top, meshes, label, id}, flags));
 }
 
 uint64_t icotable_journal_resume_as(icotable_journal *j, const char *name, int atom, icotable_grid settings, uint64_t top, const icotable_meshes *meshes, unsigned flags,
                                     const char *label) {
-    return opened(j, resume(j, name, &(plan){atom, settings, top, meshes, NULL, label}, flags));
+    return opened(j, resume(j, name, &(plan){atom, settings, top, meshes, label, NULL}, flags));
 }
 
 uint64_t icotable_journal_begin(icotable_journal *j, const char *name, icotable_grid settings, uint64_t top, const icotable_meshes *meshes, unsigned flags) {
-    return icotable_journal_begin_as(j, name, 0, settings, top, meshes, flags, NULL);
+    return icotable_journal_begin_as(j, name, 0, settings, top, meshes, flags, NULL, NULL);
 }
 
 uint64_t icotable_journal_resume(icotable_journal *j, const char *name, icotable_grid settings, uint64_t top, const icotable_meshes *meshes, unsigned flags) {
@@ -758,7 +764,7 @@ uint64_t icotable_journal_resume(icotable_journal *j, const char *name, icotable
 }
 
 uint64_t icotable_journal_atom_begin(icotable_journal *j, const char *name, icotable_atom_grid settings, uint64_t top, const icotable_meshes *meshes, unsigned flags) {
-    return icotable_journal_begin_as(j, name, 1, pair_of(settings), top, meshes, flags, NULL);
+    return icotable_journal_begin_as(j, name, 1, pair_of(settings), top, meshes, flags, NULL, NULL);
 }
 
 uint64_t icotable_journal_atom_resume(icotable_journal *j, const char *name, icotable_atom_grid settings, uint64_t top, const icotable_meshes *meshes, unsigned flags) {

@@ -8,6 +8,12 @@
 #include <sys/stat.h>
 #include <unistd.h>
 
+/* Meshes as a caller chooses them: in memory, or by the name of a mesh file; or neither. */
+typedef struct chosen {
+    const icotable_meshes *lent;
+    const char *name;
+} chosen;
+
 /* ---- opening */
 
 /* A file of no bytes cannot be mapped; the library refuses it by itself. */
@@ -28,6 +34,7 @@ static uint64_t map_file(icotable_reader *t, const char *path, icotable_fault *f
         if (bytes == MAP_FAILED) {
             number = REFUSE(fault, ICOTABLE_HANDLE_TROUBLE, "%s: %s", path, strerror(errno));
         } else {
+            t->mapped = true;
             t->file = bytes;
             t->length = (size_t)what.st_size;
         }
@@ -61,24 +68,26 @@ static uint64_t check_seal(const icotable_reader *t, const icotable_seal *s, con
     return icotable_seal_check(s, t->file, t->length, fault);
 }
 
-/* The meshes that were named; else the library's own, unless the seal says that they are beside the table. */
-static uint64_t sealed_meshes(icotable_reader *t, const char *path, const char *meshes, const icotable_seal *s, icotable_fault *fault) {
+/* The meshes that are lent or named; else the library's own, unless the seal says that they are beside the table. */
+static uint64_t sealed_meshes(icotable_reader *t, const char *path, const chosen *c, const icotable_seal *s,
+                              icotable_fault *fault) {
     char *beside = icotable_beside_(path, ".mesh");
     if (beside == NULL)
         return REFUSE(fault, ICOTABLE_HANDLE_NO_ROOM, "a name");
-    const char *name = meshes != NULL ? meshes : s != NULL && !s->own_meshes ? beside : NULL;
+    const char *name = c->name != NULL ? c->name : s != NULL && !s->own_meshes ? beside : NULL;
     uint64_t number;
-    if (s == NULL && name == NULL && access(beside, F_OK) == 0)
+    if (s == NULL && name == NULL && c->lent == NULL && access(beside, F_OK) == 0)
         number = REFUSE(fault, ICOTABLE_HANDLE_NO_SEAL, "%s", beside);
     else
-        number = icotable_handle_meshes_(&t->meshes, name, levels_of(t), fault);
+        number = icotable_handle_meshes_(&t->meshes, c->lent, name, levels_of(t), fault);
     if (number == 0 && s != NULL && icotable_meshes_hash(&t->meshes, s->levels) != s->meshes_hash)
-        number = REFUSE(fault, ICOTABLE_HANDLE_OTHER_MESHES, "%s", name == NULL ? "the library's own" : name);
+        number = REFUSE(fault, ICOTABLE_HANDLE_OTHER_MESHES, "%s",
+                        c->lent != NULL ? "what is lent" : name == NULL ? "the library's own" : name);
     free(beside);
     return number;
 }
 
-static uint64_t fill(icotable_reader *t, const char *path, const char *meshes, icotable_fault *fault) {
+static uint64_t fill(icotable_reader *t, const char *path, const chosen *c, icotable_fault *fault) {
     icotable_seal seal;
     uint64_t number = icotable_handle_environment_(fault);
     if (number == 0)
@@ -93,16 +102,28 @@ static uint64_t fill(icotable_reader *t, const char *path, const char *meshes, i
         number = check_seal(t, &seal, path, fault);
     if (sealed && number != 0)
         return number;
-    return sealed_meshes(t, path, meshes, sealed ? &seal : NULL, fault);
+    return sealed_meshes(t, path, c, sealed ? &seal : NULL, fault);
 }
 
-icotable_reader *icotable_reader_open(const char *path, const char *meshes, icotable_fault *fault) {
+static uint64_t fill_over(icotable_reader *t, const icotable_meshes *meshes, icotable_fault *fault) {
+    uint64_t number = icotable_handle_environment_(fault);
+    if (number == 0)
+        number = look_over(t, "bytes in memory", fault);
+    return number != 0 ? number : icotable_handle_meshes_(&t->meshes, meshes, NULL, levels_of(t), fault);
+}
+
+static icotable_reader *empty(bool lent_meshes, icotable_fault *fault) {
     icotable_reader *t = calloc(1, sizeof *t);
-    if (t == NULL) {
+    if (t == NULL)
         REFUSE(fault, ICOTABLE_HANDLE_NO_ROOM, "a reader");
-        return NULL;
-    }
-    if (fill(t, path, meshes, fault) == 0) {
+    else
+        t->lent_meshes = lent_meshes;
+    return t;
+}
+
+/* The reader where it was filled; else NULL. */
+static icotable_reader *filled(icotable_reader *t, uint64_t number, icotable_fault *fault) {
+    if (number == 0) {
         icotable_accepted_(fault);
         return t;
     }
@@ -110,12 +131,32 @@ icotable_reader *icotable_reader_open(const char *path, const char *meshes, icot
     return NULL;
 }
 
+icotable_reader *icotable_reader_open(const char *path, const char *meshes, icotable_fault *fault) {
+    icotable_reader *t = empty(false, fault);
+    return t == NULL ? NULL : filled(t, fill(t, path, &(chosen){.name = meshes}, fault), fault);
+}
+
+icotable_reader *icotable_reader_open_over(const char *path, const icotable_meshes *meshes, icotable_fault *fault) {
+    icotable_reader *t = empty(meshes != NULL, fault);
+    return t == NULL ? NULL : filled(t, fill(t, path, &(chosen){.lent = meshes}, fault), fault);
+}
+
+icotable_reader *icotable_reader_over(const uint8_t *file, size_t length, const icotable_meshes *meshes, icotable_fault *fault) {
+    icotable_reader *t = empty(meshes != NULL, fault);
+    if (t == NULL)
+        return NULL;
+    t->file = file;
+    t->length = length;
+    return filled(t, fill_over(t, meshes, fault), fault);
+}
+
 void icotable_reader_close(icotable_reader *t) {
     if (t == NULL)
         return;
-    if (t->file != NULL)
+    if (t->mapped)
         munmap((void *)t->file, t->length);
-    icotable_free_meshes(&t->meshes);
+    if (!t->lent_meshes)
+        icotable_free_meshes(&t->meshes);
     free(t);
 }
 

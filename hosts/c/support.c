@@ -93,6 +93,15 @@ static int open_beside(const char *name, char *other, size_t room) {
     return file;
 }
 
+/* A rename would put a file in the place of a device or a symbolic link. */
+static bool replaceable(const char *name) {
+    struct stat what;
+    if (lstat(name, &what) != 0 || S_ISREG(what.st_mode))
+        return true;
+    errno = EEXIST;
+    return false;
+}
+
 /* The file under its own name. A link does not replace; where a folder has none, a new name does as well. */
 static bool named(const char *other, const char *name, bool replace) {
     if (!replace) {
@@ -101,7 +110,7 @@ static bool named(const char *other, const char *name, bool replace) {
         if (errno == EEXIST)
             return false;
     }
-    return rename(other, name) == 0;
+    return replaceable(name) && rename(other, name) == 0;
 }
 
 static bool fill(int file, const icotable_part_ *parts, size_t parts_count) {

@@ -40,7 +40,7 @@ typedef struct icotable_part_ {
 
 /* The parts one behind the other as the file of that name: written under another name beside it (NAME.tmp.PROCESS.N, which a
  * kill leaves behind), brought to disk and renamed; with the rights that a new file has. Where it is not to replace a file, one
- * of that name stays (EEXIST). False with errno where that is not done: then the name is as it was or, where its folder alone
+ * of that name stays (EEXIST); a folder, a device or a symbolic link stays in any case. False with errno where that is not done: then the name is as it was or, where its folder alone
  * could not be brought to disk, as it should be. */
 bool icotable_write_parts_(const char *name, const icotable_part_ *parts, size_t parts_count, bool replace);
 bool icotable_write_file_(const char *name, const void *bytes, size_t count, bool replace);

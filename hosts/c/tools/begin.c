@@ -13,17 +13,15 @@ typedef struct settings {
     double x[NUMBERS];
     bool atom;
     uint64_t top;
-    icotable_identity identity;
+    bool with_id;
+    uint8_t id[16];
 } settings;
 
-/* The label and the id, where they are given. */
-static int read_identity(settings *s) {
-    const char *label = given("--label"), *id = given("--id");
-    if (label != NULL && strlen(label) > ICOTABLE_LABEL)
-        return misused("begin", "--label", "has at most 4096 bytes");
-    if (label != NULL)
-        strcpy(s->identity.label, label);
-    return id == NULL || (id_of(id, s->identity.id) && has_id(&s->identity)) ? GOOD : misused("begin", "--id", "wants 32 hexadecimal digits, not all 0");
+/* The id, where it is given. */
+static int read_id(settings *s) {
+    const char *id = given("--id");
+    s->with_id = id != NULL;
+    return id == NULL || id_of(id, s->id) ? GOOD : misused("begin", "--id", "wants 32 hexadecimal digits, not all 0");
 }
 
 static int read_options(settings *s) {
@@ -39,26 +37,26 @@ static int read_options(settings *s) {
     }
     if (top == NULL)
         return misused("begin", "--top", "is missing");
-    return whole_of(top, &s->top) ? read_identity(s) : misused("begin", "--top", "wants a whole number");
+    return whole_of(top, &s->top) ? read_id(s) : misused("begin", "--top", "wants a whole number");
 }
 
 static uint64_t open_journal(icotable_journal *j, const settings *s, const icotable_meshes *m, const char *name, bool there) {
     icotable_grid g = {s->x[RMIN], s->x[RMAX], s->x[DR], s->x[OMEGA_STEP], s->x[THRESHOLD], s->x[BETA], 0, 0};
     if (there)
         return icotable_journal_resume_as(j, name, s->atom, g, s->top, m, 0, given("--label"));
-    return icotable_journal_begin_as(j, name, s->atom, g, s->top, m, 0, &s->identity);
+    return icotable_journal_begin_as(j, name, s->atom, g, s->top, m, 0, given("--label"), s->with_id ? s->id : NULL);
 }
 
 /* A journal that was there has the id that was asked for, if one was. */
 static int check_id(const settings *s, const icotable_journal *j, const char *name) {
-    if (!has_id(&s->identity) || memcmp(s->identity.id, j->identity.id, sizeof j->identity.id) == 0)
+    if (!s->with_id || memcmp(s->id, j->identity.id, sizeof s->id) == 0)
         return GOOD;
     printf("%s: is there already, and its id is %s\n", name, id_digits(j->identity.id));
     return FOUND;
 }
 
 int begin_tool(int count, char **names) {
-    static settings s;
+    settings s = {0};
     icotable_meshes meshes = {0};
     icotable_journal j = {.file = -1};
     (void)count;

@@ -20,7 +20,7 @@ bool has_id(const icotable_identity *i) {
 }
 
 bool id_of(const char *digits, uint8_t id[16]) {
-    if (strlen(digits) != 32 || strspn(digits, "0123456789abcdefABCDEF") != 32)
+    if (strspn(digits, "0") == 32 || strlen(digits) != 32 || strspn(digits, "0123456789abcdefABCDEF") != 32)
         return false;
     for (int i = 0; i < 16; i++) {
         unsigned byte = 0;

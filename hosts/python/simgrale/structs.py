@@ -50,6 +50,7 @@ class row(Structure):
 
 class build_settings(Structure):
     _fields_ = [("atom", c_int), ("grid", grid), ("top", c_uint64), ("journal", c_char_p), ("meshes", c_char_p), ("flags", c_uint)]
+    _fields_ += [("lent", c_void_p)]
 
 
 class journal_settled(Structure):

@@ -1,21 +1,26 @@
 //! Tables of one molecule against an atom: a slab is one distance bin, with an energy for each vertex.
-use crate::Mesh;
 use crate::builder::Settled;
 use crate::environment::FloatEnvironment;
 use crate::error::Error;
-use crate::journal::Kept;
-use crate::journal_file::{Answer, Call, SET};
+use crate::helpers::{Plan, Reader};
 use crate::lists::AtomLists;
-use crate::refusal::{Refusal, answer};
+use crate::refusal::{answer, Refusal};
 use crate::row::Row;
 use crate::sizing::atom_sizing;
-use crate::sys::{self, AtomGrid};
+use crate::sys::{self, AtomGrid, Grid};
+use crate::table::other_kind;
+use crate::Mesh;
 use std::path::Path;
 use std::sync::Arc;
 
 // Energies of a slab.
 fn per(level: u64) -> usize {
     sys::vertices(level) as usize
+}
+
+// As the helpers take settings of both kinds.
+pub(crate) fn pair_grid(g: AtomGrid) -> Grid {
+    Grid { rmin: g.rmin, rmax: g.rmax, dr: g.dr, omega_step: 0.0, threshold: g.threshold, beta: g.beta, n_r: g.n_r, n_omega: 1 }
 }
 
 /// A table of one molecule against an atom that is being built: owns its lists, and is [`Send`], as [`Builder`](crate::Builder) is.
@@ -77,6 +82,12 @@ impl AtomBuilder {
         answer(written.number, output)
     }
 
+    /// Writes the table, its seal and, where they are not the library's own, its meshes, as [`Builder::save`](crate::Builder::save) does.
+    pub fn save(&self, path: impl AsRef<Path>) -> Result<(), Error> {
+        let plan = Plan { atom: true, grid: pair_grid(self.grid()), mesh: &self.mesh, flags: 0 };
+        plan.save(&self.write()?, path.as_ref())
+    }
+
     /// The settings with the bin count that they give.
     pub fn grid(&self) -> AtomGrid {
         self.held.grid
@@ -98,98 +109,53 @@ impl AtomBuilder {
     }
 }
 
-// What a journal may have to put back: the builder, a row and, where a slab that holds energies is set over, these.
-pub(crate) struct Before {
-    held: sys::AtomBuilder,
-    row: (u8, u8, u32),
-    energies: Vec<f64>,
-}
-
-impl AtomBuilder {
-    // The place of a slab in the store.
-    fn place(&self, call: &Call) -> std::ops::Range<usize> {
-        let (slab, most) = (call.ri as usize, per(self.held.top));
-        slab * most..(slab + 1) * most
-    }
-}
-
-impl Kept for AtomBuilder {
-    type Before = Before;
-
-    fn before(&self, call: &Call) -> Before {
-        let row = self.lists.row(call.ri as usize);
-        let over = call.kind == SET && row.0 >= 2;
-        Before { held: self.held, row, energies: if over { self.lists.store[self.place(call)].to_vec() } else { Vec::new() } }
-    }
-
-    fn make(&mut self, call: &Call, energies: &[f64]) -> Answer {
-        if call.kind == SET {
-            let built = sys::atom_set(self.held, &mut self.lists.lent(), call.ri, energies);
-            self.held = built.builder;
-            return Answer { number: built.number, level: self.held.level, ..Answer::default() };
-        }
-        let settled = sys::atom_settle(self.held, &mut self.lists.lent(), self.mesh.lent(), call.ri);
-        self.held = settled.builder;
-        Answer { number: settled.number, level: self.held.level, gradient: settled.gradient.to_bits(), comparisons: settled.comparisons }
-    }
-
-    fn take_back(&mut self, call: &Call, before: Before) {
-        let place = self.place(call);
-        self.lists.put_row(call.ri as usize, before.row);
-        if !before.energies.is_empty() {
-            self.lists.store[place].copy_from_slice(&before.energies);
-        }
-        self.held = before.held;
-    }
-
-    fn most(&self) -> u64 {
-        per(self.held.top) as u64
-    }
-}
-
-/// A table of one molecule against an atom: owns its file and shares the meshes, and is [`Send`] and [`Sync`], as [`Table`](crate::Table) is.
-/// [`AtomBuilder`] has an example.
+/// A table of one molecule against an atom, which is [`Send`] and [`Sync`] as [`Table`](crate::Table) is. [`AtomBuilder`] has an example.
 #[derive(Clone, Debug)]
 pub struct AtomTable {
-    file: Vec<u8>,
     held: sys::AtomTable,
-    mesh: Arc<Mesh>,
+    reader: Arc<Reader>,
 }
 
 impl AtomTable {
-    /// Reads a file and looks over all of it, as [`read`](AtomTable::read) does. An error names the path. The whole file is held in memory, as by
-    /// [`Table::open`](crate::Table::open).
+    /// Opens a file as [`Table::open`](crate::Table::open) does.
     ///
     /// ```
-    /// use simgrale::{atom_settings, save, AtomBuilder, AtomTable, Error, Mesh};
+    /// use simgrale::{atom_settings, AtomBuilder, AtomTable, Error, Mesh};
     ///
     /// let builder = AtomBuilder::new(atom_settings(1.0, 4.0, 1.0, 0.5, 0.4), Mesh::icospheres(1)?)?;
-    /// let path = std::env::temp_dir().join(format!("simgrale-atom-{}.icotable", std::process::id()));
-    /// save(&path, &builder.write()?)?;
-    /// let table = AtomTable::open(&path, builder.mesh().clone())?;
+    /// # let folder = std::env::temp_dir().join(format!("simgrale-atom-{}", std::process::id()));
+    /// # std::fs::create_dir_all(&folder)?;
+    /// let path = folder.join("ion.icotable");
+    /// builder.save(&path)?;
+    /// let table = AtomTable::open(&path)?;
     /// assert_eq!((table.levels(), table.grid().n_r, table.file().len()), (2, 3, 40 + 2 * 4 + 3 * 10));
-    /// let error = AtomTable::open(&path, Mesh::icospheres(0)?).unwrap_err();
-    /// assert_eq!(error, Error::File { path: path.clone(), error: Box::new(Error::Levels { needed: 2, lent: 1 }) });
-    /// # std::fs::remove_file(path)?;
+    /// assert_eq!(AtomTable::open_with(&path, Mesh::icospheres(0)?).unwrap_err().number(), Some(268));
+    /// # std::fs::remove_dir_all(folder)?;
     /// # Ok::<(), Error>(())
     /// ```
-    pub fn open(path: impl AsRef<Path>, mesh: impl Into<Arc<Mesh>>) -> Result<AtomTable, Error> {
-        crate::file::opened(path.as_ref(), |file| AtomTable::read(file, mesh))
+    pub fn open(path: impl AsRef<Path>) -> Result<AtomTable, Error> {
+        AtomTable::of(Reader::open(path.as_ref())?, path.as_ref())
+    }
+
+    /// The same with meshes by hand, as [`Table::open_with`](crate::Table::open_with).
+    pub fn open_with(path: impl AsRef<Path>, mesh: impl Into<Arc<Mesh>>) -> Result<AtomTable, Error> {
+        AtomTable::of(Reader::open_with(path.as_ref(), mesh.into())?, path.as_ref())
     }
 
     /// Looks over a file that is in memory, all of it. The mesh has to be the one that the table was built over: a file does not hold it. One of
-    /// fewer levels than the table has is refused ([`Error::Levels`]), and so is a file of two molecules.
+    /// fewer levels than the table has is refused with 268, and a file of two molecules with 262.
     pub fn read(file: Vec<u8>, mesh: impl Into<Arc<Mesh>>) -> Result<AtomTable, Error> {
-        FloatEnvironment::ask()?;
-        let (mesh, held) = (mesh.into(), sys::atom_read(&file));
-        answer(held.number, ())?;
-        mesh.ask_levels(held.levels)?;
-        Ok(AtomTable { file, held, mesh })
+        AtomTable::of(Reader::over(file, mesh.into())?, Path::new("bytes in memory"))
+    }
+
+    fn of(reader: Reader, path: &Path) -> Result<AtomTable, Error> {
+        let held = *reader.atom_table().ok_or_else(|| other_kind(path, "Table"))?;
+        Ok(AtomTable { held, reader: Arc::new(reader) })
     }
 
     /// The energy at a distance and a direction of any length: infinity inside a repulsive wall, 0 outside the table's distances.
     pub fn lookup(&self, r: f64, direction: [f64; 3]) -> Result<f64, Refusal> {
-        let value = sys::atom_reading(&self.held, self.mesh.lent_with(&self.file), r, direction);
+        let value = self.reader.atom_energy(r, direction);
         answer(value.number, value.energy)
     }
 
@@ -210,8 +176,25 @@ impl AtomTable {
     /// # Ok::<(), simgrale::Error>(())
     /// ```
     pub fn lookup_boltzmann(&self, r: f64, direction: [f64; 3], beta: f64) -> Result<f64, Refusal> {
-        let value = sys::atom_boltzmann(&self.held, self.mesh.lent_with(&self.file), r, direction, beta);
+        let value = self.reader.atom_boltzmann(r, direction, beta);
         answer(value.number, value.energy)
+    }
+
+    /// Many energies in one call: for each pose, r and x, y, z of the direction, what `lookup` answers, or `lookup_boltzmann` with a beta. The poses
+    /// are split among so many threads; 0 and 1 are the caller's own alone. Each answer is the same, to the bit, whatever their number.
+    ///
+    /// ```
+    /// # use simgrale::{atom_settings, AtomBuilder, AtomTable, Mesh, Refusal};
+    /// # let mut builder = AtomBuilder::new(atom_settings(1.0, 4.0, 1.0, 0.5, 0.4), Mesh::icospheres(0)?)?;
+    /// # builder.set(1, &(0..12).map(f64::from).collect::<Vec<_>>())?;
+    /// # let table = AtomTable::read(builder.write()?, builder.mesh().clone())?;
+    /// let answers = table.lookups(&[[2.0, 1.0, 2.0, 3.0], [2.0, 0.0, 0.0, 0.0]], None, 4);
+    /// assert_eq!(answers, [table.lookup(2.0, [1.0, 2.0, 3.0]), Err(Refusal::Query)]);
+    /// # Ok::<(), simgrale::Error>(())
+    /// ```
+    pub fn lookups(&self, poses: &[[f64; 4]], beta: Option<f64>, threads: u32) -> Vec<Result<f64, Refusal>> {
+        let (numbers, energies) = self.reader.energies::<4, 1>(poses, beta, threads);
+        numbers.into_iter().zip(energies).map(|(number, [energy])| answer(number, energy)).collect()
     }
 
     /// The grid; rmax is the table's own, threshold and beta are 0.
@@ -226,12 +209,12 @@ impl AtomTable {
 
     /// The file, byte for byte.
     pub fn file(&self) -> &[u8] {
-        &self.file
+        self.reader.file()
     }
 
     /// The meshes that it is read with.
     pub fn mesh(&self) -> &Arc<Mesh> {
-        &self.mesh
+        self.reader.mesh()
     }
 
     /// The row of a distance bin; none beyond the table's.
@@ -240,11 +223,11 @@ impl AtomTable {
     }
 
     /// Every row with its distance bin. [`Row`] has an example.
-    pub fn rows(&self) -> impl DoubleEndedIterator<Item = (u64, Row)> + ExactSizeIterator {
+    pub fn rows(&self) -> impl DoubleEndedIterator<Item = (u64, Row)> + ExactSizeIterator + '_ {
         (0..self.grid().n_r as usize).map(|ri| (ri as u64, self.slab(ri as u64)))
     }
 
     fn slab(&self, ri: u64) -> Row {
-        Row::of(&self.file, &self.held.start, ri, per)
+        Row::of(self.file(), &self.held.start, ri, per)
     }
 }

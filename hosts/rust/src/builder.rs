@@ -1,14 +1,14 @@
 //! A table that is being built.
-use crate::Mesh;
 use crate::environment::FloatEnvironment;
 use crate::error::Error;
-use crate::journal::Kept;
-use crate::journal_file::{Answer, Call, SET};
+use crate::helpers::Plan;
 use crate::lists::Lists;
-use crate::refusal::{Refusal, answer};
+use crate::refusal::{answer, Refusal};
 use crate::sizing::sizing;
 use crate::sys::{self, Grid};
 use crate::tail::{self, Tail};
+use crate::Mesh;
+use std::path::Path;
 use std::sync::Arc;
 
 /// A table of two molecules that is being built: owns the lists that it is built in. A refused call leaves all of them, and the builder, as they
@@ -128,6 +128,38 @@ impl Builder {
         answer(written.number, output)
     }
 
+    /// Writes the table to a file, its seal to `path.meta` and, where the meshes are not the library's own, these to `path.mesh`: each under another
+    /// name, brought to disk and renamed, in the place of what is there. A kill leaves the table before, or one that [`Table::open`](crate::Table::open)
+    /// refuses until it is written again.
+    ///
+    /// ```
+    /// use simgrale::{settings, Builder, Mesh, Table};
+    ///
+    /// let builder = Builder::new(settings(1.0, 4.0, 1.0, 3.2, 0.5, 0.4), Mesh::icospheres(0)?)?;
+    /// # let folder = std::env::temp_dir().join(format!("simgrale-save-{}", std::process::id()));
+    /// # std::fs::create_dir_all(&folder)?;
+    /// let path = folder.join("table.icotable");
+    /// builder.save(&path)?;
+    /// assert_eq!(Table::open(&path)?.file(), builder.write()?);
+    /// let error = builder.save("no/such/folder/table").unwrap_err();
+    /// assert_eq!(error.number(), Some(267));
+    /// assert!(error.to_string().ends_with("no/such/folder/table: No such file or directory"));
+    /// # std::fs::remove_dir_all(folder)?;
+    /// # Ok::<(), simgrale::Error>(())
+    /// ```
+    pub fn save(&self, path: impl AsRef<Path>) -> Result<(), Error> {
+        self.plan().save(&self.write()?, path.as_ref())
+    }
+
+    /// The same with a long-range tail. [`Tail`] has an example.
+    pub fn save_tail(&self, path: impl AsRef<Path>, tail: &Tail) -> Result<(), Error> {
+        self.plan().save(&self.write_tail(tail)?, path.as_ref())
+    }
+
+    fn plan(&self) -> Plan<'_> {
+        Plan { atom: false, grid: self.grid(), mesh: &self.mesh, flags: 0 }
+    }
+
     /// The length of the file that [`write`](Builder::write) would give now, in bytes. The builder counts as it is built, so no row is walked.
     pub fn file_length(&self) -> u64 {
         let grid = self.held.grid;
@@ -174,57 +206,5 @@ impl Builder {
     /// The directions of the current level's vertices, in their order.
     pub fn directions(&self) -> Vec<[f64; 3]> {
         self.mesh.directions(self.level()).collect()
-    }
-}
-
-// What a journal may have to put back: the builder, the rows of a slice and, where a slab that holds energies is set over, these.
-pub(crate) struct Before {
-    held: sys::Builder,
-    words: Vec<u64>,
-    energies: Vec<f64>,
-}
-
-impl Builder {
-    // The words of a call's slice, and the place of its slab in the store.
-    fn places(&self, call: &Call) -> (std::ops::Range<usize>, std::ops::Range<usize>) {
-        let n_omega = self.held.grid.n_omega;
-        let first = (call.ri * n_omega) as usize;
-        let (slab, most) = (first + call.oi as usize, per(self.held.top));
-        (first..first + n_omega as usize, slab * most..(slab + 1) * most)
-    }
-}
-
-impl Kept for Builder {
-    type Before = Before;
-
-    fn before(&self, call: &Call) -> Before {
-        let (slice, place) = self.places(call);
-        let words = self.lists.words[slice].to_vec();
-        let over = call.kind == SET && words[call.oi as usize] >> 40 >= 2;
-        Before { held: self.held, words, energies: if over { self.lists.store[place].to_vec() } else { Vec::new() } }
-    }
-
-    fn make(&mut self, call: &Call, energies: &[f64]) -> Answer {
-        if call.kind == SET {
-            let built = sys::set(self.held, &mut self.lists.lent(), call.ri, call.oi, energies);
-            self.held = built.builder;
-            return Answer { number: built.number, level: self.held.level, ..Answer::default() };
-        }
-        let settled = sys::settle(self.held, &mut self.lists.lent(), self.mesh.lent(), call.ri);
-        self.held = settled.builder;
-        Answer { number: settled.number, level: self.held.level, gradient: settled.gradient.to_bits(), comparisons: settled.comparisons }
-    }
-
-    fn take_back(&mut self, call: &Call, before: Before) {
-        let (slice, place) = self.places(call);
-        self.lists.words[slice].copy_from_slice(&before.words);
-        if !before.energies.is_empty() {
-            self.lists.store[place].copy_from_slice(&before.energies);
-        }
-        self.held = before.held;
-    }
-
-    fn most(&self) -> u64 {
-        per(self.held.top) as u64
     }
 }

@@ -1,6 +1,6 @@
 //! A search without a locator.
-use crate::refusal::{Refusal, answer};
-use crate::{Mesh, sys};
+use crate::refusal::{answer, Refusal};
+use crate::{sys, Mesh};
 
 /// Where a direction falls on a level's mesh: what [`Mesh::search`] answers.
 #[derive(Clone, Copy, Debug, PartialEq)]

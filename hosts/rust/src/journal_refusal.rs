@@ -1,4 +1,5 @@
 //! Why a journal, or a call that it should keep, was refused.
+use crate::helpers;
 use std::fmt;
 
 macro_rules! refusals {
@@ -27,18 +28,26 @@ macro_rules! refusals {
             /// Every one, in the order of its number.
             pub const ALL: &'static [JournalRefusal] = &[$(JournalRefusal::$name),*];
 
+            pub(crate) fn of(number: u64) -> Option<JournalRefusal> {
+                match number {
+                    $($number => Some(JournalRefusal::$name),)*
+                    _ => None,
+                }
+            }
+
             /// Its number, above those of the library.
             pub fn number(self) -> u64 {
                 self as u64
             }
 
-            /// What was refused.
+            /// What was refused, in C's words.
             pub fn words(self) -> &'static str {
-                match self {
-                    $(JournalRefusal::$name => $words,)*
-                }
+                helpers::words(self.number())
             }
         }
+
+        #[cfg(test)]
+        const DOCUMENTED: &[&str] = &[$($words),*];
     };
 }
 
@@ -74,3 +83,14 @@ impl fmt::Display for JournalRefusal {
 }
 
 impl std::error::Error for JournalRefusal {}
+
+#[cfg(test)]
+mod tests {
+    use super::*;
+
+    #[test]
+    fn the_documented_words_are_those_of_c() {
+        let words: Vec<&str> = JournalRefusal::ALL.iter().map(|refusal| refusal.words()).collect();
+        assert_eq!(words, DOCUMENTED);
+    }
+}

@@ -1,26 +1,29 @@
 //! Pair-energy tables over distance, dihedral angle and two orientations, and of one molecule against an atom over distance
 //! and one orientation: build, write, read, look up.
 //!
-//! A safe wrapper over libicotable.a, whose functions are proved. It needs nothing but std and that library.
+//! A safe wrapper over libicotable.a, whose functions are proved, and over the helpers of hosts/c, which keep journals, tables on disk, seals, mesh
+//! files and slab files for C, Python and Rust alike. It needs nothing but std, that library and a C compiler, or an installed libicotable.
 //!
 //! | item | what it is |
 //! |---|---|
 //! | [`Mesh`] | the meshes and locators of all levels; [`search`] finds a direction without a locator |
 //! | [`Builder`], [`AtomBuilder`] | a table that is being built, of two molecules and of one against an atom |
 //! | [`Journaled`] | a builder whose calls are kept in a file, so that a killed job goes on |
-//! | [`Table`], [`AtomTable`] | a table that is read; [`save`] writes its file, [`repack`] packs one that was loosely packed |
+//! | [`Table`], [`AtomTable`] | a table that is read; [`repack`] packs one that was loosely packed |
+//! | [`Seal`] | what a table on disk was built with, and which bytes it has |
+//! | [`Slab`] | a file of one slab's energies, which a task of a cluster writes |
 //! | [`Tail`] | what a host adds beyond a table's distances |
 //! | [`sizing`], [`atom_sizing`] | what a build needs, beforehand |
 //! | [`RowLists`] | a builder's rows, in words and in lists |
 //! | [`Refusal`], [`Error`] | why a call was refused, with its number and words; a refused call alters nothing |
 //!
 //! ```
-//! use simgrale::{save, settings, Builder, Mesh, Table};
-//! use std::sync::Arc;
+//! use simgrale::{settings, Builder, Mesh, Table};
 //!
-//! # let path = std::env::temp_dir().join(format!("simgrale-first-{}.icotable", std::process::id()));
-//! let mesh = Arc::new(Mesh::icospheres(2)?);
-//! let mut builder = Builder::new(settings(1.0, 9.0, 1.0, 1.0472, 0.5, 0.4), mesh.clone())?;
+//! # let folder = std::env::temp_dir().join(format!("simgrale-first-{}", std::process::id()));
+//! # std::fs::create_dir_all(&folder)?;
+//! # let path = folder.join("table.icotable");
+//! let mut builder = Builder::new(settings(1.0, 9.0, 1.0, 1.0472, 0.5, 0.4), Mesh::icospheres(2)?)?;
 //! for ri in 0..builder.grid().n_r {
 //!     for oi in 0..builder.grid().n_omega {
 //!         let pairs = builder.directions().len().pow(2);
@@ -28,18 +31,18 @@
 //!     }
 //!     builder.settle(ri)?;
 //! }
-//! save(&path, &builder.write()?)?;
+//! builder.save(&path)?;
 //!
-//! let table = Table::open(&path, mesh)?;
+//! let table = Table::open(&path)?;
 //! assert_eq!(table.lookup(4.3, 0.5, [0.0, 0.0, 1.0], [0.0, 1.0, 0.0])?, -1.0);
-//! # std::fs::remove_file(path)?;
+//! # std::fs::remove_dir_all(folder)?;
 //! # Ok::<(), simgrale::Error>(())
 //! ```
 //!
-//! **Not proved** is the wrapper itself: it sizes the lists, hands them over and turns numbers into the enum. Neither are the makers of meshes and
-//! the journals.
+//! **Not proved** is the wrapper itself: it sizes the lists, hands them over and turns numbers into the enum. Neither are the helpers in C: what
+//! makes meshes and keeps files and journals.
 //!
-//! **Threads.** Meshes, builders, tables and errors are [`Send`] and [`Sync`]: the library keeps no state. Readings of one table may run in any
+//! **Threads.** Meshes, builders, tables and errors are [`Send`] and [`Sync`]: library and helpers keep no state. Readings of one table may run in any
 //! number of threads at once; a builder's `&mut self` has one caller at a time.
 //!
 //! **Floating point.** The proofs speak of one floating-point environment. [`Builder::new`], [`Table::open`], [`Table::read`], [`Table::view`], the
@@ -53,17 +56,18 @@ mod atom;
 mod builder;
 mod environment;
 mod error;
-mod file;
 mod found;
+mod helpers;
 mod journal;
-mod journal_file;
 mod journal_refusal;
 mod lists;
 mod mesh;
 mod refusal;
 mod repack;
 mod row;
+mod seal;
 mod sizing;
+mod slab;
 mod sys;
 mod table;
 mod tail;
@@ -73,19 +77,20 @@ pub use atom::{AtomBuilder, AtomTable};
 pub use builder::{Builder, Settled};
 pub use environment::FloatEnvironment;
 pub use error::Error;
-pub use file::save;
-pub use found::{Found, search};
+pub use found::{search, Found};
 pub use journal::{Guard, Journaled, Step};
 pub use journal_refusal::JournalRefusal;
 pub use mesh::{Level, Mesh};
 pub use refusal::Refusal;
-pub use repack::{Repacked, repack};
+pub use repack::{repack, Repacked};
 pub use row::{Kind, Row};
-pub use sizing::{LevelSizing, Sizing, atom_sizing, sizing, sizing_with_terms};
+pub use seal::Seal;
+pub use sizing::{atom_sizing, sizing, sizing_with_terms, LevelSizing, Sizing};
+pub use slab::Slab;
 pub use sys::{AtomGrid, Grid};
 pub use table::{Reading, Span, Table};
-pub use tail::{Tail, Term, power};
-pub use words::{RowLists, rows_to_words, words_to_rows};
+pub use tail::{power, Tail, Term};
+pub use words::{rows_to_words, words_to_rows, RowLists};
 
 // What the documentation says of threads, for the compiler to check.
 const _: () = {

@@ -47,15 +47,6 @@ impl AtomLists {
         sys::AtomHeld { store: &self.store, kinds, levels, values }
     }
 
-    // Kind, level and value of a row.
-    pub(crate) fn row(&self, s: usize) -> (u8, u8, u32) {
-        (self.rows.kinds[s], self.rows.levels[s], self.rows.values[s])
-    }
-
-    pub(crate) fn put_row(&mut self, s: usize, row: (u8, u8, u32)) {
-        (self.rows.kinds[s], self.rows.levels[s], self.rows.values[s]) = row;
-    }
-
     // The length of the file, by the levels of the rows: its five counts and first two sections, a level 4 bytes, a row 10, an energy 4.
     pub(crate) fn file_length(&self, head: usize, top: u64, per: impl Fn(u64) -> usize) -> usize {
         let rows = self.rows.kinds.iter().zip(&self.rows.levels);

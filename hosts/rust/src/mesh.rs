@@ -1,7 +1,9 @@
 //! Meshes of levels 0 to a top one, and their locators; in each list one level's part follows another's.
 use crate::error::Error;
-use crate::refusal::{Refusal, answer};
+use crate::helpers::{self, Meshes};
+use crate::refusal::{answer, Refusal};
 use crate::sys;
+use std::path::Path;
 
 /// The meshes that a table is built over and read with, and their locators: levels from 0 to a top one.
 ///
@@ -41,14 +43,37 @@ pub struct Level {
 }
 
 impl Mesh {
-    /// Icospheres: the faces of an icosahedron cut into m + 1 along each edge for level m. The generator is a helper and is not
-    /// proved; what it makes is put to the library's mesh rule.
+    /// The library's own meshes, icospheres: the faces of an icosahedron cut into m + 1 along each edge for level m. Their maker is C's
+    /// (hosts/c/mesh.c) and is not proved; what it makes is put to the library's mesh rule.
     pub fn icospheres(top: u64) -> Result<Mesh, Refusal> {
         if top > 15 {
             return Err(Refusal::Level);
         }
-        let levels: Vec<Level> = (0..=top).map(icosphere).collect();
-        Mesh::new(&levels)
+        let refused = |number| Refusal::of(number).unwrap_or_else(|| panic!("{}", helpers::words(number)));
+        helpers::make_meshes(top, Mesh::copied).map_err(refused)
+    }
+
+    /// The meshes of a mesh file (docs/FORMAT.md), which stands beside a table that is not over the library's own.
+    ///
+    /// ```
+    /// use simgrale::Mesh;
+    ///
+    /// let path = std::env::temp_dir().join(format!("simgrale-{}.mesh", std::process::id()));
+    /// let mesh = Mesh::icospheres(1)?;
+    /// mesh.save(&path)?;
+    /// assert_eq!(Mesh::load(&path)?, mesh);
+    /// std::fs::write(&path, b"a letter, not a mesh file")?;
+    /// assert_eq!(Mesh::load(&path).unwrap_err().number(), Some(242));
+    /// # std::fs::remove_file(path)?;
+    /// # Ok::<(), simgrale::Error>(())
+    /// ```
+    pub fn load(path: impl AsRef<Path>) -> Result<Mesh, Error> {
+        helpers::load_meshes(path.as_ref(), Mesh::copied)
+    }
+
+    /// Writes all levels to a mesh file, in the place of one that is there. Builders write it by themselves where it is needed.
+    pub fn save(&self, path: impl AsRef<Path>) -> Result<(), Error> {
+        helpers::save_meshes(self, path.as_ref())
     }
 
     /// Meshes of a host's own, from level 0 on. Refused where one does not keep the mesh rule.
@@ -91,7 +116,7 @@ impl Mesh {
     }
 
     /// The directions of a level's vertices, in their order; none above the top.
-    pub fn directions(&self, level: u64) -> impl ExactSizeIterator<Item = [f64; 3]> {
+    pub fn directions(&self, level: u64) -> impl ExactSizeIterator<Item = [f64; 3]> + '_ {
         let at: usize = (0..level.min(self.top + 1)).map(|m| sys::vertices(m) as usize).sum();
         let n = if level > self.top { 0 } else { sys::vertices(level) as usize };
         self.vertices[3 * at..3 * (at + n)].chunks_exact(3).map(|v| [v[0], v[1], v[2]])
@@ -108,11 +133,44 @@ impl Mesh {
         Some(Level { neighbours: (at..at + vertices.len()).map(list).collect(), vertices })
     }
 
-    // Whether a table of so many levels can be read over them.
-    pub(crate) fn ask_levels(&self, needed: u64) -> Result<(), Error> {
-        match self.top + 1 {
-            lent if lent < needed => Err(Error::Levels { needed, lent }),
-            _ => Ok(()),
+    // A copy of lists that C has.
+    pub(crate) fn copied(m: &Meshes) -> Mesh {
+        fn list<T: Copy>(first: *const T, count: usize) -> Vec<T> {
+            unsafe { std::slice::from_raw_parts(first, count) }.to_vec()
+        }
+        Mesh {
+            top: m.top,
+            vertices: list(m.vertices, m.vertices_count),
+            counts: list(m.neighbour_counts, m.neighbour_counts_count),
+            neighbours: list(m.neighbours, m.neighbours_count),
+            angles: list(m.angles, m.angles_count),
+            cell_offsets: list(m.cell_offsets, m.cell_offsets_count),
+            cell_vertices: list(m.cell_vertices, m.cell_vertices_count),
+            face_offsets: list(m.face_offsets, m.face_offsets_count),
+            faces: list(m.faces, m.faces_count),
+        }
+    }
+
+    // The lists as C takes them, which reads alone.
+    pub(crate) fn lists(&self) -> Meshes {
+        Meshes {
+            top: self.top,
+            vertices: self.vertices.as_ptr(),
+            angles: self.angles.as_ptr(),
+            neighbour_counts: self.counts.as_ptr(),
+            neighbours: self.neighbours.as_ptr(),
+            cell_vertices: self.cell_vertices.as_ptr(),
+            faces: self.faces.as_ptr(),
+            cell_offsets: self.cell_offsets.as_ptr(),
+            face_offsets: self.face_offsets.as_ptr(),
+            vertices_count: self.vertices.len(),
+            angles_count: self.angles.len(),
+            neighbour_counts_count: self.counts.len(),
+            neighbours_count: self.neighbours.len(),
+            cell_offsets_count: self.cell_offsets.len(),
+            cell_vertices_count: self.cell_vertices.len(),
+            face_offsets_count: self.face_offsets.len(),
+            faces_count: self.faces.len(),
         }
     }
 
@@ -130,18 +188,6 @@ impl Mesh {
         let at: usize = (0..level.min(self.top + 1)).map(|m| sys::vertices(m) as usize).sum();
         let end = if level > self.top { at } else { at + sys::vertices(level) as usize };
         (&self.vertices[3 * at..3 * end], &self.counts[at..end], &self.neighbours[6 * at..6 * end])
-    }
-
-    // What a reading of a file is lent.
-    pub(crate) fn lent_with<'a>(&'a self, file: &'a [u8]) -> sys::Lent<'a> {
-        sys::Lent {
-            file,
-            vertices: &self.vertices,
-            cell_offsets: &self.cell_offsets,
-            cell_vertices: &self.cell_vertices,
-            face_offsets: &self.face_offsets,
-            faces: &self.faces,
-        }
     }
 
     // One level more, with its locator.
@@ -179,111 +225,5 @@ impl Mesh {
         };
         let number = sys::locator(m, level, &mut locator);
         answer(number, ())
-    }
-}
-
-// The icosahedron: its corners, and the number of the edge between two of them.
-struct Icosahedron {
-    corners: [[f64; 3]; 12],
-    edges: [[Option<usize>; 12]; 12],
-}
-
-fn icosahedron() -> Icosahedron {
-    let golden = (1.0 + 5f64.sqrt()) / 2.0;
-    let mut solid = Icosahedron { corners: [[0.0; 3]; 12], edges: [[None; 12]; 12] };
-    for (i, corner) in solid.corners.iter_mut().enumerate() {
-        let k = i / 4;
-        corner[(k + 1) % 3] = if i & 1 == 0 { 1.0 } else { -1.0 };
-        corner[(k + 2) % 3] = if i & 2 == 0 { golden } else { -golden };
-    }
-    let mut count = 0;
-    for a in 0..12 {
-        for b in a + 1..12 {
-            let squared: f64 = (0..3).map(|k| (solid.corners[a][k] - solid.corners[b][k]).powi(2)).sum();
-            if squared < 5.0 {
-                solid.edges[a][b] = Some(count);
-                solid.edges[b][a] = Some(count);
-                count += 1;
-            }
-        }
-    }
-    solid
-}
-
-impl Icosahedron {
-    fn faces(&self) -> Vec<[usize; 3]> {
-        let mut faces = Vec::new();
-        for a in 0..12 {
-            for b in a + 1..12 {
-                for c in b + 1..12 {
-                    if self.edges[a][b].is_some() && self.edges[b][c].is_some() && self.edges[a][c].is_some() {
-                        faces.push([a, b, c]);
-                    }
-                }
-            }
-        }
-        faces
-    }
-
-    // The number of the point of a face that has i parts of its first corner, j of its second and the rest of its third: corners
-    // come first, then the inner points of edges, then those of faces.
-    fn point(&self, parts: usize, number: usize, face: [usize; 3], i: usize, j: usize) -> usize {
-        let shares = [i, j, parts - i - j];
-        let inner = parts - 1;
-        if let Some(k) = shares.iter().position(|&s| s == parts) {
-            return face[k];
-        }
-        if let Some(k) = shares.iter().position(|&s| s == 0) {
-            let (p, q) = (if k == 0 { 1 } else { 0 }, if k == 2 { 1 } else { 2 });
-            let edge = self.edges[face[p]][face[q]].expect("corners of a face are tied");
-            return 12 + edge * inner + shares[p] - 1;
-        }
-        let before = (i - 1) * inner - (i - 1) * i / 2 + j - 1;
-        12 + 30 * inner + number * (inner * (inner - 1) / 2) + before
-    }
-
-    fn place(&self, parts: usize, face: [usize; 3], i: usize, j: usize) -> [f64; 3] {
-        let [a, b, c] = face.map(|k| self.corners[k]);
-        let v = [0, 1, 2].map(|k| a[k] * i as f64 + b[k] * j as f64 + c[k] * (parts - i - j) as f64);
-        let length = (v[0] * v[0] + v[1] * v[1] + v[2] * v[2]).sqrt();
-        v.map(|x| x / length)
-    }
-}
-
-fn angle(p: [f64; 3], q: [f64; 3]) -> f64 {
-    (p[0] * q[0] + p[1] * q[1] + p[2] * q[2]).clamp(-1.0, 1.0).acos()
-}
-
-fn icosphere(m: u64) -> Level {
-    let (solid, parts) = (icosahedron(), m as usize + 1);
-    let n = 10 * parts * parts + 2;
-    let mut level = Level { vertices: vec![[0.0; 3]; n], neighbours: vec![Vec::new(); n] };
-    let faces = solid.faces();
-    for (f, &face) in faces.iter().enumerate() {
-        for i in 0..=parts {
-            for j in 0..=parts - i {
-                level.vertices[solid.point(parts, f, face, i, j)] = solid.place(parts, face, i, j);
-            }
-        }
-    }
-    for (f, &face) in faces.iter().enumerate() {
-        for i in 0..parts {
-            for j in 0..parts - i {
-                let corners = [(i, j), (i + 1, j), (i, j + 1)].map(|(i, j)| solid.point(parts, f, face, i, j));
-                for k in 0..3 {
-                    tie(&mut level, corners[k], corners[(k + 1) % 3]);
-                    tie(&mut level, corners[(k + 1) % 3], corners[k]);
-                }
-            }
-        }
-    }
-    level
-}
-
-// Enters q as a neighbour of p, once.
-fn tie(level: &mut Level, p: usize, q: usize) {
-    if level.neighbours[p].iter().all(|w| w.0 as usize != q) {
-        let angle = angle(level.vertices[p], level.vertices[q]);
-        level.neighbours[p].push((q as u16, angle));
     }
 }

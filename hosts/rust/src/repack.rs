@@ -1,5 +1,5 @@
 //! Loosely packed table files, made packed ones.
-use crate::refusal::{Refusal, answer};
+use crate::refusal::{answer, Refusal};
 use crate::sys;
 
 /// What [`repack`] gives.

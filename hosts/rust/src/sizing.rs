@@ -1,7 +1,7 @@
 //! What a build needs, before anything is sampled.
-use crate::Mesh;
-use crate::refusal::{Refusal, answer};
+use crate::refusal::{answer, Refusal};
 use crate::sys::{self, AtomGrid, Grid, Size};
+use crate::Mesh;
 
 /// What a build needs, as the library works it out from settings and meshes alone. Builders size their own lists by it.
 #[derive(Clone, Debug, PartialEq)]

@@ -192,7 +192,7 @@ pub struct Found {
 }
 
 #[rustfmt::skip]
-unsafe extern "C" {
+extern "C" {
     fn icotable_fresh(
         grid: Grid, top: u64, store: *mut f64, a: usize, words: *mut u64, b: usize,
         vertices: *const f64, c: usize, counts: *const u8, d: usize, neighbours: *const u16, e: usize, angles: *const f64, f: usize,

@@ -1,16 +1,16 @@
 //! A table file that the library accepted.
-use crate::Mesh;
 use crate::builder::per;
-use crate::environment::FloatEnvironment;
 use crate::error::Error;
-use crate::refusal::{Refusal, answer};
+use crate::helpers::{words, Reader};
+use crate::refusal::{answer, Refusal};
 use crate::row::Row;
 use crate::sys::{self, Grid};
 use crate::tail::{Tail, Term};
+use crate::Mesh;
 use std::path::Path;
 use std::sync::Arc;
 
-/// A table of two molecules: owns its file and shares the meshes that it was built over.
+/// A table of two molecules: a file that is mapped, or bytes in memory, with the meshes that it was built over.
 ///
 /// It is [`Send`] and [`Sync`]: readings take `&self`, keep nothing and may run in any number of threads at once, each with the same answers.
 /// The floating-point environment is asked of the thread that opens the table; every thread that reads needs the same ([`FloatEnvironment`]).
@@ -40,9 +40,13 @@ use std::sync::Arc;
 /// ```
 #[derive(Clone, Debug)]
 pub struct Table {
-    file: Vec<u8>,
     held: sys::Table,
-    mesh: Arc<Mesh>,
+    reader: Arc<Reader>,
+}
+
+// As C and Python refuse it.
+pub(crate) fn other_kind(path: &Path, other: &str) -> Error {
+    Error::Handle { number: 262, message: format!("{}: {} is for {other}", words(262), path.display()) }
 }
 
 /// What [`Table::reading`] answers.
@@ -81,37 +85,77 @@ pub struct Span {
 }
 
 impl Table {
-    /// Reads a file and looks over all of it, as [`read`](Table::read) does. An error names the path.
+    /// Maps a file and looks over all of it. The meshes are those of the mesh file `path.mesh` where the seal `path.meta` says so, else the
+    /// library's own.
     ///
-    /// The whole file is held in memory: std has no memory map, and this package needs nothing but std. Where the number of levels is not known
-    /// beforehand, [`Mesh::icospheres(15)`](Mesh::icospheres) serves every table that was built over icospheres of this package or of hosts/c.
+    /// Where there is a seal, the table has to be the sealed one, to the byte (255), and the meshes those of the seal (269). A mesh file without a
+    /// seal is refused with 270: nothing says whether it is the table's, and [`open_with`](Table::open_with) takes it by hand. Without either the
+    /// table is read over the library's own meshes, and nothing tells whether it was built over them.
+    ///
+    /// The file has to stay as it is while it is open. One that is replaced by a rename, as every writer of this package does, is no harm: the table
+    /// goes on with what it opened. A program that writes into the file alters readings and [`file`](Table::file); one that cuts it short ends
+    /// this process at a reading beyond its end (SIGBUS). [`read`](Table::read) takes bytes that nobody else has.
     ///
     /// ```
-    /// use simgrale::{save, settings, Builder, Error, Mesh, Table};
-    /// use std::sync::Arc;
+    /// use simgrale::{settings, Builder, Error, Mesh, Table, Tail, Term};
     ///
-    /// let mesh = Arc::new(Mesh::icospheres(1)?);
-    /// let path = std::env::temp_dir().join(format!("simgrale-open-{}.icotable", std::process::id()));
-    /// save(&path, &Builder::new(settings(1.0, 4.0, 1.0, 3.2, 0.5, 0.4), mesh.clone())?.write()?)?;
+    /// # let folder = std::env::temp_dir().join(format!("simgrale-open-{}", std::process::id()));
+    /// # std::fs::create_dir_all(&folder)?;
+    /// let path = folder.join("table.icotable");
+    /// Builder::new(settings(1.0, 4.0, 1.0, 3.2, 0.5, 0.4), Mesh::icospheres(1)?)?.save(&path)?;
     ///
-    /// let table = Table::open(&path, mesh)?;
+    /// let table = Table::open(&path)?;
     /// assert_eq!((table.levels(), table.grid().n_r, table.grid().n_omega), (2, 3, 2));
     /// assert_eq!(table.file(), std::fs::read(&path)?);
-    /// // meshes of too few levels are refused here, not at each reading
-    /// let error = Table::open(&path, Mesh::icospheres(0)?).unwrap_err();
-    /// assert_eq!(error, Error::File { path: path.clone(), error: Box::new(Error::Levels { needed: 2, lent: 1 }) });
-    /// # std::fs::remove_file(path)?;
+    /// // another table under the same name, and the seal tells
+    /// let other = Builder::new(settings(1.0, 4.0, 1.0, 3.2, 0.5, 0.4), Mesh::icospheres(1)?)?.write_tail(&Tail {
+    ///     terms: vec![Term { coefficient: 1.0, kappa: 0.0, power: 6 }],
+    ///     prefactor: Some(1.0),
+    /// })?;
+    /// drop(table);
+    /// std::fs::write(&path, other)?;
+    /// assert_eq!(Table::open(&path).unwrap_err().number(), Some(255));
+    /// # std::fs::remove_dir_all(folder)?;
     /// # Ok::<(), Error>(())
     /// ```
-    pub fn open(path: impl AsRef<Path>, mesh: impl Into<Arc<Mesh>>) -> Result<Table, Error> {
-        crate::file::opened(path.as_ref(), |file| Table::read(file, mesh))
+    pub fn open(path: impl AsRef<Path>) -> Result<Table, Error> {
+        Table::of(Reader::open(path.as_ref())?, path.as_ref())
+    }
+
+    /// The same with meshes by hand: for a table without a seal, as `icotable import` leaves it, those of its mesh file. Where there is a seal, they
+    /// have to be those of the seal (269). Meshes of fewer levels than the table has are refused with 268.
+    ///
+    /// ```
+    /// use simgrale::{settings, Builder, Error, Mesh, Table};
+    /// # let folder = std::env::temp_dir().join(format!("simgrale-with-{}", std::process::id()));
+    /// # std::fs::create_dir_all(&folder)?;
+    /// # let path = folder.join("table.icotable");
+    /// # let mesh = Mesh::icospheres(1)?;
+    /// # std::fs::write(&path, Builder::new(settings(1.0, 4.0, 1.0, 3.2, 0.5, 0.4), mesh.clone())?.write()?)?;
+    /// # mesh.save(folder.join("table.icotable.mesh"))?;
+    ///
+    /// // a table with a mesh file beside it, and no seal
+    /// assert_eq!(Table::open(&path).unwrap_err().number(), Some(270));
+    /// let table = Table::open_with(&path, Mesh::load(folder.join("table.icotable.mesh"))?)?;
+    /// assert_eq!(table.mesh().top(), 1);
+    /// assert_eq!(Table::open_with(&path, Mesh::icospheres(0)?).unwrap_err().number(), Some(268));
+    /// # std::fs::remove_dir_all(folder)?;
+    /// # Ok::<(), Error>(())
+    /// ```
+    pub fn open_with(path: impl AsRef<Path>, mesh: impl Into<Arc<Mesh>>) -> Result<Table, Error> {
+        Table::of(Reader::open_with(path.as_ref(), mesh.into())?, path.as_ref())
     }
 
     /// Looks over a file that is in memory, all of it. The mesh has to be the one that the table was built over: a file does not hold it, and
-    /// over other vertices a reading takes other energies, which nothing tells. One of fewer levels than the table has is refused
-    /// ([`Error::Levels`]), and so is a file of one molecule against an atom.
+    /// over other vertices a reading takes other energies, which nothing tells. One of fewer levels than the table has is refused with 268, and a
+    /// file of one molecule against an atom with 262.
     pub fn read(file: Vec<u8>, mesh: impl Into<Arc<Mesh>>) -> Result<Table, Error> {
-        Table::opened(sys::read, file, mesh.into())
+        Table::of(Reader::over(file, mesh.into())?, Path::new("bytes in memory"))
+    }
+
+    fn of(reader: Reader, path: &Path) -> Result<Table, Error> {
+        let held = *reader.table().ok_or_else(|| other_kind(path, "AtomTable"))?;
+        Ok(Table { held, reader: Arc::new(reader) })
     }
 
     /// The same under the bounds of a viewer: a file of more than 4 levels or 4,096 rows is refused ([`Refusal::ViewerBound`]). What it
@@ -128,15 +172,8 @@ impl Table {
     /// # Ok::<(), Error>(())
     /// ```
     pub fn view(file: Vec<u8>, mesh: impl Into<Arc<Mesh>>) -> Result<Table, Error> {
-        Table::opened(sys::view, file, mesh.into())
-    }
-
-    fn opened(reader: fn(&[u8]) -> sys::Table, file: Vec<u8>, mesh: Arc<Mesh>) -> Result<Table, Error> {
-        FloatEnvironment::ask()?;
-        let held = reader(&file);
-        answer(held.number, ())?;
-        mesh.ask_levels(held.levels)?;
-        Ok(Table { file, held, mesh })
+        answer(sys::view(&file).number, ())?;
+        Table::read(file, mesh)
     }
 
     /// The energy at a distance, a dihedral angle and two directions of any length: infinity inside a repulsive wall, 0 outside the table's
@@ -162,7 +199,7 @@ impl Table {
     /// # Ok::<(), simgrale::Error>(())
     /// ```
     pub fn reading(&self, r: f64, omega: f64, a: [f64; 3], b: [f64; 3]) -> Result<Reading, Refusal> {
-        Reading::of(sys::reading(&self.held, self.mesh.lent_with(&self.file), &sys::Query { r, omega, a, b }))
+        Reading::of(self.reader.energy(r, omega, a, b))
     }
 
     /// The energy weighted by temperature: where a row is interpolated, the nine energies are averaged by their weights and by
@@ -187,7 +224,7 @@ impl Table {
 
     /// The weighted reading, and how far the vertices lie where it was read at the nearest ones.
     pub fn reading_boltzmann(&self, r: f64, omega: f64, a: [f64; 3], b: [f64; 3], beta: f64) -> Result<Reading, Refusal> {
-        Reading::of(sys::boltzmann(&self.held, self.mesh.lent_with(&self.file), &sys::Query { r, omega, a, b }, beta))
+        Reading::of(self.reader.boltzmann(r, omega, a, b, beta))
     }
 
     /// Many readings in one call: for each pose, r, omega, and x, y, z of both directions, what `reading` answers, or
@@ -206,8 +243,23 @@ impl Table {
     /// # Ok::<(), simgrale::Error>(())
     /// ```
     pub fn readings(&self, poses: &[[f64; 8]], beta: Option<f64>) -> Vec<Result<Reading, Refusal>> {
-        let (mut numbers, mut answers) = (vec![0; poses.len()], vec![[0.0; 3]; poses.len()]);
-        sys::readings(&self.held, self.mesh.lent_with(&self.file), poses, beta.as_slice(), &mut numbers, &mut answers);
+        self.readings_with_threads(poses, beta, 1)
+    }
+
+    /// The same, the poses split among so many threads; 0 and 1 are the caller's own alone, and none is started for fewer than 256 poses. Each answer
+    /// is the same, to the bit, whatever their number.
+    ///
+    /// ```
+    /// # use simgrale::{settings, Builder, Mesh, Table};
+    /// # let mut builder = Builder::new(settings(1.0, 3.0, 1.0, 3.2, 0.5, 0.4), Mesh::icospheres(0)?)?;
+    /// # builder.set(0, 0, &(0..144).map(|i| f64::from(i % 7)).collect::<Vec<_>>())?;
+    /// # let table = Table::read(builder.write()?, builder.mesh().clone())?;
+    /// let poses: Vec<[f64; 8]> = (0..1000).map(|i| [1.0, 0.0, 0.3, f64::from(i), 0.9, 0.0, 1.0, 0.5]).collect();
+    /// assert_eq!(table.readings_with_threads(&poses, None, 2), table.readings(&poses, None));
+    /// # Ok::<(), simgrale::Error>(())
+    /// ```
+    pub fn readings_with_threads(&self, poses: &[[f64; 8]], beta: Option<f64>, threads: u32) -> Vec<Result<Reading, Refusal>> {
+        let (numbers, answers) = self.reader.energies::<8, 3>(poses, beta, threads);
         let value = |(number, [energy, distance_a, distance_b]): (u64, [f64; 3])| Reading::of(sys::Value { number, energy, distance_a, distance_b });
         numbers.into_iter().zip(answers).map(value).collect()
     }
@@ -215,7 +267,7 @@ impl Table {
     /// The long-range tail at a distance: what a host adds where r is beyond rmax and `lookup` gives 0. It answers inside the table, too,
     /// and is 0 without terms; at a NaN it is refused.
     pub fn tail_energy(&self, r: f64) -> Result<f64, Refusal> {
-        let value = sys::tail(&self.held, &self.file, r);
+        let value = self.reader.tail(r);
         answer(value.number, value.energy)
     }
 
@@ -233,13 +285,13 @@ impl Table {
     /// # Ok::<(), simgrale::Error>(())
     /// ```
     pub fn span(&self, low: f64, high: f64, omega: f64) -> Result<Span, Refusal> {
-        let sys::Spanned { number, first, last, smallest, largest, scalar_nans } = sys::span(&self.held, &self.file, low, high, omega);
+        let sys::Spanned { number, first, last, smallest, largest, scalar_nans } = self.reader.span(low, high, omega);
         answer(number, Span { first, last, smallest, largest, scalar_nans })
     }
 
     /// The long-range tail as the file has it; without terms it has no prefactor.
     pub fn tail(&self) -> Tail {
-        Tail::of(&self.file, self.held.start[5], self.held.terms)
+        Tail::of(self.file(), self.held.start[5], self.held.terms)
     }
 
     /// The terms of the long-range tail.
@@ -259,12 +311,12 @@ impl Table {
 
     /// The file, byte for byte.
     pub fn file(&self) -> &[u8] {
-        &self.file
+        self.reader.file()
     }
 
     /// The meshes that it is read with.
     pub fn mesh(&self) -> &Arc<Mesh> {
-        &self.mesh
+        self.reader.mesh()
     }
 
     /// The row of a distance bin and a dihedral bin; none beyond the table's.
@@ -292,12 +344,12 @@ impl Table {
     /// assert_eq!(table.row(2, 0), Some(row));
     /// # Ok::<(), simgrale::Error>(())
     /// ```
-    pub fn rows(&self) -> impl DoubleEndedIterator<Item = (u64, u64, Row)> + ExactSizeIterator {
+    pub fn rows(&self) -> impl DoubleEndedIterator<Item = (u64, u64, Row)> + ExactSizeIterator + '_ {
         let Grid { n_r, n_omega, .. } = self.grid();
         (0..(n_r * n_omega) as usize).map(move |s| (s as u64 / n_omega, s as u64 % n_omega, self.slab(s as u64)))
     }
 
     fn slab(&self, s: u64) -> Row {
-        Row::of(&self.file, &self.held.start, s, per)
+        Row::of(self.file(), &self.held.start, s, per)
     }
 }

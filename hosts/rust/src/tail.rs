@@ -1,5 +1,5 @@
 //! The long-range tail of a table: what a host adds beyond its distances.
-use crate::sys;
+use crate::{helpers, sys};
 
 /// A term of a [`Tail`]: coefficient · exp(-kappa·r) / r^power, as the Rust crate's `TailCorrectionTerm`.
 #[derive(Clone, Copy, Debug, PartialEq)]
@@ -25,6 +25,11 @@ pub struct Term {
 /// let (r, a) = (40.0, [0.0, 0.0, 1.0]);
 /// let energy = if r > table.grid().rmax { table.tail_energy(r)? } else { table.lookup(r, 0.0, a, a)? };
 /// assert!((energy - 17.7 * -2.0 * (-0.1 * r).exp() / r).abs() < 1e-12);
+/// # let path = std::env::temp_dir().join(format!("simgrale-tail-{}.icotable", std::process::id()));
+/// builder.save_tail(&path, &tail)?;
+/// assert_eq!(Table::open(&path)?.terms(), tail.terms);
+/// # std::fs::remove_file(path.with_extension("icotable.meta"))?;
+/// # std::fs::remove_file(path)?;
 /// tail.prefactor = None;
 /// assert_eq!(builder.write_tail(&tail), Err(Refusal::Prefactor));
 /// # Ok::<(), simgrale::Error>(())
@@ -57,7 +62,14 @@ impl Lists {
     }
 
     pub(crate) fn lent(&self) -> sys::Tail<'_> {
-        sys::Tail { coefficients: &self.coefficients, kappas: &self.kappas, powers: &self.powers, prefactor: self.prefactor.as_slice() }
+        let prefactor = self.prefactor.as_ref().map_or(&[][..], std::slice::from_ref);
+        sys::Tail { coefficients: &self.coefficients, kappas: &self.kappas, powers: &self.powers, prefactor }
+    }
+
+    // As a build takes it. A handle takes a prefactor in any case; where there are terms and none, the caller refuses.
+    pub(crate) fn terms(&self) -> helpers::Terms {
+        let (coefficients, kappas, powers) = (self.coefficients.as_ptr(), self.kappas.as_ptr(), self.powers.as_ptr());
+        helpers::Terms { coefficients, kappas, powers, count: self.powers.len(), prefactor: self.prefactor.unwrap_or(0.0) }
     }
 }
 

@@ -1,5 +1,5 @@
 //! Rows as words, and as three lists of numbers.
-use crate::refusal::{Refusal, answer};
+use crate::refusal::{answer, Refusal};
 use crate::sys;
 
 /// Rows in three lists, an entry of each for a row: kind, level and value. The rows of a builder of two molecules are words instead,

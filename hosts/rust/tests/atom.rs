@@ -1,6 +1,6 @@
 //! The wrapper's tables of one molecule against an atom, used as a host does.
 use simgrale::{
-    AtomBuilder, AtomGrid, AtomTable, Builder, Error, Kind, Mesh, Refusal, Settled, Table, atom_settings, atom_sizing, settings, vertex_count,
+    atom_settings, atom_sizing, settings, vertex_count, AtomBuilder, AtomGrid, AtomTable, Builder, Error, Kind, Mesh, Refusal, Settled, Table,
 };
 use std::sync::Arc;
 
@@ -154,9 +154,10 @@ fn a_file_of_the_other_kind_is_refused() {
     let mesh = mesh(0);
     let pair = Builder::new(settings(0.0, 2.0, 1.0, 3.0, 0.1, 1.0), mesh.clone()).unwrap().write().unwrap();
     let atom = builder(0).write().unwrap();
-    let refused = Some(Error::Refused(Refusal::Sections));
-    assert_eq!(AtomTable::read(pair, mesh.clone()).err(), refused);
-    assert_eq!(Table::read(atom, mesh).err(), refused);
+    for (error, other) in [(AtomTable::read(pair, mesh.clone()).unwrap_err(), "Table"), (Table::read(atom, mesh).unwrap_err(), "AtomTable")] {
+        assert_eq!(error.number(), Some(262));
+        assert!(error.to_string().ends_with(&format!("bytes in memory is for {other}")), "{error}");
+    }
 }
 
 #[test]

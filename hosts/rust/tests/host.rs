@@ -1,7 +1,7 @@
 //! The wrapper, used as a host does.
 use simgrale::{
-    AtomBuilder, AtomTable, Builder, Error, FloatEnvironment, Grid, Kind, Level, Mesh, Refusal, Repacked, RowLists, Span, Table, Tail, Term,
-    atom_settings, power, repack, rows_to_words, search, settings, sizing, sizing_with_terms, vertex_count, words_to_rows,
+    atom_settings, power, repack, rows_to_words, search, settings, sizing, sizing_with_terms, vertex_count, words_to_rows, AtomBuilder, AtomTable,
+    Builder, Error, FloatEnvironment, Grid, Kind, Level, Mesh, Refusal, Repacked, RowLists, Span, Table, Tail, Term,
 };
 use std::sync::Arc;
 
@@ -113,8 +113,10 @@ fn another_float_environment_is_told() {
     ] {
         let (rounding, results_flushed, operands_flushed) = flags;
         let wanted = FloatEnvironment { rounding, results_flushed, operands_flushed };
-        let error = Some(Error::Environment(wanted));
-        assert_eq!(found_with(bits), (wanted, vec![error; 4]), "with {bits:X}");
+        let (found, errors) = found_with(bits);
+        let numbers: Vec<Option<u64>> = errors.iter().map(|error| error.as_ref().and_then(Error::number)).collect();
+        assert_eq!((found, numbers), (wanted, [217, 264, 217, 264].map(Some).to_vec()), "with {bits:X}");
+        assert!(errors.iter().flatten().all(|error| error.to_string().ends_with(&wanted.to_string())), "{errors:?}");
     }
 }
 
@@ -343,7 +345,7 @@ fn a_long_range_tail_is_written_and_read() {
     }
     assert_eq!(t.tail_energy(f64::NAN), Err(Refusal::Query));
     assert!(t.tail_energy(f64::INFINITY).unwrap().is_nan()); // a kappa of 0, times infinity
-    // without terms nothing is stored
+                                                             // without terms nothing is stored
     for prefactor in [None, Some(4.0), Some(f64::NAN)] {
         assert_eq!(b.write_tail(&Tail { terms: Vec::new(), prefactor }).unwrap(), plain);
     }

@@ -1,6 +1,6 @@
 //! Builders with a journal, used as a host does. tests/hosts/journal.c has the kills, the full disks and the damage; here is what the
 //! wrapper itself decides.
-use simgrale::{AtomBuilder, Builder, Error, Grid, Guard, JournalRefusal, Journaled, Mesh, Refusal, Step, atom_settings, settings};
+use simgrale::{atom_settings, settings, AtomBuilder, Builder, Error, Grid, Guard, JournalRefusal, Journaled, Mesh, Refusal, Step};
 use std::path::{Path, PathBuf};
 use std::sync::Arc;
 
@@ -31,7 +31,7 @@ impl AsRef<Path> for Name {
 
 impl Drop for Name {
     fn drop(&mut self) {
-        let _ = std::fs::remove_file(&self.0);
+        let _ = (std::fs::remove_file(&self.0), std::fs::remove_file(self.0.with_extension("journal.meta")));
     }
 }
 
@@ -80,22 +80,28 @@ fn refusals_are_the_headers() {
 #[test]
 fn a_resumed_build_ends_with_the_undisturbed_table() {
     let (whole, name) = (Name::new("whole"), Name::new("resumed"));
+    let out = Name::new("resumed.table");
+    let written = |j: &mut Journaled<Builder>| {
+        j.write(&out).unwrap();
+        std::fs::read(&out).unwrap()
+    };
     let mut j = begin(&whole);
     go_on(&mut j, 100);
-    let table = j.write().unwrap();
+    let table = written(&mut j);
     let mut plain = Builder::new(small(), mesh(0)).unwrap();
     for ri in 0..3 {
         (0..2).for_each(|oi| plain.set(ri, oi, &energies(ri, oi)).unwrap());
         plain.settle(ri).unwrap();
     }
-    assert!(plain.write().unwrap() == table && *j.builder() == plain);
+    assert!(plain.write().unwrap() == table);
+    assert_eq!((j.grid(), j.level(), j.directions(), j.file_length()), (plain.grid(), plain.level(), plain.directions(), plain.file_length()));
     let bytes = std::fs::read(&whole).unwrap();
     for cut in (0..bytes.len()).step_by(41) {
         std::fs::write(&name, &bytes[..cut]).unwrap();
         let mut j = resume(&name).unwrap();
         assert!(j.bytes() <= 160.max(cut as u64));
         go_on(&mut j, 100);
-        assert!(j.write().unwrap() == table, "cut at {cut}");
+        assert!(written(&mut j) == table, "cut at {cut}");
         assert!(std::fs::read(&name).unwrap() == bytes, "cut at {cut}");
     }
 }
@@ -136,13 +142,13 @@ fn the_guard_names_the_bins() {
     assert!(number == 222 && said.contains("slab (0, 1), 1 of distance bin 0"), "{said}");
     let (number, said) = refused(j.set(2, 0, &energies(2, 0)));
     assert!(number == 223 && said.contains("distance bin 0 is nearer than 2 and not settled"), "{said}");
-    let (number, said) = refused(j.write());
+    let (number, said) = refused(j.write("none"));
     assert!(number == 224 && said.contains("slab (0, 1), 5 in all"), "{said}");
     go_on(&mut j, 2);
     let (number, said) = refused(j.set(0, 1, &energies(0, 1)));
     assert!(number == 221 && said.contains("distance bin 0 was settled; slab (0, 1)"), "{said}");
     go_on(&mut j, 5);
-    let (number, said) = refused(j.write());
+    let (number, said) = refused(j.write("none"));
     assert!(number == 225 && said.contains("distance bin 2, 1 in all"), "{said}");
     assert_eq!((j.is_set(2, 1), j.is_settled(2), j.is_set(3, 0)), (Some(true), Some(false), None));
     assert_eq!(j.records(), 9);
@@ -155,7 +161,7 @@ fn without_the_guard_the_library_decides() {
     j.set(2, 0, &energies(2, 0)).unwrap();
     j.settle(2).unwrap();
     j.set(2, 0, &energies(2, 0)).unwrap();
-    assert!(j.write().is_ok());
+    j.write(Name::new("unguarded.table")).unwrap();
     drop(j);
     let (number, said) = refused(resume(&name));
     assert!(number == 223 && said.contains("(record 1, at byte 160)"), "{said}");
@@ -166,9 +172,11 @@ fn without_the_guard_the_library_decides() {
 fn refused_calls_are_not_recorded() {
     let name = Name::new("refused");
     let mut j = begin(&name);
-    assert_eq!(j.set(0, 0, &[1.0]), Err(Error::Refused(Refusal::EnergyCount)));
-    assert_eq!(j.set(0, 2, &energies(0, 0)), Err(Error::Refused(Refusal::Bin)));
-    assert_eq!(j.set(0, 0, &[f64::NAN; 144]), Err(Error::Refused(Refusal::NanEnergy)));
+    let mut why = |oi, energies: &[f64]| j.set(0, oi, energies).unwrap_err().refusal();
+    assert_eq!(why(0, &[1.0]), Some(Refusal::EnergyCount));
+    assert_eq!(why(2, &energies(0, 0)), Some(Refusal::Bin));
+    assert_eq!(why(0, &[f64::NAN; 144]), Some(Refusal::NanEnergy));
+    assert!(refused(j.set(0, 2, &[])).1.ends_with("slab (0, 2)"));
     assert_eq!((j.records(), j.bytes()), (1, 160));
 }
 

@@ -1,7 +1,7 @@
 //! Tables of both kinds: files that are opened and saved, levels that are asked for once, rows one after another, threads.
-use simgrale::{AtomBuilder, AtomTable, Builder, Error, Kind, Mesh, Refusal, Row, Table, atom_settings, save, settings};
+use simgrale::{atom_settings, settings, AtomBuilder, AtomTable, Builder, Error, Kind, Level, Mesh, Refusal, Row, Seal, Table};
 use std::io;
-use std::path::{Path, PathBuf};
+use std::path::PathBuf;
 use std::sync::Arc;
 
 fn mesh(top: u64) -> Arc<Mesh> {
@@ -52,49 +52,78 @@ impl Drop for Folder {
     }
 }
 
-fn in_file(path: &Path, error: Error) -> Option<Error> {
-    Some(Error::File { path: path.to_path_buf(), error: Box::new(error) })
+fn number<T>(result: Result<T, Error>) -> Option<u64> {
+    result.err().and_then(|error| error.number())
 }
 
 #[test]
 fn a_table_is_opened() {
     let folder = Folder::new("opened");
     let [path, ion, none] = ["table", "ion", "none"].map(|name| folder.0.join(name));
-    save(&path, &pair().write().unwrap()).unwrap();
-    save(&ion, &atom().write().unwrap()).unwrap();
-    let (t, a) = (Table::open(&path, mesh(1)).unwrap(), AtomTable::open(&ion, mesh(1)).unwrap());
+    pair().save(&path).unwrap();
+    atom().save(&ion).unwrap();
+    assert_eq!(folder.names(), ["ion", "ion.meta", "table", "table.meta"]);
+    let (t, a) = (Table::open(&path).unwrap(), AtomTable::open(&ion).unwrap());
     assert_eq!((t.file(), a.file()), (&pair().write().unwrap()[..], &atom().write().unwrap()[..]));
     assert_eq!((t.mesh(), a.mesh()), (&mesh(1), &mesh(1)));
-    // each is no table of the other kind; a folder, and a name that is not there, are the system's to refuse
-    assert_eq!(Table::open(&ion, mesh(1)).err(), in_file(&ion, Error::Refused(Refusal::Sections)));
-    assert_eq!(AtomTable::open(&path, mesh(1)).err(), in_file(&path, Error::Refused(Refusal::Sections)));
-    for (path, kind) in [(&none, io::ErrorKind::NotFound), (&folder.0, io::ErrorKind::IsADirectory)] {
-        let system = std::fs::read(path).unwrap_err();
-        assert_eq!(system.kind(), kind);
-        assert_eq!(Table::open(path, mesh(1)).err(), in_file(path, Error::from(std::fs::read(path).unwrap_err())));
-        assert_eq!(AtomTable::open(path, mesh(1)).err(), in_file(path, Error::from(system)));
+    // each is no table of the other kind; a folder, and a name that is not there, are refused with their path
+    assert_eq!((number(Table::open(&ion)), number(AtomTable::open(&path))), (Some(262), Some(262)));
+    for path in [&none, &folder.0] {
+        let error = Table::open(path).unwrap_err();
+        assert!(error.number() == Some(266) && error.to_string().contains(path.to_str().unwrap()), "{error}");
+        assert_eq!(number(AtomTable::open(path)), Some(266));
     }
-    std::fs::write(&path, &t.file()[..t.file().len() - 1]).unwrap();
-    assert_eq!(Table::open(&path, mesh(1)).err(), in_file(&path, Error::Refused(Refusal::Sections)));
+    assert!(Table::open("a\0b").unwrap_err().to_string().contains("a zero byte in a file name"));
+    drop(t); // which maps the file
+    std::fs::write(&path, &pair().write().unwrap()[1..]).unwrap();
+    assert_eq!(Table::open(&path).unwrap_err().refusal(), Some(Refusal::Sections));
+}
+
+// Seal and mesh file decide as they do in C and Python.
+#[test]
+fn a_table_is_opened_with_the_meshes_of_its_seal() {
+    let folder = Folder::new("sealed");
+    let [path, seal, beside] = ["table", "table.meta", "table.mesh"].map(|name| folder.0.join(name));
+    let turned: Vec<Level> = (0..=1).map(|m| turned(mesh(1).level(m).unwrap())).collect();
+    let turned = Arc::new(Mesh::new(&turned).unwrap());
+    let mut b = Builder::new(settings(1.0, 4.0, 1.0, 3.0, 0.5, 1.0), turned.clone()).unwrap();
+    b.set(0, 0, &(0..42 * 42).map(f64::from).collect::<Vec<_>>()).unwrap();
+    b.save(&path).unwrap();
+    assert_eq!((Table::open(&path).unwrap().mesh(), Mesh::load(&beside).unwrap()), (&turned, (*turned).clone()));
+    assert!(!Seal::read(&path).unwrap().unwrap().own_meshes);
+    assert_eq!(number(Table::open_with(&path, mesh(1))), Some(269));
+    std::fs::remove_file(&seal).unwrap();
+    assert_eq!(number(Table::open(&path)), Some(270));
+    assert_eq!(Table::open_with(&path, turned.clone()).unwrap().mesh(), &turned);
+    // a table is saved over another: its seal is the new one's, and a mesh file that is no longer named does no harm
+    pair().save(&path).unwrap();
+    assert_eq!(Table::open(&path).unwrap().mesh(), &mesh(1));
+    std::fs::write(&path, atom().write().unwrap()).unwrap();
+    assert_eq!(number(AtomTable::open(&path)), Some(271));
+    std::fs::write(&path, b.write().unwrap()).unwrap();
+    assert_eq!(number(Table::open(&path)), Some(255));
+}
+
+// The axes turned round: other vertices under the same numbers, which keep the mesh rule.
+fn turned(mut level: Level) -> Level {
+    level.vertices.iter_mut().for_each(|v| v.rotate_left(1));
+    level
 }
 
 #[test]
 fn a_mesh_with_too_few_levels_is_refused_when_a_table_is_opened() {
-    let few = || Some(Error::Levels { needed: 2, lent: 1 });
     let (file, ion) = (pair().write().unwrap(), atom().write().unwrap());
-    assert_eq!((Table::read(file.clone(), mesh(0)).err(), Table::view(file.clone(), mesh(0)).err()), (few(), few()));
-    assert_eq!(AtomTable::read(ion.clone(), mesh(0)).err(), few());
+    assert_eq!([number(Table::read(file.clone(), mesh(0))), number(Table::view(file.clone(), mesh(0)))], [Some(268); 2]);
+    let error = AtomTable::read(ion.clone(), mesh(0)).unwrap_err();
+    let said = "refused with 268: the meshes do not have all levels of the table: what is lent has levels 0 to 0, of 0 to 1";
+    assert_eq!(error.to_string(), said);
     let folder = Folder::new("levels");
     let path = folder.0.join("table");
-    save(&path, &file).unwrap();
-    assert_eq!(Table::open(&path, mesh(0)).err(), in_file(&path, few().unwrap()));
-    save(&path, &ion).unwrap();
-    let error = AtomTable::open(&path, mesh(0)).unwrap_err();
-    let said = "refused with 19: the table has 2 levels and the meshes 1: meshes of top level 1 are needed";
-    assert_eq!(error.to_string(), format!("{}: {said}", path.display()));
-    assert_eq!((error.number(), error.refusal(), error.journal()), (Some(19), Some(Refusal::NotLent), None));
+    pair().save(&path).unwrap();
+    assert_eq!(number(Table::open_with(&path, mesh(0))), Some(268));
     // a damaged file is told before; more levels than needed do no harm, and every reading is answered
     assert_eq!(Table::read(file[1..].to_vec(), mesh(0)).err(), Some(Error::Refused(Refusal::Sections)));
+    assert!(Table::open_with(&path, mesh(2)).is_ok());
     let (t, a) = (Table::read(file, mesh(2)).unwrap(), AtomTable::read(ion, mesh(2)).unwrap());
     let d = [0.3, 0.5, -0.7];
     for i in 0..40 {
@@ -121,42 +150,45 @@ fn rows_come_one_after_another() {
     assert_eq!((rows[0].1.kind, rows[1].1.energies[12]), (Kind::Repulsive, 12.0));
 }
 
-// Nothing but the file is left, whatever happens.
+// Nothing but the table and its seal are left, whatever happens.
 #[test]
-fn a_file_is_saved_whole() {
+fn a_table_is_saved_whole() {
     let folder = Folder::new("saved");
     let path = folder.0.join("table");
-    for bytes in [&b"first"[..], b""] {
-        save(&path, bytes).unwrap();
-        assert_eq!((std::fs::read(&path).unwrap(), folder.names()), (bytes.to_vec(), vec!["table".to_string()]));
+    for _ in 0..2 {
+        pair().save(&path).unwrap();
+        assert_eq!((std::fs::read(&path).unwrap(), folder.names()), (pair().write().unwrap(), vec!["table".to_string(), "table.meta".to_string()]));
     }
-    // names that a killed process with the same number left are passed over
-    let left: Vec<PathBuf> = (0..300).map(|n| folder.0.join(format!(".table.{}.{n}.tmp", std::process::id()))).collect();
-    left.iter().for_each(|name| std::fs::write(name, b"left").unwrap());
-    save(&path, b"second").unwrap();
-    assert!(folder.names().len() == 301 && left.iter().all(|name| std::fs::read(name).unwrap() == b"left"));
-    left.iter().for_each(|name| std::fs::remove_file(name).unwrap());
     // what is no file stays
     let [inner, link, socket] = ["inner", "link", "socket"].map(|name| folder.0.join(name));
     std::fs::create_dir(&inner).unwrap();
     std::os::unix::fs::symlink(&path, &link).unwrap();
     let _listener = std::os::unix::net::UnixListener::bind(&socket).unwrap();
-    for taken in [&inner, &link, &socket, &folder.0.join("..")] {
-        let said = save(taken, b"third").unwrap_err().to_string();
-        assert_eq!(said, format!("{}: it is there and is no file that can be replaced", taken.display()));
+    for taken in [&inner, &link, &socket] {
+        let said = atom().save(taken).unwrap_err().to_string();
+        assert!(said.starts_with("refused with 267: ") && said.ends_with(&format!("{}: File exists", taken.display())), "{said}");
     }
-    assert!(std::fs::symlink_metadata(&link).unwrap().is_symlink() && std::fs::read(&path).unwrap() == b"second");
-    let nowhere = folder.0.join("none/table");
-    assert_eq!(save(&nowhere, b"").err(), in_file(&nowhere, std::fs::read(&nowhere).unwrap_err().into()));
-    assert_eq!((save("", b"").unwrap_err().to_string(), folder.names().join(" ")), (": it names no file".into(), "inner link socket table".into()));
-    std::thread::scope(|s| {
-        for n in 0..4u8 {
-            let path = &path;
-            s.spawn(move || (0..20).for_each(|_| save(path, &[n; 1000]).unwrap()));
-        }
-    });
-    let bytes = std::fs::read(&path).unwrap();
-    assert!(bytes.len() == 1000 && bytes.iter().all(|b| *b == bytes[0]) && folder.names() == ["inner", "link", "socket", "table"]);
+    assert!(std::fs::symlink_metadata(&link).unwrap().is_symlink() && std::fs::read(&path).unwrap() == pair().write().unwrap());
+    assert_eq!(number(pair().save(folder.0.join("none/table"))), Some(267));
+    assert_eq!((number(pair().save("")), folder.names().join(" ")), (Some(267), "inner link socket table table.meta".into()));
+}
+
+// Threads of the library's, with refused poses among them.
+#[test]
+fn threads_of_many_readings_answer_alike() {
+    let (t, a) = (Table::read(pair().write().unwrap(), mesh(1)).unwrap(), AtomTable::read(atom().write().unwrap(), mesh(1)).unwrap());
+    let pose = |i: u32| [f64::from(i % 37) / 8.0, f64::from(i), f64::from(i % 5), f64::from(i % 3), f64::from(i % 2), 0.3, 0.1, f64::from(i)];
+    let poses: Vec<[f64; 8]> = (0..2000).map(pose).collect();
+    let directions: Vec<[f64; 4]> = poses.iter().map(|p| [p[0], p[2], p[3], p[4]]).collect();
+    for beta in [None, Some(2.0)] {
+        let (one, many) = (t.readings(&poses, beta), t.readings_with_threads(&poses, beta, 7));
+        assert!(one == many && one.iter().any(Result::is_err) && one.iter().any(|e| matches!(e, Ok(r) if r.energy != 0.0)));
+        let single = |p: &[f64; 4]| match beta {
+            None => a.lookup(p[0], [p[1], p[2], p[3]]),
+            Some(beta) => a.lookup_boltzmann(p[0], [p[1], p[2], p[3]], beta),
+        };
+        assert_eq!(a.lookups(&directions, beta, 3), directions.iter().map(single).collect::<Vec<_>>());
+    }
 }
 
 // The same readings in every thread, also where the table went to another one.

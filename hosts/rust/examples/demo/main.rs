@@ -2,10 +2,9 @@
 //! against an ion. The files are the same as those that are written there, byte for byte.
 mod molecules;
 
-use molecules::{BETA, Pose, first_pose, ion_energy, pair_energy, second_pose};
-use simgrale::{AtomBuilder, AtomTable, Builder, Mesh, Refusal, Table, atom_settings, save, settings};
+use molecules::{first_pose, ion_energy, pair_energy, second_pose, Pose, BETA};
+use simgrale::{atom_settings, settings, AtomBuilder, AtomTable, Builder, Mesh, Refusal, Table};
 use std::error::Error;
-use std::sync::Arc;
 
 fn slab(directions: &[[f64; 3]], r: f64, omega: f64) -> Vec<f64> {
     let first: Vec<Pose> = directions.iter().map(|&d| first_pose(d)).collect();
@@ -41,31 +40,27 @@ fn build_ion(builder: &mut AtomBuilder) -> Result<(), Refusal> {
 }
 
 fn ion(name: &str) -> Result<(), Box<dyn Error>> {
-    let mesh = Arc::new(Mesh::icospheres(5)?);
-    let mut builder = AtomBuilder::new(atom_settings(1.0, 25.0, 0.5, 0.5, BETA), mesh.clone())?;
+    let mut builder = AtomBuilder::new(atom_settings(1.0, 25.0, 0.5, 0.5, BETA), Mesh::icospheres(5)?)?;
     build_ion(&mut builder)?;
-    let file = builder.write()?;
-    save(name, &file)?;
-    let table = AtomTable::open(name, mesh)?;
+    builder.save(name)?;
+    let table = AtomTable::open(name)?;
     let up = [0.0, 0.6, 0.8];
     let (plain, weighted) = (table.lookup(5.5, up)?, table.lookup_boltzmann(5.5, up, BETA)?);
-    println!("{name}: {} bytes; at distance 5.5 the energy is {plain}, weighted by temperature {weighted}", file.len());
+    println!("{name}: {} bytes; at distance 5.5 the energy is {plain}, weighted by temperature {weighted}", table.file().len());
     Ok(())
 }
 
 fn main() -> Result<(), Box<dyn Error>> {
     let mut names = std::env::args().skip(1);
     let name = names.next().ok_or("usage: demo FILE [ION_FILE]")?;
-    let mesh = Arc::new(Mesh::icospheres(3)?);
-    let mut builder = Builder::new(settings(1.0, 25.0, 0.75, 0.5235987755982988, 0.5, BETA), mesh.clone())?;
+    let mut builder = Builder::new(settings(1.0, 25.0, 0.75, 0.5235987755982988, 0.5, BETA), Mesh::icospheres(3)?)?;
     build(&mut builder)?;
     match builder.settle(3) {
         Err(refusal) => println!("a restarted job settles slice 3 again: {refusal}"),
         Ok(_) => return Err("a slice of another level was settled again".into()),
     }
-    let file = builder.write()?;
-    save(&name, &file)?;
-    let table = Table::open(&name, mesh)?;
-    println!("{name}: {} bytes; at distance 5.5 the energy is {}", file.len(), table.lookup(5.5, 0.5, [0.0, 0.0, 1.0], [0.0, 1.0, 0.0])?);
+    builder.save(&name)?;
+    let table = Table::open(&name)?;
+    println!("{name}: {} bytes; at distance 5.5 the energy is {}", table.file().len(), table.lookup(5.5, 0.5, [0.0, 0.0, 1.0], [0.0, 1.0, 0.0])?);
     names.next().map_or(Ok(()), |name| ion(&name))
 }
