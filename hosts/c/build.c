@@ -176,7 +176,7 @@ static uint64_t save(icotable_build *b, const char *path, const uint8_t *table, 
     icotable_build_settings s = {.atom = b->journal.atom, .grid = k->grid, .top = k->top, .journal = b->journal_name,
                                  .lent = &b->meshes};
     icotable_fault fault;
-    uint64_t number = icotable_table_save(&s, table, length, path, &fault);
+    uint64_t number = icotable_save_(&s, &b->journal, table, length, path, true, &fault);
     if (number != 0)
         b->fault = fault;
     return number;

@@ -83,9 +83,9 @@ int write_table(const build *b, icotable_journal *j) {
     bool there = lstat(b->table_name, &what) == 0;
     int status = w.number != 0 ? refused(b->journal_name, w.number, j->said)
                  : there       ? same_table(b->table_name, bytes, (size_t)w.length)
-                               : write_new(b->table_name, bytes, (size_t)w.length);
+                               : save_table(j, b->journal_name, b->table_name, bytes, (size_t)w.length);
     if (status == GOOD && !there)
-        printf("%s: %llu bytes, the table of %llu calls\n", b->table_name, (ull)w.length, (ull)j->records);
+        printf("%s: %llu bytes, the table of %llu calls, and its seal\n", b->table_name, (ull)w.length, (ull)j->records);
     fflush(stdout);
     free(bytes);
     return status;

@@ -154,6 +154,9 @@ int journal_named(const char *name);
 /* A line with the number and its words; TROUBLE where there is nothing to refuse, FOUND otherwise. */
 int refused_journal(const char *name, uint64_t number, const char *said);
 
+/* The table of a journal's calls to a name that is free, with its seal and, where it needs one, its mesh file. */
+int save_table(icotable_journal *j, const char *name, const char *out, const uint8_t *bytes, size_t length);
+
 /* slab.c: the id of a build in 32 hexadecimal digits, and from them; whether there is one; id and label as lines, and in JSON. */
 const char *id_digits(const uint8_t id[16]);
 bool id_of(const char *digits, uint8_t id[16]);
@@ -163,7 +166,7 @@ void json_identity(const icotable_identity *i);
 
 /* seal.c: lines on the seal beside a table, or an item of a JSON object, and the verdict on it; GOOD without a word where there is
  * none. */
-int verify_seal(const table_file *f, bool json);
+int verify_seal(const table_file *f, bool json, bool strict);
 /* What the seals of two tables say of samples and settings; nothing where neither has one. */
 void diff_seals(const table_file *f, const table_file *g, bool json);
 

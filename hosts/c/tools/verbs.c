@@ -20,7 +20,8 @@ const verb verbs[] = {
      "The library's verdict on each file. The byte is a hint by the tool's own walk of the file. Where there is a seal, FILE.meta, the table has to be the "
      "sealed one.",
      1, MANY,
-     {{"--viewer", NULL, NULL, "Under the bounds of a viewer: tables of two molecules of at most 4 levels and 4096 rows."}, JSON},
+     {{"--viewer", NULL, NULL, "Under the bounds of a viewer: tables of two molecules of at most 4 levels and 4096 rows."},
+      {"--strict", NULL, NULL, "Status 1 also unless a seal says that the guard was on, every slab was set and every slice settled."}, JSON},
      verify_tool},
     {"diff", "A B", "whether and why two tables differ",
      "First a summary of both tables as wholes, whatever is listed behind it: the causes (settings, kind, level, scalar, energies, tail), the settings that "
