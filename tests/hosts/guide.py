@@ -1,6 +1,7 @@
 #!/usr/bin/env python3
-"""The snippets of docs/GUIDE.md as one program, in the page's order but for one: guide.py GUIDE > PROGRAM.c. What the page leaves to the host (lists, bins, a
-query, `check`) is declared here."""
+"""The snippets of docs/GUIDE.md as one program, in the page's order but for one: guide.py GUIDE > PROGRAM.c. What the
+page leaves to the host (lists, bins, a query, `check`) is declared here. The program leaves guide.icotable and two
+journals in the folder that it is started in."""
 import sys
 
 HEAD = """#include "environment.h"
@@ -69,7 +70,7 @@ JOURNAL = """    {
 JOURNALED = """        printf("journal %llu, %llu calls\\n", (unsigned long long)number, (unsigned long long)j.records);
     }
 """
-TABLE = "target/hosts/test/guide.icotable"
+TABLE = "guide.icotable"
 WORDS = """    printf("row %c\\n", letter);
 """
 BETWEEN = """    printf("tail %g of %llu terms\\n", tail.energy, (unsigned long long)far.terms);
@@ -110,13 +111,15 @@ def main():
         snippets(page, "Finding a direction without a locator", 4),
         "    }\n",
         HANDLES,
-        snippets(page, "Building a table", 4).replace("build.journal", "target/hosts/test/handles.journal").replace("table.icotable", TABLE),
+        snippets(page, "Building a table", 4)
+        .replace("build.journal", "handles.journal")
+        .replace("table.icotable", TABLE),
         HANDLED,
         snippets(page, "Reading in a simulation", 4).replace("table.icotable", TABLE),
         READ,
         snippets(page, "Building by the library's own calls", 7),
         JOURNAL,
-        snippets(page, "Restarting a job", 4).replace("build.journal", "target/hosts/test/guide.journal"),
+        snippets(page, "Restarting a job", 4).replace("build.journal", "guide.journal"),
         JOURNALED,
         LISTS,
         snippets(page, "Rows in words", 4),

@@ -231,8 +231,6 @@ def pages(tool, spans, folder, *names):
             rows, spans_asked = scripted(a, spans, source, out, t)
             slabs, spanned_count = slabs + rows, spanned_count + spans_asked
         subprocess.run(["rm", out], check=True)
-    if not node:
-        print("hosts: there is no node here, and the scripts of pages were not run")
     print(f"{len(names)} pages of tables, {slabs} rows and {spanned_count} spans by their scripts; {a.wrong} wrong")
 
 
