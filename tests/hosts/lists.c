@@ -1,9 +1,10 @@
-/* Random lists of calls of builds by handles, with their journals: lists make COUNT FOLDER writes what each list gives, a line each; lists
- * check FILE FOLDER makes them again and compares. hosts/cases/lists.txt has the answers of version 0.22.0, and hosts/rust/tests/lists.rs makes
- * the same lists in Rust. A list draws a kind of table, settings, meshes and guard, and then calls: what comes next, slabs and slices that do not
- * come next, counts and energies that are refused, tables with a tail and without, journals that are closed, cut, lengthened, damaged, opened
- * with other settings or twice. A line has three crc32: of every answer (number, message, gradient, progress; then the table, opened and read),
- * of the journal, and of the table and its mesh file. */
+/* Random lists of calls of builds by handles, with their journals: lists make COUNT FOLDER writes what each list gives, a line
+ * each; lists check FILE FOLDER makes them again and compares. hosts/cases/lists.txt has the answers of version 0.22.0, and
+ * hosts/rust/tests/lists.rs makes the same lists in Rust. A list draws a kind of table, settings, meshes and guard, and then
+ * calls: what comes next, slabs and slices that do not come next, counts and energies that are refused, tables with a tail and
+ * without, journals that are closed, cut, lengthened, damaged, opened with other settings or twice. A line has three crc32: of
+ * every answer (number, message, gradient, progress; then the table, opened and read), of the journal, and of the table and its
+ * mesh file. */
 #include "icotable_handles.h"
 #include "support.h"
 
@@ -80,7 +81,9 @@ static void write_all(const char *name, const uint8_t *from, size_t count) {
 
 /* ---- calls */
 
-static void opened(list *l, icotable_build *(*how)(const icotable_build_settings *, icotable_fault *), unsigned flags, double beta) {
+typedef icotable_build *opening(const icotable_build_settings *, icotable_fault *);
+
+static void opened(list *l, opening *how, unsigned flags, double beta) {
     icotable_fault fault;
     icotable_build_settings s = l->s;
     s.flags = flags;
@@ -98,8 +101,10 @@ static const double *energies(list *l, uint64_t ri, uint64_t oi, uint64_t salt, 
     static const double heights[] = {1e4, 3, 0.05, 3, 0.05, 1e-3};
     uint64_t n = icotable_vertices(icotable_build_progress(l->b).level);
     *count = l->s.atom ? n : n * n;
-    for (uint64_t i = 0; i < *count; i++)
-        drawn[i] = (ri == 0 ? 1000 : 0) + heights[ri % 6] * ((double)(mixed((ri << 48) + (oi << 40) + (salt << 32) + i) % 1000) / 1000);
+    for (uint64_t i = 0; i < *count; i++) {
+        uint64_t share = mixed((ri << 48) + (oi << 40) + (salt << 32) + i) % 1000;
+        drawn[i] = (ri == 0 ? 1000 : 0) + heights[ri % 6] * ((double)share / 1000);
+    }
     return drawn;
 }
 
@@ -192,7 +197,8 @@ static void call(list *l) {
     else if (drawn < 97)
         reopen(l);
     else
-        opened(l, drawn < 98 ? icotable_build_begin : drawn < 99 ? icotable_build_resume : icotable_build_open, l->s.flags, 1);
+        opened(l, drawn < 98 ? icotable_build_begin : drawn < 99 ? icotable_build_resume : icotable_build_open, l->s.flags,
+               1);
     fold_progress(l);
 }
 
@@ -208,7 +214,7 @@ static void draw(list *l) {
     s->grid.omega_step = steps[below(l, 3)];
     s->grid.threshold = thresholds[below(l, 3)];
     s->flags = below(l, 4) == 0 ? ICOTABLE_JOURNAL_UNGUARDED : 0;
-    s->meshes = below(l, 8) == 0 ? "../turned.mesh" : NULL;
+    s->meshes = below(l, 8) != 0 ? NULL : s->top == 0 ? "../turned0.mesh" : "../turned1.mesh";
 }
 
 static void read_pose(list *l, const icotable_reader *t) {
@@ -252,12 +258,14 @@ static void made(uint64_t k, char line[40]) {
         call(&l);
     icotable_build_close(l.b);
     read_table(&l);
-    sprintf(line, "%08X %08X %08X\n", (unsigned)l.answers, (unsigned)sum_of(0, JOURNAL), (unsigned)sum_of(sum_of(0, TABLE), TABLE ".mesh"));
+    uint32_t journal = sum_of(0, JOURNAL), files = sum_of(sum_of(0, TABLE), TABLE ".mesh");
+    sprintf(line, "%08X %08X %08X\n", (unsigned)l.answers, (unsigned)journal, (unsigned)files);
 }
 
 static void make(uint64_t count) {
     char line[40];
-    printf("# By tests/hosts/lists.c over the C helpers of version %s; a line has the crc32 of a list's answers, journal and table\n", icotable_version());
+    printf("# By tests/hosts/lists.c over the C helpers of version %s; a line has the crc32 of a list's answers, journal and table\n",
+           icotable_version());
     for (uint64_t k = 0; k < count; k++) {
         made(k, line);
         fputs(line, stdout);
@@ -280,15 +288,15 @@ static int compare(FILE *stored) {
 }
 
 /* The library's meshes with the axes turned round. */
-static void turned(void) {
+static void turned(const char *name, uint64_t top) {
     icotable_meshes m;
-    if (icotable_make_meshes(&m, 1) != 0)
+    if (icotable_make_meshes(&m, top) != 0)
         exit(2);
     for (size_t v = 0; v < m.vertices_count; v += 3) {
         double x = m.vertices[v];
         m.vertices[v] = m.vertices[v + 1], m.vertices[v + 1] = m.vertices[v + 2], m.vertices[v + 2] = x;
     }
-    if (icotable_meshes_save(&m, "../turned.mesh", NULL) != 0)
+    if (icotable_meshes_save(&m, name, NULL) != 0)
         exit(2);
     icotable_free_meshes(&m);
 }
@@ -298,7 +306,8 @@ int main(int count, char **words) {
     FILE *stored = count == 4 && strcmp(words[1], "check") == 0 ? fopen(words[2], "r") : NULL;
     if ((!making && stored == NULL) || chdir(words[3]) != 0)
         return fprintf(stderr, "usage: lists make COUNT FOLDER, lists check FILE FOLDER\n"), 2;
-    turned();
+    turned("../turned0.mesh", 0);
+    turned("../turned1.mesh", 1);
     if (!making)
         return compare(stored);
     make(strtoull(words[2], NULL, 10));

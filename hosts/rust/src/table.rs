@@ -13,7 +13,7 @@ use std::sync::Arc;
 /// A table of two molecules: a file that is mapped, or bytes in memory, with the meshes that it was built over.
 ///
 /// It is [`Send`] and [`Sync`]: readings take `&self`, keep nothing and may run in any number of threads at once, each with the same answers.
-/// The floating-point environment is asked of the thread that opens the table; every thread that reads needs the same ([`FloatEnvironment`]).
+/// The floating-point environment is asked of the thread that opens the table; every thread that reads needs the same ([`FloatEnvironment`](crate::FloatEnvironment)).
 ///
 /// ```
 /// use simgrale::{settings, Builder, Kind, Mesh, Refusal, Table};
