@@ -24,7 +24,7 @@ static uint64_t begin(icotable_build *b, const icotable_build_settings *s) {
 }
 
 static uint64_t resume(icotable_build *b, const icotable_build_settings *s) {
-    return icotable_journal_resume_as(&b->journal, s->journal, s->atom, grid_of(s), s->top, &b->meshes, s->flags, s->label);
+    return icotable_journal_resume_as(&b->journal, s->journal, s->atom, grid_of(s), s->top, &b->meshes, s->flags, s->label, NULL);
 }
 
 /* One that is only looked at is not begun. */

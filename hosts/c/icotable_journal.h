@@ -56,7 +56,7 @@ extern "C" {
     X(216, NO_ROOM, "there is not enough memory for the build") \
     X(217, ENVIRONMENT, "the floating-point environment is not the one that the library needs") \
     X(218, LABEL, "the label is not UTF-8 of at most 4,096 bytes without control characters") \
-    X(219, OTHER_LABEL, "the journal was begun with another label") \
+    X(219, OTHER_IDENTITY, "the journal is of another build with the same settings: its label or its id is another") \
     X(220, OTHER_LIBRARY, "the journal was kept by another version of the library, which answers a recorded call otherwise") \
     X(221, SLICE_SETTLED, "a slab of a slice that was settled is not set again") \
     X(222, SLAB_MISSING, "a slice is not settled while a slab of it was not set") \
@@ -119,12 +119,12 @@ uint64_t icotable_journal_resume(icotable_journal *j, const char *name, icotable
 uint64_t icotable_journal_atom_begin(icotable_journal *j, const char *name, icotable_atom_grid settings, uint64_t top, const icotable_meshes *meshes, unsigned flags);
 uint64_t icotable_journal_atom_resume(icotable_journal *j, const char *name, icotable_atom_grid settings, uint64_t top, const icotable_meshes *meshes, unsigned flags);
 
-/* The same for both kinds of table; against an atom omega_step is 0. label: that of a build that begins, NULL for none; the one that a
- * journal has to have to be resumed, NULL for any. id: 16 bytes, or NULL: drawn at random. */
+/* The same for both kinds of table; against an atom omega_step is 0. label and id (16 bytes): those of a build that begins, NULL for no
+ * label and an id at random; those that a journal has to have to be resumed, NULL for any. */
 uint64_t icotable_journal_begin_as(icotable_journal *j, const char *name, int atom, icotable_grid settings, uint64_t top, const icotable_meshes *meshes, unsigned flags,
                                    const char *label, const uint8_t *id);
 uint64_t icotable_journal_resume_as(icotable_journal *j, const char *name, int atom, icotable_grid settings, uint64_t top, const icotable_meshes *meshes, unsigned flags,
-                                    const char *label);
+                                    const char *label, const uint8_t *id);
 void icotable_journal_close(icotable_journal *j);
 
 /* Whose journal it is, by its head: fills atom, the settings in builder.grid, builder.top, build, meshes_hash, version, library and

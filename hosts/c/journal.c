@@ -624,7 +624,7 @@ static uint64_t check_head(icotable_journal *j, icotable_head_ *h, size_t *lengt
 }
 
 /* The head in the file beside the one of this build. */
-static uint64_t same_head(icotable_journal *j, const icotable_head_ *h, const icotable_head_ *wanted, const char *label) {
+static uint64_t same_head(icotable_journal *j, const icotable_head_ *h, const icotable_head_ *wanted) {
     if (h->kind != wanted->kind)
         return say(j, ICOTABLE_JOURNAL_OTHER_KIND, "%s", h->kind ? "against an atom" : "of two molecules");
     if (h->top != wanted->top)
@@ -632,11 +632,19 @@ static uint64_t same_head(icotable_journal *j, const icotable_head_ *h, const ic
     uint64_t number = other_settings(j, h, wanted);
     if (number != 0)
         return number;
-    if (h->meshes != wanted->meshes)
-        return say(j, ICOTABLE_JOURNAL_OTHER_MESHES, "");
-    if (label == NULL || strcmp(label, h->identity.label) == 0)
+    return h->meshes == wanted->meshes ? 0 : say(j, ICOTABLE_JOURNAL_OTHER_MESHES, "");
+}
+
+/* The label and the id that were asked for. */
+static uint64_t same_identity(icotable_journal *j, const icotable_identity *i, const plan *p) {
+    char digits[33];
+    if (p->label != NULL && strcmp(p->label, i->label) != 0)
+        return say(j, ICOTABLE_JOURNAL_OTHER_IDENTITY, "label '%.100s', not '%.100s'", i->label, p->label);
+    if (p->id == NULL || memcmp(p->id, i->id, sizeof i->id) == 0)
         return 0;
-    return say(j, ICOTABLE_JOURNAL_OTHER_LABEL, "'%.100s', not '%.100s'", h->identity.label, label);
+    for (int k = 0; k < 16; k++)
+        snprintf(digits + 2 * k, 3, "%02x", i->id[k]);
+    return say(j, ICOTABLE_JOURNAL_OTHER_IDENTITY, "id %s", digits);
 }
 
 /* A file that was killed while it was begun: a part of head and fresh, then nothing, or nothing but zeros. Library version, id and label are
@@ -672,7 +680,7 @@ static bool half_begun_by_any(icotable_journal *j, const uint8_t *bytes, size_t 
 }
 
 /* Head and fresh; answers 0 with no record where the file is half begun. */
-static uint64_t resume_first(icotable_journal *j, uint64_t size, const icotable_head_ *wanted, const char *label) {
+static uint64_t resume_first(icotable_journal *j, uint64_t size, const icotable_head_ *wanted, const plan *p) {
     uint8_t bytes[FIRST_MOST], first[FIRST_MOST];
     size_t count = size < FIRST_MOST ? (size_t)size : FIRST_MOST, length;
     icotable_head_ head;
@@ -682,7 +690,9 @@ static uint64_t resume_first(icotable_journal *j, uint64_t size, const icotable_
         return 0;
     uint64_t number = check_head(j, &head, &length, bytes, count);
     if (number == 0)
-        number = same_head(j, &head, wanted, label);
+        number = same_head(j, &head, wanted);
+    if (number == 0)
+        number = same_identity(j, &head.identity, p);
     if (number != 0)
         return number;
     know(j, &head);
@@ -719,7 +729,7 @@ static uint64_t resume(icotable_journal *j, const char *name, const plan *p, uns
     if (number != 0)
         return number;
     head = icotable_head_of_(p->atom, &p->grid, p->top, p->meshes);
-    number = resume_first(j, size, &head, p->label);
+    number = resume_first(j, size, &head, p);
     if (number != 0)
         return number;
     if (j->records == 0 && reading)
@@ -751,8 +761,8 @@ uint64_t icotable_journal_begin_as(icotable_journal *j, const char *name, int at
 }
 
 uint64_t icotable_journal_resume_as(icotable_journal *j, const char *name, int atom, icotable_grid settings, uint64_t top, const icotable_meshes *meshes, unsigned flags,
-                                    const char *label) {
-    return opened(j, resume(j, name, &(plan){atom, settings, top, meshes, label, NULL}, flags));
+                                    const char *label, const uint8_t *id) {
+    return opened(j, resume(j, name, &(plan){atom, settings, top, meshes, label, id}, flags));
 }
 
 uint64_t icotable_journal_begin(icotable_journal *j, const char *name, icotable_grid settings, uint64_t top, const icotable_meshes *meshes, unsigned flags) {
@@ -760,7 +770,7 @@ uint64_t icotable_journal_begin(icotable_journal *j, const char *name, icotable_
 }
 
 uint64_t icotable_journal_resume(icotable_journal *j, const char *name, icotable_grid settings, uint64_t top, const icotable_meshes *meshes, unsigned flags) {
-    return icotable_journal_resume_as(j, name, 0, settings, top, meshes, flags, NULL);
+    return icotable_journal_resume_as(j, name, 0, settings, top, meshes, flags, NULL, NULL);
 }
 
 uint64_t icotable_journal_atom_begin(icotable_journal *j, const char *name, icotable_atom_grid settings, uint64_t top, const icotable_meshes *meshes, unsigned flags) {
@@ -768,7 +778,7 @@ uint64_t icotable_journal_atom_begin(icotable_journal *j, const char *name, icot
 }
 
 uint64_t icotable_journal_atom_resume(icotable_journal *j, const char *name, icotable_atom_grid settings, uint64_t top, const icotable_meshes *meshes, unsigned flags) {
-    return icotable_journal_resume_as(j, name, 1, pair_of(settings), top, meshes, flags, NULL);
+    return icotable_journal_resume_as(j, name, 1, pair_of(settings), top, meshes, flags, NULL, NULL);
 }
 
 uint64_t icotable_journal_look(icotable_journal *j, const char *name) {

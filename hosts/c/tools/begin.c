@@ -4,8 +4,6 @@
 #include "tools.h"
 #include "verbs.h"
 
-#include <string.h>
-
 enum { RMIN, RMAX, DR, OMEGA_STEP, THRESHOLD, BETA, NUMBERS };
 static const char *const options[NUMBERS] = {"--rmin", "--rmax", "--dr", "--omega-step", "--threshold", "--beta"};
 
@@ -42,17 +40,8 @@ static int read_options(settings *s) {
 
 static uint64_t open_journal(icotable_journal *j, const settings *s, const icotable_meshes *m, const char *name, bool there) {
     icotable_grid g = {s->x[RMIN], s->x[RMAX], s->x[DR], s->x[OMEGA_STEP], s->x[THRESHOLD], s->x[BETA], 0, 0};
-    if (there)
-        return icotable_journal_resume_as(j, name, s->atom, g, s->top, m, 0, given("--label"));
-    return icotable_journal_begin_as(j, name, s->atom, g, s->top, m, 0, given("--label"), s->with_id ? s->id : NULL);
-}
-
-/* A journal that was there has the id that was asked for, if one was. */
-static int check_id(const settings *s, const icotable_journal *j, const char *name) {
-    if (!s->with_id || memcmp(s->id, j->identity.id, sizeof s->id) == 0)
-        return GOOD;
-    printf("%s: is there already, and its id is %s\n", name, id_digits(j->identity.id));
-    return FOUND;
+    const uint8_t *id = s->with_id ? s->id : NULL;
+    return (there ? icotable_journal_resume_as : icotable_journal_begin_as)(j, name, s->atom, g, s->top, m, 0, given("--label"), id);
 }
 
 int begin_tool(int count, char **names) {
@@ -71,9 +60,9 @@ int begin_tool(int count, char **names) {
         if (number == ICOTABLE_JOURNAL_EXISTS)
             number = open_journal(&j, &s, &meshes, names[0], true);
     }
-    if (number != 0)
+    if (number != 0) {
         status = refused_journal(names[0], number, j.said);
-    else if ((status = check_id(&s, &j, names[0])) == GOOD) {
+    } else {
         printf("%s: %s, %llu distances, %llu slabs, levels 0 to %llu; %llu calls\n", names[0], table_words(s.atom), (unsigned long long)j.builder.grid.n_r,
                (unsigned long long)j.slabs, (unsigned long long)s.top, (unsigned long long)j.records);
         print_identity(&j.identity);

@@ -47,7 +47,7 @@ uint64_t play_journal(icotable_journal *j, icotable_meshes *meshes, const char *
         snprintf(j->said, sizeof j->said, "%s", icotable_words(number));
         return number;
     }
-    return icotable_journal_resume_as(j, name, j->atom, g, top, meshes, flags, NULL);
+    return icotable_journal_resume_as(j, name, j->atom, g, top, meshes, flags, NULL, NULL);
 }
 
 static uint64_t played(icotable_journal *j, icotable_meshes *meshes, const char *name, bool guarded) {
