@@ -39,7 +39,7 @@ fn installed(folder: &Path) {
     println!("cargo:rustc-link-lib={}=icotable", if fixed.exists() { "static" } else { "dylib" });
 }
 
-// Where pkg-config finds one of this package's version.
+// Where pkg-config finds one of this package's minor version: another may have other structs.
 fn found(proved: &Path) -> PathBuf {
     let nothing = format!("there is no libicotable.a in {}, which `make -C hosts/c lib` proves and builds", proved.display());
     let ask = |what: &str| {
@@ -48,7 +48,8 @@ fn found(proved: &Path) -> PathBuf {
         String::from_utf8_lossy(&said.stdout).trim().to_string()
     };
     let (version, wanted) = (ask("--modversion"), variable("CARGO_PKG_VERSION"));
-    assert_eq!(version, wanted, "the version of the libicotable that is installed, and that of this package");
+    let minor = |version: &str| version.rsplit_once('.').map(|parts| parts.0.to_string());
+    assert_eq!(minor(&version), minor(&wanted), "the version of the libicotable that is installed, and that of this package");
     PathBuf::from(ask("--variable=libdir"))
 }
 

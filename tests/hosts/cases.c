@@ -1,6 +1,6 @@
-/* The table of cases that the suites of C, Rust and Python share, run over the C handles: cases CASES FOLDER, where CASES is
- * hosts/cases by its whole path, and FOLDER is empty. hosts/cases/cases.txt says what its lines mean. cases meshes FOLDER
- * writes the mesh files of hosts/cases. */
+/* The table of cases that the suites of C, Rust and Python share, run over the C handles: cases CASES FOLDER, where
+ * CASES is hosts/cases by its whole path, and FOLDER is empty. hosts/cases/cases.txt says what its lines mean. cases
+ * meshes FOLDER writes the mesh files of hosts/cases. */
 #include "icotable_handles.h"
 #include "support.h"
 

@@ -2,8 +2,10 @@
 #include "handles_test.h"
 
 #include <fenv.h>
+#include <stdbool.h>
 #include <stdio.h>
 #include <stdlib.h>
+#include <string.h>
 #include <unistd.h>
 
 static void alter(const char *name, long byte) {
@@ -115,9 +117,81 @@ static void lost_parts(void) {
     refused_reader("another's seal", at("lost"), NULL, ICOTABLE_SEAL_OTHER_TABLE, "");
 }
 
+/* ---- meshes and tables in memory */
+
+/* Seals of the same table, over the same meshes or over others. */
+static void same_seal(const char *one, const char *other, bool meshes) {
+    icotable_seal s, t;
+    is("a seal", 0, icotable_seal_read(&s, one, NULL) | icotable_seal_read(&t, other, NULL));
+    is("its sum", 0, (uint64_t)(strcmp(s.sha256, t.sha256) | memcmp(&s.grid, &t.grid, sizeof s.grid)));
+    is("its meshes", meshes, s.meshes_hash == t.meshes_hash && s.own_meshes == t.own_meshes);
+}
+
+static void lent_meshes(void) {
+    icotable_meshes m, own;
+    icotable_fault fault;
+    turned(&m, 1);
+    is("make", 0, icotable_make_meshes(&own, 1));
+    icotable_build_settings s = settings_of(0);
+    s.lent = &m;
+    finish(open_build(icotable_build_begin, &s), 0, at("lent"));
+    same_file("over meshes that are lent", at("lent"), at("pair"));
+    same_seal(at("lent"), at("pair"), false);
+    s.top = 2;
+    faults("level", icotable_build_begin(&s, &fault), ICOTABLE_HANDLE_LEVEL_MISSING, "what is lent has levels 0 to 1, of 0 to 2", &fault);
+    icotable_reader *t = icotable_reader_open_over(at("lent"), &m, &fault);
+    is("the meshes", 1, t != NULL && icotable_reader_meshes(t)->vertices == m.vertices);
+    icotable_reader_close(t);
+    t = icotable_reader_open_over(at("lent"), &own, &fault);
+    faults("other meshes", t, ICOTABLE_HANDLE_OTHER_MESHES, "what is lent", &fault);
+    unlink(at("lent.meta"));
+    t = icotable_reader_open_over(at("lent"), &m, &fault);
+    is("without a seal", 1, t != NULL);
+    icotable_reader_close(t);
+    t = icotable_reader_open_over(at("pair"), NULL, &fault);
+    is("the library's own", 1, t != NULL && icotable_meshes_own(icotable_reader_meshes(t), 2));
+    icotable_reader_close(t);
+    icotable_free_meshes(&m);
+    icotable_free_meshes(&own);
+}
+
+static void in_memory(void) {
+    icotable_fault fault;
+    size_t length;
+    icotable_reader *t = open_reader(at("pair"), NULL);
+    const uint8_t *file = icotable_reader_file(t, &length);
+    icotable_meshes small = *icotable_reader_meshes(t);
+    icotable_reader *u = icotable_reader_over(file, length, &small, &fault);
+    is("the bytes", 1, u != NULL && icotable_reader_file(u, NULL) == file);
+    icotable_value x = icotable_reader_energy(t, 2.1, 0.3, 1, 2, 3, 3, 2, 1), y = icotable_reader_energy(u, 2.1, 0.3, 1, 2, 3, 3, 2, 1);
+    is("an energy", 1, x.number == 0 && y.number == 0 && x.energy == y.energy);
+    icotable_reader_close(u);
+    small.top = 0;
+    faults("a level", icotable_reader_over(file, length, &small, &fault), ICOTABLE_HANDLE_LEVEL_MISSING, "what is lent", &fault);
+    faults("cut", icotable_reader_over(file, length - 1, NULL, &fault), ICOTABLE_SECTIONS, "bytes in memory", &fault);
+    icotable_build_settings s = settings_of(0);
+    is("save", 0, icotable_table_save(&s, file, length, at("saved"), &fault));
+    same_file("saved", at("saved"), at("pair"));
+    same_seal(at("saved"), at("pair"), true);
+    is("cut", ICOTABLE_SECTIONS, icotable_table_save(&s, file, length - 1, at("none"), &fault));
+    s.top = 2;
+    is("another top level", ICOTABLE_HANDLE_OTHER_TABLE, icotable_table_save(&s, file, length, at("none"), &fault));
+    s.top = 16;
+    is("no such level", ICOTABLE_LEVEL, icotable_table_save(&s, file, length, at("none"), &fault));
+    s.top = 1;
+    is("no name", ICOTABLE_HANDLE_NOT_WRITTEN, icotable_table_save(&s, file, length, NULL, &fault));
+    is("a device", ICOTABLE_HANDLE_NOT_WRITTEN, icotable_table_save(&s, file, length, "/dev/null", &fault));
+    s.atom = 1;
+    is("the other kind", ICOTABLE_SECTIONS, icotable_table_save(&s, file, length, at("none"), &fault));
+    is("nothing is left", 1, access(at("none"), F_OK) != 0 && access(at("none.meta"), F_OK) != 0);
+    icotable_reader_close(t);
+}
+
 void test_files(void) {
     refused_readers();
     environment();
     own_meshes();
     lost_parts();
+    lent_meshes();
+    in_memory();
 }

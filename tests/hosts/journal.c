@@ -9,7 +9,7 @@
  *   - the mistakes (a) to (h) of a restart; two handles, two processes; other settings, levels, meshes, kinds.
  * journal build KIND FILE TABLE [RECORDS] begins or resumes one build, and stops after so many records, for the other hosts.
  * The status is 1 where something is not as it should be. */
-#include "icotable_journal.h"
+#include "icotable_handles.h"
 
 #include <errno.h>
 #include <fcntl.h>
@@ -500,6 +500,30 @@ static void failing_disk(int which, int after) {
     end_build(which, name);
 }
 
+/* The same by a handle: no table is written, with a tail or without, until the journal is resumed. */
+static void failing_disk_by_handle(void) {
+    const char *name = path("failing"), *table = path("failing.table");
+    icotable_build_settings s = {.grid = {.rmax = 3, .dr = 1, .omega_step = 3, .threshold = 0.5, .beta = 1},
+                                 .journal = name, .flags = ICOTABLE_JOURNAL_UNGUARDED};
+    double coefficient = 1, kappa = 0;
+    uint32_t power = 6;
+    icotable_terms tail = {&coefficient, &kappa, &power, 1, 1};
+    icotable_build *b = icotable_build_begin(&s, NULL);
+    check(icotable_build_set(b, 0, 0, energies(&plans[SMALL], 0, 0, 0, 0), 144) == 0, "set by a handle", icotable_build_said(b));
+    syncs_left = 0;
+    uint64_t number = icotable_build_set(b, 0, 1, energies(&plans[SMALL], 0, 0, 1, 0), 144);
+    syncs_left = -1;
+    check(number == ICOTABLE_JOURNAL_NOT_WRITTEN, "a disk that fails is not named by a handle", icotable_build_said(b));
+    check(icotable_build_write(b, table) == ICOTABLE_JOURNAL_BROKEN, "a table of a broken journal", icotable_build_said(b));
+    check(icotable_build_write_tail(b, table, &tail) == ICOTABLE_JOURNAL_BROKEN, "a table with a tail of a broken journal", icotable_build_said(b));
+    check(access(table, F_OK) != 0, "a table of a broken journal is there", icotable_build_said(b));
+    icotable_build_close(b);
+    b = icotable_build_resume(&s, NULL);
+    check(icotable_build_write_tail(b, table, &tail) == 0, "a table with a tail of a resumed journal", icotable_build_said(b));
+    icotable_build_close(b);
+    unlink(name);
+}
+
 static void full_disks(size_t tries) {
     signal(SIGXFSZ, SIG_IGN);
     for (size_t k = 0; k < tries; k++) {
@@ -512,6 +536,7 @@ static void full_disks(size_t tries) {
     }
     for (size_t k = 0; k + 1 < wholes[PAIR].records; k++)
         full_disk(PAIR, wholes[PAIR].ends[k]);
+    failing_disk_by_handle();
     icotable_journal j;
     check(opened(&j, &plans[ATOM], "/dev/full", true, 0) == ICOTABLE_JOURNAL_NOT_A_JOURNAL, "a device is taken for a journal", j.said);
 }

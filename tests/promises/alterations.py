@@ -82,7 +82,7 @@ FAILS = [
     ('several laws of one name', 'docs/PROMISE.md', '(`once`, `ledger` specs/Order)', '(`once`)',
      r'docs/PROMISE\.md:\d+: `once` is the name of several things'),
     ('a law that the index does not list', 'docs/PROMISE.md', 'One theorem, **`promise`**',
-     'One theorem, `atom-equal-files`, **`promise`**', r'operations\.py: `atom-equal-files` is not listed'),
+     'One theorem, `round-sticky`, **`promise`**', r'operations\.py: `round-sticky` is not listed'),
 ]
 wrong = []
 

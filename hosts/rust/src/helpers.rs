@@ -560,3 +560,70 @@ impl Slab {
         self.answered(number).map(|()| energies)
     }
 }
+
+#[cfg(test)]
+mod tests {
+    use super::*;
+    use std::process::Command;
+    use std::ptr::addr_of;
+
+    // What C is asked, and what it has to say.
+    type Lines = Vec<(String, usize)>;
+
+    macro_rules! places {
+        ($lines:ident, $name:literal, $kind:ty: $($field:ident)*) => {{
+            let held = std::mem::MaybeUninit::<$kind>::uninit();
+            let at = held.as_ptr();
+            $($lines.push((
+                format!("offsetof(icotable_{}, {})", $name, stringify!($field)),
+                unsafe { addr_of!((*at).$field) } as usize - at as usize,
+            ));)*
+        }};
+    }
+
+    fn size<T>(lines: &mut Lines, name: &str) {
+        lines.push((format!("sizeof(icotable_{name})"), std::mem::size_of::<T>()));
+    }
+
+    fn places() -> Lines {
+        let mut l = Lines::new();
+        places!(l, "fault", Fault: number said);
+        places!(l, "meshes", Meshes: top vertices angles neighbour_counts neighbours cell_vertices faces cell_offsets face_offsets);
+        places!(l, "meshes", Meshes: vertices_count angles_count neighbour_counts_count neighbours_count);
+        places!(l, "meshes", Meshes: cell_offsets_count cell_vertices_count face_offsets_count faces_count);
+        places!(l, "build_settings", BuildSettings: atom grid top journal meshes flags lent);
+        places!(l, "progress", Progress: n_r n_omega top level slabs set settled length step ri oi);
+        places!(l, "journal_settled", JournalSettled: number gradient comparisons);
+        places!(l, "journal", Journal: atom guarded builder records bytes cut slabs set_count settled_count set settled);
+        places!(l, "terms", Terms: coefficients kappas powers count prefactor);
+        places!(l, "seal", Seal: sha256 table_length atom grid top levels meshes_hash own_meshes version journaled journal_sha256);
+        places!(l, "slab", Slab: atom build level ri oi said);
+        size::<Fault>(&mut l, "fault");
+        size::<Meshes>(&mut l, "meshes");
+        size::<BuildSettings>(&mut l, "build_settings");
+        size::<Progress>(&mut l, "progress");
+        size::<JournalSettled>(&mut l, "journal_settled");
+        size::<Terms>(&mut l, "terms");
+        size::<Seal>(&mut l, "seal");
+        size::<Slab>(&mut l, "slab");
+        l
+    }
+
+    #[test]
+    fn structs_are_those_of_the_compiler() {
+        let top = concat!(env!("CARGO_MANIFEST_DIR"), "/../..");
+        let place = std::env::temp_dir().join(format!("simgrale-places-{}", std::process::id()));
+        let (source, lines) = (place.with_extension("c"), places());
+        let print = |(asked, _): &(String, usize)| format!("printf(\"%zu\\n\", {asked});\n");
+        let head = "#include \"icotable_handles.h\"\n#include \"icotable_slab.h\"\n#include <stdio.h>\nint main(void) {\n";
+        let text: String = lines.iter().map(print).collect();
+        std::fs::write(&source, format!("{head}{text}return 0;\n}}\n")).expect("the program");
+        let mut compiler = Command::new(std::env::var("CC").unwrap_or("cc".into()));
+        compiler.args([format!("-I{top}/include"), format!("-I{top}/hosts/c"), "-o".into()]).arg(&place).arg(&source);
+        assert!(compiler.status().expect("a C compiler").success());
+        let said = String::from_utf8(Command::new(&place).output().expect("the program").stdout).expect("numbers");
+        let wanted: Vec<String> = lines.iter().map(|line| line.1.to_string()).collect();
+        assert_eq!(said.lines().collect::<Vec<_>>(), wanted, "{lines:#?}");
+        [place, source].iter().for_each(|name| std::fs::remove_file(name).expect("a file"));
+    }
+}
