@@ -114,13 +114,66 @@ icotable_journal_settled icotable_build_settle(icotable_build *b, uint64_t ri) {
     return s;
 }
 
+/* ---- progress */
+
+static uint64_t kind_of(const icotable_journal *j, uint64_t slab) {
+    return j->atom ? j->kinds[slab] : icotable_word_kind(j->words[slab]);
+}
+
+static uint64_t level_of(const icotable_journal *j, uint64_t slab) {
+    return j->atom ? j->levels[slab] : icotable_word_level(j->words[slab]);
+}
+
+/* Whether a Scalar or Mesh slab has an energy whose Boltzmann weight is below 0.0001, ln of which is -9.21034. */
+static bool reaches_wall(const icotable_journal *j, uint64_t slab) {
+    uint32_t bits = j->atom ? j->values[slab] : icotable_word_value(j->words[slab]);
+    uint64_t n = icotable_vertices(j->builder.top), m = icotable_vertices(level_of(j, slab)), i = 0;
+    const double *energies = j->store + slab * (j->atom ? n : n * n), beta = j->builder.grid.beta;
+    float scalar;
+    memcpy(&scalar, &bits, sizeof scalar);
+    if (kind_of(j, slab) == 0)
+        return beta * (double)scalar > 9.21034;
+    while (i < (j->atom ? m : m * m) && !(beta * energies[i] > 9.21034))
+        i++;
+    return i < (j->atom ? m : m * m);
+}
+
+static bool slice_reaches_wall(const icotable_journal *j, uint64_t ri) {
+    uint64_t n_omega = j->builder.grid.n_omega, oi = 0;
+    while (oi < n_omega && !reaches_wall(j, ri * n_omega + oi))
+        oi++;
+    return oi < n_omega;
+}
+
+/* The first slab of that kind in a slice, or the count of slabs. */
+static uint64_t slab_of_kind(const icotable_journal *j, uint64_t ri, uint64_t kind) {
+    uint64_t n_omega = j->builder.grid.n_omega, end = (ri + 1) * n_omega, s = ri * n_omega;
+    while (s < end && kind_of(j, s) != kind)
+        s++;
+    return s < end ? s : j->slabs;
+}
+
+int icotable_level_lost(const icotable_journal *j) {
+    uint64_t n_r = j->builder.grid.n_r, dropped = n_r, found = j->slabs;
+    if (j->builder.level == j->builder.top)
+        return 0;
+    for (uint64_t ri = 0; ri < n_r && found == j->slabs; ri++) {
+        found = j->settled[ri] ? slab_of_kind(j, ri, 3) : j->slabs;
+        if (dropped == n_r && found == j->slabs && j->settled[ri] && slab_of_kind(j, ri, 1) == j->slabs)
+            dropped = ri;
+    }
+    if (found < j->slabs)
+        return level_of(j, found) < j->builder.top;
+    return dropped < n_r && slice_reaches_wall(j, dropped);
+}
+
 icotable_progress icotable_build_progress(const icotable_build *b) {
     icotable_progress p = {0};
     if (b == NULL)
         return p;
     const icotable_journal *j = &b->journal;
     p = (icotable_progress){j->builder.grid.n_r, j->builder.grid.n_omega, j->builder.top, j->builder.level, j->slabs, j->set_count, j->settled_count,
-                            icotable_journal_length(j), ICOTABLE_JOURNAL_TO_WRITE, 0, 0};
+                            icotable_journal_length(j), ICOTABLE_JOURNAL_TO_WRITE, 0, 0, icotable_level_lost(j)};
     p.step = icotable_journal_next(j, &p.ri, &p.oi);
     return p;
 }

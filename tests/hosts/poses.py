@@ -1,7 +1,8 @@
 """The meaning of a, b and omega: poses.py TABLE ION_TABLE.
 
-Places the two bodies of the demonstration by quaternions, as the Rust's `orient` does it (docs/GUIDE.md, What a table is), works out
-their energy, and compares it with what the tables hold. Nothing here is shared with hosts/c/molecules.c but the sites.
+Places the two bodies of the demonstration by quaternions, as the Rust's `orient` does it (docs/GUIDE.md, What a table
+is), works out their energy, and compares it with what the tables hold. Nothing here is shared with hosts/c/molecules.c
+but the sites.
 """
 
 import math
@@ -9,8 +10,10 @@ import sys
 
 import simgrale
 
-FIRST = [((0.0, 0.0, 2.6), 1.0, 3.2), ((0.9, 0.0, 0.8), 0.0, 3.8), ((-0.9, 0.4, -0.8), 0.0, 3.8), ((0.0, 0.3, -2.6), -1.0, 3.2)]
-SECOND = [((0.0, 0.0, 2.0), -1.0, 3.0), ((0.6, 0.5, 0.4), 0.0, 3.6), ((-0.6, 0.4, -1.0), 0.4, 3.4), ((0.2, -0.7, -2.0), -0.4, 3.2)]
+FIRST = [((0.0, 0.0, 2.6), 1.0, 3.2), ((0.9, 0.0, 0.8), 0.0, 3.8),
+         ((-0.9, 0.4, -0.8), 0.0, 3.8), ((0.0, 0.3, -2.6), -1.0, 3.2)]  # fmt: skip
+SECOND = [((0.0, 0.0, 2.0), -1.0, 3.0), ((0.6, 0.5, 0.4), 0.0, 3.6),
+          ((-0.6, 0.4, -1.0), 0.4, 3.4), ((0.2, -0.7, -2.0), -0.4, 3.2)]  # fmt: skip
 ION = [((0.0, 0.0, 0.0), 1.0, 2.6)]
 UP, DOWN = (0.0, 0.0, 1.0), (0.0, 0.0, -1.0)
 
@@ -64,9 +67,8 @@ def site_energy(one, other, squared):
 
 def energy(others, q, at):
     """Of the first body at the origin and another, turned by q and moved."""
-    placed = [tuple(x + y for x, y in zip(turned(q, other[0]), at)) for other in others]
-    gaps = [[tuple(x - y for x, y in zip(place, one[0])) for place in placed] for one in FIRST]
-    return sum(site_energy(FIRST[i], others[j], dot(gap, gap)) for i, row in enumerate(gaps) for j, gap in enumerate(row))
+    placed = [(other, tuple(x + y for x, y in zip(turned(q, other[0]), at))) for other in others]
+    return sum(site_energy(one, other, math.dist(one[0], place) ** 2) for one in FIRST for other, place in placed)
 
 
 def told(vertices):
@@ -106,16 +108,17 @@ def pairs(path):
     return count
 
 
+def check_ion(r, slab, vertices):
+    for found, a in zip(slab, vertices):
+        wanted = energy(ION, (1.0, 0.0, 0.0, 0.0), tuple(float(r * x) for x in a))
+        assert math.isclose(found, wanted, rel_tol=1e-5, abs_tol=1e-6), f"distance {r}: {found}, not {wanted}"
+    return len(slab)
+
+
 def ions(path):
-    count = 0
     with simgrale.AtomTable.open(path) as table:
-        for ri in (table.rows()["level"] == 5).nonzero()[0]:
-            slab = table.slab(ri)
-            for i, a in enumerate(table.vertices(5)):
-                wanted = energy(ION, (1.0, 0.0, 0.0, 0.0), tuple(float(table.grid.r[ri] * x) for x in a))
-                assert math.isclose(slab[i], wanted, rel_tol=1e-5, abs_tol=1e-6), f"slab {ri}, vertex {i}: {slab[i]}, not {wanted}"
-                count += 1
-    return count
+        held = (table.rows()["level"] == 5).nonzero()[0]
+        return sum(check_ion(table.grid.r[ri], table.slab(ri), table.vertices(5)) for ri in held)
 
 
 print(f"poses: {pairs(sys.argv[1])} of two bodies and {ions(sys.argv[2])} of a body and an ion are the Rust's")

@@ -49,6 +49,14 @@ static void print_rows(const table_file *f, const tally *t) {
     }
 }
 
+/* Whether the level dropped inside the wall: the first interpolated row is below the top level. */
+static bool level_lost(const table_file *f) {
+    uint64_t s = 0;
+    while (s < f->table.rows && row_of(f, s).kind != INTERPOLATED)
+        s++;
+    return s < f->table.rows && row_of(f, s).level + 1u < f->table.levels;
+}
+
 /* The long-range tail, where there is one: its first terms. */
 static void print_terms(const table_file *f) {
     uint64_t terms = f->table.terms;
@@ -101,6 +109,8 @@ static void print_table(const table_file *f) {
         printf(", %llu infinite", (unsigned long long)seen.infinite);
     putchar('\n');
     print_terms(f);
+    if (level_lost(f))
+        printf("warning     %s\n", LEVEL_LOST);
     if (t->grid.n_r <= SHOWN && t->grid.n_omega <= SHOWN)
         print_slabs(f);
 }
@@ -155,6 +165,7 @@ static void json_table(const table_file *f) {
         json_count("n_omega", g->n_omega);
     }
     json_count("levels", f->table.levels);
+    json_flag("level_lost", level_lost(f));
     json_rows(f, &seen);
     json_terms(f);
 }
