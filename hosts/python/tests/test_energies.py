@@ -2,12 +2,14 @@
 
 import ctypes
 import hashlib
+import importlib.util
 import math
 import os
 import pickle
 import subprocess
 import threading
 import unittest
+from pathlib import Path
 
 import numpy as np
 
@@ -255,6 +257,27 @@ class Places(InFolder):
                     self.refused(26, table.span, at, at, 0)
             energies[table.place(r) == simgrale.Place.NEARER] = np.inf
             self.assertEqual((energies[0], energies[1] < np.inf, energies[2]), (np.inf, True, 0))
+
+
+
+class Plotted(InFolder):
+    """examples/plot.py: its mean is over omega, too."""
+
+    def test_the_mean(self):
+        place = Path(__file__).resolve().parents[1] / "examples" / "plot.py"
+        plot = importlib.util.module_from_spec(importlib.util.spec_from_file_location("plot", place))
+        plot.__spec__.loader.exec_module(plot)
+        heights = [0.0, 3.0, -2.0]
+        with simgrale.Builder(PAIR, guarded=False) as build:
+            for oi, height in enumerate(heights):
+                build.set(1, oi, np.full(len(build.vertices()) ** 2, height))
+            build.write(self.at("plotted"))
+        with simgrale.Table.open(self.at("plotted")) as table:
+            r, some, mean = plot.profiles(table)
+        wanted = -np.log(np.mean(np.exp(-plot.BETA * np.array(heights)))) / plot.BETA
+        inside = np.abs(r - 2) < 0.5
+        self.assertTrue(np.allclose(mean[inside], wanted, rtol=1e-6), (mean[inside], wanted))
+        self.assertEqual(set(np.round(some[inside].reshape(-1), 6)), set(heights))
 
 
 if __name__ == "__main__":

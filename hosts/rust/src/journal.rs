@@ -80,7 +80,10 @@ pub enum Step {
 ///                 let pairs = build.directions().len().pow(2) as u64;
 ///                 build.set(ri, oi, &(0..pairs).map(|i| ((i + oi) % 7) as f64 / (ri + 1) as f64).collect::<Vec<_>>())?
 ///             }
-///             Step::Settle { ri } => drop(build.settle(ri)?),
+///             Step::Settle { ri } => {
+///                 build.settle(ri)?;
+///                 assert!(!build.level_lost(), "the remedy is a larger rmin");
+///             }
 ///             Step::Write => return build.write(folder.join("table.icotable")),
 ///         }
 ///     }
