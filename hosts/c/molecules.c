@@ -28,8 +28,8 @@ static const double COULOMB = 17.7;       /* 1389.35 kJ angstrom / mol over wate
 static const double SCREENING = 1.0 / 9.6; /* Debye length at 0.1 mol/l */
 static const double NEAREST = 0.25;       /* squared; sites that are nearer count as this far, so that no energy is a NaN */
 
-/* Turns p by the least rotation that takes the unit direction d to the pole, 1 up the axis and -1 down it; where d is the
- * other pole, by half a turn around y. */
+/* Turns p by the least rotation that takes the unit direction d to the pole, 1 up the axis and -1 down it; where d is
+ * the other pole, by half a turn around y. */
 static void to_pole(const double d[3], double pole, const double p[3], double out[3]) {
     double along = pole * d[2], x = pole * d[1], y = -pole * d[0];
     if (along < -1 + 1e-12) {

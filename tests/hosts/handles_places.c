@@ -6,7 +6,8 @@
 
 static const double up[3] = {0, 0, 1};
 
-/* A span from r to r is refused with 26 where r is outside, and with 18 where it is a NaN; a reading is then 0, or refused. */
+/* A span from r to r is refused with 26 where r is outside, and with 18 where it is a NaN; a reading is then 0, or
+ * refused. */
 static void place(const icotable_reader *t, double r, enum icotable_place wanted) {
     uint8_t many[2] = {9, 9};
     icotable_value v = icotable_reader_energy(t, r, 0, up[0], up[1], up[2], up[0], up[1], up[2]);
@@ -14,7 +15,8 @@ static void place(const icotable_reader *t, double r, enum icotable_place wanted
     is("place", wanted, icotable_reader_place(t, r));
     is("places", wanted, many[0]);
     is("places", 9, many[1]);
-    is("span", wanted == ICOTABLE_NOWHERE ? 18 : wanted == ICOTABLE_INSIDE ? 0 : 26, icotable_reader_span(t, r, r, 0).number);
+    is("span", wanted == ICOTABLE_NOWHERE ? 18 : wanted == ICOTABLE_INSIDE ? 0 : 26,
+       icotable_reader_span(t, r, r, 0).number);
     is("reading", wanted == ICOTABLE_NOWHERE ? 18 : 0, v.number);
     is("reading outside", 0, wanted != ICOTABLE_INSIDE && v.energy != 0);
 }
@@ -68,7 +70,8 @@ static void rounded_places(void) {
 
 /* ---- levels that are lost */
 
-/* A slice of a story: # a wall, ~ one whose weights are flat, n likewise and read at the nearest vertices, w a well, 0 nothing. */
+/* A slice of a story: # a wall, ~ one whose weights are flat, n likewise and read at the nearest vertices, w a well, 0
+ * nothing. */
 static void sample_slice(char kind, size_t count) {
     for (size_t i = 0; i < count; i++)
         energies[i] = kind == '0' ? 0 : kind == 'w' ? 0.5 * (double)(i % 7) : 1e6;

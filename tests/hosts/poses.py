@@ -84,6 +84,18 @@ def check_meaning(omega, a, b, q):
     c, s = math.cos(omega), math.sin(omega)
     gap = math.dist((c * x - s * y, s * x + c * y, z), b)
     assert gap < 1e-12, f"b is {gap} off at omega {omega}, a {a}, b {b}"
+    # and omega is the twist around z, but for b = +z, where it is lost in this form
+    w, _, _, k = times(conjugate(between(UP, a)), q)
+    gap = abs(math.remainder(2 * math.atan2(k, w) - omega, math.tau)) if b != UP else 0
+    assert gap < 1e-9, f"omega is {gap} off at {omega}, a {a}, b {b}"
+
+
+def check_dipoles(a, b, q):
+    """README.md's energy of two dipoles along z, whatever omega is."""
+    along = turned(q, UP)
+    wanted = along[2] - 3 * a[2] * dot(along, a)
+    found = 2 * a[2] * b[2] - a[0] * b[0] - a[1] * b[1]
+    assert abs(found - wanted) < 1e-12, f"dipoles: {found}, not {wanted}, at a {a}, b {b}"
 
 
 def check_pair(table, ri, oi, vertices, slab):
@@ -92,6 +104,7 @@ def check_pair(table, ri, oi, vertices, slab):
         for j in told(vertices):
             q, at = orient(r, omega, vertices[i], vertices[j])
             check_meaning(omega, vertices[i], vertices[j], q)
+            check_dipoles(vertices[i], vertices[j], q)
             wanted, found = energy(SECOND, q, at), float(slab[i, j])
             where = f"slab ({ri}, {oi}), a at vertex {i}, b at vertex {j}"
             assert math.isclose(found, wanted, rel_tol=1e-5, abs_tol=1e-6), f"{where}: {found}, not {wanted}"

@@ -1,9 +1,9 @@
 #!/usr/bin/python3
 """A picture of a table: plot.py TABLE [OUT.png].
 
-Left the energy profile over distance, for some poses and their mean by Boltzmann weight, over both directions and the dihedral angle;
-right a slab, the energies of all pairs of vertices, at the distance of the profile's lowest energy. Against an atom the slab is drawn over
-longitude and latitude. Needs matplotlib; without it the profile is printed.
+Left the energy profile over distance, for some poses and their mean by Boltzmann weight, over both directions and the
+dihedral angle; right a slab, the energies of all pairs of vertices, at the distance of the profile's lowest energy.
+Against an atom the slab is drawn over longitude and latitude. Needs matplotlib; without it the profile is printed.
 """
 
 import os
@@ -28,7 +28,7 @@ def directions(count):
 
 
 def profiles(table):
-    """Distances; the energies at some 40 of many poses; and -ln(mean exp(-beta*energy))/beta over all of them, omega included."""
+    """Distances; the energies at some 40 of many poses; -ln(mean exp(-beta*energy))/beta of all, over omega, too."""
     r = np.linspace(table.grid.rmin, table.grid.rmax, 400)[:-1]
     if isinstance(table, simgrale.AtomTable):
         energies = table.energies(r[:, None], directions(200))
@@ -78,7 +78,8 @@ def draw(table, r, some, mean, out):
 
     figure, (left, right) = pyplot.subplots(1, 2, figsize=(12, 5), constrained_layout=True)
     left.plot(r, np.where(np.isfinite(some), some, np.nan), color="0.75", linewidth=0.7)
-    left.plot(r, np.where(np.isfinite(mean), mean, np.nan), color="tab:blue", label="-ln(mean weight) / beta, over all orientations")
+    label = "-ln(mean weight) / beta, over all orientations"
+    left.plot(r, np.where(np.isfinite(mean), mean, np.nan), color="tab:blue", label=label)
     lowest = float(np.nanmin(some[np.isfinite(some)]))
     left.set(xlabel="distance", ylabel="energy", ylim=(1.2 * min(lowest, -0.1), -1.2 * min(lowest, -0.1)), title=os.path.basename(table.path))
     left.legend(frameon=False)

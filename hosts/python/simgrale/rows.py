@@ -19,7 +19,7 @@ class Kind(IntEnum):
 
 
 class Place(IntEnum):
-    """Where a distance lies. Every reading that is NEARER or BEYOND is 0; NOWHERE is a NaN, which a reading refuses with 18."""
+    """Where a distance lies. A reading that is NEARER or BEYOND is 0; NOWHERE is a NaN, which it refuses with 18."""
 
     NOWHERE = 0
     NEARER = 1

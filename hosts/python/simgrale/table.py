@@ -158,8 +158,9 @@ def _energies(answers: Answers, numbers: bool) -> Union[Floats, tuple[Floats, Nu
 class Table(_Reader):
     """A table of two molecules.
 
-    Directions a and b have any length but 0. a is that of the second molecule in the frame of the first; b is that of the first in the
-    frame of the second, turned around z by omega (docs/GUIDE.md, What a table is). Any number of threads may use one table at once.
+    Directions a and b have any length but 0. a is that of the second molecule in the frame of the first; b is that of
+    the first in the frame of the second, turned around z by omega (docs/GUIDE.md, What a table is). Any number of
+    threads may use one table at once.
     """
 
     _atom = False
@@ -174,7 +175,7 @@ class Table(_Reader):
 
     def energies(self, r: npt.ArrayLike, omega: npt.ArrayLike, a: npt.ArrayLike, b: npt.ArrayLike, beta: Optional[float] = None,
                  threads: int = 1, *, numbers: bool = False) -> Union[Floats, tuple[Floats, Numbers]]:  # fmt: skip
-        """The energy of each pose: infinity inside a wall, 0 outside the table's distances, also below rmin (place tells).
+        """The energy of each pose: infinity inside a wall, 0 outside the table's distances, also below rmin: place.
 
         r and omega: any shapes; a and b: shapes whose last axis is 3; they are broadcast. beta: weighted by temperature, else plain.
         Each energy is, to the bit, that of icotable_reading or icotable_boltzmann. threads: of the library, from 1 to 256.

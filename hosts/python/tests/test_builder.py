@@ -169,7 +169,7 @@ class Builds(InFolder):
         self.assertEqual(self.bytes_of("none"), self.bytes_of("pair"))
 
     def lost(self, build, walls):
-        """Whether the level is told to be lost, after a slice whose first energy is not the wall's, and after a well."""
+        """Whether the level is told to be lost: at first, after a wall with one other energy, and after a well."""
         told, atom = [build.progress().level_lost], isinstance(build, simgrale.AtomBuilder)
         for step in build.steps():
             if step.ri == 2:

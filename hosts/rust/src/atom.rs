@@ -158,7 +158,8 @@ impl AtomTable {
         Place::of(&self.reader, r)
     }
 
-    /// The energy at a distance and a direction of any length: infinity inside a repulsive wall, 0 outside the table's distances, also below rmin.
+    /// The energy at a distance and a direction of any length: infinity inside a repulsive wall, 0 outside the table's
+    /// distances, also below rmin.
     pub fn lookup(&self, r: f64, direction: [f64; 3]) -> Result<f64, Refusal> {
         let value = self.reader.atom_energy(r, direction);
         answer(value.number, value.energy)

@@ -219,8 +219,8 @@ impl<B> Journaled<B> {
         self.build.progress().length
     }
 
-    /// Whether the level dropped before the first interpolated slice, as it does inside a wall, whose weights are flat where they are nearly 0.
-    /// The well then has a coarser mesh than the top level's; begin again with a larger rmin.
+    /// Whether the level dropped before the first interpolated slice, as it does inside a wall, whose weights are flat
+    /// where they are nearly 0. The well then has a coarser mesh than the top level's; begin again with a larger rmin.
     pub fn level_lost(&self) -> bool {
         self.build.progress().level_lost != 0
     }

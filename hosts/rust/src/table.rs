@@ -208,7 +208,7 @@ impl Table {
     /// // below rmin a reading is 0, and a simulation wants a wall there
     /// let energy = if table.place(r)? == Place::Nearer { f64::INFINITY } else { table.lookup(r, 0.0, a, b)? };
     /// assert_eq!((table.lookup(r, 0.0, a, b)?, energy), (0.0, f64::INFINITY));
-    /// assert_eq!((table.place(1.0), table.place(4.0), table.place(4.1)), (Ok(Place::Inside), Ok(Place::Inside), Ok(Place::Beyond)));
+    /// assert_eq!((table.place(4.0), table.place(4.1)), (Ok(Place::Inside), Ok(Place::Beyond)));
     /// assert_eq!(table.place(f64::NAN), Err(Refusal::Query));
     /// # Ok::<(), simgrale::Error>(())
     /// ```
@@ -216,8 +216,9 @@ impl Table {
         Place::of(&self.reader, r)
     }
 
-    /// The energy at a distance, a dihedral angle and two directions of any length: infinity inside a repulsive wall, 0 outside the table's
-    /// distances, also below rmin ([`place`](Table::place) tells). What a, b and omega of two bodies are: docs/GUIDE.md, What a table is.
+    /// The energy at a distance, a dihedral angle and two directions of any length: infinity inside a repulsive wall, 0
+    /// outside the table's distances, also below rmin ([`place`](Table::place) tells). Which pose they stand for:
+    /// docs/GUIDE.md, What a table is.
     pub fn lookup(&self, r: f64, omega: f64, a: [f64; 3], b: [f64; 3]) -> Result<f64, Refusal> {
         self.reading(r, omega, a, b).map(|reading| reading.energy)
     }

@@ -30,8 +30,8 @@ const NEAREST: f64 = 0.25;
 /// Where the sites of a molecule are once it is turned.
 pub type Pose = [[f64; 3]; 4];
 
-// Turns p by the least rotation that takes the unit direction d to the pole, 1 up the axis and -1 down it; where d is the other pole, by half a
-// turn around y.
+// Turns p by the least rotation that takes the unit direction d to the pole, 1 up the axis and -1 down it; where d is
+// the other pole, by half a turn around y.
 fn to_pole(d: [f64; 3], pole: f64, p: [f64; 3]) -> [f64; 3] {
     let (along, x, y) = (pole * d[2], pole * d[1], -pole * d[0]);
     if along < -1.0 + 1e-12 {
