@@ -688,6 +688,8 @@ static uint64_t resume_first(icotable_journal *j, uint64_t size, const icotable_
         return say_errno(j, ICOTABLE_JOURNAL_TROUBLE);
     if (size <= FIRST_MOST && half_begun_by_any(j, bytes, count, *wanted))
         return 0;
+    if (size < ICOTABLE_HEAD_SAME_)
+        return say(j, ICOTABLE_JOURNAL_NOT_A_JOURNAL, "%llu bytes, which are not the beginning of this build's", (ull)size);
     uint64_t number = check_head(j, &head, &length, bytes, count);
     if (number == 0)
         number = same_head(j, &head, wanted);

@@ -67,22 +67,29 @@ static bool take_identity(icotable_head_ *h, const uint8_t *bytes, size_t count,
     return strlen(h->identity.label) == label && icotable_label_fits_(h->identity.label);
 }
 
-uint64_t icotable_head_taken_(icotable_head_ *h, size_t *length, const uint8_t *bytes, size_t count, const char **why) {
+/* Whether these are the bytes of a head of that version, whatever they say of it. */
+static bool whole(icotable_head_ *h, uint32_t version, size_t *length, const uint8_t *bytes, size_t count) {
     uint32_t sum;
+    *length = SAME + SUM;
+    if (version == 2 && !take_identity(h, bytes, count, length))
+        return false;
+    memcpy(&sum, bytes + *length - SUM, SUM);
+    return sum == icotable_crc32_(icotable_crc32_(icotable_crc32_(0, bytes, 8), &version, 4), bytes + 12, *length - SUM - 12);
+}
+
+uint64_t icotable_head_taken_(icotable_head_ *h, size_t *length, const uint8_t *bytes, size_t count, const char **why) {
     *h = (icotable_head_){0};
     *length = SAME + SUM;
-    *why = "it begins otherwise";
+    *why = count < SAME + SUM ? "it is shorter than any head" : "it begins otherwise";
     if (count < SAME + SUM || memcmp(bytes, MAGIC, 8) != 0)
         return ICOTABLE_JOURNAL_NOT_A_JOURNAL;
     take_same(h, bytes);
-    *why = "a version that is neither 1 nor 2";
-    if (h->version < 1 || h->version > 2)
-        return ICOTABLE_JOURNAL_OTHER_VERSION;
     *why = "the head";
-    if (h->version == 2 && !take_identity(h, bytes, count, length))
-        return ICOTABLE_JOURNAL_DAMAGED;
-    memcpy(&sum, bytes + *length - SUM, SUM);
-    return sum == icotable_crc32_(0, bytes, *length - SUM) ? 0 : ICOTABLE_JOURNAL_DAMAGED;
+    bool known = h->version == 1 || h->version == 2;
+    if (known)
+        return whole(h, h->version, length, bytes, count) ? 0 : ICOTABLE_JOURNAL_DAMAGED;
+    bool damaged = whole(h, 2, length, bytes, count) || whole(h, 1, length, bytes, count);
+    return damaged ? ICOTABLE_JOURNAL_DAMAGED : ICOTABLE_JOURNAL_OTHER_VERSION;
 }
 
 uint64_t icotable_head_build_(const icotable_head_ *h) {

@@ -78,6 +78,21 @@ static void print_missing(const icotable_journal *j, uint64_t ri) {
         printf(" and %llu more", (ull)(missing - SHOWN));
 }
 
+/* A slab that was never set in a slice that was settled, which a build without the guard can have. */
+static bool hole(const icotable_journal *j, uint64_t *slab) {
+    uint64_t n_omega = j->builder.grid.n_omega;
+    for (*slab = 0; *slab < j->slabs; ++*slab)
+        if (!j->set[*slab] && j->settled[*slab / n_omega])
+            return true;
+    return false;
+}
+
+static void print_hole(const icotable_journal *j, uint64_t slab) {
+    uint64_t n_omega = j->builder.grid.n_omega;
+    printf("hole         slab (%llu, %llu) was never set and its slice is settled: it would read as 0.0\n", (ull)(slab / n_omega), (ull)(slab % n_omega));
+    puts("what to do   set it and settle its slice again, without the guard, or build anew with the guard; replay refuses this journal");
+}
+
 static void print_next(const icotable_journal *j) {
     uint64_t ri, oi;
     enum icotable_journal_step step = icotable_journal_next(j, &ri, &oi);
@@ -100,10 +115,27 @@ static bool by_guard(uint64_t number) {
     return number == ICOTABLE_JOURNAL_SLICE_SETTLED || number == ICOTABLE_JOURNAL_SLAB_MISSING || number == ICOTABLE_JOURNAL_NEARER_UNSETTLED;
 }
 
+static void json_hole(const icotable_journal *j) {
+    uint64_t slab, n_omega = j->builder.grid.n_omega;
+    if (!hole(j, &slab)) {
+        json_null("hole");
+        return;
+    }
+    json_open("hole", '[');
+    json_count(NULL, slab / n_omega);
+    json_count(NULL, slab % n_omega);
+    json_close(']');
+}
+
 static void json_next(const icotable_journal *j) {
     static const char *const steps[] = {"sample", "settle", "write"};
     uint64_t ri, oi, n_omega = j->builder.grid.n_omega;
     enum icotable_journal_step step = icotable_journal_next(j, &ri, &oi);
+    json_hole(j);
+    if (hole(j, &oi) && step == ICOTABLE_JOURNAL_TO_WRITE) {
+        json_null("next");
+        return;
+    }
     json_open("next", '{');
     json_text("step", steps[step]);
     if (step != ICOTABLE_JOURNAL_TO_WRITE) {
@@ -156,7 +188,12 @@ static void print_status(const icotable_journal *j, const char *name, const char
         printf("the guard    refuses it: %s\n", said);
     if (icotable_level_lost(j))
         printf("warning      %s\n", LEVEL_LOST);
-    print_next(j);
+    uint64_t slab, ri, oi;
+    bool held = hole(j, &slab);
+    if (held)
+        print_hole(j, slab);
+    if (!held || icotable_journal_next(j, &ri, &oi) != ICOTABLE_JOURNAL_TO_WRITE)
+        print_next(j);
 }
 
 /* The id, from the head alone. */
@@ -191,6 +228,9 @@ int status_tool(int count, char **names) {
     int status = number == 0 ? GOOD : refused_journal(names[0], number, j.said);
     if (status == GOOD)
         (given("--json") != NULL ? json_status : print_status)(&j, names[0], said);
+    uint64_t slab;
+    if (status == GOOD && hole(&j, &slab))
+        status = FOUND;
     icotable_journal_close(&j);
     icotable_free_meshes(&meshes);
     return status;
