@@ -214,15 +214,15 @@ impl<B> Journaled<B> {
         self.build.progress().level
     }
 
-    /// The length of the table's file in bytes, were it written now.
-    pub fn file_length(&self) -> u64 {
-        self.build.progress().length
-    }
-
     /// Whether the level dropped before the first interpolated slice, as it does inside a wall, whose weights are flat
     /// where they are nearly 0. The well then has a coarser mesh than the top level's; begin again with a larger rmin.
     pub fn level_lost(&self) -> bool {
         self.build.progress().level_lost != 0
+    }
+
+    /// The length of the table's file in bytes, were it written now.
+    pub fn file_length(&self) -> u64 {
+        self.build.progress().length
     }
 
     /// The meshes that it is built over.

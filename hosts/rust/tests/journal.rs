@@ -180,22 +180,6 @@ fn refused_calls_are_not_recorded() {
     assert_eq!((j.records(), j.bytes()), (1, 160));
 }
 
-#[test]
-fn another_build_is_told() {
-    let name = Name::new("other");
-    go_on(&mut begin(&name), 2);
-    let (number, said) = refused(Builder::resume(&name, Grid { beta: 2.0, ..small() }, mesh(0), Guard::On));
-    assert!(number == 208 && said.contains("beta 1, not 2"), "{said}");
-    assert_eq!(refused(Builder::resume(&name, small(), mesh(1), Guard::On)).0, 209);
-    let mut level = mesh(0).level(0).unwrap();
-    level.neighbours[3][1].1 += 0.25;
-    assert_eq!(refused(Builder::resume(&name, small(), Arc::new(Mesh::new(&[level]).unwrap()), Guard::On)).0, 210);
-    let atom = atom_settings(0.0, 3.0, 1.0, 0.1, 1.0);
-    assert_eq!(refused(AtomBuilder::resume(&name, atom, mesh(0), Guard::On)).0, 207);
-    assert_eq!(refused(AtomBuilder::resume("/dev/null", atom, mesh(0), Guard::On)).0, 204);
-    assert_eq!(refused(AtomBuilder::resume(Name::new("none"), atom, mesh(0), Guard::On)).0, 202);
-}
-
 // Slices of one story: a wall whose weights are flat, or one that is Repulsive; then a well.
 fn level_lost(name: &str, first: f64) -> Vec<bool> {
     let name = Name::new(name);
@@ -219,4 +203,20 @@ fn level_lost(name: &str, first: f64) -> Vec<bool> {
 fn a_level_that_is_lost_inside_the_wall_is_told() {
     assert_eq!(level_lost("lost", 9.0), [false, true, true]);
     assert_eq!(level_lost("sound", 1e6), [false, false, false]);
+}
+
+#[test]
+fn another_build_is_told() {
+    let name = Name::new("other");
+    go_on(&mut begin(&name), 2);
+    let (number, said) = refused(Builder::resume(&name, Grid { beta: 2.0, ..small() }, mesh(0), Guard::On));
+    assert!(number == 208 && said.contains("beta 1, not 2"), "{said}");
+    assert_eq!(refused(Builder::resume(&name, small(), mesh(1), Guard::On)).0, 209);
+    let mut level = mesh(0).level(0).unwrap();
+    level.neighbours[3][1].1 += 0.25;
+    assert_eq!(refused(Builder::resume(&name, small(), Arc::new(Mesh::new(&[level]).unwrap()), Guard::On)).0, 210);
+    let atom = atom_settings(0.0, 3.0, 1.0, 0.1, 1.0);
+    assert_eq!(refused(AtomBuilder::resume(&name, atom, mesh(0), Guard::On)).0, 207);
+    assert_eq!(refused(AtomBuilder::resume("/dev/null", atom, mesh(0), Guard::On)).0, 204);
+    assert_eq!(refused(AtomBuilder::resume(Name::new("none"), atom, mesh(0), Guard::On)).0, 202);
 }
