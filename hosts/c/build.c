@@ -124,47 +124,46 @@ static uint64_t level_of(const icotable_journal *j, uint64_t slab) {
     return j->atom ? j->levels[slab] : icotable_word_level(j->words[slab]);
 }
 
-/* Whether a Scalar or Mesh slab has an energy whose Boltzmann weight is below 0.0001, ln of which is -9.21034. */
-static bool reaches_wall(const icotable_journal *j, uint64_t slab) {
-    uint32_t bits = j->atom ? j->values[slab] : icotable_word_value(j->words[slab]);
-    uint64_t n = icotable_vertices(j->builder.top), m = icotable_vertices(level_of(j, slab)), i = 0;
-    const double *energies = j->store + slab * (j->atom ? n : n * n), beta = j->builder.grid.beta;
-    float scalar;
-    memcpy(&scalar, &bits, sizeof scalar);
-    if (kind_of(j, slab) == 0)
-        return beta * (double)scalar > 9.21034;
-    while (i < (j->atom ? m : m * m) && !(beta * energies[i] > 9.21034))
-        i++;
-    return i < (j->atom ? m : m * m);
-}
-
-static bool slice_reaches_wall(const icotable_journal *j, uint64_t ri) {
-    uint64_t n_omega = j->builder.grid.n_omega, oi = 0;
-    while (oi < n_omega && !reaches_wall(j, ri * n_omega + oi))
-        oi++;
-    return oi < n_omega;
-}
-
-/* The first slab of that kind in a slice, or the count of slabs. */
-static uint64_t slab_of_kind(const icotable_journal *j, uint64_t ri, uint64_t kind) {
-    uint64_t n_omega = j->builder.grid.n_omega, end = (ri + 1) * n_omega, s = ri * n_omega;
-    while (s < end && kind_of(j, s) != kind)
+/* The first slab of a kind from one to the other in settled slices, or the count of slabs. */
+static uint64_t settled_of_kind(const icotable_journal *j, uint64_t least, uint64_t most) {
+    uint64_t s = 0, n_omega = j->builder.grid.n_omega;
+    while (s < j->slabs && !(j->settled[s / n_omega] && kind_of(j, s) >= least && kind_of(j, s) <= most))
         s++;
-    return s < end ? s : j->slabs;
+    return s;
+}
+
+/* Whether a Scalar slab's energy has a Boltzmann weight below a half, as in a wall; ln 2 is 0.6931. */
+static bool walled(const icotable_journal *j, uint64_t slab) {
+    uint32_t bits = j->atom ? j->values[slab] : icotable_word_value(j->words[slab]);
+    float energy;
+    memcpy(&energy, &bits, sizeof energy);
+    return kind_of(j, slab) == 0 && j->builder.grid.beta * (double)energy > 0.6931;
+}
+
+/* A slice that drops the level has no Repulsive slab. */
+static bool wall_drops(const icotable_journal *j, uint64_t ri) {
+    uint64_t first = ri * j->builder.grid.n_omega, end = first + j->builder.grid.n_omega;
+    bool found = false;
+    for (uint64_t s = first; s < end; s++) {
+        if (kind_of(j, s) == 1)
+            return false;
+        found |= walled(j, s);
+    }
+    return found;
 }
 
 int icotable_level_lost(const icotable_journal *j) {
-    uint64_t n_r = j->builder.grid.n_r, dropped = n_r, found = j->slabs;
-    if (j->builder.level == j->builder.top)
+    uint64_t top = j->builder.top, n_r = j->builder.grid.n_r, ri = 0;
+    if (j->builder.level == top)
         return 0;
-    for (uint64_t ri = 0; ri < n_r && found == j->slabs; ri++) {
-        found = j->settled[ri] ? slab_of_kind(j, ri, 3) : j->slabs;
-        if (dropped == n_r && found == j->slabs && j->settled[ri] && slab_of_kind(j, ri, 1) == j->slabs)
-            dropped = ri;
-    }
-    if (found < j->slabs)
-        return level_of(j, found) < j->builder.top;
-    return dropped < n_r && slice_reaches_wall(j, dropped);
+    uint64_t slab = settled_of_kind(j, 3, 3);
+    if (slab == j->slabs)
+        slab = settled_of_kind(j, 2, 3);
+    if (slab < j->slabs)
+        return level_of(j, slab) < top;
+    while (ri < n_r && !(j->settled[ri] && wall_drops(j, ri)))
+        ri++;
+    return ri < n_r && j->settled_count < n_r;
 }
 
 icotable_progress icotable_build_progress(const icotable_build *b) {

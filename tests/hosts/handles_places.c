@@ -70,11 +70,12 @@ static void rounded_places(void) {
 
 /* ---- levels that are lost */
 
-/* A slice of a story: # a wall, ~ one whose weights are flat, n likewise and read at the nearest vertices, w a well, 0
- * nothing. */
+/* A slice of a story: # a wall, ~ one whose weights are flat, n likewise and read at the nearest vertices, w a well, s
+ * a smooth one, 0 nothing. */
 static void sample_slice(char kind, size_t count) {
     for (size_t i = 0; i < count; i++)
-        energies[i] = kind == '0' ? 0 : kind == 'w' ? 0.5 * (double)(i % 7) : 1e6;
+        energies[i] = kind == 'w' ? 0.5 * (double)(i % 7) : kind == 's' ? 0.05 * (double)(i % 2)
+                      : kind == '0' ? 0 : 1e6;
     energies[0] = kind == '~' ? 9 : kind == 'n' ? 2.5 : energies[0];
 }
 
@@ -110,8 +111,11 @@ void test_places(void) {
     for (int atom = 0; atom < 2; atom++) {
         story(atom, "~w00", "1111", "lost");
         story(atom, "#w00", "0000", "sound");
-        story(atom, "nw00", "1111", "nearest");
-        story(atom, "#000", "0000", "smooth");
+        story(atom, "nw00", "0111", "nearest");
+        story(atom, "#s00", "0000", "smooth");
+        story(atom, "s#00", "0000", "far");
+        story(atom, "~s00", "1111", "coarse");
+        story(atom, "~000", "1110", "flat");
         story(atom, "0w00", "0111", "late");
     }
 }

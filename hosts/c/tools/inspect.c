@@ -49,11 +49,19 @@ static void print_rows(const table_file *f, const tally *t) {
     }
 }
 
-/* Whether the level dropped inside the wall: the first interpolated row is below the top level. */
-static bool level_lost(const table_file *f) {
+/* The first row of that kind, or the count of rows. */
+static uint64_t first_of_kind(const table_file *f, unsigned kind) {
     uint64_t s = 0;
-    while (s < f->table.rows && row_of(f, s).kind != INTERPOLATED)
+    while (s < f->table.rows && row_of(f, s).kind != kind)
         s++;
+    return s;
+}
+
+/* Whether the level dropped inside the wall: the first interpolated row or, where none is, the first Mesh row is below
+ * the top level. */
+static bool level_lost(const table_file *f) {
+    uint64_t interpolated = first_of_kind(f, INTERPOLATED);
+    uint64_t s = interpolated < f->table.rows ? interpolated : first_of_kind(f, NEAREST);
     return s < f->table.rows && row_of(f, s).level + 1u < f->table.levels;
 }
 
