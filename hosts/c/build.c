@@ -153,9 +153,9 @@ static bool wall_drops(const icotable_journal *j, uint64_t ri) {
 }
 
 int icotable_level_lost(const icotable_journal *j) {
-    uint64_t top = j->builder.top, n_r = j->builder.grid.n_r, ri = 0;
-    if (j->builder.level == top)
+    if (j == NULL || j->settled == NULL || j->builder.level == j->builder.top)
         return 0;
+    uint64_t top = j->builder.top, n_r = j->builder.grid.n_r, ri = 0;
     uint64_t slab = settled_of_kind(j, 3, 3);
     if (slab == j->slabs)
         slab = settled_of_kind(j, 2, 3);

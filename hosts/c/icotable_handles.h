@@ -100,7 +100,7 @@ icotable_progress icotable_build_progress(const icotable_build *b);
 /* 1 where the level dropped before the first interpolated slice, as it does inside a wall, whose weights are flat where
  * they are nearly 0: the first settled slice that is interpolated or, where none is, the first one with a mesh, is
  * below the top level; or no slice has a mesh yet, and one whose weights are below a half dropped the level. The well
- * then has a coarser mesh than the top. The remedy is a larger rmin. */
+ * then has a coarser mesh than the top. The remedy is a larger rmin. 0 of NULL and of a journal that is closed. */
 int icotable_level_lost(const icotable_journal *j);
 
 /* The vertices of a level, three doubles each, and how many they are; NULL and 0 above the top level. They stay until the

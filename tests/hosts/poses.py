@@ -84,9 +84,10 @@ def check_meaning(omega, a, b, q):
     c, s = math.cos(omega), math.sin(omega)
     gap = math.dist((c * x - s * y, s * x + c * y, z), b)
     assert gap < 1e-12, f"b is {gap} off at omega {omega}, a {a}, b {b}"
-    # and omega is the twist around z, but for b = +z, where it is lost in this form
-    w, _, _, k = times(conjugate(between(UP, a)), q)
-    gap = abs(math.remainder(2 * math.atan2(k, w) - omega, math.tau)) if b != UP else 0
+    # and omega is the twist around z
+    w, i, j, k = times(conjugate(between(UP, a)), q)
+    twist = math.atan2(i, j) if b == UP else math.atan2(k, w)
+    gap = abs(math.remainder(2 * twist - omega, math.tau))
     assert gap < 1e-9, f"omega is {gap} off at {omega}, a {a}, b {b}"
 
 
