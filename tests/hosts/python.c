@@ -31,7 +31,8 @@ static void builds(void) {
     STRUCT(build_settings), F4(build_settings, atom, grid, top, journal), F2(build_settings, meshes, flags),
         F1(build_settings, lent), ENDED;
     STRUCT(journal_settled), F2(journal_settled, number, gradient), F1(journal_settled, comparisons), ENDED;
-    STRUCT(progress), F4(progress, n_r, n_omega, top, level), F4(progress, slabs, set, settled, length), F2(progress, step, ri), F1(progress, oi), ENDED;
+    STRUCT(progress), F4(progress, n_r, n_omega, top, level), F4(progress, slabs, set, settled, length),
+        F4(progress, step, ri, oi, level_lost), ENDED;
     STRUCT(journal), F4(journal, atom, guarded, builder, records), F4(journal, bytes, cut, slabs, set_count), F2(journal, settled_count, set),
         F1(journal, settled), ENDED;
     STRUCT(terms), F4(terms, coefficients, kappas, powers, count), F1(terms, prefactor), ENDED;

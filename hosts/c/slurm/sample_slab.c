@@ -18,9 +18,10 @@
 
 typedef unsigned long long ull;
 
-/* The energies of one slab over n directions, at distance r and, of two molecules, at dihedral angle omega. Of two molecules
- * energies[i * n + j] is that with direction a at vertex i and b at vertex j; against an atom energies[i] is that with the atom
- * in the direction of vertex i. Here: the molecules of the demonstration. */
+/* The energies of one slab over n directions, at distance r and, of two molecules, at dihedral angle omega. Of two
+ * molecules energies[i * n + j] is that with direction a at vertex i and b at vertex j, in the pose that docs/GUIDE.md,
+ * What a table is, says; against an atom energies[i] is that with the atom in the direction of vertex i. Here: the
+ * molecules of the demonstration. */
 static int sample(double *energies, int atom, const double *directions, size_t n, double r, double omega) {
     if (atom) {
         ion_slab(energies, directions, n, r);

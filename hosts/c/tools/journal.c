@@ -2,6 +2,7 @@
  * over the meshes that mesh.h makes, alter nothing of the journal, and may be called while a build has it open. */
 #include "tools.h"
 
+#include "icotable_handles.h"
 #include "verbs.h"
 
 #include <stdlib.h>
@@ -168,6 +169,7 @@ static void json_status(const icotable_journal *j, const char *name, const char 
     json_count("slices_settled", j->settled_count);
     json_count("level", b->level);
     json_count("top", b->top);
+    json_flag("level_lost", icotable_level_lost(j));
     json_count("table_bytes", icotable_journal_length(j));
     if (said[0] != 0)
         json_text("guard", said);
@@ -184,6 +186,8 @@ static void print_status(const icotable_journal *j, const char *name, const char
     print_done(j);
     if (said[0] != 0)
         printf("the guard    refuses it: %s\n", said);
+    if (icotable_level_lost(j))
+        printf("warning      %s\n", LEVEL_LOST);
     uint64_t slab, ri, oi;
     bool held = hole(j, &slab);
     if (held)

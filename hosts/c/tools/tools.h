@@ -93,6 +93,11 @@ float energy_of(const table_file *f, const row *r, uint64_t i);
 uint64_t per_level(bool atom, uint64_t level);
 uint64_t per_row(const table_file *f, const row *r);
 const char *kind_words(unsigned kind);
+
+/* inspect and status: what a level that was lost inside the wall means. */
+#define LEVEL_LOST \
+    "the level dropped before the first interpolated slice, as it does inside a wall: the well has a coarser mesh " \
+    "than the top level's; build the table again with a larger rmin"
 /* A line to standard error, and TROUBLE; and why the last one was. */
 int trouble(const char *name, const char *why);
 const char *last_trouble(void);

@@ -56,7 +56,9 @@ class Settled(NamedTuple):
 
 class Progress(NamedTuple):
     """How far a build is. length: of the table's file, were it written now. records and cut: of the journal, the calls that it holds
-    and the bytes that were cut off behind the last whole one; 0 without a journal."""
+    and the bytes that were cut off behind the last whole one; 0 without a journal. level_lost: the level dropped before
+    the first interpolated slice, as it does inside a wall: the well has a coarser mesh than the top level's, and a
+    larger rmin is the remedy."""
 
     n_r: int
     n_omega: int
@@ -68,6 +70,7 @@ class Progress(NamedTuple):
     length: int
     records: int
     cut: int
+    level_lost: bool
 
 
 @dataclass(frozen=True)
@@ -141,7 +144,8 @@ class _Build(Generic[_S]):
     def progress(self) -> Progress:
         with self._lent() as pointer:
             p, state = call("build_progress", pointer), call("build_state", pointer).contents
-            return Progress(p.n_r, p.n_omega, p.top, p.level, p.slabs, p.set, p.settled, p.length, state.records, state.cut)
+            far = (p.n_r, p.n_omega, p.top, p.level, p.slabs, p.set, p.settled, p.length)
+            return Progress(*far, state.records, state.cut, p.level_lost != 0)
 
     def _step(self, do: Do, ri: int, oi: int, level: int) -> Step:
         step = self.settings.omega_step if isinstance(self.settings, Settings) else 0.0

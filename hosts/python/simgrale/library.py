@@ -49,6 +49,7 @@ FUNCTIONS: dict[str, tuple[Any, list[Any]]] = {
     "reader_meshes": (c_void_p, [c_void_p]),
     "reader_tail": (structs.value, [c_void_p, c_double]),
     "reader_span": (structs.spanned, [c_void_p, c_double, c_double, c_double]),
+    "reader_places": (None, [c_void_p, c_void_p, c_size_t, c_void_p]),
     "reader_columns": (c_uint64, [c_void_p, POINTER(structs.columns), c_size_t, POINTER(c_double), c_void_p, c_void_p, c_void_p, c_uint]),
     "reader_row": (c_uint64, [c_void_p, c_uint64, c_uint64, POINTER(structs.row)]),
     "seal_read": (c_uint64, [POINTER(structs.seal), c_char_p, POINTER(structs.fault)]),

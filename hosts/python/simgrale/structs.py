@@ -62,6 +62,7 @@ class progress(Structure):
         ("step", c_uint),
         ("ri", c_uint64),
         ("oi", c_uint64),
+        ("level_lost", c_int),
     ]
 
 

@@ -61,6 +61,7 @@ pub(crate) struct Progress {
     pub(crate) step: c_uint,
     pub(crate) ri: u64,
     pub(crate) oi: u64,
+    pub(crate) level_lost: c_int,
 }
 
 #[repr(C)]
@@ -174,6 +175,7 @@ extern "C" {
     ) -> Value;
     fn icotable_reader_tail(t: *const RawReader, r: f64) -> Value;
     fn icotable_reader_span(t: *const RawReader, low: f64, high: f64, omega: f64) -> Spanned;
+    fn icotable_reader_place(t: *const RawReader, r: f64) -> c_uint;
     fn icotable_reader_atom_energy(t: *const RawReader, r: f64, x: f64, y: f64, z: f64) -> Energy;
     fn icotable_reader_atom_boltzmann(t: *const RawReader, r: f64, x: f64, y: f64, z: f64, beta: f64) -> Energy;
     fn icotable_reader_energies(
@@ -487,6 +489,11 @@ impl Reader {
 
     pub(crate) fn span(&self, low: f64, high: f64, omega: f64) -> Spanned {
         unsafe { icotable_reader_span(self.raw.as_ptr(), low, high, omega) }
+    }
+
+    /// One of enum icotable_place.
+    pub(crate) fn place(&self, r: f64) -> c_uint {
+        unsafe { icotable_reader_place(self.raw.as_ptr(), r) }
     }
 
     pub(crate) fn atom_energy(&self, r: f64, d: [f64; 3]) -> Energy {

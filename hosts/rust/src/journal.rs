@@ -80,7 +80,10 @@ pub enum Step {
 ///                 let pairs = build.directions().len().pow(2) as u64;
 ///                 build.set(ri, oi, &(0..pairs).map(|i| ((i + oi) % 7) as f64 / (ri + 1) as f64).collect::<Vec<_>>())?
 ///             }
-///             Step::Settle { ri } => drop(build.settle(ri)?),
+///             Step::Settle { ri } => {
+///                 build.settle(ri)?;
+///                 assert!(!build.level_lost(), "the remedy is a larger rmin");
+///             }
 ///             Step::Write => return build.write(folder.join("table.icotable")),
 ///         }
 ///     }
@@ -209,6 +212,12 @@ impl<B> Journaled<B> {
     /// The current level, at which slabs are set.
     pub fn level(&self) -> u64 {
         self.build.progress().level
+    }
+
+    /// Whether the level dropped before the first interpolated slice, as it does inside a wall, whose weights are flat
+    /// where they are nearly 0. The well then has a coarser mesh than the top level's; begin again with a larger rmin.
+    pub fn level_lost(&self) -> bool {
+        self.build.progress().level_lost != 0
     }
 
     /// The length of the table's file in bytes, were it written now.

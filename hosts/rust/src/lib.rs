@@ -88,7 +88,7 @@ pub use seal::Seal;
 pub use sizing::{atom_sizing, sizing, sizing_with_terms, LevelSizing, Sizing};
 pub use slab::Slab;
 pub use sys::{AtomGrid, Grid};
-pub use table::{Reading, Span, Table};
+pub use table::{Place, Reading, Span, Table};
 pub use tail::{power, Tail, Term};
 pub use words::{rows_to_words, words_to_rows, RowLists};
 

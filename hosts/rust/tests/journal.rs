@@ -180,6 +180,31 @@ fn refused_calls_are_not_recorded() {
     assert_eq!((j.records(), j.bytes()), (1, 160));
 }
 
+// Slices of one story: a wall whose weights are flat, or one that is Repulsive; then a well.
+fn level_lost(name: &str, first: f64) -> Vec<bool> {
+    let name = Name::new(name);
+    let grid = settings(1.0, 3.0, 1.0, 6.3, 0.3, 1.0);
+    let mut j = Builder::with_journal(&name, grid, mesh(1), Guard::On).expect("begin");
+    let mut told = vec![j.level_lost()];
+    for ri in 0..2 {
+        let mut slab = vec![1e6; j.directions().len().pow(2)];
+        slab[0] = first;
+        if ri == 1 {
+            slab.iter_mut().enumerate().for_each(|(i, e)| *e = 0.5 * (i % 7) as f64);
+        }
+        j.set(ri, 0, &slab).expect("set");
+        j.settle(ri).expect("settle");
+        told.push(j.level_lost());
+    }
+    told
+}
+
+#[test]
+fn a_level_that_is_lost_inside_the_wall_is_told() {
+    assert_eq!(level_lost("lost", 9.0), [false, true, true]);
+    assert_eq!(level_lost("sound", 1e6), [false, false, false]);
+}
+
 #[test]
 fn another_build_is_told() {
     let name = Name::new("other");
