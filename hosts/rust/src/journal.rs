@@ -191,20 +191,35 @@ fn atom_plan<'a>(grid: AtomGrid, mesh: &'a Arc<Mesh>, options: &'a JournalOption
 impl Builder {
     /// [Resumes](Builder::resume) the journal where it is there, and [begins](Builder::with_journal) it where it is not: what a job calls that a
     /// scheduler starts again. [`Journaled`] has an example.
-    pub fn open_journal(path: impl AsRef<Path>, settings: Grid, mesh: impl Into<Arc<Mesh>>, options: impl Into<JournalOptions>) -> Result<Journaled<Builder>, Error> {
+    pub fn open_journal(
+        path: impl AsRef<Path>,
+        settings: Grid,
+        mesh: impl Into<Arc<Mesh>>,
+        options: impl Into<JournalOptions>,
+    ) -> Result<Journaled<Builder>, Error> {
         Journaled::new(How::Open, path.as_ref(), &pair_plan(settings, &mesh.into(), &options.into()))
     }
 
     /// A build with no slab set, and a new journal of its calls. Refused ([`JournalRefusal::Exists`](crate::JournalRefusal::Exists)) where there is
     /// such a file. [`Journaled`] has an example.
-    pub fn with_journal(path: impl AsRef<Path>, settings: Grid, mesh: impl Into<Arc<Mesh>>, options: impl Into<JournalOptions>) -> Result<Journaled<Builder>, Error> {
+    pub fn with_journal(
+        path: impl AsRef<Path>,
+        settings: Grid,
+        mesh: impl Into<Arc<Mesh>>,
+        options: impl Into<JournalOptions>,
+    ) -> Result<Journaled<Builder>, Error> {
         Journaled::new(How::Begin, path.as_ref(), &pair_plan(settings, &mesh.into(), &options.into()))
     }
 
     /// The build that a journal's calls lead to, played again from fresh; each has to be answered as it was. Settings and meshes
-    /// have to be those of the journal, to the bit, and so does a label that is handed over. A last record that is not whole is cut off; any other damage is refused with
-    /// its place.
-    pub fn resume(path: impl AsRef<Path>, settings: Grid, mesh: impl Into<Arc<Mesh>>, options: impl Into<JournalOptions>) -> Result<Journaled<Builder>, Error> {
+    /// have to be those of the journal, to the bit, and so does a label that is handed over. A last record that is not whole is cut off; any other
+    /// damage is refused with its place.
+    pub fn resume(
+        path: impl AsRef<Path>,
+        settings: Grid,
+        mesh: impl Into<Arc<Mesh>>,
+        options: impl Into<JournalOptions>,
+    ) -> Result<Journaled<Builder>, Error> {
         Journaled::new(How::Resume, path.as_ref(), &pair_plan(settings, &mesh.into(), &options.into()))
     }
 }
@@ -250,7 +265,12 @@ impl AtomBuilder {
     }
 
     /// As [`Builder::resume`].
-    pub fn resume(path: impl AsRef<Path>, settings: AtomGrid, mesh: impl Into<Arc<Mesh>>, options: impl Into<JournalOptions>) -> Result<Journaled<AtomBuilder>, Error> {
+    pub fn resume(
+        path: impl AsRef<Path>,
+        settings: AtomGrid,
+        mesh: impl Into<Arc<Mesh>>,
+        options: impl Into<JournalOptions>,
+    ) -> Result<Journaled<AtomBuilder>, Error> {
         Journaled::new(How::Resume, path.as_ref(), &atom_plan(settings, &mesh.into(), &options.into()))
     }
 }
