@@ -93,10 +93,10 @@ static int open_beside(const char *name, char *other, size_t room) {
     return file;
 }
 
-/* A rename would put a file in the place of a device or a symbolic link. */
+/* A rename would put a file in the place of a device or a symbolic link; that of a folder it refuses. */
 static bool replaceable(const char *name) {
     struct stat what;
-    if (lstat(name, &what) != 0 || S_ISREG(what.st_mode))
+    if (lstat(name, &what) != 0 || S_ISREG(what.st_mode) || S_ISDIR(what.st_mode))
         return true;
     errno = EEXIST;
     return false;

@@ -164,9 +164,9 @@ fn a_table_is_saved_whole() {
     std::fs::create_dir(&inner).unwrap();
     std::os::unix::fs::symlink(&path, &link).unwrap();
     let _listener = std::os::unix::net::UnixListener::bind(&socket).unwrap();
-    for taken in [&inner, &link, &socket] {
+    for (taken, why) in [(&inner, "Is a directory"), (&link, "File exists"), (&socket, "File exists")] {
         let said = atom().save(taken).unwrap_err().to_string();
-        assert!(said.starts_with("refused with 267: ") && said.ends_with(&format!("{}: File exists", taken.display())), "{said}");
+        assert!(said.starts_with("refused with 267: ") && said.ends_with(&format!("{}: {why}", taken.display())), "{said}");
     }
     assert!(std::fs::symlink_metadata(&link).unwrap().is_symlink() && std::fs::read(&path).unwrap() == pair().write().unwrap());
     assert_eq!(number(pair().save(folder.0.join("none/table"))), Some(267));
