@@ -238,7 +238,7 @@ static int written(icotable_journal *j, const char *name, const char *out) {
     if (bytes == NULL)
         return trouble(out, "does not fit into memory");
     icotable_written w = icotable_journal_write(j, bytes, length);
-    int status = w.number != 0 ? refused_journal(name, w.number, j->said) : save_table(j, name, out, bytes, (size_t)w.length);
+    int status = w.number != 0 ? refused_journal(name, w.number, j->said) : save_table(j, name, out, bytes, (size_t)w.length, false);
     if (status == GOOD)
         printf("%s: %llu bytes, the table of %llu calls, and its seal\n", out, (ull)w.length, (ull)j->records);
     free(bytes);

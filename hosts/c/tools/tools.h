@@ -155,7 +155,7 @@ int journal_named(const char *name);
 int refused_journal(const char *name, uint64_t number, const char *said);
 
 /* The table of a journal's calls to a name that is free, with its seal and, where it needs one, its mesh file. */
-int save_table(icotable_journal *j, const char *name, const char *out, const uint8_t *bytes, size_t length);
+int save_table(icotable_journal *j, const char *name, const char *out, const uint8_t *bytes, size_t length, bool replace);
 
 /* slab.c: the id of a build in 32 hexadecimal digits, and from them; whether there is one; id and label as lines, and in JSON. */
 const char *id_digits(const uint8_t id[16]);
