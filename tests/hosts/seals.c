@@ -45,6 +45,8 @@ static void any_build(icotable_seal *s) {
     static const char *const labels[] = {"", "water and ethanol", "ångström, κ=0.1", "none", " a b  c ", "1"};
     s->guarded = (enum icotable_known)(drawn() % 3);
     s->whole = (enum icotable_known)(drawn() % 3);
+    if (drawn() % 4 == 0)
+        s->grid.threshold = s->grid.beta = NAN;
     strcpy(s->identity.label, labels[drawn() % 6]);
     for (int i = 0; i < 16; i++)
         s->identity.id[i] = (uint8_t)drawn();
@@ -140,7 +142,8 @@ static void damages(void) {
     altered(good, "length 70", "length -1", 254, "line 4 ");
     altered(good, "aaaa", "AAAA", 254, ": a SHA-256 of the table");
     altered(good, "threshold 0.40000000000000002", "threshold 0.4", 254, "line 10 is not as this library writes it");
-    altered(good, "beta 1", "beta nan", 254, "a setting that is not finite");
+    altered(good, "beta 1", "beta nan", 254, "line 11 is not as this library writes it");
+    altered(good, "rmin 1", "rmin unknown", 254, "a setting that is not finite");
     altered(good, "beta 1", "beta inf", 254, "a setting that is not finite");
     altered(good, "beta 1", "gamma 1", 254, "line 11 is not its 'beta'");
     altered(good, "beta 1\n", "beta 1\ncolour red\n", 254, "line 12 is not its 'n_r'");
@@ -168,7 +171,9 @@ static void not_written(icotable_seal s, const char *why) {
 static void unfit(void) {
     icotable_seal s = sealed;
     not_written((icotable_seal){0}, "version");
-    s.grid.beta = NAN, not_written(s, "not finite"), s = sealed;
+    s.grid.beta = INFINITY, not_written(s, "not finite"), s = sealed;
+    s.grid.rmax = NAN, not_written(s, "not finite"), s = sealed;
+    s.grid.beta = NAN, s.format = 1, not_written(s, "not finite"), s = sealed;
     strcpy(s.version, "a b"), not_written(s, "version"), s = sealed;
     memset(s.version, 'a', sizeof s.version), not_written(s, "version"), s = sealed;
     memset(s.sha256, 'a', sizeof s.sha256), not_written(s, "64 hexadecimal digits"), s = sealed;

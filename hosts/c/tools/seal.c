@@ -4,6 +4,7 @@
 #include "icotable_handles.h"
 #include "support.h"
 
+#include <math.h>
 #include <stdlib.h>
 #include <string.h>
 #include <sys/stat.h>
@@ -20,6 +21,10 @@ static uint64_t read_seal(const table_file *f, icotable_seal *s, icotable_fault 
 
 /* In as few digits as come back to the same bits. */
 static void show_number(char letters[32], double x) {
+    if (isnan(x)) {
+        strcpy(letters, "unknown");
+        return;
+    }
     for (int digits = 6; digits <= 17; digits++) {
         snprintf(letters, 32, "%.*g", digits, x);
         double again = strtod(letters, NULL);
