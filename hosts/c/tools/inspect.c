@@ -101,6 +101,7 @@ static void print_table(const table_file *f) {
         printf(", %llu infinite", (unsigned long long)seen.infinite);
     putchar('\n');
     print_terms(f);
+    show_seal(f, false);
     if (t->grid.n_r <= SHOWN && t->grid.n_omega <= SHOWN)
         print_slabs(f);
 }
@@ -157,6 +158,7 @@ static void json_table(const table_file *f) {
     json_count("levels", f->table.levels);
     json_rows(f, &seen);
     json_terms(f);
+    show_seal(f, true);
 }
 
 /* Of a table that is accepted, its items or its resolution; of any other, what refuses it. */
