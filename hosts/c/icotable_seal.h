@@ -37,7 +37,8 @@ typedef struct icotable_seal {
     char sha256[65]; /* of the table file, in 64 hexadecimal digits, as sha256sum writes them */
     uint64_t table_length;
     int atom;
-    icotable_grid grid;   /* the settings and bin counts of the build; against an atom omega_step is 0 and n_omega 1 */
+    icotable_grid grid;   /* the settings and bin counts of the build; against an atom omega_step is 0 and n_omega 1. threshold and beta
+                             that are not known, of an imported table, are NaN */
     uint64_t top, levels; /* the top level, and the levels that the table names */
     uint64_t meshes_hash; /* of that many levels: icotable_meshes_hash */
     int own_meshes;       /* 1: the meshes are the library's own */

@@ -620,7 +620,9 @@ static uint64_t check_head(icotable_journal *j, icotable_head_ *h, size_t *lengt
     uint64_t number = icotable_head_taken_(h, length, bytes, count, &why);
     if (number == ICOTABLE_JOURNAL_OTHER_VERSION)
         return say(j, number, "%u", (unsigned)h->version);
-    return number == ICOTABLE_JOURNAL_DAMAGED ? say(j, number, "%s, from byte 0 on", why) : number == 0 ? 0 : say(j, number, "%s", why);
+    if (number == ICOTABLE_JOURNAL_DAMAGED)
+        return say(j, number, "%s, bytes 0 to %zu", why, *length - 1);
+    return number == 0 ? 0 : say(j, number, "%s", why);
 }
 
 /* The head in the file beside the one of this build. */

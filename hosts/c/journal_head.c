@@ -70,7 +70,7 @@ static bool take_identity(icotable_head_ *h, const uint8_t *bytes, size_t count,
 /* Whether these are the bytes of a head of that version, whatever they say of it. */
 static bool whole(icotable_head_ *h, uint32_t version, size_t *length, const uint8_t *bytes, size_t count) {
     uint32_t sum;
-    *length = SAME + SUM;
+    *length = (version == 1 ? SAME : LABEL) + SUM;
     if (version == 2 && !take_identity(h, bytes, count, length))
         return false;
     memcpy(&sum, bytes + *length - SUM, SUM);

@@ -67,7 +67,9 @@ static const field fields[] = {
 enum { FIELDS_1 = 17 };
 enum { FIELDS = sizeof fields / sizeof fields[0] };
 
-/* A value in letters. A journal that is not there is "none". */
+static const char UNKNOWN[] = "unknown";
+
+/* A value in letters. A journal that is not there is "none"; a number that is not known, a NaN, is "unknown". */
 static void show(char *to, size_t room, const icotable_seal *s, const field *f) {
     const char *from = (const char *)s + f->at;
     double number;
@@ -78,7 +80,7 @@ static void show(char *to, size_t room, const icotable_seal *s, const field *f) 
         snprintf(to, room, "%.*s", (int)f->room - 1, none ? "none" : from);
     } else if (f->type == NUMBER) {
         memcpy(&number, from, sizeof number);
-        snprintf(to, room, "%.17g", number);
+        snprintf(to, room, isnan(number) ? UNKNOWN : "%.17g", number);
     } else if (f->type == COUNT || f->type == HASH) {
         memcpy(&count, from, sizeof count);
         snprintf(to, room, f->type == HASH ? "%016" PRIX64 : "%" PRIu64, count);
@@ -97,7 +99,7 @@ static void take(icotable_seal *s, const field *f, const char *value) {
     if (f->type == WORD) {
         snprintf(to, f->room, "%s", value);
     } else if (f->type == NUMBER) {
-        double number = strtod(value, NULL);
+        double number = strcmp(value, UNKNOWN) == 0 ? NAN : strtod(value, NULL);
         memcpy(to, &number, sizeof number);
     } else if (f->type == COUNT || f->type == HASH) {
         uint64_t count = strtoull(value, NULL, f->type == HASH ? 16 : 10);
@@ -153,7 +155,7 @@ static const char *unfit(const icotable_seal *s) {
     const icotable_grid *g = &s->grid;
     double numbers[] = {g->rmin, g->rmax, g->dr, g->omega_step, g->threshold, g->beta};
     for (size_t i = 0; i < sizeof numbers / sizeof numbers[0]; i++)
-        if (!isfinite(numbers[i]))
+        if (!isfinite(numbers[i]) && !(i >= 4 && isnan(numbers[i]) && s->format != 1))
             return "a setting that is not finite";
     if (!one_word(s->version, sizeof s->version))
         return "a version that is not one word of small letters, digits and points";

@@ -5,6 +5,8 @@
  * A host's own energies: replace `sample`. Equal calls should give equal energies, to the bit; where they cannot (a random
  * method), the file that is there when the slice is collected counts, and that is recorded in the journal.
  *
+ * Over what is installed: cc -o sample_slab sample_slab.c molecules.c $(pkg-config --cflags --libs icotable) -lm
+ *
  * Status 0: the file is written. 1: refused. 2: the words are not understood. */
 #include "environment.h"
 #include "icotable_journal.h"

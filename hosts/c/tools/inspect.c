@@ -119,6 +119,7 @@ static void print_table(const table_file *f) {
     print_terms(f);
     if (level_lost(f))
         printf("warning     %s\n", LEVEL_LOST);
+    show_seal(f, false);
     if (t->grid.n_r <= SHOWN && t->grid.n_omega <= SHOWN)
         print_slabs(f);
 }
@@ -176,6 +177,7 @@ static void json_table(const table_file *f) {
     json_flag("level_lost", level_lost(f));
     json_rows(f, &seen);
     json_terms(f);
+    show_seal(f, true);
 }
 
 /* Of a table that is accepted, its items or its resolution; of any other, what refuses it. */

@@ -1,8 +1,9 @@
 /* status JOURNAL: how far a build is, and what it needs next. replay JOURNAL -o FILE: the table of its calls. Both play the calls
- * over the meshes that mesh.h makes, alter nothing of the journal, and may be called while a build has it open. */
+ * over the meshes that mesh.h makes or those of --meshes FILE, alter nothing of the journal, and may be called while a build has it open. */
 #include "tools.h"
 
 #include "icotable_handles.h"
+#include "support.h"
 #include "verbs.h"
 
 #include <stdlib.h>
@@ -17,8 +18,8 @@ int journal_named(const char *name) {
 }
 
 int refused_journal(const char *name, uint64_t number, const char *said) {
-    if (number == ICOTABLE_JOURNAL_OTHER_MESHES)
-        said = "the journal is over other meshes than this tool makes (icotable_make_meshes): only the host that has them can play it";
+    if (number == ICOTABLE_JOURNAL_OTHER_MESHES && given("--meshes") == NULL)
+        said = "the journal is over other meshes than this tool makes (icotable_make_meshes): --meshes names their mesh file";
     if (number == ICOTABLE_NO_MEMORY)
         said = "no memory for the meshes";
     if (given("--json") != NULL) {
@@ -43,11 +44,9 @@ uint64_t play_journal(icotable_journal *j, icotable_meshes *meshes, const char *
     icotable_grid g = j->builder.grid;
     uint64_t top = j->builder.top;
     icotable_free_meshes(meshes);
-    number = icotable_make_meshes(meshes, top);
-    if (number != 0) {
-        snprintf(j->said, sizeof j->said, "%s", icotable_words(number));
+    number = journal_meshes(meshes, top + 1, j->said, sizeof j->said);
+    if (number != 0)
         return number;
-    }
     return icotable_journal_resume_as(j, name, j->atom, g, top, meshes, flags, NULL, NULL);
 }
 
@@ -242,10 +241,20 @@ static int written(icotable_journal *j, const char *name, const char *out) {
     if (bytes == NULL)
         return trouble(out, "does not fit into memory");
     icotable_written w = icotable_journal_write(j, bytes, length);
-    int status = w.number != 0 ? refused_journal(name, w.number, j->said) : save_table(j, name, out, bytes, (size_t)w.length);
+    int status = w.number != 0 ? refused_journal(name, w.number, j->said) : save_table(j, name, out, bytes, (size_t)w.length, false);
     if (status == GOOD)
         printf("%s: %llu bytes, the table of %llu calls, and its seal\n", out, (ull)w.length, (ull)j->records);
     free(bytes);
+    return status;
+}
+
+/* The name of the mesh file that a table over other meshes gets. */
+static int free_mesh(const char *name, const char *out) {
+    char *mesh = given("--meshes") == NULL ? NULL : icotable_beside_(out, ".mesh");
+    if (mesh == NULL)
+        return GOOD;
+    int status = free_name(name, mesh);
+    free(mesh);
     return status;
 }
 
@@ -256,7 +265,7 @@ int replay_tool(int count, char **names) {
     icotable_meshes meshes = {0};
     if (out == NULL)
         return misused("replay", "-o", "is missing");
-    if (journal_named(names[0]) != GOOD || free_name(names[0], out) != GOOD)
+    if (journal_named(names[0]) != GOOD || free_name(names[0], out) != GOOD || free_mesh(names[0], out) != GOOD)
         return TROUBLE;
     uint64_t number = played(&j, &meshes, names[0], given("--unguarded") == NULL);
     int status = number == 0 ? written(&j, names[0], out) : refused_journal(names[0], number, j.said);

@@ -72,9 +72,9 @@ int write_new(const char *out, const uint8_t *bytes, size_t count) {
     return icotable_write_file_(out, bytes, count, false) ? GOOD : not_written(out);
 }
 
-int save_table(icotable_journal *j, const char *name, const char *out, const uint8_t *bytes, size_t length) {
+int save_table(icotable_journal *j, const char *name, const char *out, const uint8_t *bytes, size_t length, bool replace) {
     icotable_fault fault;
     icotable_build_settings s = {.atom = j->atom, .grid = j->builder.grid, .top = j->builder.top, .journal = name, .lent = j->meshes};
-    uint64_t number = icotable_save_(&s, j, bytes, length, out, false, &fault);
+    uint64_t number = icotable_save_(&s, j, bytes, length, out, replace, &fault);
     return number == 0 ? GOOD : trouble(out, fault.said);
 }

@@ -4,6 +4,7 @@
 #include "icotable_handles.h"
 #include "support.h"
 
+#include <math.h>
 #include <stdlib.h>
 #include <string.h>
 #include <sys/stat.h>
@@ -20,6 +21,10 @@ static uint64_t read_seal(const table_file *f, icotable_seal *s, icotable_fault 
 
 /* In as few digits as come back to the same bits. */
 static void show_number(char letters[32], double x) {
+    if (isnan(x)) {
+        strcpy(letters, "unknown");
+        return;
+    }
     for (int digits = 6; digits <= 17; digits++) {
         snprintf(letters, 32, "%.*g", digits, x);
         double again = strtod(letters, NULL);
@@ -167,6 +172,35 @@ int verify_seal(const table_file *f, bool json, bool strict) {
     return status;
 }
 
+/* ---- inspect */
+
+static void print_build(const icotable_seal *s) {
+    char threshold[32], beta[32];
+    show_number(threshold, s->grid.threshold);
+    show_number(beta, s->grid.beta);
+    printf("sealed      version %s, threshold %s, beta %s, top level %llu, %s meshes\n", s->version, threshold, beta, (ull)s->top,
+           s->own_meshes ? "the library's own" : "other");
+    printf("label       %s\n", s->identity.label[0] == 0 ? "none" : s->identity.label);
+    printf("id          %s\n", has_id(&s->identity) ? id_digits(s->identity.id) : "none");
+    printf("guard       %s\n", s->guarded == ICOTABLE_YES ? "on" : s->guarded == ICOTABLE_NO ? "off" : "unknown");
+    printf("whole       %s\n", s->whole == ICOTABLE_YES  ? "yes: every slab was set and every slice settled"
+                               : s->whole == ICOTABLE_NO ? "no: a slab was not set, which reads as 0.0, or a slice not settled"
+                                                         : "unknown");
+}
+
+void show_seal(const table_file *f, bool json) {
+    verdict v = {0};
+    icotable_fault fault;
+    if (read_seal(f, &v.seal, &fault) != 0)
+        return;
+    v.read = true;
+    say_sealed(&v);
+    if (json)
+        json_seal(&v);
+    else
+        print_build(&v.seal);
+}
+
 /* ---- diff */
 
 static void number_differs(const char *name, double x, double y, bool json) {
@@ -227,6 +261,15 @@ static void settings_differ(const icotable_seal *s, const icotable_seal *t, bool
             fputs(", other meshes", stdout);
     }
     versions_differ(s->version, t->version, json);
+}
+
+bool sealed_alike(const table_file *f, const table_file *g) {
+    icotable_seal s, t;
+    icotable_fault fault;
+    if (read_seal(f, &s, &fault) != 0 || read_seal(g, &t, &fault) != 0)
+        return false;
+    return same_bits(s.grid.rmax, t.grid.rmax) && same_bits(s.grid.threshold, t.grid.threshold) && same_bits(s.grid.beta, t.grid.beta) &&
+           s.top == t.top;
 }
 
 /* Slabs whose rows hold energies of one level in both tables, and those of them that hold the same. */

@@ -78,6 +78,26 @@ class Builds(InFolder):
         self.assertRaises(TypeError, simgrale.Builder, ATOM)
         self.assertRaises(TypeError, simgrale.AtomBuilder, PAIR)
 
+    def test_labelled(self):
+        journal = self.at("labelled")
+        with simgrale.Builder.begin(PAIR, journal, label="water and ethanol, ångström") as build:
+            self.assertEqual((build.label, len(build.id)), ("water and ethanol, ångström", 32))
+            id = build.id
+        error = self.refused(219, simgrale.Builder.resume, PAIR, journal, label="two of water")
+        self.assertIn("label 'water and ethanol, ångström', not 'two of water'", str(error))
+        for label in "a\nb", "a\0b", "\ud800", "x" * 4097:
+            self.refused(218, simgrale.Builder.resume, PAIR, journal, label=label)
+        with simgrale.Builder(PAIR, journal) as build:
+            self.assertEqual((build.label, build.id), ("water and ethanol, ångström", id))
+            finish(build, self.at("labelled.table"))
+        with simgrale.Table.open(self.at("labelled.table")) as table:
+            seal = table.seal()
+        self.assertEqual((seal.guarded, seal.whole, seal.id, seal.label), (True, True, id, "water and ethanol, ångström"))
+        with simgrale.AtomBuilder(ATOM, label="in memory") as build:
+            self.assertEqual((build.label, build.id), ("in memory", None))
+        with simgrale.AtomBuilder(ATOM, self.at("first"), version_1=True) as build:
+            self.assertEqual((build.label, build.id), ("", None))
+
     def test_refused(self):
         build = simgrale.Builder(PAIR)
         n = len(build.vertices())

@@ -84,7 +84,7 @@ impl AtomBuilder {
 
     /// Writes the table, its seal and, where they are not the library's own, its meshes, as [`Builder::save`](crate::Builder::save) does.
     pub fn save(&self, path: impl AsRef<Path>) -> Result<(), Error> {
-        let plan = Plan { atom: true, grid: pair_grid(self.grid()), mesh: &self.mesh, flags: 0 };
+        let plan = Plan { atom: true, grid: pair_grid(self.grid()), mesh: &self.mesh, flags: 0, label: None };
         plan.save(&self.write()?, path.as_ref())
     }
 
