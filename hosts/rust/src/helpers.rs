@@ -624,15 +624,24 @@ impl Slab {
 #[cfg(test)]
 mod tests {
     use super::*;
-    use std::mem::{offset_of, size_of};
+    use std::mem::{size_of, MaybeUninit};
     use std::path::PathBuf;
     use std::process::Command;
+
+    // offset_of! came with 1.77
+    macro_rules! place {
+        ($rust:ident, $field:ident) => {{
+            let held = MaybeUninit::<$rust>::uninit();
+            let (base, field) = (held.as_ptr(), unsafe { std::ptr::addr_of!((*held.as_ptr()).$field) });
+            field as usize - base as usize
+        }};
+    }
 
     // The size of each struct and the places of its fields: as Rust has them, and the words by which C says them.
     macro_rules! layout {
         ($($rust:ident $c:ident: $($field:ident)*;)*) => {
             (
-                vec![$(size_of::<$rust>(), $(offset_of!($rust, $field),)*)*],
+                vec![$(size_of::<$rust>(), $(place!($rust, $field),)*)*],
                 vec![$(
                     concat!("sizeof(icotable_", stringify!($c), ")"),
                     $(concat!("offsetof(icotable_", stringify!($c), ", ", stringify!($field), ")"),)*
