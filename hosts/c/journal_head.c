@@ -52,7 +52,7 @@ static void take_same(icotable_head_ *h, const uint8_t *bytes) {
     take(&h->meshes, at, sizeof h->meshes);
 }
 
-/* Library version, id and label; false where the bytes end before, or the label is none. */
+/* Library version, id and label; false where the bytes end before, or one of them is none. */
 static bool take_identity(icotable_head_ *h, const uint8_t *bytes, size_t count, size_t *length) {
     uint32_t label;
     if (count < LABEL + SUM)
@@ -64,7 +64,9 @@ static bool take_identity(icotable_head_ *h, const uint8_t *bytes, size_t count,
         return false;
     memcpy(h->identity.label, bytes + LABEL, label);
     *length = LABEL + label + SUM;
-    return strlen(h->identity.label) == label && icotable_label_fits_(h->identity.label);
+    static const uint8_t none[16];
+    bool named = memcmp(h->identity.id, none, sizeof none) != 0;
+    return named && strlen(h->identity.label) == label && icotable_label_fits_(h->identity.label);
 }
 
 /* Whether these are the bytes of a head of that version, whatever they say of it. */

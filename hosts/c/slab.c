@@ -1,5 +1,6 @@
 #include "icotable_slab.h"
 
+#include "journal_head.h"
 #include "support.h"
 
 #include <errno.h>
@@ -137,6 +138,14 @@ typedef struct front {
     uint64_t energies;
 } front;
 
+/* Whether it is an id and a label that a journal can have. */
+static bool fits(const whose *w) {
+    icotable_identity i = {0};
+    memcpy(i.id, w->id, sizeof i.id);
+    memcpy(i.label, w->label, w->length);
+    return named(&i) && strlen(i.label) == w->length && icotable_label_fits_(i.label);
+}
+
 static uint64_t read_front(icotable_slab *s, int file, uint64_t size, front *f) {
     *f = (front){.energies = HEAD};
     if (size < HEAD + SUM)
@@ -152,7 +161,9 @@ static uint64_t read_front(icotable_slab *s, int file, uint64_t size, front *f) 
     if (size < HEAD + WHOSE + SUM || !icotable_read_at_(file, &f->w, WHOSE, HEAD) || f->w.length > ICOTABLE_LABEL || size - HEAD - WHOSE - SUM < f->w.length)
         return say(s, ICOTABLE_SLAB_DAMAGED, "its label, at byte %d, and %llu bytes long", HEAD + WHOSE - 4, (ull)size);
     f->energies = HEAD + WHOSE + f->w.length;
-    return icotable_read_at_(file, f->w.label, f->w.length, HEAD + WHOSE) ? 0 : say_errno(s);
+    if (!icotable_read_at_(file, f->w.label, f->w.length, HEAD + WHOSE))
+        return say_errno(s);
+    return fits(&f->w) ? 0 : say(s, ICOTABLE_SLAB_DAMAGED, "its id or label, from byte %d on", HEAD);
 }
 
 /* The length, before anything that it decides. */

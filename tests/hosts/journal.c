@@ -268,14 +268,16 @@ static void cuts(int which) {
     }
 }
 
-/* A journal that was altered between two bytes: refused, and where it is said which record is damaged, that is the one. */
-static void refused(int which, const uint8_t *copy, size_t from) {
+/* A journal that was altered from a byte on, and nowhere else where it is one byte alone: refused, and where it is said which record is
+ * damaged, that is the one. A version and more behind it that are others may be those of a later format. */
+static void refused(int which, const uint8_t *copy, size_t from, bool alone) {
     const whole *w = &wholes[which];
     const char *name = path("damaged");
     save(name, copy, w->journal.count);
     icotable_journal j;
     uint64_t number = opened(&j, &plans[which], name, true, 0);
-    bool named = number == ICOTABLE_JOURNAL_DAMAGED || (from < 8 && number == ICOTABLE_JOURNAL_NOT_A_JOURNAL);
+    bool later = !alone && from >= 8 && from < 12 && number == ICOTABLE_JOURNAL_OTHER_VERSION;
+    bool named = number == ICOTABLE_JOURNAL_DAMAGED || (from < 8 && number == ICOTABLE_JOURNAL_NOT_A_JOURNAL) || later;
     check(named && j.records == (from < head_of(&plans[which]) ? 0 : records_at(w, from)), "a damaged journal is not refused with its place", j.said);
     icotable_journal_close(&j);
     load(name, &got);
@@ -288,7 +290,7 @@ static void damages(int which, size_t every, size_t ranges) {
     for (size_t byte = every > 1 ? below(every) : 0; byte < b->count; byte += every) {
         memcpy(copy, b->at, b->count);
         copy[byte] ^= (uint8_t)(1 + below(255));
-        refused(which, copy, byte);
+        refused(which, copy, byte, true);
     }
     for (size_t k = 0; k < ranges; k++) {
         size_t from = below(b->count - 8), count = 1 + below(b->count - 8 - from);
@@ -300,7 +302,7 @@ static void damages(int which, size_t every, size_t ranges) {
         while (first < b->count && copy[first] == b->at[first])
             first++;
         if (first < b->count)
-            refused(which, copy, first);
+            refused(which, copy, first, false);
     }
 }
 

@@ -3,6 +3,7 @@
 #include "tools.h"
 
 #include "icotable_handles.h"
+#include "icotable_mesh_file.h"
 #include "support.h"
 #include "verbs.h"
 
@@ -15,6 +16,13 @@ typedef unsigned long long ull;
 
 int journal_named(const char *name) {
     return strcmp(name, "-") == 0 ? trouble(name, "a journal is a file, and not standard input") : GOOD;
+}
+
+/* A file that is not there or cannot be read, or no memory, which says nothing of the journal. */
+static bool cannot_play(uint64_t number) {
+    bool journal = number == ICOTABLE_JOURNAL_ABSENT || number == ICOTABLE_JOURNAL_TROUBLE || number == ICOTABLE_JOURNAL_NO_ROOM;
+    bool meshes = number == ICOTABLE_MESH_FILE_ABSENT || number == ICOTABLE_MESH_FILE_TROUBLE || number == ICOTABLE_MESH_FILE_NO_ROOM;
+    return journal || meshes || number == ICOTABLE_NO_MEMORY;
 }
 
 int refused_journal(const char *name, uint64_t number, const char *said) {
@@ -33,8 +41,7 @@ int refused_journal(const char *name, uint64_t number, const char *said) {
     } else {
         printf("%s: refused with %llu: %s\n", name, (ull)number, said);
     }
-    bool cannot = number == ICOTABLE_JOURNAL_ABSENT || number == ICOTABLE_JOURNAL_TROUBLE || number == ICOTABLE_JOURNAL_NO_ROOM || number == ICOTABLE_NO_MEMORY;
-    return cannot ? TROUBLE : FOUND;
+    return cannot_play(number) ? TROUBLE : FOUND;
 }
 
 uint64_t play_journal(icotable_journal *j, icotable_meshes *meshes, const char *name, unsigned flags) {

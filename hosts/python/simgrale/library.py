@@ -47,6 +47,7 @@ FUNCTIONS: dict[str, tuple[Any, list[Any]]] = {
     "reader_atom_table": (POINTER(structs.atom_table), [c_void_p]),
     "reader_file": (c_void_p, [c_void_p, POINTER(c_size_t)]),
     "reader_meshes": (c_void_p, [c_void_p]),
+    "meshes_hash": (c_uint64, [c_void_p, c_uint64]),
     "reader_tail": (structs.value, [c_void_p, c_double]),
     "reader_span": (structs.spanned, [c_void_p, c_double, c_double, c_double]),
     "reader_places": (None, [c_void_p, c_void_p, c_size_t, c_void_p]),

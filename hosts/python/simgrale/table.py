@@ -133,6 +133,14 @@ class _Reader:
             part = copied(call("reader_file", pointer, None) + self._start[4] + 4 * row.offset, 4 * int(np.prod(shape)))
         return part.view("<f4").astype(np.float32, copy=False).reshape(shape)
 
+    def meshes_hash(self, levels: Optional[int] = None) -> int:
+        """The hash of the meshes that it is read with (docs/FORMAT.md): of so many levels, or of all that it has."""
+        levels = self.levels if levels is None else operator.index(levels)
+        if not 1 <= levels <= self.levels:
+            raise ValueError(f"{levels} levels of a table with {self.levels}")
+        with self._handle.lent() as pointer:
+            return int(call("meshes_hash", call("reader_meshes", pointer), levels))
+
     def vertices(self, level: int) -> Floats:
         """The directions of a level's vertices, (n, 3)."""
         level = operator.index(level)
