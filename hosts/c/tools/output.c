@@ -1,7 +1,7 @@
 /* New files: under another name in their folder until they are whole, and never in the place of one that is there. */
 #include "tools.h"
 
-#include "handles.h"
+#include "support.h"
 
 #include <errno.h>
 #include <string.h>
@@ -70,14 +70,4 @@ int end_new(new_file *n) {
 
 int write_new(const char *out, const uint8_t *bytes, size_t count) {
     return icotable_write_file_(out, bytes, count, false) ? GOOD : not_written(out);
-}
-
-int save_table(icotable_journal *j, const char *name, const char *out, const uint8_t *bytes, size_t length, bool replace) {
-    icotable_fault fault;
-    icotable_build_settings s = {.atom = j->atom, .grid = j->builder.grid, .top = j->builder.top, .journal = name, .lent = j->meshes};
-    errno = 0;
-    uint64_t number = icotable_save_(&s, j, bytes, length, out, replace, &fault);
-    if (number == ICOTABLE_HANDLE_NOT_WRITTEN && errno != 0)
-        return not_written(out);
-    return number == 0 ? GOOD : trouble(out, fault.said);
 }
