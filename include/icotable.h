@@ -54,7 +54,7 @@
 /* The version, raised where a struct, a function or the table file changes (CHANGELOG.md). The pkg-config file and the
  * tool take it from here; a test compares it with hosts/rust. */
 #define ICOTABLE_VERSION_MAJOR 0
-#define ICOTABLE_VERSION_MINOR 23
+#define ICOTABLE_VERSION_MINOR 24
 #define ICOTABLE_VERSION_PATCH 0
 
 #define ICOTABLE_STRING_(x) #x
@@ -298,11 +298,15 @@ uint64_t icotable_locator(
     uint32_t *face_offsets, size_t face_offsets_count,
     uint16_t *faces, size_t faces_count);
 
-/* The energy at distance r, dihedral angle omega and two directions of any length, from a file, what read answered for
- * it (lent, so that no call copies it), the vertices of all its levels and their locators, each level's at its needed
- * lengths, one after another. Takes no notice of the table's number, nor of its rmax, threshold and beta. Question 18;
- * then 0 for a distance outside the table; then 19, 20. What concerns meshes and locators is asked only where a Mesh
- * row is read, and of what is touched alone. */
+/* The energy at distance r, dihedral angle omega and two directions of any length: a, that of the second molecule in
+ * the frame of the first; b, that of the first in the frame of the second, turned around z by omega (docs/GUIDE.md,
+ * What a table is, says where omega is 0). A distance below rmin gives 0 with number 0, as one above rmax does: compare
+ * r with grid.rmin first if your program would take that 0 for an energy.
+ *
+ * It is read from a file, what read answered for it (lent, so that no call copies it), the vertices of all its levels
+ * and their locators, each level's at its needed lengths, one after another. Takes no notice of the table's number, nor
+ * of its rmax, threshold and beta. Question 18; then 0 for a distance outside the table; then 19, 20. What concerns
+ * meshes and locators is asked only where a Mesh row is read, and of what is touched alone. */
 icotable_value icotable_reading(
     const icotable_table *table,
     const uint8_t *file, size_t file_count,

@@ -13,20 +13,18 @@ struct icotable_build {
 
 /* ---- opening */
 
+static icotable_grid grid_of(const icotable_build_settings *s) {
+    icotable_grid g = s->grid;
+    g.omega_step = s->atom ? 0 : g.omega_step;
+    return g;
+}
+
 static uint64_t begin(icotable_build *b, const icotable_build_settings *s) {
-    const icotable_grid *g = &s->grid;
-    if (!s->atom)
-        return icotable_journal_begin(&b->journal, s->journal, *g, s->top, &b->meshes, s->flags);
-    icotable_atom_grid atom = {g->rmin, g->rmax, g->dr, g->threshold, g->beta, 0};
-    return icotable_journal_atom_begin(&b->journal, s->journal, atom, s->top, &b->meshes, s->flags);
+    return icotable_journal_begin_as(&b->journal, s->journal, s->atom, grid_of(s), s->top, &b->meshes, s->flags, s->label, NULL);
 }
 
 static uint64_t resume(icotable_build *b, const icotable_build_settings *s) {
-    const icotable_grid *g = &s->grid;
-    if (!s->atom)
-        return icotable_journal_resume(&b->journal, s->journal, *g, s->top, &b->meshes, s->flags);
-    icotable_atom_grid atom = {g->rmin, g->rmax, g->dr, g->threshold, g->beta, 0};
-    return icotable_journal_atom_resume(&b->journal, s->journal, atom, s->top, &b->meshes, s->flags);
+    return icotable_journal_resume_as(&b->journal, s->journal, s->atom, grid_of(s), s->top, &b->meshes, s->flags, s->label, NULL);
 }
 
 /* One that is only looked at is not begun. */
@@ -116,13 +114,65 @@ icotable_journal_settled icotable_build_settle(icotable_build *b, uint64_t ri) {
     return s;
 }
 
+/* ---- progress */
+
+static uint64_t kind_of(const icotable_journal *j, uint64_t slab) {
+    return j->atom ? j->kinds[slab] : icotable_word_kind(j->words[slab]);
+}
+
+static uint64_t level_of(const icotable_journal *j, uint64_t slab) {
+    return j->atom ? j->levels[slab] : icotable_word_level(j->words[slab]);
+}
+
+/* The first slab of a kind from one to the other in settled slices, or the count of slabs. */
+static uint64_t settled_of_kind(const icotable_journal *j, uint64_t least, uint64_t most) {
+    uint64_t s = 0, n_omega = j->builder.grid.n_omega;
+    while (s < j->slabs && !(j->settled[s / n_omega] && kind_of(j, s) >= least && kind_of(j, s) <= most))
+        s++;
+    return s;
+}
+
+/* Whether a Scalar slab's energy has a Boltzmann weight below a half, as in a wall; ln 2 is 0.6931. */
+static bool walled(const icotable_journal *j, uint64_t slab) {
+    uint32_t bits = j->atom ? j->values[slab] : icotable_word_value(j->words[slab]);
+    float energy;
+    memcpy(&energy, &bits, sizeof energy);
+    return kind_of(j, slab) == 0 && j->builder.grid.beta * (double)energy > 0.6931;
+}
+
+/* A slice that drops the level has no Repulsive slab. */
+static bool wall_drops(const icotable_journal *j, uint64_t ri) {
+    uint64_t first = ri * j->builder.grid.n_omega, end = first + j->builder.grid.n_omega;
+    bool found = false;
+    for (uint64_t s = first; s < end; s++) {
+        if (kind_of(j, s) == 1)
+            return false;
+        found |= walled(j, s);
+    }
+    return found;
+}
+
+int icotable_level_lost(const icotable_journal *j) {
+    if (j == NULL || j->settled == NULL || j->builder.level == j->builder.top)
+        return 0;
+    uint64_t top = j->builder.top, n_r = j->builder.grid.n_r, ri = 0;
+    uint64_t slab = settled_of_kind(j, 3, 3);
+    if (slab == j->slabs)
+        slab = settled_of_kind(j, 2, 3);
+    if (slab < j->slabs)
+        return level_of(j, slab) < top;
+    while (ri < n_r && !(j->settled[ri] && wall_drops(j, ri)))
+        ri++;
+    return ri < n_r && j->settled_count < n_r;
+}
+
 icotable_progress icotable_build_progress(const icotable_build *b) {
     icotable_progress p = {0};
     if (b == NULL)
         return p;
     const icotable_journal *j = &b->journal;
     p = (icotable_progress){j->builder.grid.n_r, j->builder.grid.n_omega, j->builder.top, j->builder.level, j->slabs, j->set_count, j->settled_count,
-                            icotable_journal_length(j), ICOTABLE_JOURNAL_TO_WRITE, 0, 0};
+                            icotable_journal_length(j), ICOTABLE_JOURNAL_TO_WRITE, 0, 0, icotable_level_lost(j)};
     p.step = icotable_journal_next(j, &p.ri, &p.oi);
     return p;
 }
@@ -178,7 +228,7 @@ static uint64_t save(icotable_build *b, const char *path, const uint8_t *table, 
     icotable_build_settings s = {.atom = b->journal.atom, .grid = k->grid, .top = k->top, .journal = b->journal_name,
                                  .lent = &b->meshes};
     icotable_fault fault;
-    uint64_t number = icotable_table_save(&s, table, length, path, &fault);
+    uint64_t number = icotable_save_(&s, &b->journal, table, length, path, true, &fault);
     if (number != 0)
         b->fault = fault;
     return number;

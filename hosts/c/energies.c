@@ -39,6 +39,22 @@ icotable_energy icotable_reader_atom_boltzmann(const icotable_reader *t, double 
     return e.number != 0 ? e : icotable_atom_boltzmann(ATOM(t), ICOTABLE_LOCATORS(&t->meshes), r, x, y, z, beta);
 }
 
+/* ---- where a distance lies */
+
+/* read fills in the rmax that readings compare with (docs/SPEC.md, S4.4). */
+enum icotable_place icotable_reader_place(const icotable_reader *t, double r) {
+    if (t == NULL || r != r)
+        return ICOTABLE_NOWHERE;
+    if (r < (t->atom ? t->atom_table.grid.rmin : t->table.grid.rmin))
+        return ICOTABLE_NEARER;
+    return (t->atom ? t->atom_table.grid.rmax : t->table.grid.rmax) < r ? ICOTABLE_BEYOND : ICOTABLE_INSIDE;
+}
+
+void icotable_reader_places(const icotable_reader *t, const double *r, size_t count, uint8_t *places) {
+    for (size_t i = 0; i < count; i++)
+        places[i] = (uint8_t)icotable_reader_place(t, r[i]);
+}
+
 /* ---- many poses */
 
 /* A run of poses, which one thread answers. */

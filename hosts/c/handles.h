@@ -23,6 +23,10 @@ uint64_t icotable_handle_meshes_(icotable_meshes *m, const icotable_meshes *lent
 typedef uint64_t (*icotable_work_)(const void *with, size_t from, size_t to);
 uint64_t icotable_in_runs_(size_t count, unsigned threads, icotable_work_ work, const void *with);
 
+/* save.c: icotable_table_save, with what a build's journal says of it, or NULL; where it is not to replace, a table of that name stays. */
+uint64_t icotable_save_(const icotable_build_settings *s, const icotable_journal *j, const uint8_t *table, size_t length, const char *path,
+                        bool replace, icotable_fault *fault);
+
 /* What a reader holds: reader.c opens it, energies.c asks it. */
 struct icotable_reader {
     int atom;

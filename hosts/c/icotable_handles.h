@@ -72,6 +72,7 @@ typedef struct icotable_build_settings {
     const char *meshes;  /* the name of a mesh file, or NULL: the library's own meshes */
     unsigned flags;      /* a sum of icotable_journal_flag, or 0 */
     const icotable_meshes *lent; /* meshes in memory, or NULL. Their lists stay until the build is closed; meshes is not read */
+    const char *label;   /* your words for what is sampled, or NULL: none at begin, any at resume (icotable_journal.h) */
 } icotable_build_settings;
 
 /* A build that begins; one that resumes from its journal; or one that resumes where the journal is there and begins it where it
@@ -85,14 +86,22 @@ icotable_build *icotable_build_open(const icotable_build_settings *s, icotable_f
 uint64_t icotable_build_set(icotable_build *b, uint64_t ri, uint64_t oi, const double *energies, size_t count);
 icotable_journal_settled icotable_build_settle(icotable_build *b, uint64_t ri);
 
-/* The bins, the top level and the current one; the slabs in all and those that were set, the slices that were settled; the
- * length of the table's file, were it written now; and what comes next, from contact outwards. All 0 of NULL. */
+/* The bins, the top level and the current one; the slabs in all and those that were set, the slices that were settled;
+ * the length of the table's file, were it written now; what comes next, from contact outwards; and whether the level
+ * was lost inside the wall. All 0 of NULL. */
 typedef struct icotable_progress {
     uint64_t n_r, n_omega, top, level, slabs, set, settled, length;
     enum icotable_journal_step step;
     uint64_t ri, oi;
+    int level_lost;
 } icotable_progress;
 icotable_progress icotable_build_progress(const icotable_build *b);
+
+/* 1 where the level dropped before the first interpolated slice, as it does inside a wall, whose weights are flat where
+ * they are nearly 0: the first settled slice that is interpolated or, where none is, the first one with a mesh, is
+ * below the top level; or no slice has a mesh yet, and one whose weights are below a half dropped the level. The well
+ * then has a coarser mesh than the top. The remedy is a larger rmin. 0 of NULL and of a journal that is closed. */
+int icotable_level_lost(const icotable_journal *j);
 
 /* The vertices of a level, three doubles each, and how many they are; NULL and 0 above the top level. They stay until the
  * build is closed. */
@@ -166,6 +175,16 @@ icotable_spanned icotable_reader_span(const icotable_reader *t, double low, doub
 /* icotable_atom_reading and icotable_atom_boltzmann of this table. */
 icotable_energy icotable_reader_atom_energy(const icotable_reader *t, double r, double x, double y, double z);
 icotable_energy icotable_reader_atom_boltzmann(const icotable_reader *t, double r, double x, double y, double z, double beta);
+
+/* Where a distance lies, as a reading compares it: below rmin, in the table's distances (both ends belong to them), or
+ * above its rmax. Every reading gives 0 with number 0 where it is nearer or beyond: a simulation that takes a nearer
+ * pair for one that does not interact lets its molecules overlap. Nowhere: a NaN, which a reading refuses with 18, or t
+ * is NULL. */
+enum icotable_place { ICOTABLE_NOWHERE, ICOTABLE_NEARER, ICOTABLE_INSIDE, ICOTABLE_BEYOND };
+enum icotable_place icotable_reader_place(const icotable_reader *t, double r);
+
+/* The same of many distances, in places one of the above each. */
+void icotable_reader_places(const icotable_reader *t, const double *r, size_t count, uint8_t *places);
 
 /* Many poses: eight doubles each (r, omega, a, b), against an atom four (r, direction). beta: NULL for plain readings, else the
  * one of weighted ones. numbers: one a pose. answers: three a pose (energy, distance_a, distance_b), against an atom one; of a

@@ -15,17 +15,16 @@
  * it is closed. One thread at a time. A second process, or a second handle, on the same journal is refused (flock; closed on
  * exec, but a forked child shares the lock).
  *
- * File. All numbers little-endian. Head, 84 bytes: "ICOTJRNL"; u32 format version, 1; u32 kind, 0 of two molecules, 1 against
- * an atom; u64 top level; f64 rmin, rmax, dr, omega_step (0 against an atom), threshold, beta; u64 hash of the meshes; u32
- * checksum. Then a record a call, the first of them fresh: u64 kind, 1 fresh, 2 set, 3 settle; u64 ri; u64 oi; u64 count of
- * energies; u32 checksum; f64 energies; the answer, u64 number (0), u64 level after it, f64 gradient, u64 comparisons (both 0
- * unless of a settle); u32 checksum; the four bytes "end\n". A checksum is zlib's crc32 of all bytes before it in the file but
- * the checksums and the "end\n", so that records of two journals do not fit together. The hash is FNV-1a of 64 bits
- * (docs/FORMAT.md) of levels 0 to the top: vertices, neighbour counts, neighbours, angles; of a sixth place that is not used,
- * 0.
+ * Whose build it is. A journal's head has an id, drawn at random when it is begun, and a label, the host's own words for what is
+ * sampled: molecules, force field. Two builds with equal settings and meshes differ in them, and so do their slab files
+ * (icotable_slab.h). A resume that is handed a label refuses a journal with another one.
+ *
+ * File: docs/FORMAT.md, Journals. A head, then a record a call, the first of them fresh. This library begins journals of version
+ * 2, and resumes those of version 1, which have neither id nor label.
  *
  * A last record that is not whole, or whose end was never written (its last 8 bytes are 0), is cut off at resume. Any other
- * damage is refused with its record and byte; the calls before it are whole, and a file cut there resumes.
+ * damage is refused with its record and byte; the calls before it are whole, and a file cut there resumes. A file that ends
+ * inside head and fresh, as a kill while it was begun leaves it, is begun anew.
  *
  * Link with libicotable: cc host.c $(pkg-config --cflags --libs icotable). */
 #ifndef ICOTABLE_JOURNAL_H
@@ -56,6 +55,9 @@ extern "C" {
     X(215, TROUBLE, "the journal cannot be opened or read") \
     X(216, NO_ROOM, "there is not enough memory for the build") \
     X(217, ENVIRONMENT, "the floating-point environment is not the one that the library needs") \
+    X(218, LABEL, "the label is not UTF-8 of at most 4,096 bytes without control characters") \
+    X(219, OTHER_IDENTITY, "the journal is of another build with the same settings: its label or its id is another") \
+    X(220, OTHER_LIBRARY, "the journal was kept by another version of the library, which answers a recorded call otherwise") \
     X(221, SLICE_SETTLED, "a slab of a slice that was settled is not set again") \
     X(222, SLAB_MISSING, "a slice is not settled while a slab of it was not set") \
     X(223, NEARER_UNSETTLED, "a slice is not begun before every nearer one is settled") \
@@ -72,8 +74,16 @@ const char *icotable_journal_words(uint64_t number);
 /* How a journal is opened: a sum of these, or 0. */
 enum icotable_journal_flag {
     ICOTABLE_JOURNAL_UNGUARDED = 1, /* without the guard */
-    ICOTABLE_JOURNAL_READING = 2    /* resume alone: to look at. The file is not locked and not altered, no call is taken */
+    ICOTABLE_JOURNAL_READING = 2,   /* resume alone: to look at. The file is not locked and not altered, no call is taken */
+    ICOTABLE_JOURNAL_FORMAT_1 = 4   /* begin alone: a file of version 1, without id and label, for a library before 0.24 */
 };
+
+/* Which build it is, beside its settings. */
+enum { ICOTABLE_LABEL = 4096 };
+typedef struct icotable_identity {
+    uint8_t id[16];                 /* all 0 where there is none: of a journal of version 1 */
+    char label[ICOTABLE_LABEL + 1]; /* UTF-8 without control characters */
+} icotable_identity;
 
 /* A build with its journal. A host reads the first part; the second is the journal's own. */
 typedef struct icotable_journal {
@@ -84,7 +94,11 @@ typedef struct icotable_journal {
     uint64_t slabs, set_count, settled_count;
     const uint8_t *set, *settled; /* of each slab, and of each slice: whether it was */
     char said[400];           /* the last refusal in words, with its bins or its place */
-    uint64_t build;           /* hash of kind, top level, settings and meshes, which slab files have (icotable_slab.h) */
+    uint64_t build;           /* the hash of the build, which slab files have (icotable_slab.h) */
+    uint64_t meshes_hash;     /* of its meshes, by the journal's head */
+    uint32_t version;         /* of the file's format */
+    uint32_t library[3];      /* the version of the library that began it; of version 1 not known, and 0 */
+    icotable_identity identity;
 
     const icotable_meshes *meshes;
     double *store, *spare;
@@ -104,9 +118,17 @@ uint64_t icotable_journal_begin(icotable_journal *j, const char *name, icotable_
 uint64_t icotable_journal_resume(icotable_journal *j, const char *name, icotable_grid settings, uint64_t top, const icotable_meshes *meshes, unsigned flags);
 uint64_t icotable_journal_atom_begin(icotable_journal *j, const char *name, icotable_atom_grid settings, uint64_t top, const icotable_meshes *meshes, unsigned flags);
 uint64_t icotable_journal_atom_resume(icotable_journal *j, const char *name, icotable_atom_grid settings, uint64_t top, const icotable_meshes *meshes, unsigned flags);
+
+/* The same for both kinds of table; against an atom omega_step is 0. label and id (16 bytes): those of a build that begins, NULL for no
+ * label and an id at random; those that a journal has to have to be resumed, NULL for any. */
+uint64_t icotable_journal_begin_as(icotable_journal *j, const char *name, int atom, icotable_grid settings, uint64_t top, const icotable_meshes *meshes, unsigned flags,
+                                   const char *label, const uint8_t *id);
+uint64_t icotable_journal_resume_as(icotable_journal *j, const char *name, int atom, icotable_grid settings, uint64_t top, const icotable_meshes *meshes, unsigned flags,
+                                    const char *label, const uint8_t *id);
 void icotable_journal_close(icotable_journal *j);
 
-/* Whose journal it is: fills atom, the settings in builder.grid, builder.top and build; nothing stays open. */
+/* Whose journal it is, by its head: fills atom, the settings in builder.grid, builder.top, build, meshes_hash, version, library and
+ * identity; nothing stays open. */
 uint64_t icotable_journal_look(icotable_journal *j, const char *name);
 
 /* icotable_set and icotable_settle, kept; against an atom oi is 0. They answer the library's numbers and those above. */

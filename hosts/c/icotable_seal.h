@@ -9,6 +9,7 @@
 
 #include "icotable.h"
 #include "icotable_fault.h"
+#include "icotable_journal.h"
 
 #ifdef __cplusplus
 extern "C" {
@@ -30,17 +31,24 @@ enum icotable_seal_refusal { ICOTABLE_SEAL_REFUSALS(ICOTABLE_SEAL_REFUSAL_) ICOT
 /* A number of a seal or of the library in words. */
 const char *icotable_seal_words(uint64_t number);
 
+enum icotable_known { ICOTABLE_UNKNOWN, ICOTABLE_YES, ICOTABLE_NO };
+
 typedef struct icotable_seal {
     char sha256[65]; /* of the table file, in 64 hexadecimal digits, as sha256sum writes them */
     uint64_t table_length;
     int atom;
-    icotable_grid grid;   /* the settings and bin counts of the build; against an atom omega_step is 0 and n_omega 1 */
+    icotable_grid grid;   /* the settings and bin counts of the build; against an atom omega_step is 0 and n_omega 1. threshold and beta
+                             that are not known, of an imported table, are NaN */
     uint64_t top, levels; /* the top level, and the levels that the table names */
     uint64_t meshes_hash; /* of that many levels: icotable_meshes_hash */
     int own_meshes;       /* 1: the meshes are the library's own */
     char version[32];
     int journaled;
     char journal_sha256[65]; /* of the journal, or empty */
+    unsigned format;         /* 1: of a library before 0.24, which has nothing of what follows; else 2 */
+    enum icotable_known guarded; /* whether the build's guard was on (icotable_journal.h) */
+    enum icotable_known whole;   /* whether every slab was set and every slice settled after its sets */
+    icotable_identity identity;  /* of the journal; its id is all 0 where there was none */
 } icotable_seal;
 
 /* Writes table_path.meta, in the place of one that is there; under another name, brought to disk and then given its own. */

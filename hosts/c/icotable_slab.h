@@ -4,15 +4,16 @@
  * A file is there whole or not at all: it is written under another name beside it, brought to disk and renamed. Its name is
  * made of its bins and its level, so a task that runs twice replaces it, by equal bytes where it samples equal energies.
  *
- * File. All numbers little-endian. Head, 56 bytes: "ICOTSLAB"; u32 format version, 1; u32 kind, 0 of two molecules, 1 against
- * an atom; u64 hash of the build; u64 level; u64 ri; u64 oi, 0 against an atom; u64 count of energies. Then f64 energies; u32
- * checksum, zlib's crc32 of all bytes before it. The hash of a build is FNV-1a of 64 bits (docs/FORMAT.md) of the bytes 12 to
- * 79 of its journal's head: kind, top level, settings, hash of the meshes.
+ * Whose build. A file has the hash of its build, and the build's id and label (icotable_journal.h), which a task takes from the journal's
+ * head (icotable_journal_look). The hash covers all of it, so that files of two builds with equal settings are told apart.
+ *
+ * File: docs/FORMAT.md, Slab files. Version 2 has id and label; version 1, of a journal of version 1, has neither.
  *
  * Link with libicotable: cc host.c $(pkg-config --cflags --libs icotable). */
 #ifndef ICOTABLE_SLAB_H
 #define ICOTABLE_SLAB_H
 
+#include "icotable_journal.h"
 #include "mesh.h"
 
 #ifdef __cplusplus
@@ -29,7 +30,8 @@ extern "C" {
     X(236, OTHER_BINS, "the slab file is of other bins than its name") \
     X(237, OTHER_COUNT, "a slab does not have this many energies at its level") \
     X(238, ABSENT, "there is no such slab file") \
-    X(239, TROUBLE, "the slab file cannot be opened, read or written")
+    X(239, TROUBLE, "the slab file cannot be opened, read or written") \
+    X(240, OTHER_IDENTITY, "the slab file is of another build with the same settings")
 
 #define ICOTABLE_SLAB_REFUSAL_(number, name, words) ICOTABLE_SLAB_##name = number,
 enum icotable_slab_refusal { ICOTABLE_SLAB_REFUSALS(ICOTABLE_SLAB_REFUSAL_) ICOTABLE_SLAB_ACCEPTED = 0 };
@@ -38,8 +40,8 @@ enum icotable_slab_refusal { ICOTABLE_SLAB_REFUSALS(ICOTABLE_SLAB_REFUSAL_) ICOT
 /* A number of slab files or of the library in words. */
 const char *icotable_slab_words(uint64_t number);
 
-/* The hash of a build, from what a task samples over; of a table against an atom omega_step is 0. A journal has the same one
- * in its build. */
+/* The hash of a build whose journal is of version 1, from what a task samples over; of a table against an atom omega_step is 0. The
+ * hash of version 2 covers id and label, too, and is in what icotable_journal_look gives, as build. */
 uint64_t icotable_build_hash(int atom, icotable_grid settings, uint64_t top, const icotable_meshes *meshes);
 
 /* Which slab it is. */
@@ -47,8 +49,15 @@ typedef struct icotable_slab {
     int atom;
     uint64_t build;         /* the hash */
     uint64_t level, ri, oi; /* against an atom oi is 0 */
+    icotable_identity identity; /* an id that is all 0: of a journal of version 1, and so the file is */
     char said[400];         /* the last refusal in words, with its file and place */
 } icotable_slab;
+
+/* The slab of a journal's build: atom, build and identity are the journal's, open or looked at. */
+icotable_slab icotable_slab_of(const icotable_journal *j, uint64_t level, uint64_t ri, uint64_t oi);
+
+/* Which slab the file of that name is, whatever it is called; its checksum has to be right. */
+uint64_t icotable_slab_look(icotable_slab *s, const char *path);
 
 /* How many energies it has: n or n*n, n being the vertices of its level; 0 for a level above 15. */
 uint64_t icotable_slab_count(const icotable_slab *s);

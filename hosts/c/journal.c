@@ -1,8 +1,8 @@
 #include "icotable_journal.h"
 
 #include "environment.h"
-#include "icotable_mesh_file.h"
 #include "icotable_slab.h"
+#include "journal_head.h"
 #include "support.h"
 
 #include <errno.h>
@@ -11,22 +11,25 @@
 #include <stdlib.h>
 #include <string.h>
 #include <sys/file.h>
+#include <sys/random.h>
 #include <sys/stat.h>
 #include <unistd.h>
 
-enum { VERSION = 1, HEAD = 84, CALL = 36, ANSWER = 40, LAST = 8, FIRST = HEAD + CALL + ANSWER, CHUNK = 4096 };
+enum { CALL = 36, ANSWER = 40, LAST = 8, FIRST_MOST = ICOTABLE_HEAD_MOST_ + CALL + ANSWER, CHUNK = 4096 };
 enum kind { FRESH = 1, SET = 2, SETTLE = 3 };
 enum state { SHUT, READING, OPEN };
-static const char MAGIC[] = "ICOTJRNL", END[] = "end\n";
+static const char END[] = "end\n";
 
 typedef unsigned long long ull;
 
-/* The kind of table, its settings, top level and meshes. */
+/* The kind of table, its settings, top level and meshes; its label and, where it begins, its id. Either may be NULL. */
 typedef struct plan {
     int atom;
     icotable_grid grid;
     uint64_t top;
     const icotable_meshes *meshes;
+    const char *label;
+    const uint8_t *id;
 } plan;
 
 typedef struct call {
@@ -85,34 +88,19 @@ static uint8_t *put_sum(icotable_journal *j, uint8_t *from, uint8_t *at) {
     return put(at, &j->sum, sizeof j->sum);
 }
 
-static void fill_head(const plan *p, uint8_t head[HEAD]) {
-    uint32_t version = VERSION, kind = p->atom ? 1 : 0;
-    double settings[] = {p->grid.rmin, p->grid.rmax, p->grid.dr, p->grid.omega_step, p->grid.threshold, p->grid.beta};
-    uint64_t hash = icotable_meshes_hash(p->meshes, p->top + 1);
-    uint8_t *at = put(head, MAGIC, 8);
-    at = put(at, &version, sizeof version);
-    at = put(at, &kind, sizeof kind);
-    at = put(at, &p->top, sizeof p->top);
-    at = put(at, settings, sizeof settings);
-    put(at, &hash, sizeof hash);
-}
-
-/* Kind, top level, settings and meshes. */
-static uint64_t build_of(const uint8_t head[HEAD]) {
-    return icotable_fnv_(ICOTABLE_FNV_, head + 12, HEAD - 4 - 12);
-}
-
-static void make_head(icotable_journal *j, const plan *p, uint8_t head[HEAD]) {
-    fill_head(p, head);
-    j->build = build_of(head);
-    j->sum = 0;
-    put_sum(j, head, head + HEAD - 4);
-}
-
 uint64_t icotable_build_hash(int atom, icotable_grid settings, uint64_t top, const icotable_meshes *meshes) {
-    uint8_t head[HEAD];
-    fill_head(&(plan){atom, settings, top, meshes}, head);
-    return build_of(head);
+    icotable_head_ head = icotable_head_of_(atom, &settings, top, meshes);
+    head.version = 1;
+    return icotable_head_build_(&head);
+}
+
+/* What the head says of the build. */
+static void know(icotable_journal *j, const icotable_head_ *h) {
+    j->version = h->version;
+    j->meshes_hash = h->meshes;
+    j->identity = h->identity;
+    j->build = icotable_head_build_(h);
+    memcpy(j->library, h->library, sizeof j->library);
 }
 
 static void make_call(icotable_journal *j, const call *c, uint8_t bytes[CALL]) {
@@ -454,19 +442,47 @@ static uint64_t prepare(icotable_journal *j, const plan *p, unsigned flags) {
     return a.number == 0 ? 0 : say(j, a.number, "");
 }
 
-static void make_first(icotable_journal *j, const plan *p, uint8_t first[FIRST]) {
-    make_head(j, p, first);
-    make_call(j, &(call){.kind = FRESH}, first + HEAD);
-    make_answer(j, &(answer){.level = p->top}, first + HEAD + CALL);
+/* The checksum of a head, and fresh, behind its bytes; how many there are then. */
+static size_t make_first(icotable_journal *j, uint8_t first[FIRST_MOST], size_t length) {
+    j->sum = 0;
+    uint8_t *at = put_sum(j, first, first + length);
+    make_call(j, &(call){.kind = FRESH}, at);
+    uint64_t top;
+    memcpy(&top, first + 16, sizeof top);
+    make_answer(j, &(answer){.level = top}, at + CALL);
+    return (size_t)(at - first) + CALL + ANSWER;
 }
 
 /* Head and fresh, in a file that has none of it or a part. */
-static uint64_t begin_file(icotable_journal *j, const char *name, const uint8_t first[FIRST]) {
-    if (!icotable_write_at_(j->file, first, FIRST, 0) || ftruncate(j->file, FIRST) != 0 || fsync(j->file) != 0 || !icotable_sync_folder_(name))
+static uint64_t begin_file(icotable_journal *j, const char *name, const icotable_head_ *h) {
+    uint8_t first[FIRST_MOST];
+    size_t length = make_first(j, first, icotable_head_bytes_(h, first));
+    know(j, h);
+    if (!icotable_write_at_(j->file, first, length, 0) || ftruncate(j->file, (off_t)length) != 0 || fsync(j->file) != 0 || !icotable_sync_folder_(name))
         return say_errno(j, ICOTABLE_JOURNAL_NOT_WRITTEN);
-    j->bytes = FIRST;
+    j->bytes = length;
     j->records = 1;
     j->state = OPEN;
+    return 0;
+}
+
+/* The head of a build that begins. */
+static uint64_t new_head(icotable_journal *j, const plan *p, unsigned flags, icotable_head_ *h) {
+    icotable_identity *i = &h->identity;
+    *h = icotable_head_of_(p->atom, &p->grid, p->top, p->meshes);
+    if (p->label != NULL && !icotable_label_fits_(p->label))
+        return say(j, ICOTABLE_JOURNAL_LABEL, "");
+    if (flags & ICOTABLE_JOURNAL_FORMAT_1) {
+        h->version = 1;
+        memset(h->library, 0, sizeof h->library);
+        return 0;
+    }
+    if (p->label != NULL)
+        strcpy(i->label, p->label);
+    if (p->id != NULL)
+        memcpy(i->id, p->id, sizeof i->id);
+    else if (getrandom(i->id, sizeof i->id, 0) != (ssize_t)sizeof i->id)
+        return say_errno(j, ICOTABLE_JOURNAL_TROUBLE);
     return 0;
 }
 
@@ -482,11 +498,14 @@ static uint64_t lock(icotable_journal *j, uint64_t *size) {
 }
 
 static uint64_t begin(icotable_journal *j, const char *name, const plan *p, unsigned flags) {
-    uint8_t first[FIRST];
+    icotable_head_ head;
     uint64_t size = 0, number = prepare(j, p, flags);
+    if (number == 0)
+        number = new_head(j, p, flags, &head);
     if (number != 0)
         return number;
     if (name == NULL) {
+        know(j, &head);
         j->records = 1;
         j->state = OPEN;
         return 0;
@@ -499,8 +518,7 @@ static uint64_t begin(icotable_journal *j, const char *name, const plan *p, unsi
         return number;
     if (size != 0) /* another process was faster, and has gone */
         return say(j, ICOTABLE_JOURNAL_EXISTS, "%s", name);
-    make_first(j, p, first);
-    return begin_file(j, name, first);
+    return begin_file(j, name, &head);
 }
 
 /* ---- resuming */
@@ -542,16 +560,24 @@ static found next_record(icotable_journal *j, uint64_t size, call *c, answer *a,
     return left == CALL + length + ANSWER && zeros(tail + ANSWER - LAST, LAST) ? TORN : BAD;
 }
 
+/* An answer that is another one: of another version of the library, or of something worse. */
+static uint64_t other_answer(icotable_journal *j, const answer *a, const answer *recorded) {
+    static const uint32_t own[] = {ICOTABLE_VERSION_MAJOR, ICOTABLE_VERSION_MINOR, ICOTABLE_VERSION_PATCH};
+    const uint32_t *began = j->library;
+    if (j->version > 1 && memcmp(began, own, sizeof own) != 0)
+        return say(j, ICOTABLE_JOURNAL_OTHER_LIBRARY, "it is of %u.%u.%u, and this is %s", (unsigned)began[0], (unsigned)began[1], (unsigned)began[2], ICOTABLE_VERSION);
+    return say(j, ICOTABLE_JOURNAL_OTHER_ANSWER, "number %llu, level %llu, gradient %.17g, comparisons %llu, where it was %llu, %llu, %.17g, %llu",
+               (ull)a->number, (ull)a->level, a->gradient, (ull)a->comparisons, (ull)recorded->number, (ull)recorded->level, recorded->gradient,
+               (ull)recorded->comparisons);
+}
+
 static uint64_t play(icotable_journal *j, const call *c, const answer *recorded) {
     uint64_t number = guard(j, c);
     if (number != 0)
         return say_place(j, number);
     answer a = make(j, c, j->spare);
-    if (memcmp(&a, recorded, sizeof a) != 0) {
-        say(j, ICOTABLE_JOURNAL_OTHER_ANSWER, "number %llu, level %llu, gradient %.17g, comparisons %llu, where it was %llu, %llu, %.17g, %llu", (ull)a.number,
-            (ull)a.level, a.gradient, (ull)a.comparisons, (ull)recorded->number, (ull)recorded->level, recorded->gradient, (ull)recorded->comparisons);
-        return say_place(j, ICOTABLE_JOURNAL_OTHER_ANSWER);
-    }
+    if (memcmp(&a, recorded, sizeof a) != 0)
+        return say_place(j, other_answer(j, &a, recorded));
     mark(j, c);
     j->bytes += CALL + c->count * sizeof *j->spare + ANSWER;
     j->records++;
@@ -580,72 +606,105 @@ static uint64_t play_all(icotable_journal *j, uint64_t size) {
 }
 
 /* The first setting that is another one. */
-static uint64_t other_settings(icotable_journal *j, const uint8_t *head, const uint8_t *wanted) {
+static uint64_t other_settings(icotable_journal *j, const icotable_head_ *h, const icotable_head_ *wanted) {
     static const char *const names[] = {"rmin", "rmax", "dr", "omega_step", "threshold", "beta"};
-    for (int i = 0; i < 6; i++) {
-        double x, y;
-        memcpy(&x, head + 24 + 8 * i, 8);
-        memcpy(&y, wanted + 24 + 8 * i, 8);
-        if (memcmp(&x, &y, 8) != 0)
-            return say(j, ICOTABLE_JOURNAL_OTHER_SETTINGS, "%s %.17g, not %.17g", names[i], x, y);
-    }
+    for (int i = 0; i < 6; i++)
+        if (memcmp(&h->settings[i], &wanted->settings[i], sizeof h->settings[i]) != 0)
+            return say(j, ICOTABLE_JOURNAL_OTHER_SETTINGS, "%s %.17g, not %.17g", names[i], h->settings[i], wanted->settings[i]);
     return 0;
 }
 
-/* A head by itself: magic, version, checksum. */
-static uint64_t check_head(icotable_journal *j, const uint8_t head[HEAD]) {
-    uint32_t version, sum;
-    memcpy(&version, head + 8, 4);
-    memcpy(&sum, head + HEAD - 4, 4);
-    if (memcmp(head, MAGIC, 8) != 0)
-        return say(j, ICOTABLE_JOURNAL_NOT_A_JOURNAL, "it begins otherwise");
-    if (sum != icotable_crc32_(0, head, HEAD - 4))
-        return say(j, ICOTABLE_JOURNAL_DAMAGED, "the head, bytes 0 to %d", HEAD - 1);
-    return version == VERSION ? 0 : say(j, ICOTABLE_JOURNAL_OTHER_VERSION, "%u", (unsigned)version);
+/* A head by itself. */
+static uint64_t check_head(icotable_journal *j, icotable_head_ *h, size_t *length, const uint8_t *bytes, size_t count) {
+    const char *why = "";
+    uint64_t number = icotable_head_taken_(h, length, bytes, count, &why);
+    if (number == ICOTABLE_JOURNAL_OTHER_VERSION)
+        return say(j, number, "%u", (unsigned)h->version);
+    if (number == ICOTABLE_JOURNAL_DAMAGED)
+        return say(j, number, "%s, bytes 0 to %zu", why, *length - 1);
+    return number == 0 ? 0 : say(j, number, "%s", why);
 }
 
 /* The head in the file beside the one of this build. */
-static uint64_t same_head(icotable_journal *j, const uint8_t head[HEAD], const uint8_t wanted[HEAD]) {
-    uint64_t number = check_head(j, head), tops[2];
+static uint64_t same_head(icotable_journal *j, const icotable_head_ *h, const icotable_head_ *wanted) {
+    if (h->kind != wanted->kind)
+        return say(j, ICOTABLE_JOURNAL_OTHER_KIND, "%s", h->kind ? "against an atom" : "of two molecules");
+    if (h->top != wanted->top)
+        return say(j, ICOTABLE_JOURNAL_OTHER_TOP, "%llu, not %llu", (ull)h->top, (ull)wanted->top);
+    uint64_t number = other_settings(j, h, wanted);
     if (number != 0)
         return number;
-    if (memcmp(head + 12, wanted + 12, 4) != 0)
-        return say(j, ICOTABLE_JOURNAL_OTHER_KIND, "%s", head[12] ? "against an atom" : "of two molecules");
-    memcpy(&tops[0], head + 16, 8);
-    memcpy(&tops[1], wanted + 16, 8);
-    if (tops[0] != tops[1])
-        return say(j, ICOTABLE_JOURNAL_OTHER_TOP, "%llu, not %llu", (ull)tops[0], (ull)tops[1]);
-    number = other_settings(j, head, wanted);
-    if (number != 0)
-        return number;
-    return memcmp(head + 72, wanted + 72, 8) == 0 ? 0 : say(j, ICOTABLE_JOURNAL_OTHER_MESHES, "");
+    return h->meshes == wanted->meshes ? 0 : say(j, ICOTABLE_JOURNAL_OTHER_MESHES, "");
 }
 
-/* A file that was killed while it was begun: a part of head and fresh, then nothing, or nothing but zeros. */
-static bool half_begun(const uint8_t *bytes, size_t count, const uint8_t first[FIRST]) {
-    size_t same = 0;
-    while (same < count && bytes[same] == first[same])
+/* The label and the id that were asked for. */
+static uint64_t same_identity(icotable_journal *j, const icotable_identity *i, const plan *p) {
+    char digits[33];
+    if (p->label != NULL && strcmp(p->label, i->label) != 0)
+        return say(j, ICOTABLE_JOURNAL_OTHER_IDENTITY, "label '%.100s', not '%.100s'", i->label, p->label);
+    if (p->id == NULL || memcmp(p->id, i->id, sizeof i->id) == 0)
+        return 0;
+    for (int k = 0; k < 16; k++)
+        snprintf(digits + 2 * k, 3, "%02x", i->id[k]);
+    return say(j, ICOTABLE_JOURNAL_OTHER_IDENTITY, "id %s", digits);
+}
+
+/* A file that was killed while it was begun: a part of head and fresh, then nothing, or nothing but zeros. Library version, id and label are
+ * the file's own, as far as it goes. */
+static bool half_begun(icotable_journal *j, const uint8_t *bytes, size_t count, const icotable_head_ *wanted) {
+    enum { SAME = ICOTABLE_HEAD_SAME_, LABEL = ICOTABLE_HEAD_LABEL_ };
+    uint8_t first[FIRST_MOST];
+    size_t length = icotable_head_bytes_(wanted, first), same = 0;
+    if (wanted->version > 1) {
+        uint32_t label;
+        if (count > SAME)
+            memcpy(first + SAME, bytes + SAME, (count < LABEL ? count : LABEL) - SAME);
+        memcpy(&label, first + LABEL - sizeof label, sizeof label);
+        if (label > ICOTABLE_LABEL)
+            return false;
+        memset(first + LABEL, 0, label);
+        if (count > LABEL)
+            memcpy(first + LABEL, bytes + LABEL, count - LABEL < label ? count - LABEL : label);
+        length = LABEL + label;
+    }
+    length = make_first(j, first, length);
+    while (same < count && same < length && bytes[same] == first[same])
         same++;
-    return same < FIRST && zeros(bytes + same, count - same) && (same == count || count - same >= LAST);
+    return same < length && zeros(bytes + same, count - same) && (same == count || count - same >= LAST);
+}
+
+/* Of either version. */
+static bool half_begun_by_any(icotable_journal *j, const uint8_t *bytes, size_t count, icotable_head_ wanted) {
+    if (half_begun(j, bytes, count, &wanted))
+        return true;
+    wanted.version = 1;
+    return half_begun(j, bytes, count, &wanted);
 }
 
 /* Head and fresh; answers 0 with no record where the file is half begun. */
-static uint64_t resume_first(icotable_journal *j, uint64_t size, const uint8_t first[FIRST]) {
-    uint8_t bytes[FIRST];
-    size_t count = size < FIRST ? (size_t)size : FIRST;
+static uint64_t resume_first(icotable_journal *j, uint64_t size, const icotable_head_ *wanted, const plan *p) {
+    uint8_t bytes[FIRST_MOST], first[FIRST_MOST];
+    size_t count = size < FIRST_MOST ? (size_t)size : FIRST_MOST, length;
+    icotable_head_ head;
     if (!icotable_read_at_(j->file, bytes, count, 0))
         return say_errno(j, ICOTABLE_JOURNAL_TROUBLE);
-    if (size <= FIRST && half_begun(bytes, count, first))
+    if (size <= FIRST_MOST && half_begun_by_any(j, bytes, count, *wanted))
         return 0;
-    if (size < HEAD)
+    if (size < ICOTABLE_HEAD_SAME_)
         return say(j, ICOTABLE_JOURNAL_NOT_A_JOURNAL, "%llu bytes, which are not the beginning of this build's", (ull)size);
-    uint64_t number = same_head(j, bytes, first);
+    uint64_t number = check_head(j, &head, &length, bytes, count);
+    if (number == 0)
+        number = same_head(j, &head, wanted);
+    if (number == 0)
+        number = same_identity(j, &head.identity, p);
     if (number != 0)
         return number;
-    j->bytes = HEAD;
-    if (count < FIRST || memcmp(bytes + HEAD, first + HEAD, FIRST - HEAD) != 0)
+    know(j, &head);
+    j->bytes = length;
+    length = make_first(j, first, icotable_head_bytes_(&head, first));
+    if (count < length || memcmp(bytes + j->bytes, first + j->bytes, length - j->bytes) != 0)
         return say_place(j, say(j, ICOTABLE_JOURNAL_DAMAGED, "it is not this build's fresh"));
-    j->bytes = FIRST;
+    j->bytes = length;
     j->records = 1;
     return 0;
 }
@@ -664,22 +723,25 @@ static uint64_t open_resumed(icotable_journal *j, const char *name, bool reading
 }
 
 static uint64_t resume(icotable_journal *j, const char *name, const plan *p, unsigned flags) {
-    uint8_t first[FIRST];
+    icotable_head_ head;
     bool reading = flags & ICOTABLE_JOURNAL_READING;
     uint64_t size = 0, number = prepare(j, p, flags);
+    if (number == 0 && p->label != NULL && !icotable_label_fits_(p->label))
+        number = say(j, ICOTABLE_JOURNAL_LABEL, "");
     if (number == 0)
         number = open_resumed(j, name, reading, &size);
     if (number != 0)
         return number;
-    make_first(j, p, first);
-    number = resume_first(j, size, first);
+    head = icotable_head_of_(p->atom, &p->grid, p->top, p->meshes);
+    number = resume_first(j, size, &head, p);
     if (number != 0)
         return number;
     if (j->records == 0 && reading)
         return say(j, ICOTABLE_JOURNAL_NOT_A_JOURNAL, "%llu bytes", (ull)size);
     if (j->records == 0) {
         j->cut = size;
-        return begin_file(j, name, first);
+        number = new_head(j, p, flags, &head);
+        return number != 0 ? number : begin_file(j, name, &head);
     }
     number = play_all(j, size);
     if (number != 0)
@@ -697,40 +759,50 @@ static uint64_t opened(icotable_journal *j, uint64_t number) {
     return number;
 }
 
+uint64_t icotable_journal_begin_as(icotable_journal *j, const char *name, int atom, icotable_grid settings, uint64_t top, const icotable_meshes *meshes, unsigned flags,
+                                   const char *label, const uint8_t *id) {
+    return opened(j, begin(j, name, &(plan){atom, settings, top, meshes, label, id}, flags));
+}
+
+uint64_t icotable_journal_resume_as(icotable_journal *j, const char *name, int atom, icotable_grid settings, uint64_t top, const icotable_meshes *meshes, unsigned flags,
+                                    const char *label, const uint8_t *id) {
+    return opened(j, resume(j, name, &(plan){atom, settings, top, meshes, label, id}, flags));
+}
+
 uint64_t icotable_journal_begin(icotable_journal *j, const char *name, icotable_grid settings, uint64_t top, const icotable_meshes *meshes, unsigned flags) {
-    return opened(j, begin(j, name, &(plan){0, settings, top, meshes}, flags));
+    return icotable_journal_begin_as(j, name, 0, settings, top, meshes, flags, NULL, NULL);
 }
 
 uint64_t icotable_journal_resume(icotable_journal *j, const char *name, icotable_grid settings, uint64_t top, const icotable_meshes *meshes, unsigned flags) {
-    return opened(j, resume(j, name, &(plan){0, settings, top, meshes}, flags));
+    return icotable_journal_resume_as(j, name, 0, settings, top, meshes, flags, NULL, NULL);
 }
 
 uint64_t icotable_journal_atom_begin(icotable_journal *j, const char *name, icotable_atom_grid settings, uint64_t top, const icotable_meshes *meshes, unsigned flags) {
-    return opened(j, begin(j, name, &(plan){1, pair_of(settings), top, meshes}, flags));
+    return icotable_journal_begin_as(j, name, 1, pair_of(settings), top, meshes, flags, NULL, NULL);
 }
 
 uint64_t icotable_journal_atom_resume(icotable_journal *j, const char *name, icotable_atom_grid settings, uint64_t top, const icotable_meshes *meshes, unsigned flags) {
-    return opened(j, resume(j, name, &(plan){1, pair_of(settings), top, meshes}, flags));
+    return icotable_journal_resume_as(j, name, 1, pair_of(settings), top, meshes, flags, NULL, NULL);
 }
 
 uint64_t icotable_journal_look(icotable_journal *j, const char *name) {
-    uint8_t head[HEAD];
+    uint8_t bytes[ICOTABLE_HEAD_MOST_];
     uint64_t size = 0;
+    size_t length;
+    icotable_head_ head;
     *j = (icotable_journal){.file = -1};
     uint64_t number = open_resumed(j, name, true, &size);
-    if (number == 0 && size < HEAD)
-        number = say(j, ICOTABLE_JOURNAL_NOT_A_JOURNAL, "%llu bytes", (ull)size);
-    if (number == 0 && !icotable_read_at_(j->file, head, HEAD, 0))
+    size_t count = size < sizeof bytes ? (size_t)size : sizeof bytes;
+    if (number == 0 && !icotable_read_at_(j->file, bytes, count, 0))
         number = say_errno(j, ICOTABLE_JOURNAL_TROUBLE);
     if (number == 0)
-        number = check_head(j, head);
+        number = check_head(j, &head, &length, bytes, count);
     if (number == 0) {
-        double settings[6];
-        memcpy(settings, head + 24, sizeof settings);
-        memcpy(&j->builder.top, head + 16, 8);
-        j->atom = head[12] != 0;
-        j->build = build_of(head);
-        j->builder.grid = (icotable_grid){settings[0], settings[1], settings[2], settings[3], settings[4], settings[5], 0, 0};
+        const double *x = head.settings;
+        know(j, &head);
+        j->atom = head.kind != 0;
+        j->builder.top = head.top;
+        j->builder.grid = (icotable_grid){x[0], x[1], x[2], x[3], x[4], x[5], 0, 0};
     }
     icotable_journal_close(j);
     return number;

@@ -28,20 +28,26 @@ static const double COULOMB = 17.7;       /* 1389.35 kJ angstrom / mol over wate
 static const double SCREENING = 1.0 / 9.6; /* Debye length at 0.1 mol/l */
 static const double NEAREST = 0.25;       /* squared; sites that are nearer count as this far, so that no energy is a NaN */
 
-/* Turns p so that the unit direction d comes to lie up the axis: around the axis first, then down the meridian. */
-static void up(const double d[3], const double p[3], double out[3]) {
-    double across = sqrt(d[0] * d[0] + d[1] * d[1]);
-    double c = across > 0 ? d[0] / across : 1, s = across > 0 ? d[1] / across : 0;
-    double x = c * p[0] + s * p[1], y = c * p[1] - s * p[0];
-    out[0] = d[2] * x - across * p[2];
-    out[1] = y;
-    out[2] = across * x + d[2] * p[2];
+/* Turns p by the least rotation that takes the unit direction d to the pole, 1 up the axis and -1 down it; where d is
+ * the other pole, by half a turn around y. */
+static void to_pole(const double d[3], double pole, const double p[3], double out[3]) {
+    double along = pole * d[2], x = pole * d[1], y = -pole * d[0];
+    if (along < -1 + 1e-12) {
+        out[0] = -p[0];
+        out[1] = p[1];
+        out[2] = -p[2];
+        return;
+    }
+    double part = (x * p[0] + y * p[1]) / (1 + along);
+    out[0] = along * p[0] + y * p[2] + part * x;
+    out[1] = along * p[1] - x * p[2] + part * y;
+    out[2] = along * p[2] + x * p[1] - y * p[0];
 }
 
 pose first_pose(const double a[3]) {
     pose turned;
     for (int k = 0; k < SITES; k++)
-        up(a, first[k].at, turned.at[k]);
+        to_pole(a, 1, first[k].at, turned.at[k]);
     return turned;
 }
 
@@ -49,13 +55,8 @@ pose second_pose(const double b[3], double omega) {
     pose turned;
     double c = cos(omega), s = sin(omega);
     for (int k = 0; k < SITES; k++) {
-        double p[3];
-        up(b, second[k].at, p);
-        /* half a turn around x brings up to down; then omega around the axis */
-        double y = -p[1];
-        turned.at[k][0] = c * p[0] - s * y;
-        turned.at[k][1] = s * p[0] + c * y;
-        turned.at[k][2] = -p[2];
+        const double *p = second[k].at, twisted[3] = {c * p[0] - s * p[1], s * p[0] + c * p[1], p[2]};
+        to_pole(b, -1, twisted, turned.at[k]);
     }
     return turned;
 }

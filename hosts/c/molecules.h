@@ -16,8 +16,9 @@ typedef struct pose {
     double at[SITES][3];
 } pose;
 
-/* The first molecule turned so that direction a, of length 1 and in its own frame, points up the axis; the second so that
- * direction b points down it, then turned by omega around it. */
+/* The poses that directions a and b, of length 1, and omega stand for, as the Rust's `orient` has them (docs/GUIDE.md,
+ * What a table is), seen with the line between the molecules along z: the first molecule by the least rotation that
+ * takes a up the axis; the second by omega around the axis, then by the least rotation that takes b down it. */
 pose first_pose(const double a[3]);
 pose second_pose(const double b[3], double omega);
 
@@ -36,8 +37,8 @@ far_field far_terms(void);
 /* The energy of the first molecule with the ion r up the axis. */
 double ion_energy(const pose *first, double r);
 
-/* A slab's energies over n directions, three coordinates each: the first molecule at each of them, the second at each, their
- * turns in a list of 2n poses; or the ion in each of them. */
+/* A slab's energies over n directions, three coordinates each: energies[i * n + j] with a at direction i and b at
+ * direction j, their turns in a list of 2n poses; or energies[i] with the ion in direction i. */
 void pair_slab(double *energies, pose *turned, const double *directions, size_t n, double r, double omega);
 void ion_slab(double *energies, const double *directions, size_t n, double r);
 

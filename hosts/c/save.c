@@ -1,8 +1,10 @@
 #include "handles.h"
 
 #include <errno.h>
+#include <stdio.h>
 #include <stdlib.h>
 #include <string.h>
+#include <sys/stat.h>
 
 /* Kind, levels and bin counts are the table's own. */
 static uint64_t look_over(const icotable_build_settings *s, const uint8_t *table, size_t length, icotable_seal *seal,
@@ -26,6 +28,16 @@ static uint64_t look_over(const icotable_build_settings *s, const uint8_t *table
     return 0;
 }
 
+/* What the journal of a build says of it, in memory or on disk. */
+static void fill_build(const icotable_journal *j, icotable_seal *seal) {
+    seal->guarded = j->guarded ? ICOTABLE_YES : ICOTABLE_NO;
+    seal->whole = j->set_count == j->slabs && j->settled_count == j->builder.grid.n_r ? ICOTABLE_YES : ICOTABLE_NO;
+    if (j->file >= 0)
+        seal->identity = j->identity;
+    else
+        memcpy(seal->identity.label, j->identity.label, sizeof seal->identity.label);
+}
+
 /* What the seal says of this table. */
 static uint64_t fill_seal(const icotable_build_settings *s, const uint8_t *table, size_t length, const icotable_meshes *m,
                           icotable_seal *seal, icotable_fault *fault) {
@@ -46,20 +58,23 @@ static uint64_t fill_seal(const icotable_build_settings *s, const uint8_t *table
 
 /* Mesh file, table, seal: until the last is there, the reader refuses what it could mistake. */
 static uint64_t write_files(const char *path, const uint8_t *table, size_t length, const icotable_meshes *m,
-                            const icotable_seal *seal, icotable_fault *fault) {
+                            const icotable_seal *seal, bool replace, icotable_fault *fault) {
     uint64_t number = 0;
+    struct stat what;
+    if (!replace && lstat(path, &what) == 0)
+        return REFUSE(fault, ICOTABLE_HANDLE_NOT_WRITTEN, "%s: %s", path, strerror(EEXIST));
     if (!seal->own_meshes) {
         char *mesh = icotable_beside_(path, ".mesh");
         number = mesh == NULL ? REFUSE(fault, ICOTABLE_HANDLE_NO_ROOM, "a name") : icotable_meshes_save(m, mesh, fault);
         free(mesh);
     }
-    if (number == 0 && !icotable_write_file_(path, table, length, true))
+    if (number == 0 && !icotable_write_file_(path, table, length, replace))
         number = REFUSE(fault, ICOTABLE_HANDLE_NOT_WRITTEN, "%s: %s", path, strerror(errno));
     return number != 0 ? number : icotable_seal_write(seal, path, fault);
 }
 
-uint64_t icotable_table_save(const icotable_build_settings *s, const uint8_t *table, size_t length, const char *path,
-                             icotable_fault *fault) {
+uint64_t icotable_save_(const icotable_build_settings *s, const icotable_journal *j, const uint8_t *table, size_t length, const char *path,
+                        bool replace, icotable_fault *fault) {
     icotable_meshes m = {0};
     icotable_seal seal = {0};
     if (path == NULL)
@@ -69,12 +84,21 @@ uint64_t icotable_table_save(const icotable_build_settings *s, const uint8_t *ta
     uint64_t number = look_over(s, table, length, &seal, fault);
     if (number != 0)
         return number;
+    if (j != NULL)
+        fill_build(j, &seal);
+    else if (s->label != NULL)
+        snprintf(seal.identity.label, sizeof seal.identity.label, "%s", s->label);
     number = icotable_handle_meshes_(&m, s->lent, s->meshes, s->top + 1, fault);
     if (number == 0)
         number = fill_seal(s, table, length, &m, &seal, fault);
     if (number == 0)
-        number = write_files(path, table, length, &m, &seal, fault);
+        number = write_files(path, table, length, &m, &seal, replace, fault);
     if (s->lent == NULL)
         icotable_free_meshes(&m);
     return number;
+}
+
+uint64_t icotable_table_save(const icotable_build_settings *s, const uint8_t *table, size_t length, const char *path,
+                             icotable_fault *fault) {
+    return icotable_save_(s, NULL, table, length, path, true, fault);
 }

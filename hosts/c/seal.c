@@ -1,5 +1,6 @@
 #include "icotable_seal.h"
 
+#include "journal_head.h"
 #include "support.h"
 
 #include <errno.h>
@@ -10,8 +11,8 @@
 #include <stdlib.h>
 #include <string.h>
 
-enum { MOST = 2048, DIGITS = 64 };
-static const char FIRST[] = "icotable seal ", VERSION[] = "1\n", LAST[] = "checksum ";
+enum { MOST = 2048 + ICOTABLE_LABEL, VALUE = 80 + ICOTABLE_LABEL, DIGITS = 64 };
+static const char FIRST[] = "icotable seal ", LAST[] = "checksum ";
 
 const char *icotable_seal_words(uint64_t number) {
     switch (number) {
@@ -27,9 +28,10 @@ const char *icotable_seal_words(uint64_t number) {
 
 #define REFUSE(fault, name, ...) icotable_fault_(fault, ICOTABLE_SEAL_##name, icotable_seal_words(ICOTABLE_SEAL_##name), __VA_ARGS__)
 
-/* ---- the lines of a seal, in their order; those of a dihedral angle are left out against an atom */
+/* ---- the lines of a seal, in their order; those of a dihedral angle are left out against an atom, and the last ones of version 1 */
 
-enum type { WORD, NUMBER, COUNT, HASH, KIND, OWN };
+enum type { WORD, NUMBER, COUNT, HASH, KIND, OWN, KNOWN, ID };
+static const char *const knowns[] = {"unknown", "yes", "no"};
 
 typedef struct field {
     const char *name;
@@ -57,10 +59,17 @@ static const field fields[] = {
     {"meshes", HASH, AT(meshes_hash), 0, false},
     {"own_meshes", OWN, AT(own_meshes), 0, false},
     {"journal", WORD, AT(journal_sha256), 65, false},
+    {"guarded", KNOWN, AT(guarded), 0, false},
+    {"whole", KNOWN, AT(whole), 0, false},
+    {"id", ID, AT(identity.id), 0, false},
+    {"label", WORD, AT(identity.label), ICOTABLE_LABEL + 1, false},
 };
+enum { FIELDS_1 = 17 };
 enum { FIELDS = sizeof fields / sizeof fields[0] };
 
-/* A value in letters. A journal that is not there is "none". */
+static const char UNKNOWN[] = "unknown";
+
+/* A value in letters. A journal that is not there is "none"; a number that is not known, a NaN, is "unknown". */
 static void show(char *to, size_t room, const icotable_seal *s, const field *f) {
     const char *from = (const char *)s + f->at;
     double number;
@@ -71,13 +80,16 @@ static void show(char *to, size_t room, const icotable_seal *s, const field *f) 
         snprintf(to, room, "%.*s", (int)f->room - 1, none ? "none" : from);
     } else if (f->type == NUMBER) {
         memcpy(&number, from, sizeof number);
-        snprintf(to, room, "%.17g", number);
+        snprintf(to, room, isnan(number) ? UNKNOWN : "%.17g", number);
     } else if (f->type == COUNT || f->type == HASH) {
         memcpy(&count, from, sizeof count);
         snprintf(to, room, f->type == HASH ? "%016" PRIX64 : "%" PRIu64, count);
+    } else if (f->type == ID) {
+        for (int i = 0; i < 16; i++)
+            snprintf(to + 2 * i, 3, "%02x", (unsigned)(uint8_t)from[i]);
     } else {
         memcpy(&yes, from, sizeof yes);
-        snprintf(to, room, "%s", f->type == KIND ? (yes ? "atom" : "molecules") : yes ? "yes" : "no");
+        snprintf(to, room, "%s", f->type == KNOWN ? knowns[yes] : f->type == KIND ? (yes ? "atom" : "molecules") : yes ? "yes" : "no");
     }
 }
 
@@ -87,26 +99,33 @@ static void take(icotable_seal *s, const field *f, const char *value) {
     if (f->type == WORD) {
         snprintf(to, f->room, "%s", value);
     } else if (f->type == NUMBER) {
-        double number = strtod(value, NULL);
+        double number = strcmp(value, UNKNOWN) == 0 ? NAN : strtod(value, NULL);
         memcpy(to, &number, sizeof number);
     } else if (f->type == COUNT || f->type == HASH) {
         uint64_t count = strtoull(value, NULL, f->type == HASH ? 16 : 10);
         memcpy(to, &count, sizeof count);
+    } else if (f->type == ID) {
+        for (int i = 0; i < 16 && strlen(value) == 32; i++) {
+            unsigned byte = 0;
+            sscanf(value + 2 * i, "%2x", &byte);
+            to[i] = (char)byte;
+        }
     } else {
-        int yes = strcmp(value, f->type == KIND ? "atom" : "yes") == 0;
+        int yes = f->type == KNOWN ? 2 * (strcmp(value, "no") == 0) : 0;
+        yes += strcmp(value, f->type == KIND ? "atom" : "yes") == 0;
         memcpy(to, &yes, sizeof yes);
     }
 }
 
 static bool left_out(const icotable_seal *s, const field *f) {
-    return f->pair && s->atom;
+    return (f->pair && s->atom) || (f >= fields + FIELDS_1 && s->format == 1);
 }
 
 /* The whole seal. */
 static size_t text_of(const icotable_seal *s, char text[MOST]) {
-    size_t at = (size_t)snprintf(text, MOST, "%s%s", FIRST, VERSION);
+    size_t at = (size_t)snprintf(text, MOST, "%s%d\n", FIRST, s->format == 1 ? 1 : 2);
     for (size_t i = 0; i < FIELDS; i++) {
-        char value[80];
+        char value[VALUE];
         if (left_out(s, &fields[i]))
             continue;
         show(value, sizeof value, s, &fields[i]);
@@ -136,7 +155,7 @@ static const char *unfit(const icotable_seal *s) {
     const icotable_grid *g = &s->grid;
     double numbers[] = {g->rmin, g->rmax, g->dr, g->omega_step, g->threshold, g->beta};
     for (size_t i = 0; i < sizeof numbers / sizeof numbers[0]; i++)
-        if (!isfinite(numbers[i]))
+        if (!isfinite(numbers[i]) && !(i >= 4 && isnan(numbers[i]) && s->format != 1))
             return "a setting that is not finite";
     if (!one_word(s->version, sizeof s->version))
         return "a version that is not one word of small letters, digits and points";
@@ -144,8 +163,10 @@ static const char *unfit(const icotable_seal *s) {
         return "a SHA-256 of the table that is not 64 hexadecimal digits";
     if (s->top > 15 || s->levels < 1 || s->levels > 16)
         return "a top level above 15, or a count of levels that is not 1 to 16";
-    if (!either(s->atom) || !either(s->own_meshes) || !either(s->journaled))
+    if (!either(s->atom) || !either(s->own_meshes) || !either(s->journaled) || s->guarded > ICOTABLE_NO || s->whole > ICOTABLE_NO)
         return "a yes or no that is neither";
+    if (!icotable_label_fits_(s->identity.label))
+        return "a label that is not UTF-8 of at most 4,096 bytes without control characters";
     return s->journaled && !hexadecimal(s->journal_sha256) ? "a SHA-256 of the journal that is not 64 hexadecimal digits" : NULL;
 }
 
@@ -195,7 +216,7 @@ static uint64_t check_text(const char *text, size_t count, icotable_fault *fault
     char sum[10];
     if (strncmp(text, FIRST, first) != 0 || strlen(text) != count)
         return REFUSE(fault, NOT_A_SEAL, "%s", strlen(text) != count ? "it is not a text" : "it begins otherwise");
-    if (strncmp(text + first, VERSION, strlen(VERSION)) != 0)
+    if (strncmp(text + first, "1\n", 2) != 0 && strncmp(text + first, "2\n", 2) != 0)
         return REFUSE(fault, OTHER_VERSION, "%.*s", (int)strcspn(text + first, "\n"), text + first);
     if (count < first + last || strncmp(text + count - last, LAST, strlen(LAST)) != 0)
         return REFUSE(fault, DAMAGED, "it does not end with its checksum");
@@ -213,7 +234,8 @@ static uint64_t seal_of(icotable_seal *s, const char *text, size_t count, icotab
     if (number != 0)
         return number;
     memcpy(lines, text, count + 1);
-    number = take_lines(s, lines + strlen(FIRST) + strlen(VERSION), fault);
+    s->format = text[strlen(FIRST)] == '1' ? 1 : 2;
+    number = take_lines(s, lines + strlen(FIRST) + 2, fault);
     if (number != 0)
         return number;
     size_t length = text_of(s, again), same = 0;

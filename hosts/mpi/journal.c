@@ -1,5 +1,7 @@
 #include "build.h"
 
+#include "icotable_seal.h"
+
 #include <errno.h>
 #include <stdlib.h>
 #include <string.h>
@@ -60,17 +62,22 @@ int settle_slice(const build *b, icotable_journal *j, uint64_t ri) {
     return GOOD;
 }
 
-/* A job that was killed behind its end finds its own table. */
-static int same_table(const char *name, const uint8_t *bytes, size_t count) {
+static bool sealed(const char *name, const uint8_t *bytes, size_t count) {
+    icotable_seal seal;
+    return icotable_seal_read(&seal, name, NULL) == 0 && icotable_seal_check(&seal, bytes, count, NULL) == 0;
+}
+
+/* A job that was killed behind its end finds its own table, and writes the seal where the kill came before it. */
+static int same_table(const build *b, icotable_journal *j, const uint8_t *bytes, size_t count) {
     table_file f;
+    const char *name = b->table_name;
     int status = open_table(&f, name);
     bool same = status == GOOD && f.count == count && memcmp(f.bytes, bytes, count) == 0;
-    if (same)
-        printf("%s: is there already, with the same bytes\n", name);
-    else if (status == GOOD)
-        status = trouble(name, "is there already with other bytes, and is not replaced");
     close_table(&f);
-    return status;
+    if (!same)
+        return status != GOOD ? status : trouble(name, "is there already with other bytes, and is not replaced");
+    printf("%s: is there already, with the same bytes\n", name);
+    return sealed(name, bytes, count) ? GOOD : save_table(j, b->journal_name, name, bytes, count, true);
 }
 
 int write_table(const build *b, icotable_journal *j) {
@@ -82,10 +89,10 @@ int write_table(const build *b, icotable_journal *j) {
     icotable_written w = icotable_journal_write(j, bytes, length);
     bool there = lstat(b->table_name, &what) == 0;
     int status = w.number != 0 ? refused(b->journal_name, w.number, j->said)
-                 : there       ? same_table(b->table_name, bytes, (size_t)w.length)
-                               : write_new(b->table_name, bytes, (size_t)w.length);
+                 : there       ? same_table(b, j, bytes, (size_t)w.length)
+                               : save_table(j, b->journal_name, b->table_name, bytes, (size_t)w.length, false);
     if (status == GOOD && !there)
-        printf("%s: %llu bytes, the table of %llu calls\n", b->table_name, (ull)w.length, (ull)j->records);
+        printf("%s: %llu bytes, the table of %llu calls, and its seal\n", b->table_name, (ull)w.length, (ull)j->records);
     fflush(stdout);
     free(bytes);
     return status;

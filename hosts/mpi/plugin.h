@@ -31,9 +31,10 @@ typedef struct icotable_plugin_slab {
     const double *directions; /* x, y, z of each vertex, of length 1 */
 } icotable_plugin_slab;
 
-/* Fills the energies: of two molecules count is n * n, and energies[i * n + j] is the first molecule's direction i against the
- * second's direction j; against an atom count is n, and energies[i] is direction i. Entries are NaN beforehand, and a NaN that
- * is left is refused (10). 0, or a number of the plug-in's own, which ends the job: its journal resumes at this slab. */
+/* Fills the energies: of two molecules count is n * n, and energies[i * n + j] is that with a at direction i and b at
+ * direction j, which with r and omega stand for the pose of docs/GUIDE.md, What a table is; against an atom count is n,
+ * and energies[i] is direction i. Entries are NaN beforehand, and a NaN that is left is refused (10). 0, or a number of
+ * the plug-in's own, which ends the job: its journal resumes at this slab. */
 int icotable_plugin_energies(void *data, const icotable_plugin_slab *slab, double *energies, uint64_t count, char *said);
 
 /* Called once in every rank, before anything is sampled, with the words behind "--" on the command line. What it leaves in

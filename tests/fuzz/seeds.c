@@ -72,7 +72,7 @@ static uint64_t began(icotable_journal *j, const plan *p, const char *name) {
 }
 
 static void put_slab(const icotable_journal *j, const double *energies, uint64_t ri, uint64_t oi) {
-    icotable_slab s = {.atom = j->atom, .build = j->build, .level = j->builder.level, .ri = ri, .oi = oi};
+    icotable_slab s = icotable_slab_of(j, j->builder.level, ri, oi);
     name_of("slab", "");
     need(icotable_slab_write(&s, name_of("slab", "."), energies, icotable_slab_count(&s)) == 0, "a slab file");
 }

@@ -25,6 +25,9 @@ int LLVMFuzzerTestOneInput(const uint8_t *data, size_t size) {
     icotable_slab s = {.atom = (head[1] >> 32) == 1, .build = head[2], .level = head[3] % 2, .ri = head[4], .oi = head[5]};
     icotable_slab_name(&s, name);
     fuzz_file(name, data, size);
+    static icotable_slab looked;
+    if (icotable_slab_look(&looked, fuzz_name(name)) == 0)
+        s.identity = looked.identity;
     uint64_t number = icotable_slab_read(&s, fuzz_name("."), energies, icotable_slab_count(&s));
     PROMISE(number == 0 || s.said[0] != 0);
     if (number == 0) {

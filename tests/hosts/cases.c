@@ -34,20 +34,28 @@ static const char *mesh_file(const char *name) {
     return path;
 }
 
+static void take_option(icotable_build_settings *s, const char *option) {
+    bool bad = strcmp(option, "badlabel") == 0, labelled = strncmp(option, "label=", 6) == 0;
+    if (bad || labelled)
+        s->label = bad ? "a\nb" : option + 6;
+    if (bad || labelled || strcmp(option, "v2") == 0)
+        s->flags &= ~(unsigned)ICOTABLE_JOURNAL_FORMAT_1;
+    else if (strcmp(option, "unguarded") == 0)
+        s->flags |= ICOTABLE_JOURNAL_UNGUARDED;
+    else if (strcmp(option, "foreign") == 0)
+        s->meshes = mesh_file("foreign");
+    else if (strcmp(option, "beta2") == 0)
+        s->grid.beta = 2;
+    else
+        s->top = 0;
+}
+
 /* KIND JOURNAL OPTION.. */
 static icotable_build_settings settings_of(char **words) {
-    icotable_build_settings s = {.atom = strcmp(words[0], "atom") == 0, .top = 1, .journal = words[1]};
+    icotable_build_settings s = {.atom = strcmp(words[0], "atom") == 0, .top = 1, .journal = words[1], .flags = ICOTABLE_JOURNAL_FORMAT_1};
     s.grid = (icotable_grid){.rmax = s.atom ? 4 : 3, .dr = 1, .omega_step = 3, .threshold = 0.5, .beta = 1};
-    for (char **option = words + 2; *option != NULL; option++) {
-        if (strcmp(*option, "unguarded") == 0)
-            s.flags = ICOTABLE_JOURNAL_UNGUARDED;
-        else if (strcmp(*option, "foreign") == 0)
-            s.meshes = mesh_file("foreign");
-        else if (strcmp(*option, "beta2") == 0)
-            s.grid.beta = 2;
-        else
-            s.top = 0;
-    }
+    for (char **option = words + 2; *option != NULL; option++)
+        take_option(&s, *option);
     return s;
 }
 
@@ -180,6 +188,17 @@ static uint64_t do_energies(char **words) {
     return summed(icotable_crc32_(0, energies, sizeof energies), words[0]);
 }
 
+static bool known(enum icotable_known is, const char *word) {
+    return is == (strcmp(word, "yes") == 0 ? ICOTABLE_YES : strcmp(word, "no") == 0 ? ICOTABLE_NO : ICOTABLE_UNKNOWN);
+}
+
+static uint64_t do_sealed(char **words) {
+    static icotable_seal s;
+    bool read = icotable_seal_read(&s, words[0], NULL) == 0;
+    const char *label = strcmp(words[3], "-") == 0 ? "" : words[3];
+    return read && known(s.guarded, words[1]) && known(s.whole, words[2]) && strcmp(s.identity.label, label) == 0 ? 0 : 1;
+}
+
 /* ---- files */
 
 static size_t read_all(const char *name) {
@@ -254,7 +273,7 @@ static const verb verbs[] = {
     {"settle", do_settle}, {"go", do_go}, {"write", do_write}, {"tail", do_tail}, {"close", do_close},
     {"kill", do_kill}, {"read", do_read}, {"energies", do_energies}, {"copy", do_copy}, {"cut", do_cut},
     {"append", do_append}, {"flip", do_flip}, {"remove", do_remove}, {"link", do_link}, {"folder", do_folder},
-    {"there", do_there}, {"gone", do_gone}, {"sum", do_sum},
+    {"there", do_there}, {"gone", do_gone}, {"sum", do_sum}, {"sealed", do_sealed},
 };
 
 static uint64_t made(char **words) {

@@ -8,6 +8,7 @@ import zlib
 
 NUMBERS = ["rmin", "rmax", "dr", "omega_step", "threshold", "beta"]
 NAMES = ["version", "kind", "length", "sha256", *NUMBERS, "n_r", "n_omega", "top", "levels", "meshes", "own_meshes", "journal"]
+NAMES += ["guarded", "whole", "id", "label"]
 
 
 def contents(name):
@@ -45,11 +46,11 @@ def hash_of(parts):
 
 
 def read_seal(data):
-    lines = data.decode("ascii").split("\n")
-    assert lines[0] == "icotable seal 1" and lines[-1] == ""
+    lines = data.decode("utf-8").split("\n")
+    assert lines[0] == "icotable seal 2" and lines[-1] == ""
     last = f"checksum {zlib.crc32(data[: data.rindex(b'checksum ')]):08X}"
     assert lines[-2] == last
-    seal = dict(line.split(" ") for line in lines[1:-2])
+    seal = dict(line.split(" ", 1) for line in lines[1:-2])
     atom = seal["kind"] == "atom"
     names = [name for name in NAMES if not (atom and name in ("omega_step", "n_omega"))]
     assert list(seal) == names
@@ -65,6 +66,9 @@ def main():
     assert seal["journal"] == hashlib.sha256(contents(f"{name}.journal")).hexdigest()
     journal = contents(f"{name}.journal")
     assert f"{struct.unpack_from('<Q', journal, 72)[0]:016X}" == seal["meshes"], "the journal has the hash of other meshes"
+    length = struct.unpack_from("<I", journal, 108)[0]
+    assert struct.unpack_from("<I", journal, 8)[0] == 2 and journal[92:108].hex() == seal["id"], "the journal has another id"
+    assert journal[112 : 112 + length].decode() == seal["label"] and seal["guarded"] == seal["whole"] == "yes"
     assert struct.unpack_from("<6d", journal, 24) == tuple(float(seal.get(n, 0)) for n in NUMBERS), "the journal has other settings"
     assert (seal["own_meshes"] == "no") == os.path.exists(f"{name}.mesh")
     if seal["own_meshes"] == "no":

@@ -7,6 +7,7 @@ import sys
 HEAD = """#include "environment.h"
 #include "icotable_handles.h"
 
+#include <math.h>
 #include <stdio.h>
 #include <stdlib.h>
 
@@ -59,7 +60,7 @@ HANDLED = """        printf("handles %llu\\n", (unsigned long long)number);
                 poses[8 * i + k] = pose[k];
         }
 """
-READ = """        printf("handle's energy %g, the last of many %g\\n", found.energy, answers[3 * poses_count - 3]);
+READ = """        printf("handle's energy %g, the last of many %g\\n", energy, answers[3 * poses_count - 3]);
     }
 """
 # a build of its own, which changes nothing of the page's

@@ -35,6 +35,7 @@ int main(int count, char **names) {
     test_files();
     test_kills((unsigned)strtoul(names[1], NULL, 10));
     test_readings();
+    test_places();
     printf("handles: %d checks, %d wrong\n", checks, wrong);
     return wrong != 0;
 }

@@ -162,6 +162,8 @@ static void no_handle(void) {
     is("atom boltzmann", 261, icotable_reader_atom_boltzmann(NULL, 1, 1, 0, 0, 1).number);
     is("row", 261, icotable_reader_row(NULL, 0, 0, &row));
     is("energies", 0, icotable_reader_energies(NULL, pose, 1, NULL, &number, answer, 1));
+    is("place", ICOTABLE_NOWHERE, icotable_reader_place(NULL, 1));
+    is("level lost", 0, (uint64_t)icotable_level_lost(NULL));
     is("columns", 3, icotable_reader_columns(NULL, NULL, 3, NULL, answer, NULL, &number, 1));
     is("untouched", 1, number == 5 && answer[0] == 7);
     is("file", 1, icotable_reader_file(NULL, &length) == NULL && length == 0);

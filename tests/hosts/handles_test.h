@@ -40,5 +40,6 @@ void test_builds(void);
 void test_files(void);
 void test_kills(unsigned seed);
 void test_readings(void);
+void test_places(void);
 
 #endif

@@ -25,17 +25,25 @@
 #include <time.h>
 #include <unistd.h>
 
-enum { HEAD = 84, FIRST = 160, FRAME = 76, MOST = 300000, RECORDS = 64, TOP = 2 };
+enum { HEAD_1 = 84, HEAD_2 = 116, FRAME = 76, MOST = 300000, RECORDS = 64, TOP = 2 };
 
 typedef struct plan {
     const char *name;
     bool atom;
     uint64_t top, distances;
-    double step; /* of the dihedral angle */
+    double step;       /* of the dihedral angle */
+    const char *label; /* NULL: a journal of version 1 */
 } plan;
 
-static const plan plans[] = {{"atom", true, 2, 6, 0}, {"small", false, 0, 3, 3}, {"pair", false, 1, 5, 2}};
+static const plan plans[] = {{"atom", true, 2, 6, 0, "a chloride ion, \xC3\xA5ngstr\xC3\xB6m"}, {"small", false, 0, 3, 3, NULL}, {"pair", false, 1, 5, 2, ""}};
 enum { ATOM, SMALL, PAIR, PLANS };
+
+/* the same one in every run, so that journals can be compared byte for byte */
+static const uint8_t id[16] = "a build's own id";
+
+static size_t head_of(const plan *p) {
+    return p->label == NULL ? HEAD_1 : HEAD_2 + strlen(p->label);
+}
 
 static icotable_meshes meshes;
 static char folder[1000];
@@ -100,12 +108,9 @@ static const double *energies(const plan *p, uint64_t level, uint64_t ri, uint64
 }
 
 static uint64_t opened(icotable_journal *j, const plan *p, const char *name, bool resume, unsigned flags) {
-    if (p->atom) {
-        icotable_atom_grid g = {.rmin = 0, .rmax = (double)p->distances, .dr = 1, .threshold = 0.5, .beta = 1};
-        return (resume ? icotable_journal_atom_resume : icotable_journal_atom_begin)(j, name, g, p->top, &meshes, flags);
-    }
     icotable_grid g = {.rmin = 0, .rmax = (double)p->distances, .dr = 1, .omega_step = p->step, .threshold = 0.5, .beta = 1};
-    return (resume ? icotable_journal_resume : icotable_journal_begin)(j, name, g, p->top, &meshes, flags);
+    flags |= p->label == NULL ? ICOTABLE_JOURNAL_FORMAT_1 : 0;
+    return (resume ? icotable_journal_resume_as : icotable_journal_begin_as)(j, name, p->atom, g, p->top, &meshes, flags, p->label, p->label == NULL ? NULL : id);
 }
 
 /* As a restarted job does it. */
@@ -263,15 +268,17 @@ static void cuts(int which) {
     }
 }
 
-/* A journal that was altered between two bytes: refused, and where it is said which record is damaged, that is the one. */
-static void refused(int which, const uint8_t *copy, size_t from) {
+/* A journal that was altered from a byte on, and nowhere else where it is one byte alone: refused, and where it is said which record is
+ * damaged, that is the one. A version and more behind it that are others may be those of a later format. */
+static void refused(int which, const uint8_t *copy, size_t from, bool alone) {
     const whole *w = &wholes[which];
     const char *name = path("damaged");
     save(name, copy, w->journal.count);
     icotable_journal j;
     uint64_t number = opened(&j, &plans[which], name, true, 0);
-    bool named = number == ICOTABLE_JOURNAL_DAMAGED || (from < 8 && number == ICOTABLE_JOURNAL_NOT_A_JOURNAL);
-    check(named && j.records == (from < HEAD ? 0 : records_at(w, from)), "a damaged journal is not refused with its place", j.said);
+    bool later = !alone && from >= 8 && from < 12 && number == ICOTABLE_JOURNAL_OTHER_VERSION;
+    bool named = number == ICOTABLE_JOURNAL_DAMAGED || (from < 8 && number == ICOTABLE_JOURNAL_NOT_A_JOURNAL) || later;
+    check(named && j.records == (from < head_of(&plans[which]) ? 0 : records_at(w, from)), "a damaged journal is not refused with its place", j.said);
     icotable_journal_close(&j);
     load(name, &got);
     check(got.count == w->journal.count && memcmp(got.at, copy, got.count) == 0, "a refused journal is altered", j.said);
@@ -283,7 +290,7 @@ static void damages(int which, size_t every, size_t ranges) {
     for (size_t byte = every > 1 ? below(every) : 0; byte < b->count; byte += every) {
         memcpy(copy, b->at, b->count);
         copy[byte] ^= (uint8_t)(1 + below(255));
-        refused(which, copy, byte);
+        refused(which, copy, byte, true);
     }
     for (size_t k = 0; k < ranges; k++) {
         size_t from = below(b->count - 8), count = 1 + below(b->count - 8 - from);
@@ -295,7 +302,7 @@ static void damages(int which, size_t every, size_t ranges) {
         while (first < b->count && copy[first] == b->at[first])
             first++;
         if (first < b->count)
-            refused(which, copy, first);
+            refused(which, copy, first, false);
     }
 }
 
@@ -524,8 +531,9 @@ static void full_disks(size_t tries) {
     for (size_t k = 0; k < tries; k++) {
         int which = (int)below(PLANS);
         const whole *w = &wholes[which];
-        full_disk(which, FIRST + below(w->journal.count - FIRST));
-        full_at_begin(which, below(FIRST));
+        size_t first = head_of(&plans[which]) + FRAME;
+        full_disk(which, first + below(w->journal.count - first));
+        full_at_begin(which, below(first));
         failing_disk(which, (int)below(w->records - 1));
     }
     for (size_t k = 0; k + 1 < wholes[PAIR].records; k++)
@@ -646,7 +654,7 @@ static void unguarded(void) {
     check(set(&j, p, 4, 0) == 0 && icotable_journal_settle(&j, 4).number == 0 && set(&j, p, 4, 0) == 0, "without the guard", j.said);
     check(icotable_journal_write(&j, got.at, MOST).number == 0, "without the guard", j.said);
     icotable_journal_close(&j);
-    refused_with(&j, opened(&j, p, name, true, 0), ICOTABLE_JOURNAL_NEARER_UNSETTLED, "distance bin 0 is nearer than 4 and not settled (record 1, at byte 160)",
+    refused_with(&j, opened(&j, p, name, true, 0), ICOTABLE_JOURNAL_NEARER_UNSETTLED, "distance bin 0 is nearer than 4 and not settled (record 1, at byte 192)",
                  "a journal without the guard");
     check(opened(&j, p, name, true, ICOTABLE_JOURNAL_UNGUARDED) == 0 && j.records == 4, "a journal without the guard", j.said);
     icotable_journal_close(&j);
@@ -680,6 +688,38 @@ static void others(void) {
     refused_with(&j, opened(&j, &plans[PAIR], name, true, 0), ICOTABLE_JOURNAL_NOT_A_JOURNAL, "23 bytes", "a letter");
 }
 
+/* Whose build it is: by its id and its label, beside equal settings and meshes. */
+static void identities(void) {
+    const char *name = path("mistake");
+    static const char *const wrong_labels[] = {"\x01", "a\nb", "\xC3", "\xC0\xAF", "\xED\xA0\x80", "\xF5\x80\x80\x80", "\xC2\x85"};
+    static char longest[ICOTABLE_LABEL + 2];
+    icotable_journal j = before_slab(name, 1, 0);
+    icotable_journal_close(&j);
+    icotable_grid g = {.rmin = 0, .rmax = 5, .dr = 1, .omega_step = 2, .threshold = 0.5, .beta = 1};
+    static const uint8_t other[16] = {7};
+    refused_with(&j, icotable_journal_resume_as(&j, name, 0, g, 1, &meshes, 0, "lysozyme", NULL), ICOTABLE_JOURNAL_OTHER_IDENTITY, "label '', not 'lysozyme'",
+                 "another label");
+    refused_with(&j, icotable_journal_resume_as(&j, name, 0, g, 1, &meshes, 0, NULL, other), ICOTABLE_JOURNAL_OTHER_IDENTITY,
+                 "id 61206275696c642773206f776e206964", "another id");
+    check(icotable_journal_resume_as(&j, name, 0, g, 1, &meshes, 0, "", id) == 0 && memcmp(j.identity.id, id, 16) == 0, "the same label and id", j.said);
+    icotable_journal_close(&j);
+    for (size_t i = 0; i < sizeof wrong_labels / sizeof *wrong_labels; i++) {
+        unlink(name);
+        refused_with(&j, icotable_journal_begin_as(&j, name, 0, g, 1, &meshes, 0, wrong_labels[i], NULL), ICOTABLE_JOURNAL_LABEL, "not UTF-8", "a label that is none");
+        check(length_of(name) == 0, "a refused label leaves a file", wrong_labels[i]);
+    }
+    memset(longest, 'x', ICOTABLE_LABEL + 1);
+    refused_with(&j, icotable_journal_begin_as(&j, name, 0, g, 1, &meshes, 0, longest, NULL), ICOTABLE_JOURNAL_LABEL, "4,096 bytes", "too long a label");
+    longest[ICOTABLE_LABEL] = 0;
+    check(icotable_journal_begin_as(&j, name, 0, g, 1, &meshes, 0, longest, NULL) == 0, "the longest label", j.said);
+    uint64_t build = j.build;
+    icotable_journal_close(&j);
+    check(icotable_journal_look(&j, name) == 0 && strcmp(j.identity.label, longest) == 0 && j.build == build, "the longest label, looked at", j.said);
+    unlink(name);
+    check(icotable_journal_begin_as(&j, name, 0, g, 1, &meshes, 0, longest, NULL) == 0 && j.build != build, "two builds with equal settings have one hash", j.said);
+    icotable_journal_close(&j);
+}
+
 /* Refused by the library: nothing is altered and nothing is recorded. */
 static void refused_calls(void) {
     static held before, after;
@@ -705,6 +745,13 @@ static void refused_calls(void) {
 
 /* ---- */
 
+/* A journal of another host, whatever its id and label; one that is not there is begun. */
+static uint64_t resumed_by_any(icotable_journal *j, const plan *p, const char *name) {
+    icotable_grid g = {.rmin = 0, .rmax = (double)p->distances, .dr = 1, .omega_step = p->step, .threshold = 0.5, .beta = 1};
+    uint64_t number = icotable_journal_resume_as(j, name, p->atom, g, p->top, &meshes, 0, NULL, NULL);
+    return number == ICOTABLE_JOURNAL_ABSENT ? opened(j, p, name, false, 0) : number;
+}
+
 /* journal build KIND FILE TABLE [RECORDS] */
 static int build(int count, char **words) {
     int which = 0;
@@ -714,7 +761,7 @@ static int build(int count, char **words) {
         return 2;
     uint64_t most = count > 3 ? strtoull(words[3], NULL, 10) : (uint64_t)-1;
     icotable_journal j;
-    uint64_t number = begun_or_resumed(&j, &plans[which], words[1], 0);
+    uint64_t number = resumed_by_any(&j, &plans[which], words[1]);
     while (number == 0 && j.records < most)
         number = step(&j, &plans[which]);
     if (number == (uint64_t)-1) {
@@ -735,6 +782,7 @@ static void mistakes(void) {
     two_players();
     unguarded();
     others();
+    identities();
     refused_calls();
 }
 

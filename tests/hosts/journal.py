@@ -1,12 +1,13 @@
 #!/usr/bin/env python3
-"""A journal read by what hosts/c/icotable_journal.h says of the file, with Python's own zlib.crc32: journal.py FILE tells its records. journal.py
-FILE OUT gradient N, level N, energy N, without N or version writes it with that altered, in record N, and all checksums made anew: damage
-that only the playing can find."""
+"""A journal read by what docs/FORMAT.md says of the file, with Python's own zlib.crc32: journal.py FILE tells its records. journal.py FILE
+OUT gradient N, level N, energy N, without N, version, library or meshes writes it with that altered, in record N, and all checksums made
+anew: damage that only the playing can find. journal.py FILE OTHER calls tells whether both have the same calls and answers."""
 import struct
 import sys
 import zlib
 
 HEAD = struct.Struct("<8sIIQ6dQ")
+MORE = struct.Struct("<3I16sI")  # of version 2, and the label behind it
 CALL = struct.Struct("<4Q")
 ANSWER = struct.Struct("<QQdQ")
 
@@ -42,6 +43,9 @@ def read(data):
     """Head and records, each as its numbers."""
     r, records = Reader(data), []
     head = list(HEAD.unpack(r.summed(HEAD.size)))
+    if head[1] == 2:
+        head += MORE.unpack(r.summed(MORE.size))
+        head.append(r.summed(head[-1]))
     r.check()
     while r.at < len(data):
         call = list(CALL.unpack(r.summed(CALL.size)))
@@ -56,7 +60,9 @@ def read(data):
 
 
 def made(head, records):
-    out = bytearray(HEAD.pack(*head))
+    out = bytearray(HEAD.pack(*head[:11]))
+    if len(head) > 11:
+        out += MORE.pack(*head[11:16]) + head[16]
     total = zlib.crc32(out)
     out += struct.pack("<I", total)
     for call, energies, answer in records:
@@ -72,7 +78,13 @@ def made(head, records):
 def altered(head, records, what, n):
     call, energies, answer = records[n]
     if what == "version":
-        head[1] = 2
+        head[1] = 3
+    elif what == "library":
+        head[12] += 1
+        answer[2] += 0.25
+    elif what == "meshes":
+        head[10] ^= 1
+        del records[:]
     elif what == "gradient":
         answer[2] += 0.25
     elif what == "level":
@@ -89,8 +101,11 @@ def main():
     with open(sys.argv[1], "rb") as file:
         data = file.read()
     head, records = read(data)
-    if made(head, records) != data or head[0] != b"ICOTJRNL" or head[1] != 1:
+    if made(head, records) != data or head[0] != b"ICOTJRNL" or head[1] not in (1, 2):
         refuse("it is not made of head and records")
+    if sys.argv[3:] == ["calls"]:
+        with open(sys.argv[2], "rb") as file:
+            sys.exit("the calls differ" if read(file.read())[1] != records else print("the same calls"))
     if len(sys.argv) > 3:
         altered(head, records, sys.argv[3], int((sys.argv + ["0"])[4]) if len(sys.argv) > 4 else 0)
         with open(sys.argv[2], "wb") as file:

@@ -1,6 +1,7 @@
 /* Random lists of calls of builds by handles, with their journals: lists make COUNT FOLDER writes what each list
  * gives, a line each; lists check FILE FOLDER makes them again and compares. hosts/cases/lists.txt has the answers
- * of version 0.22.0, and hosts/rust/tests/lists.rs makes the same lists in Rust. A list draws a kind of table,
+ * of version 0.22.0, so that the journals are of format version 1, and hosts/rust/tests/lists.rs makes the same lists
+ * in Rust. A list draws a kind of table,
  * settings, meshes and guard, and then calls: what comes next, slabs and slices that do not come next, counts and
  * energies that are refused, tables with a tail and without, journals that are closed, cut, lengthened, damaged,
  * opened with other settings or twice. A line has three crc32: of every answer (number, message, gradient, progress;
@@ -86,7 +87,7 @@ typedef icotable_build *opening(const icotable_build_settings *, icotable_fault 
 static void opened(list *l, opening *how, unsigned flags, double beta) {
     icotable_fault fault;
     icotable_build_settings s = l->s;
-    s.flags = flags;
+    s.flags = flags | ICOTABLE_JOURNAL_FORMAT_1;
     s.grid.beta = beta;
     icotable_build *b = how(&s, &fault);
     told(l, fault.number, fault.said);

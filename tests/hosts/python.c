@@ -29,14 +29,16 @@ static void tables(void) {
 
 static void builds(void) {
     STRUCT(build_settings), F4(build_settings, atom, grid, top, journal), F2(build_settings, meshes, flags),
-        F1(build_settings, lent), ENDED;
+        F2(build_settings, lent, label), ENDED;
+    STRUCT(identity), F2(identity, id, label), ENDED;
     STRUCT(journal_settled), F2(journal_settled, number, gradient), F1(journal_settled, comparisons), ENDED;
-    STRUCT(progress), F4(progress, n_r, n_omega, top, level), F4(progress, slabs, set, settled, length), F2(progress, step, ri), F1(progress, oi), ENDED;
+    STRUCT(progress), F4(progress, n_r, n_omega, top, level), F4(progress, slabs, set, settled, length),
+        F4(progress, step, ri, oi, level_lost), ENDED;
     STRUCT(journal), F4(journal, atom, guarded, builder, records), F4(journal, bytes, cut, slabs, set_count), F2(journal, settled_count, set),
-        F1(journal, settled), ENDED;
+        F4(journal, settled, said, build, meshes_hash), F2(journal, version, library), F1(journal, identity), ENDED;
     STRUCT(terms), F4(terms, coefficients, kappas, powers, count), F1(terms, prefactor), ENDED;
     STRUCT(seal), F4(seal, sha256, table_length, atom, grid), F4(seal, top, levels, meshes_hash, own_meshes), F2(seal, version, journaled),
-        F1(seal, journal_sha256), ENDED;
+        F4(seal, journal_sha256, format, guarded, whole), F1(seal, identity), ENDED;
 }
 
 typedef struct answer {

@@ -40,6 +40,20 @@ static void any_digits(char digits[65]) {
     digits[64] = 0;
 }
 
+/* What version 1 does not have. */
+static void any_build(icotable_seal *s) {
+    static const char *const labels[] = {"", "water and ethanol", "ångström, κ=0.1", "none", " a b  c ", "1"};
+    s->guarded = (enum icotable_known)(drawn() % 3);
+    s->whole = (enum icotable_known)(drawn() % 3);
+    if (drawn() % 4 == 0)
+        s->grid.threshold = s->grid.beta = NAN;
+    strcpy(s->identity.label, labels[drawn() % 6]);
+    for (int i = 0; i < 16; i++)
+        s->identity.id[i] = (uint8_t)drawn();
+    if (drawn() % 8 == 0)
+        memset(s->identity.label, 'x', ICOTABLE_LABEL);
+}
+
 static icotable_seal any_seal(void) {
     icotable_seal s = {.table_length = drawn() >> drawn() % 64, .atom = drawn() % 2, .top = drawn() % 16, .meshes_hash = drawn() >> drawn() % 64,
                        .own_meshes = drawn() % 2, .version = "0.20.0", .journaled = drawn() % 2};
@@ -50,13 +64,18 @@ static icotable_seal any_seal(void) {
     any_digits(s.sha256);
     if (s.journaled)
         any_digits(s.journal_sha256);
+    s.format = 1 + drawn() % 2;
+    if (s.format == 2)
+        any_build(&s);
     return s;
 }
 
 static bool same_seal(const icotable_seal *s, const icotable_seal *t) {
     return strcmp(s->sha256, t->sha256) == 0 && s->table_length == t->table_length && s->atom == t->atom && memcmp(&s->grid, &t->grid, sizeof s->grid) == 0 &&
            s->top == t->top && s->levels == t->levels && s->meshes_hash == t->meshes_hash && s->own_meshes == t->own_meshes &&
-           strcmp(s->version, t->version) == 0 && s->journaled == t->journaled && strcmp(s->journal_sha256, t->journal_sha256) == 0;
+           strcmp(s->version, t->version) == 0 && s->journaled == t->journaled && strcmp(s->journal_sha256, t->journal_sha256) == 0 &&
+           s->format == t->format && s->guarded == t->guarded && s->whole == t->whole &&
+           memcmp(s->identity.id, t->identity.id, sizeof s->identity.id) == 0 && strcmp(s->identity.label, t->identity.label) == 0;
 }
 
 static void round_trips(int times) {
@@ -105,12 +124,15 @@ static void damages(void) {
     size_t count;
     sealed = (icotable_seal){.table_length = 70, .grid = {1, 25, 0.75, 0.5, 0.4, 1, 32, 12}, .top = 3, .levels = 4, .own_meshes = 1, .version = "0.20.0"};
     sealed.meshes_hash = 255;
+    sealed.format = 2, sealed.guarded = ICOTABLE_YES, sealed.whole = ICOTABLE_NO;
+    memset(sealed.identity.id, 0x61, sizeof sealed.identity.id);
+    strcpy(sealed.identity.label, "water");
     memset(sealed.sha256, 'a', 64);
     check(icotable_seal_write(&sealed, path("good"), &fault) == 0, "a seal is not written", fault.said);
     char *good = (char *)get_file(path("good.meta"), &count);
     damage_all(path("damaged.meta"), (uint8_t *)good, count, read_refuses);
     good[count] = 0;
-    altered(good, "seal 1", "seal 2", 253, ": 2");
+    altered(good, "seal 2", "seal 3", 253, ": 3");
     altered(good, "icotable seal", "icotable deal", 252, "begins otherwise");
     altered(good, "version 0.20.0", "version 0.20.0 ", 254, ": a version");
     altered(good, "kind molecules", "kind molecule", 254, "line 3 ");
@@ -120,7 +142,8 @@ static void damages(void) {
     altered(good, "length 70", "length -1", 254, "line 4 ");
     altered(good, "aaaa", "AAAA", 254, ": a SHA-256 of the table");
     altered(good, "threshold 0.40000000000000002", "threshold 0.4", 254, "line 10 is not as this library writes it");
-    altered(good, "beta 1", "beta nan", 254, "a setting that is not finite");
+    altered(good, "beta 1", "beta nan", 254, "line 11 is not as this library writes it");
+    altered(good, "rmin 1", "rmin unknown", 254, "a setting that is not finite");
     altered(good, "beta 1", "beta inf", 254, "a setting that is not finite");
     altered(good, "beta 1", "gamma 1", 254, "line 11 is not its 'beta'");
     altered(good, "beta 1\n", "beta 1\ncolour red\n", 254, "line 12 is not its 'n_r'");
@@ -130,6 +153,12 @@ static void damages(void) {
     altered(good, "own_meshes yes", "own_meshes true", 254, "line 17 ");
     altered(good, "journal none", "journal some", 254, ": a SHA-256 of the journal");
     altered(good, "journal none\n", "journal none\nnote\n", 254, "line 19 ");
+    altered(good, "guarded yes", "guarded maybe", 254, "line 19 ");
+    altered(good, "whole no", "whole No", 254, "line 20 ");
+    altered(good, "whole no\n", "", 254, "line 20 is not its 'whole'");
+    altered(good, "id 6", "id 6 ", 254, "line 21 ");
+    altered(good, "label water", "label wa\x01ter", 254, "a label that is not UTF-8");
+    altered(good, "label water\n", "label water\nlabel ice\n", 254, "line 23 ");
     free(good);
 }
 
@@ -142,13 +171,17 @@ static void not_written(icotable_seal s, const char *why) {
 static void unfit(void) {
     icotable_seal s = sealed;
     not_written((icotable_seal){0}, "version");
-    s.grid.beta = NAN, not_written(s, "not finite"), s = sealed;
+    s.grid.beta = INFINITY, not_written(s, "not finite"), s = sealed;
+    s.grid.rmax = NAN, not_written(s, "not finite"), s = sealed;
+    s.grid.beta = NAN, s.format = 1, not_written(s, "not finite"), s = sealed;
     strcpy(s.version, "a b"), not_written(s, "version"), s = sealed;
     memset(s.version, 'a', sizeof s.version), not_written(s, "version"), s = sealed;
     memset(s.sha256, 'a', sizeof s.sha256), not_written(s, "64 hexadecimal digits"), s = sealed;
     s.sha256[3] = 'g', not_written(s, "64 hexadecimal digits"), s = sealed;
     s.levels = 0, not_written(s, "levels"), s = sealed;
     s.atom = 2, not_written(s, "neither"), s = sealed;
+    s.whole = (enum icotable_known)3, not_written(s, "neither"), s = sealed;
+    strcpy(s.identity.label, "a\nb"), not_written(s, "UTF-8"), s = sealed;
     s.journaled = 1, not_written(s, "journal");
     check(access(path("unfit.meta"), F_OK) != 0, "a refused seal leaves a file", "");
 }
@@ -173,7 +206,7 @@ static void troubles(void) {
     struct rlimit was, full;
     refused(251, icotable_seal_read(&s, path("nowhere"), &fault), "nowhere.meta");
     refused(256, icotable_seal_write(&sealed, path("nowhere/table"), &fault), "No such file");
-    char many[5000] = {0};
+    char many[10000] = {0};
     put_file(path("long.meta"), many, sizeof many);
     refused(252, icotable_seal_read(&s, path("long"), &fault), "longer than any");
     int before = files();
@@ -200,8 +233,7 @@ static const double *energies(uint64_t level, uint64_t ri, uint64_t oi, bool ato
 }
 
 static uint64_t begun(icotable_journal *j, const char *name, const icotable_seal *s, const icotable_meshes *m) {
-    icotable_atom_grid atom = {s->grid.rmin, s->grid.rmax, s->grid.dr, s->grid.threshold, s->grid.beta, 0};
-    return s->atom ? icotable_journal_atom_begin(j, name, atom, s->top, m, 0) : icotable_journal_begin(j, name, s->grid, s->top, m, 0);
+    return icotable_journal_begin_as(j, name, s->atom, s->grid, s->top, m, 0, "water, ångström", NULL);
 }
 
 static uint64_t played(icotable_journal *j, double height) {
@@ -225,6 +257,8 @@ static uint64_t sealed_table(icotable_journal *j, icotable_seal *s, const char *
     s->grid = j->builder.grid;
     s->journaled = icotable_sha256_file_(journal, s->journal_sha256);
     icotable_sha256_(bytes, w.length, s->sha256);
+    s->guarded = s->whole = ICOTABLE_YES;
+    s->identity = j->identity;
     return icotable_seal_write(s, name, &fault);
 }
 

@@ -1,5 +1,5 @@
-/* Slab files (hosts/c/icotable_slab.h): slab FOLDER writes and reads them, and has to find every byte that is altered and every
- * length that is cut; slab serial pair FILE and slab serial atom FILE build the tables of tests/hosts/slurm by the library's own
+/* Slab files (hosts/c/icotable_slab.h): slab FOLDER writes and reads them, of both versions, and has to find every byte that is altered
+ * and every length that is cut; slab serial pair FILE and slab serial atom FILE build the tables of tests/hosts/slurm by the library's own
  * calls, one after another, without journal or slab files. */
 #include "icotable_journal.h"
 #include "icotable_slab.h"
@@ -22,6 +22,7 @@ static double energies[MOST], back[MOST], store[PAIR_SLABS * MOST];
 static uint8_t file[ROOM], output[ROOM];
 static uint64_t checks, wrong;
 static const char *folder;
+static icotable_identity whose; /* of every slab here: none makes files of version 1 */
 
 static void check(int good, const char *what, const char *said) {
     checks++;
@@ -59,13 +60,22 @@ static void save(const icotable_slab *s, size_t count) {
         exit(2);
 }
 
+/* How many bytes are before the energies. */
+static size_t front(void) {
+    return whose.id[0] == 0 ? 56 : 76 + strlen(whose.label);
+}
+
+static icotable_slab slab_of(int kind, uint64_t level, uint64_t oi) {
+    return (icotable_slab){.atom = kind, .build = 7, .level = level, .ri = 3, .oi = oi, .identity = whose};
+}
+
 /* ---- */
 
 static void round_trips(void) {
     static const double odd[] = {0, -0.0, 5e-324, 1e308, INFINITY, -INFINITY, -1.5, 0.1};
     for (int kind = 0; kind < 2; kind++)
         for (uint64_t level = 0; level <= 2; level++) {
-            icotable_slab s = {.atom = kind, .build = 7, .level = level, .ri = 3, .oi = kind ? 0 : 11};
+            icotable_slab s = slab_of(kind, level, kind ? 0 : 11);
             size_t count = icotable_slab_count(&s);
             for (size_t i = 0; i < count; i++)
                 energies[i] = odd[i % 8] + (double)(i / 8);
@@ -73,7 +83,7 @@ static void round_trips(void) {
             memset(back, 1, sizeof back);
             check(icotable_slab_read(&s, folder, back, count) == 0 && memcmp(back, energies, count * sizeof *back) == 0, "read", s.said);
             size_t length = load(&s);
-            check(length == 56 + 8 * count + 4, "length", s.said);
+            check(length == front() + 8 * count + 4, "length", s.said);
             memcpy(output, file, length);
             check(icotable_slab_write(&s, folder, energies, count) == 0 && load(&s) == length && memcmp(output, file, length) == 0, "written twice", s.said);
         }
@@ -81,7 +91,8 @@ static void round_trips(void) {
 
 /* No bit of a file is free, and no length but its own. */
 static void damages(void) {
-    icotable_slab s = {.atom = 1, .build = 7, .level = 0, .ri = 3, .oi = 0};
+    icotable_slab s = slab_of(1, 0, 0);
+    char longer[40];
     size_t count = icotable_slab_count(&s), length = load(&s);
     for (size_t bit = 0; bit < 8 * length; bit++) {
         file[bit / 8] ^= (uint8_t)(1 << bit % 8);
@@ -98,14 +109,15 @@ static void damages(void) {
     }
     file[length] = 0;
     save(&s, length + 1);
-    refused_with(&s, icotable_slab_read(&s, folder, back, count), ICOTABLE_SLAB_DAMAGED, "157 bytes long", "a file that is longer");
+    snprintf(longer, sizeof longer, "%zu bytes long", length + 1);
+    refused_with(&s, icotable_slab_read(&s, folder, back, count), ICOTABLE_SLAB_DAMAGED, longer, "a file that is longer");
     save(&s, length);
     check(icotable_slab_read(&s, folder, back, count) == 0, "the file as it was", s.said);
 }
 
 /* A whole file under a name that is not its own, or asked for by another build. */
 static void others(void) {
-    icotable_slab s = {.atom = 0, .build = 7, .level = 0, .ri = 3, .oi = 11}, t = s;
+    icotable_slab s = slab_of(0, 0, 11), t = s;
     size_t count = icotable_slab_count(&s), length = load(&s);
     t.build = 8;
     refused_with(&t, icotable_slab_read(&t, folder, back, count), ICOTABLE_SLAB_OTHER_BUILD, "hash 0000000000000007, not 0000000000000008", "another build");
@@ -119,8 +131,26 @@ static void others(void) {
     refused_with(&t, icotable_slab_read(&t, folder, back, 12), ICOTABLE_SLAB_OTHER_BUILD, "it is of two molecules", "the other kind");
 }
 
+/* A whole file of another build with the same settings: both are named. */
+static void identities(const char *label) {
+    icotable_slab s = slab_of(0, 0, 11), t = s;
+    size_t count = icotable_slab_count(&s);
+    char wanted[80];
+    snprintf(wanted, sizeof wanted, "'%.40s', id ", whose.label);
+    t.identity.id[15] ^= 1;
+    refused_with(&t, icotable_slab_read(&t, folder, back, count), ICOTABLE_SLAB_OTHER_IDENTITY, wanted, "another id");
+    t = s;
+    strcpy(t.identity.label, label);
+    refused_with(&t, icotable_slab_read(&t, folder, back, count), ICOTABLE_SLAB_OTHER_IDENTITY, wanted, "another label");
+    snprintf(wanted, sizeof wanted, "this build is '%.40s', id ", label);
+    check(strstr(t.said, wanted) != NULL, wanted, t.said);
+    t = (icotable_slab){.identity = {.id = {9}}};
+    check(icotable_slab_look(&t, path(&s)) == 0 && t.build == 7 && t.ri == 3 && t.oi == 11 && t.level == 0, "a look", t.said);
+    check(memcmp(t.identity.id, whose.id, 16) == 0 && strcmp(t.identity.label, whose.label) == 0, "a look at whose it is", t.said);
+}
+
 static void mistakes(void) {
-    icotable_slab s = {.atom = 0, .build = 7, .level = 0, .ri = 3, .oi = 11};
+    icotable_slab s = slab_of(0, 0, 11);
     char none[4096];
     size_t before = load(&s);
     memcpy(output, file, before);
@@ -144,7 +174,7 @@ static void mistakes(void) {
 
 /* A disk that takes no more: the file that is there stays, and nothing is left beside it. */
 static void full_disk(void) {
-    icotable_slab s = {.atom = 0, .build = 7, .level = 0, .ri = 3, .oi = 11};
+    icotable_slab s = slab_of(0, 0, 11);
     size_t before = load(&s);
     struct rlimit all, few;
     char command[4200];
@@ -161,6 +191,15 @@ static void full_disk(void) {
     }
     snprintf(command, sizeof command, "! ls '%s' | grep -q tmp", folder);
     check(system(command) == 0, "a file is left beside it", "");
+}
+
+static void all(void) {
+    round_trips();
+    damages();
+    others();
+    identities("two of water");
+    mistakes();
+    full_disk();
 }
 
 /* ---- tables */
@@ -219,11 +258,11 @@ int main(int count, char **words) {
         return 2;
     }
     folder = words[1];
-    round_trips();
-    damages();
-    others();
-    mistakes();
-    full_disk();
+    all();
+    memcpy(whose.id, "a build of tests", sizeof whose.id);
+    all();
+    strcpy(whose.label, "water and ethanol, ångström");
+    all();
     printf("slab: %llu checks, %llu wrong\n", (unsigned long long)checks, (unsigned long long)wrong);
     return wrong != 0;
 }

@@ -5,9 +5,12 @@
  * A host's own energies: replace `sample`. Equal calls should give equal energies, to the bit; where they cannot (a random
  * method), the file that is there when the slice is collected counts, and that is recorded in the journal.
  *
+ * Over what is installed: cc -o sample_slab sample_slab.c molecules.c $(pkg-config --cflags --libs icotable) -lm
+ *
  * Status 0: the file is written. 1: refused. 2: the words are not understood. */
 #include "environment.h"
 #include "icotable_journal.h"
+#include "icotable_mesh_file.h"
 #include "icotable_slab.h"
 #include "molecules.h"
 
@@ -17,9 +20,10 @@
 
 typedef unsigned long long ull;
 
-/* The energies of one slab over n directions, at distance r and, of two molecules, at dihedral angle omega. Of two molecules
- * energies[i * n + j] is that with direction a at vertex i and b at vertex j; against an atom energies[i] is that with the atom
- * in the direction of vertex i. Here: the molecules of the demonstration. */
+/* The energies of one slab over n directions, at distance r and, of two molecules, at dihedral angle omega. Of two
+ * molecules energies[i * n + j] is that with direction a at vertex i and b at vertex j, in the pose that docs/GUIDE.md,
+ * What a table is, says; against an atom energies[i] is that with the atom in the direction of vertex i. Here: the
+ * molecules of the demonstration. */
 static int sample(double *energies, int atom, const double *directions, size_t n, double r, double omega) {
     if (atom) {
         ion_slab(energies, directions, n, r);
@@ -72,7 +76,7 @@ static int check(const char *name, const icotable_journal *j, const icotable_mes
     uint64_t n_r, n_omega, number = bins_of(j, m, &n_r, &n_omega);
     if (number != 0)
         return refused(name, number, icotable_words(number));
-    if (icotable_build_hash(j->atom, j->builder.grid, j->builder.top, m) != j->build)
+    if (icotable_meshes_hash(m, j->builder.top + 1) != j->meshes_hash)
         return refused(name, ICOTABLE_JOURNAL_OTHER_MESHES, icotable_journal_words(ICOTABLE_JOURNAL_OTHER_MESHES));
     if (s->ri < n_r && s->oi < n_omega && s->level <= j->builder.top)
         return 0;
@@ -108,8 +112,7 @@ static int run(const char *name, const char *folder, icotable_slab *s) {
         return refused(name, number, j.said);
     number = icotable_make_meshes(&meshes, j.builder.top);
     int status = number == 0 ? check(name, &j, &meshes, s) : refused("meshes", number, icotable_words(number));
-    s->atom = j.atom;
-    s->build = j.build;
+    *s = icotable_slab_of(&j, s->level, s->ri, s->oi);
     if (status == 0)
         status = sample_and_write(&j, &meshes, s, folder);
     icotable_free_meshes(&meshes);

@@ -26,14 +26,10 @@ typedef struct collector {
 
 /* ---- slab files into the journal */
 
-static icotable_slab slab_of(const icotable_journal *j, uint64_t ri, uint64_t oi) {
-    return (icotable_slab){.atom = j->atom, .build = j->build, .level = j->builder.level, .ri = ri, .oi = oi};
-}
-
 /* Sets a slab whose file is there and whole; of any other it says why not, and the slab is missing. TROUBLE where the journal
  * takes no call. */
 static int take(collector *c, uint64_t ri, uint64_t oi) {
-    icotable_slab s = slab_of(c->j, ri, oi);
+    icotable_slab s = icotable_slab_of(c->j, c->j->builder.level, ri, oi);
     char name[ICOTABLE_SLAB_NAME];
     uint64_t number = icotable_slab_read(&s, c->folder, c->energies, icotable_slab_count(&s));
     if (number != 0 && number != ICOTABLE_SLAB_ABSENT)

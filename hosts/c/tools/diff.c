@@ -1,6 +1,7 @@
 /* diff A B: whether and why two tables differ; where they have seals, by which settings. A summary first, then the slabs, as many
  * as are wanted. */
 #include "differences.h"
+#include "icotable_mesh_file.h"
 #include "verbs.h"
 
 #include <string.h>
@@ -12,6 +13,10 @@ typedef unsigned long long ull;
 static void print_causes(const differences *d) {
     const char *before = "causes: ";
     paint(stdout, BOLD);
+    if (d->meshes_differ) {
+        printf("%smeshes", before);
+        before = ", ";
+    }
     if (d->settings_differ) {
         printf("%ssettings", before);
         before = ", ";
@@ -27,8 +32,9 @@ static void print_causes(const differences *d) {
     putchar('\n');
 }
 
-static void print_settings(const differences *d) {
-    puts(d->settings_differ ? "the settings differ:" : "the settings are equal");
+/* Threshold, beta and top level are in seals alone. */
+static void print_settings(const table_file *f, const table_file *g, const differences *d) {
+    puts(d->settings_differ ? "the settings differ:" : sealed_alike(f, g) ? "the settings are equal" : "the grids are equal");
     for (int i = 0; i < SETTINGS; i++) {
         const setting *s = &d->settings[i];
         if (s->differs && s->count)
@@ -132,8 +138,14 @@ static void print_listing(const table_file *f, const table_file *g, const listin
         printf("%llu slabs%s that differ are not listed: --limit %llu\n", (ull)(found - l->most), l->sliced ? " of the slice" : "", (ull)found);
 }
 
-static int differ(const table_file *f, const table_file *g, const listing *l) {
+static void print_meshes(bool differ) {
+    if (differ)
+        puts("the meshes differ: vertices of one number are other directions, and so are the energies at them");
+}
+
+static int differ(const table_file *f, const table_file *g, const listing *l, bool meshes) {
     differences d = differences_of(f, g);
+    d.meshes_differ = meshes;
     if (given("--json") != NULL) {
         json_differences(f, g, &d, l);
         return FOUND;
@@ -147,8 +159,9 @@ static int differ(const table_file *f, const table_file *g, const listing *l) {
         printf("they are of two kinds: %s and %s\n", table_words(f->atom), table_words(g->atom));
         return FOUND;
     }
+    print_meshes(meshes);
     print_causes(&d);
-    print_settings(&d);
+    print_settings(f, g, &d);
     print_slabs(f, &d);
     print_tails(f, g, &d, l->most);
     diff_seals(f, g, false);
@@ -157,7 +170,36 @@ static int differ(const table_file *f, const table_file *g, const listing *l) {
     return FOUND;
 }
 
+/* The same bytes. Over other meshes they are another table. */
+static int same(const table_file *f, const table_file *g, bool meshes) {
+    if (given("--json") != NULL) {
+        json_same(f, g, meshes);
+    } else {
+        printf("%s and %s are the same table, byte for byte%s\n", f->name, g->name, meshes ? ", over other meshes" : "");
+        print_meshes(meshes);
+        diff_seals(f, g, false);
+    }
+    return meshes ? FOUND : GOOD;
+}
+
+static const char *meshes_of(const table_file *f) {
+    return has_seal(f) ? NULL : given("--meshes");
+}
+
+/* Whether both are read with the same meshes, on the levels that both have: GOOD, or FOUND where the reader refuses one. */
+static int compare_meshes(const table_file *f, const table_file *g, bool *differ) {
+    table_meshes m, n;
+    uint64_t levels = f->table.levels < g->table.levels ? f->table.levels : g->table.levels;
+    int first = open_meshes(&m, f, meshes_of(f)), second = open_meshes(&n, g, meshes_of(g));
+    int status = first != GOOD ? first : second;
+    *differ = status == GOOD && icotable_meshes_hash(m.meshes, levels) != icotable_meshes_hash(n.meshes, levels);
+    close_meshes(&m);
+    close_meshes(&n);
+    return status;
+}
+
 static int compare(const table_file *f, const table_file *g, const listing *l) {
+    bool meshes;
     if (f->table.number != 0 || g->table.number != 0) {
         if (f->table.number != 0)
             print_verdict(stderr, f);
@@ -170,15 +212,10 @@ static int compare(const table_file *f, const table_file *g, const listing *l) {
                 (ull)(g->table.grid.n_r - 1));
         return TROUBLE;
     }
-    if (f->count != g->count || memcmp(f->bytes, g->bytes, f->count) != 0)
-        return differ(f, g, l);
-    if (given("--json") != NULL) {
-        json_same(f, g);
-    } else {
-        printf("%s and %s are the same table, byte for byte\n", f->name, g->name);
-        diff_seals(f, g, false);
-    }
-    return GOOD;
+    if (compare_meshes(f, g, &meshes) != GOOD)
+        return TROUBLE;
+    bool equal = f->count == g->count && memcmp(f->bytes, g->bytes, f->count) == 0;
+    return equal ? same(f, g, meshes) : differ(f, g, l, meshes);
 }
 
 static int listing_of(listing *l) {

@@ -13,9 +13,14 @@ static void json_files(const table_file *f, const table_file *g, bool equal) {
     json_close(']');
 }
 
-void json_same(const table_file *f, const table_file *g) {
+void json_same(const table_file *f, const table_file *g, bool other_meshes) {
     json_open(NULL, '{');
-    json_files(f, g, true);
+    json_files(f, g, !other_meshes);
+    if (other_meshes) {
+        json_open("causes", '[');
+        json_text(NULL, "meshes");
+        json_close(']');
+    }
     diff_seals(f, g, true);
     json_close('}');
     json_end();
@@ -23,6 +28,8 @@ void json_same(const table_file *f, const table_file *g) {
 
 static void json_causes(const differences *d) {
     json_open("causes", '[');
+    if (d->meshes_differ)
+        json_text(NULL, "meshes");
     if (d->settings_differ)
         json_text(NULL, "settings");
     for (enum cause c = OTHER_KIND; c < CAUSES; c++)

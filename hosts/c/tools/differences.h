@@ -30,7 +30,7 @@ typedef struct setting {
 typedef struct differences {
     bool kinds;                  /* of two kinds: then nothing else is counted */
     setting settings[SETTINGS];
-    bool settings_differ, slabs_match;
+    bool settings_differ, slabs_match, meshes_differ; /* the last is the caller's to say */
     uint64_t slabs[CAUSES], differing, first; /* slabs by cause; first of those that differ */
     uint64_t energies, energies_differing, most_slab;
     double most;
@@ -48,7 +48,7 @@ typedef struct listing {
 /* The first slab that is listed, and the one behind the last. */
 void listed_slabs(const listing *l, const table_file *f, uint64_t *first, uint64_t *end);
 
-void json_same(const table_file *f, const table_file *g);
+void json_same(const table_file *f, const table_file *g, bool other_meshes);
 void json_differences(const table_file *f, const table_file *g, const differences *d, const listing *l);
 
 #endif

@@ -1,17 +1,16 @@
-/* import SAVE OUT: a save of the Rust's icotable as a table file, and the meshes that its energies follow as OUT.mesh, since they
- * are not the library's own; with an audit of its rows. Each is written under another name and gets its own once it is whole; a
- * file that is there already is never replaced, and SAVE is never written to. */
+/* import SAVE OUT: a save of the Rust's icotable as a table file, the meshes that its energies follow as OUT.mesh, since they are not
+ * the library's own, and a seal, which says so; with an audit of its rows. Each is written under another name and gets its own once it is
+ * whole; a file that is there already is never replaced, and SAVE is never written to. */
 #include "import.h"
-#include "icotable_mesh_file.h"
-#include "support.h"
+#include "handles.h"
 #include "tools.h"
 
 #include <errno.h>
+#include <math.h>
 #include <stdlib.h>
 #include <string.h>
+#include <sys/stat.h>
 #include <unistd.h>
-
-typedef unsigned long long ull;
 
 /* A number with its digits by threes. */
 static const char *by_threes(uint64_t n, char text[32]) {
@@ -84,24 +83,41 @@ static void print_metadata(const imported *made) {
 
 /* ---- files */
 
-/* Meshes first: a table without them would be read with others. */
-static int write_both(const imported *made, const char *in, const char *out, const char *mesh) {
+/* What is known of the build: the table's own grid. Threshold and beta are not in a save. */
+static icotable_build_settings settings_of(const imported *made) {
+    icotable_build_settings s = {.atom = made->atom, .top = made->levels - 1, .lent = &made->meshes};
+    if (made->atom) {
+        icotable_atom_grid g = icotable_atom_read(made->table, made->length).grid;
+        s.grid = (icotable_grid){.rmin = g.rmin, .rmax = g.rmax, .dr = g.dr};
+    } else {
+        s.grid = icotable_read(made->table, made->length).grid;
+    }
+    s.grid.threshold = s.grid.beta = NAN;
+    return s;
+}
+
+/* Mesh file, table, seal. The mesh file goes again only where no table has the name: a table without it would be read with others. */
+static int write_all(const imported *made, const char *in, const char *out, const char *mesh) {
     icotable_fault fault;
+    struct stat what;
+    icotable_build_settings s = settings_of(made);
     int status = free_name(in, mesh);
     if (status != GOOD)
         return status;
-    if (icotable_meshes_save(&made->meshes, mesh, &fault) != 0)
-        return trouble(mesh, fault.said);
-    status = write_new(out, made->table, made->length);
-    if (status != GOOD)
+    if (icotable_save_(&s, NULL, made->table, made->length, out, false, &fault) == 0)
+        return GOOD;
+    if (lstat(out, &what) != 0 && errno == ENOENT)
         unlink(mesh);
-    return status;
+    else
+        fprintf(stderr, "icotable: %s has its name, and so %s stays\n", out, mesh);
+    return trouble(out, fault.said);
 }
 
 static void print_done(const imported *made, const char *in, const char *out, const char *mesh) {
     printf("%s: %s, %llu rows, %llu energies, from %s, a save of the Rust's %s%s\n", out, table_words(made->atom), (ull)made->rows,
            (ull)made->audit.accounted, in, made->atom ? "Table3DAdaptive" : "Table6DAdaptive", made->gzip ? ", gzip" : "");
-    printf("%s: the save's own meshes, levels 0 to %llu: the table is read with these and no others\n", mesh, (ull)made->levels - 1);
+    printf("%s: the save's own meshes, levels 0 to %llu: the table is read with these and no others, and its seal %s.meta says so\n", mesh,
+           (ull)made->levels - 1, out);
 }
 
 static int refused(const uint8_t *bytes, size_t count, const char *in, const icotable_fault *fault) {
@@ -120,7 +136,7 @@ static int import_to(const uint8_t *bytes, size_t count, const char *in, const c
     if (status == GOOD && number != 0)
         status = refused(bytes, count, in, &fault);
     if (status == GOOD)
-        status = write_both(&made, in, out, mesh);
+        status = write_all(&made, in, out, mesh);
     if (status == GOOD) {
         print_done(&made, in, out, mesh);
         print_audit(&made);

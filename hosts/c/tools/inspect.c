@@ -49,6 +49,22 @@ static void print_rows(const table_file *f, const tally *t) {
     }
 }
 
+/* The first row of that kind, or the count of rows. */
+static uint64_t first_of_kind(const table_file *f, unsigned kind) {
+    uint64_t s = 0;
+    while (s < f->table.rows && row_of(f, s).kind != kind)
+        s++;
+    return s;
+}
+
+/* Whether the level dropped inside the wall: the first interpolated row or, where none is, the first Mesh row is below
+ * the top level. */
+static bool level_lost(const table_file *f) {
+    uint64_t interpolated = first_of_kind(f, INTERPOLATED);
+    uint64_t s = interpolated < f->table.rows ? interpolated : first_of_kind(f, NEAREST);
+    return s < f->table.rows && row_of(f, s).level + 1u < f->table.levels;
+}
+
 /* The long-range tail, where there is one: its first terms. */
 static void print_terms(const table_file *f) {
     uint64_t terms = f->table.terms;
@@ -101,6 +117,9 @@ static void print_table(const table_file *f) {
         printf(", %llu infinite", (unsigned long long)seen.infinite);
     putchar('\n');
     print_terms(f);
+    if (level_lost(f))
+        printf("warning     %s\n", LEVEL_LOST);
+    show_seal(f, false);
     if (t->grid.n_r <= SHOWN && t->grid.n_omega <= SHOWN)
         print_slabs(f);
 }
@@ -155,8 +174,10 @@ static void json_table(const table_file *f) {
         json_count("n_omega", g->n_omega);
     }
     json_count("levels", f->table.levels);
+    json_flag("level_lost", level_lost(f));
     json_rows(f, &seen);
     json_terms(f);
+    show_seal(f, true);
 }
 
 /* Of a table that is accepted, its items or its resolution; of any other, what refuses it. */

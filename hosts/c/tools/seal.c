@@ -1,12 +1,13 @@
 /* What verify and diff say of seals: FILE.meta beside a table FILE. A table without one is as good as before. */
 #include "tools.h"
 
-#include "icotable_mesh_file.h"
-#include "icotable_seal.h"
+#include "icotable_handles.h"
 #include "support.h"
 
+#include <math.h>
 #include <stdlib.h>
 #include <string.h>
+#include <sys/stat.h>
 
 typedef unsigned long long ull;
 
@@ -20,6 +21,10 @@ static uint64_t read_seal(const table_file *f, icotable_seal *s, icotable_fault 
 
 /* In as few digits as come back to the same bits. */
 static void show_number(char letters[32], double x) {
+    if (isnan(x)) {
+        strcpy(letters, "unknown");
+        return;
+    }
     for (int digits = 6; digits <= 17; digits++) {
         snprintf(letters, 32, "%.*g", digits, x);
         double again = strtod(letters, NULL);
@@ -44,9 +49,9 @@ static bool fits(const table_file *f, const icotable_seal *s) {
 /* The verdict on a seal, and lines on it: the table's name goes before each. */
 typedef struct verdict {
     int status;
-    bool there, read;
+    bool there, read, lax; /* lax: the guard was off, a slab or a slice is missing, or nobody knows */
     icotable_seal seal;
-    char said[500], meshes[500];
+    char said[500], meshes[500], build[200];
 } verdict;
 
 /* The mesh file beside a table whose meshes are not the library's own. */
@@ -77,14 +82,38 @@ static void say_sealed(verdict *v) {
     show_number(beta, s->grid.beta);
     snprintf(v->said, sizeof v->said, "sealed: version %s, threshold %s, beta %s, %s meshes, %s", s->version, threshold, beta,
              s->own_meshes ? "the library's own" : "other", s->journaled ? "with a journal" : "without a journal");
+    if (s->whole == ICOTABLE_NO)
+        snprintf(v->build, sizeof v->build, "not every slab was set, or not every slice settled: an unset slab reads as 0.0");
+    else if (s->whole == ICOTABLE_UNKNOWN)
+        snprintf(v->build, sizeof v->build, "its seal does not say whether every slab was set and every slice settled");
+    else if (s->guarded != ICOTABLE_YES)
+        snprintf(v->build, sizeof v->build, "every slab was set and every slice settled, without the guard");
+    v->lax = s->whole != ICOTABLE_YES || s->guarded != ICOTABLE_YES;
+}
+
+/* What the reader would refuse: a mesh file beside a table that has no seal. */
+static void judge_unsealed(const table_file *f, verdict *v) {
+    struct stat what;
+    char *path = f->input ? NULL : icotable_beside_(f->name, ".mesh");
+    v->lax = true;
+    snprintf(v->build, sizeof v->build, "there is no seal: nothing says whether every slab was set and every slice settled");
+    if (path != NULL && stat(path, &what) == 0) {
+        v->there = true;
+        v->status = FOUND;
+        snprintf(v->said, sizeof v->said, "refused with %d: %s", ICOTABLE_HANDLE_NO_SEAL, icotable_handle_words(ICOTABLE_HANDLE_NO_SEAL));
+    }
+    free(path);
 }
 
 static void judge(const table_file *f, verdict *v) {
     icotable_fault fault;
     uint64_t number = read_seal(f, &v->seal, &fault);
-    *v = (verdict){.seal = v->seal, .there = number != ICOTABLE_SEAL_ABSENT, .read = number == 0};
-    if (!v->there)
+    icotable_seal seal = v->seal;
+    *v = (verdict){.seal = seal, .there = number != ICOTABLE_SEAL_ABSENT, .read = number == 0};
+    if (!v->there) {
+        judge_unsealed(f, v);
         return;
+    }
     if (number != 0) {
         snprintf(v->said, sizeof v->said, "its seal: refused with %llu: %s", (ull)number, fault.said);
         v->status = number == ICOTABLE_SEAL_TROUBLE ? TROUBLE : FOUND;
@@ -99,6 +128,13 @@ static void judge(const table_file *f, verdict *v) {
     }
 }
 
+static void json_known(const char *key, enum icotable_known known) {
+    if (known == ICOTABLE_UNKNOWN)
+        json_null(key);
+    else
+        json_flag(key, known == ICOTABLE_YES);
+}
+
 static void json_seal(const verdict *v) {
     json_open("seal", '{');
     json_flag("accepted", v->status == GOOD);
@@ -109,23 +145,60 @@ static void json_seal(const verdict *v) {
         json_double("beta", v->seal.grid.beta);
         json_flag("own_meshes", v->seal.own_meshes);
         json_flag("journaled", v->seal.journaled);
+        json_known("guarded", v->seal.guarded);
+        json_known("whole", v->seal.whole);
+        json_identity(&v->seal.identity);
     }
     json_close('}');
 }
 
-int verify_seal(const table_file *f, bool json) {
-    verdict v;
+/* A table without a seal is as good as before, unless verify is strict. */
+int verify_seal(const table_file *f, bool json, bool strict) {
+    static verdict v;
     judge(f, &v);
-    if (!v.there)
-        return GOOD;
-    if (json) {
+    int status = strict && v.lax && v.status == GOOD ? FOUND : v.status;
+    if (json && v.there)
         json_seal(&v);
-        return v.status;
-    }
-    printf("%s: %s\n", f->name, v.said);
+    if (json)
+        return status;
+    if (v.there)
+        printf("%s: %s\n", f->name, v.said);
+    if (v.read && v.seal.identity.label[0] != 0)
+        printf("%s: label %s\n", f->name, v.seal.identity.label);
     if (v.meshes[0] != 0)
         printf("%s: %s\n", f->name, v.meshes);
-    return v.status;
+    if (v.build[0] != 0 && (v.read || strict))
+        printf("%s: %s\n", f->name, v.build);
+    return status;
+}
+
+/* ---- inspect */
+
+static void print_build(const icotable_seal *s) {
+    char threshold[32], beta[32];
+    show_number(threshold, s->grid.threshold);
+    show_number(beta, s->grid.beta);
+    printf("sealed      version %s, threshold %s, beta %s, top level %llu, %s meshes\n", s->version, threshold, beta, (ull)s->top,
+           s->own_meshes ? "the library's own" : "other");
+    printf("label       %s\n", s->identity.label[0] == 0 ? "none" : s->identity.label);
+    printf("id          %s\n", has_id(&s->identity) ? id_digits(s->identity.id) : "none");
+    printf("guard       %s\n", s->guarded == ICOTABLE_YES ? "on" : s->guarded == ICOTABLE_NO ? "off" : "unknown");
+    printf("whole       %s\n", s->whole == ICOTABLE_YES  ? "yes: every slab was set and every slice settled"
+                               : s->whole == ICOTABLE_NO ? "no: a slab was not set, which reads as 0.0, or a slice not settled"
+                                                         : "unknown");
+}
+
+void show_seal(const table_file *f, bool json) {
+    verdict v = {0};
+    icotable_fault fault;
+    if (read_seal(f, &v.seal, &fault) != 0)
+        return;
+    v.read = true;
+    say_sealed(&v);
+    if (json)
+        json_seal(&v);
+    else
+        print_build(&v.seal);
 }
 
 /* ---- diff */
@@ -188,6 +261,15 @@ static void settings_differ(const icotable_seal *s, const icotable_seal *t, bool
             fputs(", other meshes", stdout);
     }
     versions_differ(s->version, t->version, json);
+}
+
+bool sealed_alike(const table_file *f, const table_file *g) {
+    icotable_seal s, t;
+    icotable_fault fault;
+    if (read_seal(f, &s, &fault) != 0 || read_seal(g, &t, &fault) != 0)
+        return false;
+    return same_bits(s.grid.rmax, t.grid.rmax) && same_bits(s.grid.threshold, t.grid.threshold) && same_bits(s.grid.beta, t.grid.beta) &&
+           s.top == t.top;
 }
 
 /* Slabs whose rows hold energies of one level in both tables, and those of them that hold the same. */

@@ -93,6 +93,11 @@ float energy_of(const table_file *f, const row *r, uint64_t i);
 uint64_t per_level(bool atom, uint64_t level);
 uint64_t per_row(const table_file *f, const row *r);
 const char *kind_words(unsigned kind);
+
+/* inspect and status: what a level that was lost inside the wall means. */
+#define LEVEL_LOST \
+    "the level dropped before the first interpolated slice, as it does inside a wall: the well has a coarser mesh " \
+    "than the top level's; build the table again with a larger rmin"
 /* A line to standard error, and TROUBLE; and why the last one was. */
 int trouble(const char *name, const char *why);
 const char *last_trouble(void);
@@ -146,7 +151,7 @@ void row_colour(FILE *out, const row *r, uint64_t shades);
  * the rows that have it; in lines, or as an item of a JSON object. */
 int print_resolution(const table_file *f, bool json);
 
-/* journal.c: plays a journal over the meshes that mesh.h makes, flags being those of resume; the number that refuses it, with its
+/* journal.c: plays a journal over the meshes that mesh.h makes, or those of --meshes, flags being those of resume; the number that refuses it, with its
  * words in said, or 0. Close it and free the meshes in any case. */
 uint64_t play_journal(icotable_journal *j, icotable_meshes *meshes, const char *name, unsigned flags);
 /* A journal is a file of its own, which a build may have open: TROUBLE for standard input. */
@@ -154,11 +159,40 @@ int journal_named(const char *name);
 /* A line with the number and its words; TROUBLE where there is nothing to refuse, FOUND otherwise. */
 int refused_journal(const char *name, uint64_t number, const char *said);
 
+/* The table of a journal's calls to a name that is free, with its seal and, where it needs one, its mesh file. */
+int save_table(icotable_journal *j, const char *name, const char *out, const uint8_t *bytes, size_t length, bool replace);
+
+/* slab.c: the id of a build in 32 hexadecimal digits, and from them; whether there is one; id and label as lines, and in JSON. */
+const char *id_digits(const uint8_t id[16]);
+bool id_of(const char *digits, uint8_t id[16]);
+bool has_id(const icotable_identity *i);
+void print_identity(const icotable_identity *i);
+void json_identity(const icotable_identity *i);
+
+/* meshes.c: the meshes that a table is read with, as the reader takes them: those of a mesh file that is named; by its seal the mesh file
+ * beside it or the library's own; without a seal the library's own, unless there is a mesh file beside it. FOUND, with a line to standard
+ * error, where the reader refuses it. Close it in any case. */
+typedef struct table_meshes {
+    struct icotable_reader *reader;
+    icotable_meshes held;
+    const icotable_meshes *meshes;
+} table_meshes;
+int open_meshes(table_meshes *t, const table_file *f, const char *meshes);
+void close_meshes(table_meshes *t);
+/* Whether there is a seal beside the table, good or not. */
+bool has_seal(const table_file *f);
+/* Those of a journal with so many levels: of --meshes FILE, or the library's own. The number that refuses them, with its words. */
+uint64_t journal_meshes(icotable_meshes *m, uint64_t levels, char *said, size_t room);
+
 /* seal.c: lines on the seal beside a table, or an item of a JSON object, and the verdict on it; GOOD without a word where there is
  * none. */
-int verify_seal(const table_file *f, bool json);
+int verify_seal(const table_file *f, bool json, bool strict);
 /* What the seals of two tables say of samples and settings; nothing where neither has one. */
 void diff_seals(const table_file *f, const table_file *g, bool json);
+/* Whether the seals of both say that all settings are equal. */
+bool sealed_alike(const table_file *f, const table_file *g);
+/* Lines on what the seal of a table says of its build, or an item of a JSON object; nothing where there is none that is the table's. */
+void show_seal(const table_file *f, bool json);
 
 int inspect_tool(int count, char **names);
 int verify_tool(int count, char **names);
@@ -170,6 +204,7 @@ int repack_tool(int count, char **names);
 int import_tool(int count, char **names);
 int size_tool(int count, char **names);
 int status_tool(int count, char **names);
+int slab_tool(int count, char **names);
 int replay_tool(int count, char **names);
 int begin_tool(int count, char **names);
 int collect_tool(int count, char **names);

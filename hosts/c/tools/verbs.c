@@ -8,11 +8,13 @@
 #define JSON {"--json", NULL, NULL, "One JSON object to standard output, for scripts."}
 #define SLICE(what) {"--slice", NULL, "RI", what}
 #define OUTPUT(what) {"-o", "--output", "OUT", what}
+#define MESHES(what) {"--meshes", NULL, "FILE", what}
+#define JOURNAL_MESHES MESHES("The mesh file of a journal over other meshes than the library's own.")
 
 const verb verbs[] = {
     {"inspect", "FILE", "what a table holds, or what refuses it",
-     "The grid, the levels, the rows by kind and level, the energies, the long-range tail, and a letter for each slab of a table of at most 400 by 400 "
-     "slabs.",
+     "The grid, the levels, the rows by kind and level, the energies, the long-range tail, what its seal says of the build, and a letter for each slab of a "
+     "table of at most 400 by 400 slabs.",
      1, 1,
      {{"--resolution", NULL, NULL, "How far the vertices of its levels lie apart, and how far a direction can lie from the nearest of them."}, JSON},
      inspect_tool},
@@ -20,15 +22,17 @@ const verb verbs[] = {
      "The library's verdict on each file. The byte is a hint by the tool's own walk of the file. Where there is a seal, FILE.meta, the table has to be the "
      "sealed one.",
      1, MANY,
-     {{"--viewer", NULL, NULL, "Under the bounds of a viewer: tables of two molecules of at most 4 levels and 4096 rows."}, JSON},
+     {{"--viewer", NULL, NULL, "Under the bounds of a viewer: tables of two molecules of at most 4 levels and 4096 rows."},
+      {"--strict", NULL, NULL, "Status 1 also unless a seal says that the guard was on, every slab was set and every slice settled."}, JSON},
      verify_tool},
     {"diff", "A B", "whether and why two tables differ",
-     "First a summary of both tables as wholes, whatever is listed behind it: the causes (settings, kind, level, scalar, energies, tail), the settings that "
+     "First a summary of both tables as wholes, whatever is listed behind it: the causes (meshes, settings, kind, level, scalar, energies, tail), the settings that "
      "differ, how many slabs have another row and for which cause, how many energies differ and by how much, and what the tables' seals say. Then the slabs whose row differs, the first of "
      "them. The status is that of both tables as wholes. Tables that are refused are not compared: status 2.",
      2, 2,
      {{"--limit", NULL, "N", "List at most so many slabs, or all of them; 20 without this option, none with 0. N is a whole number or the word all."},
-      SLICE("List only slabs of distance bin RI, which are counted from 0."), JSON},
+      SLICE("List only slabs of distance bin RI, which are counted from 0."), JSON,
+      MESHES("The mesh file of a table that has no seal. A table with a seal is read with the meshes of its seal, or refused.")},
      diff_tool},
     {"map", "FILE [FILE]", "a picture of the slabs (SVG)",
      "Distance against dihedral angle or, against an atom, a strip over distance, coloured by kind and level, with the lowest energy of each distance below. "
@@ -39,7 +43,10 @@ const verb verbs[] = {
      "the arrow keys, the profile over distance, and the smallest and largest energy over a span of distances. For tables of two molecules that pass verify "
      "--viewer, at most 4 levels and 4096 rows, and for tables against an atom of at most 4096 rows; map and export take larger ones. The page is somewhat "
      "longer than four thirds of the table.",
-     1, 1, {OUTPUT("Where the page goes, a file that must not be there yet; it has to be named. - is standard output.")}, view_tool},
+     1, 1,
+     {OUTPUT("Where the page goes, a file that must not be there yet; it has to be named. - is standard output."),
+      MESHES("The mesh file of the table. Without it: by its seal the one beside it, or the library's own meshes.")},
+     view_tool},
     {"export", "--csv FILE", "the slabs or the energies as text for other programs",
      "A line of column names, then one line a slab: ri, oi, r, omega, kind, level, letter, offset, energies (how many), scalar, lowest, highest. With "
      "--energies one line an energy: ri, oi, r, omega, level, a, b, energy. Against an atom there are no columns oi, omega and b. Distances r have the table's "
@@ -56,7 +63,8 @@ const verb verbs[] = {
      "as it is.",
      2, 2, {{0}}, repack_tool},
     {"import", "SAVE OUT", "a save of the Rust's icotable, as a table",
-     "Writes the table of a save, packed, to OUT and its meshes to OUT.mesh, neither of which must be there yet, and says what an audit of its rows finds. SAVE "
+     "Writes the table of a save, packed, to OUT, its meshes to OUT.mesh, neither of which must be there yet, and a seal to OUT.meta, and says what an audit of "
+     "its rows finds. SAVE "
      "may be -, too.",
      2, 2, {{0}}, import_tool},
     {"size", "RMIN RMAX DR [STEP] TOP", "the memory, file and comparisons of a build",
@@ -64,11 +72,15 @@ const verb verbs[] = {
      4, 5, {{"--terms", NULL, "N", "With so many terms of a long-range tail; not against an atom."}, JSON}, size_tool},
     {"status", "JOURNAL", "how far a build is, and what to sample next",
      "Plays the calls of a build's journal and alters nothing; a build may have it open.",
-     1, 1, {JSON}, status_tool},
+     1, 1, {{"--id", NULL, NULL, "The id of the build alone, from the journal's head; nothing is played."}, JSON, JOURNAL_MESHES}, status_tool},
+    {"slab", "FILE", "which slab a slab file holds, and of which build",
+     "The bins, the level, and the hash, the id and the label of its build.",
+     1, 1, {JSON}, slab_tool},
     {"replay", "JOURNAL -o FILE", "the table of a journal's calls",
-     "Plays the calls of a build's journal and writes its table to FILE, which must not be there yet.",
+     "Plays the calls of a build's journal and writes its table to FILE, which must not be there yet, and its seal to FILE.meta; over other meshes than the "
+     "library's own these to FILE.mesh.",
      1, 1,
-     {OUTPUT("Where the table goes; it has to be named."),
+     {OUTPUT("Where the table goes; it has to be named."), JOURNAL_MESHES,
       {"--unguarded", NULL, NULL, "Also with slabs missing, slices unsettled, or slices out of order."}},
      replay_tool},
     {"begin", "JOURNAL --rmin X --rmax X --dr X --omega-step X --threshold X --beta X --top N", "a new journal, for a build by slab files",
@@ -82,13 +94,15 @@ const verb verbs[] = {
       {"--atom", NULL, NULL, "Against an atom, in the place of --omega-step."},
       {"--threshold", NULL, "X", "The threshold of the gradient, per radian."},
       {"--beta", NULL, "X", "The beta of the Boltzmann weight exp(-beta E): one over the unit of the energies."},
-      {"--top", NULL, "N", "The finest level."}},
+      {"--top", NULL, "N", "The finest level."},
+      {"--label", NULL, "TEXT", "Your words for what is sampled: molecules, force field. Slab files, seals and inspect show it; a build with another label is another build."},
+      {"--id", NULL, "HEX", "The id of a build whose journal was lost while its slab files are there, as icotable slab shows it; one at random without this option."}},
      begin_tool},
     {"collect", "JOURNAL FOLDER", "slab files into a journal, and what to sample next",
      "Sets the slabs of the current slice whose files are in FOLDER, settles the slice when it is whole, and so on from contact outwards. The last line is for "
      "a script: slice RI level L tasks 0-N missing .., with status 1, where there is more to sample; whole N slices, with status 0, where the journal has the "
      "whole table. It alters no file of the folder.",
-     2, 2, {{0}}, collect_tool},
+     2, 2, {JOURNAL_MESHES}, collect_tool},
 };
 
 const size_t verbs_count = sizeof verbs / sizeof verbs[0];

@@ -7,7 +7,7 @@ static int judge(const table_file *f, bool json) {
         json_verdict(f);
     else
         print_verdict(stdout, f);
-    int verdict = f->table.number != 0 ? FOUND : GOOD, seal = verify_seal(f, json);
+    int verdict = f->table.number != 0 ? FOUND : GOOD, seal = verify_seal(f, json, given("--strict") != NULL);
     return seal > verdict ? seal : verdict;
 }
 

@@ -136,21 +136,19 @@ static int in_bounds(table_file *f) {
 }
 
 static int view(table_file *f, const char *name) {
-    icotable_meshes m;
+    table_meshes m;
     new_file out;
     int status = in_bounds(f);
     if (status != GOOD)
         return status;
-    uint64_t number = icotable_make_meshes(&m, f->table.levels - 1);
-    if (number != 0)
-        status = trouble(f->name, "the meshes of its levels cannot be made");
-    else if (begin_new(&out, name) != GOOD)
+    status = open_meshes(&m, f, given("--meshes"));
+    if (status == GOOD && begin_new(&out, name) != GOOD)
         status = TROUBLE;
-    else {
-        write_page(out.to, f, &m);
+    else if (status == GOOD) {
+        write_page(out.to, f, m.meshes);
         status = end_new(&out);
     }
-    icotable_free_meshes(&m);
+    close_meshes(&m);
     return status;
 }
 

@@ -1,9 +1,9 @@
 #!/usr/bin/python3
 """A picture of a table: plot.py TABLE [OUT.png].
 
-Left the energy profile over distance, for some pairs of directions and their weighted mean; right a slab, the energies of all pairs of
-vertices, at the distance of the profile's lowest energy. Against an atom the slab is drawn over longitude and latitude. Needs matplotlib;
-without it the profile is printed.
+Left the energy profile over distance, for some poses and their mean by Boltzmann weight, over both directions and the
+dihedral angle; right a slab, the energies of all pairs of vertices, at the distance of the profile's lowest energy.
+Against an atom the slab is drawn over longitude and latitude. Needs matplotlib; without it the profile is printed.
 """
 
 import os
@@ -16,6 +16,7 @@ sys.path.insert(0, str(Path(__file__).resolve().parents[1]))
 import simgrale
 
 BETA = 0.40339
+DIHEDRALS = 24  # at most so many of them are averaged over, evenly spaced
 
 
 def directions(count):
@@ -27,12 +28,14 @@ def directions(count):
 
 
 def profiles(table):
-    """Distances; the energies at some 40 of many pairs of directions; and -ln(mean exp(-beta*energy))/beta over all of them."""
+    """Distances; the energies at some 40 of many poses; -ln(mean exp(-beta*energy))/beta of all, over omega, too."""
     r = np.linspace(table.grid.rmin, table.grid.rmax, 400)[:-1]
     if isinstance(table, simgrale.AtomTable):
         energies = table.energies(r[:, None], directions(200))
     else:
-        energies = table.energies(r[:, None, None], 0.0, directions(40)[:, None], directions(40)).reshape(len(r), -1)
+        omega = table.grid.omega[:: -(-table.grid.n_omega // DIHEDRALS)]
+        a, b = directions(24)[:, None], directions(24)
+        energies = table.energies(r[:, None, None, None], omega[:, None, None], a, b).reshape(len(r), -1)
     with np.errstate(divide="ignore"):
         mean = -np.log(np.mean(np.exp(-BETA * energies), axis=1)) / BETA
     return r, energies[:, :: energies.shape[1] // 40], mean
@@ -75,7 +78,8 @@ def draw(table, r, some, mean, out):
 
     figure, (left, right) = pyplot.subplots(1, 2, figsize=(12, 5), constrained_layout=True)
     left.plot(r, np.where(np.isfinite(some), some, np.nan), color="0.75", linewidth=0.7)
-    left.plot(r, np.where(np.isfinite(mean), mean, np.nan), color="tab:blue", label="-ln(mean weight) / beta")
+    label = "-ln(mean weight) / beta, over all orientations"
+    left.plot(r, np.where(np.isfinite(mean), mean, np.nan), color="tab:blue", label=label)
     lowest = float(np.nanmin(some[np.isfinite(some)]))
     left.set(xlabel="distance", ylabel="energy", ylim=(1.2 * min(lowest, -0.1), -1.2 * min(lowest, -0.1)), title=os.path.basename(table.path))
     left.legend(frameon=False)
@@ -104,4 +108,5 @@ def main():
                 print("%8.3f %12.5g" % pair)
 
 
-main()
+if __name__ == "__main__":
+    main()

@@ -13,7 +13,7 @@ from .builder import AtomBuilder, Builder, Do, Progress, Settled, Step, Tail
 from .diff import Difference, diff
 from .library import NoLibrary, library_version, words
 from .refused import Refused
-from .rows import Kind
+from .rows import Kind, Place
 from .settings import AtomSettings, Grid, Seal, Settings
 from .table import AtomTable, Span, Table, open_table
 from .version import VERSION as __version__
@@ -28,6 +28,7 @@ __all__ = [
     "Grid",
     "Kind",
     "NoLibrary",
+    "Place",
     "Progress",
     "Refused",
     "Seal",

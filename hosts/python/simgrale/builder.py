@@ -17,13 +17,13 @@ import numpy.typing as npt
 
 from . import structs
 from .handle import Handle
-from .library import PathLike, call, check_environment, file_name, opened
+from .library import PathLike, call, check_environment, file_name, opened, words
 from .poses import Floats, floats
 from .refused import Refused
-from .settings import AtomSettings, Settings
+from .settings import AtomSettings, Settings, id_of
 from .table import vertices_at
 
-UNGUARDED = 1
+UNGUARDED, FORMAT_1, LABEL = 1, 4, 218
 _S = TypeVar("_S", Settings, AtomSettings)
 _B = TypeVar("_B", bound="_Build[Any]")
 
@@ -56,7 +56,9 @@ class Settled(NamedTuple):
 
 class Progress(NamedTuple):
     """How far a build is. length: of the table's file, were it written now. records and cut: of the journal, the calls that it holds
-    and the bytes that were cut off behind the last whole one; 0 without a journal."""
+    and the bytes that were cut off behind the last whole one; 0 without a journal. level_lost: the level dropped before
+    the first interpolated slice, as it does inside a wall: the well has a coarser mesh than the top level's, and a
+    larger rmin is the remedy."""
 
     n_r: int
     n_omega: int
@@ -68,6 +70,7 @@ class Progress(NamedTuple):
     length: int
     records: int
     cut: int
+    level_lost: bool
 
 
 @dataclass(frozen=True)
@@ -78,13 +81,20 @@ class Tail:
     prefactor: float
 
 
+def _letters(label: str) -> bytes:
+    """A label as C takes it, which would end at a zero byte."""
+    if "\0" in label:
+        raise Refused(LABEL, f"{words(LABEL)}: a zero byte")
+    return label.encode("utf-8", "surrogatepass")
+
+
 class _Build(Generic[_S]):
     """What builds of both kinds share. Calls of several threads come one after another; a forked child has no part in its parent's build."""
 
     _atom: bool
 
     def __init__(self, settings: _S, journal: Optional[PathLike] = None, meshes: Optional[PathLike] = None, guarded: bool = True, *,
-                 _how: str = "open") -> None:  # fmt: skip
+                 label: Optional[str] = None, version_1: bool = False, _how: str = "open") -> None:  # fmt: skip
         if isinstance(settings, AtomSettings) != self._atom:
             raise TypeError(f"{type(self).__name__} does not take {type(settings).__name__}")
         self.settings: _S = settings
@@ -92,25 +102,48 @@ class _Build(Generic[_S]):
         names = [None if path is None else file_name(path) for path in (journal, meshes)]
         step = settings.omega_step if isinstance(settings, Settings) else 0.0
         grid = structs.grid(settings.rmin, settings.rmax, settings.dr, step, settings.threshold, settings.beta, 0, 0)
-        wanted = structs.build_settings(int(self._atom), grid, operator.index(settings.top), *names, 0 if guarded else UNGUARDED)
+        wanted = structs.build_settings(int(self._atom), grid, operator.index(settings.top), *names,
+                                        (0 if guarded else UNGUARDED) + (FORMAT_1 if version_1 else 0), None,
+                                        None if label is None else _letters(label))  # fmt: skip
         self._process = os.getpid()
         self._turn = threading.RLock()
         self._handle = Handle(opened(f"build_{_how}", byref(wanted)), "build_close")
 
     @classmethod
-    def open(cls: type[_B], settings: _S, journal: Optional[PathLike] = None, meshes: Optional[PathLike] = None, guarded: bool = True) -> _B:
-        """Resumes where the journal is there, and begins it where it is not; without a journal a build in memory."""
-        return cls(settings, journal, meshes, guarded)
+    def open(cls: type[_B], settings: _S, journal: Optional[PathLike] = None, meshes: Optional[PathLike] = None, guarded: bool = True, *,
+             label: Optional[str] = None, version_1: bool = False) -> _B:  # fmt: skip
+        """Resumes where the journal is there, and begins it where it is not; without a journal a build in memory.
+
+        label: your words for what is sampled, molecules and force field. A journal with another label is refused with 219.
+        version_1: a journal that begins has format version 1, without id and label, for a library before 0.24.
+        """
+        return cls(settings, journal, meshes, guarded, label=label, version_1=version_1)
 
     @classmethod
-    def begin(cls: type[_B], settings: _S, journal: Optional[PathLike] = None, meshes: Optional[PathLike] = None, guarded: bool = True) -> _B:
+    def begin(cls: type[_B], settings: _S, journal: Optional[PathLike] = None, meshes: Optional[PathLike] = None, guarded: bool = True, *,
+              label: Optional[str] = None, version_1: bool = False) -> _B:  # fmt: skip
         """A build that begins: refused with 201 where the journal is there already."""
-        return cls(settings, journal, meshes, guarded, _how="begin")
+        return cls(settings, journal, meshes, guarded, label=label, version_1=version_1, _how="begin")
 
     @classmethod
-    def resume(cls: type[_B], settings: _S, journal: PathLike, meshes: Optional[PathLike] = None, guarded: bool = True) -> _B:
+    def resume(cls: type[_B], settings: _S, journal: PathLike, meshes: Optional[PathLike] = None, guarded: bool = True, *,
+               label: Optional[str] = None, version_1: bool = False) -> _B:  # fmt: skip
         """A build that goes on where its journal ends: refused with 202 where there is none."""
-        return cls(settings, journal, meshes, guarded, _how="resume")
+        return cls(settings, journal, meshes, guarded, label=label, version_1=version_1, _how="resume")
+
+    def _identity(self) -> structs.identity:
+        with self._lent() as pointer:
+            return structs.identity.from_buffer_copy(call("build_state", pointer).contents.identity)
+
+    @property
+    def label(self) -> str:
+        """Your words for what is sampled, of the journal's head; empty without any."""
+        return str(self._identity().label.decode())
+
+    @property
+    def id(self) -> Optional[str]:
+        """The id of the build in 32 hexadecimal digits; None without a journal, or of one of format version 1."""
+        return None if self.journal is None else id_of(self._identity())
 
     @contextmanager
     def _lent(self) -> Iterator[int]:
@@ -141,7 +174,8 @@ class _Build(Generic[_S]):
     def progress(self) -> Progress:
         with self._lent() as pointer:
             p, state = call("build_progress", pointer), call("build_state", pointer).contents
-            return Progress(p.n_r, p.n_omega, p.top, p.level, p.slabs, p.set, p.settled, p.length, state.records, state.cut)
+            far = (p.n_r, p.n_omega, p.top, p.level, p.slabs, p.set, p.settled, p.length)
+            return Progress(*far, state.records, state.cut, p.level_lost != 0)
 
     def _step(self, do: Do, ri: int, oi: int, level: int) -> Step:
         step = self.settings.omega_step if isinstance(self.settings, Settings) else 0.0

@@ -22,12 +22,12 @@ SLAB = np.dtype(
 
 @dataclass(frozen=True)
 class Difference:
-    """What differs between two tables; false where they are the same, byte for byte.
+    """What differs between two tables; false where they are the same, byte for byte, over the same meshes.
 
     grid: what differs of the grid and the level count, each with both numbers. slabs: one entry a slab whose row differs, with the
     fields of SLAB; energies is 0 where the two rows are not Mesh rows of one level, and most is then that of two scalars. None where
     the tables are of two kinds or have other bin counts, so that their slabs are not the same ones. tails: whether the long-range
-    tails differ.
+    tails differ. meshes: whether the tables are read with other meshes, so that the energies of one vertex are of other directions.
     """
 
     same_bytes: bool
@@ -35,13 +35,18 @@ class Difference:
     grid: dict[str, tuple[float, float]]
     slabs: Optional[npt.NDArray[Any]]
     tails: bool
+    meshes: bool = False
 
     def __bool__(self) -> bool:
-        return not self.same_bytes
+        return not self.same_bytes or self.meshes
 
     def __str__(self) -> str:
+        first = ["the meshes differ: vertices of one number are other directions, and so are the energies at them"] * self.meshes
+        return "\n".join([*first, self._rest()])
+
+    def _rest(self) -> str:
         if self.same_bytes:
-            return "the same table, byte for byte"
+            return "the same table, byte for byte" + ", over other meshes" * self.meshes
         if not self.same_kind:
             return "of two kinds: of two molecules, and against an atom"
         lines = [f"{name}: {x!r} and {y!r}" for name, (x, y) in self.grid.items()]
@@ -119,11 +124,14 @@ def _tails(a: AnyTable, b: AnyTable) -> bool:
 
 
 def diff(a: AnyTable, b: AnyTable) -> Difference:
-    """Compares two tables: grids by their bits, rows by kind, level, scalar and energies, and long-range tails. Offsets are not."""
+    """Compares two tables: the meshes that they are read with, grids by their bits, rows by kind, level, scalar and energies, and
+    long-range tails. Offsets are not compared."""
+    levels = min(a.levels, b.levels)
+    meshes = a.meshes_hash(levels) != b.meshes_hash(levels)
     if a.file() == b.file():
-        return Difference(True, True, {}, np.empty(0, SLAB), False)
+        return Difference(True, True, {}, np.empty(0, SLAB), False, meshes)
     if isinstance(a, AtomTable) != isinstance(b, AtomTable):
-        return Difference(False, False, {}, None, False)
+        return Difference(False, False, {}, None, False, meshes)
     grid = _grid(a, b)
     slabs = None if "n_r" in grid or "n_omega" in grid else _slabs(a, b)
-    return Difference(False, True, grid, slabs, _tails(a, b))
+    return Difference(False, True, grid, slabs, _tails(a, b), meshes)

@@ -18,6 +18,15 @@ class Kind(IntEnum):
     INTERPOLATED = 3
 
 
+class Place(IntEnum):
+    """Where a distance lies. A reading that is NEARER or BEYOND is 0; NOWHERE is a NaN, which it refuses with 18."""
+
+    NOWHERE = 0
+    NEARER = 1
+    INSIDE = 2
+    BEYOND = 3
+
+
 # as `rows()` gives them, and as a file has them (docs/FORMAT.md)
 ROW = np.dtype([("kind", np.uint8), ("level", np.uint8), ("offset", np.uint32), ("scalar", np.float32)])
 _FILE_ROW = np.dtype([("kind", "u1"), ("level", "u1"), ("offset", "<u4"), ("scalar", "<f4")])

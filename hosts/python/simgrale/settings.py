@@ -65,7 +65,9 @@ class Grid:
 class Seal:
     """What FILE.meta beside a table FILE says: its SHA-256, what it was built with, and over which meshes.
 
-    journal_sha256: None where the build had no journal.
+    journal_sha256: None where the build had no journal. guarded: whether the guard was on; whole: whether every slab was set and every
+    slice settled after its sets; both None where the seal does not know. id: of the build, in 32 hexadecimal digits, None where it had no
+    journal of format version 2. label: the host's own words for what was sampled, empty without any.
     """
 
     sha256: str
@@ -76,12 +78,25 @@ class Seal:
     own_meshes: bool
     version: str
     journal_sha256: Optional[str]
+    guarded: Optional[bool] = None
+    whole: Optional[bool] = None
+    id: Optional[str] = None
+    label: str = ""
+
+
+KNOWN = (None, True, False)
 
 
 def grid_of(table: Any, atom: bool) -> Grid:
     """The grid of what the library's read answered."""
     g = table.grid
     return Grid(g.rmin, g.rmax, g.dr, 0.0 if atom else g.omega_step, g.n_r, 1 if atom else g.n_omega)
+
+
+def id_of(identity: structs.identity) -> Optional[str]:
+    """In 32 hexadecimal digits, as the tool shows it; None where there is none."""
+    id = bytes(identity.id)
+    return id.hex() if any(id) else None
 
 
 def seal_of(seal: structs.seal) -> Seal:
@@ -92,4 +107,6 @@ def seal_of(seal: structs.seal) -> Seal:
     else:
         settings = Settings(g.rmin, g.rmax, g.dr, g.omega_step, g.threshold, g.beta, seal.top)
     journal = seal.journal_sha256.decode() if seal.journaled else None
-    return Seal(seal.sha256.decode(), seal.table_length, settings, seal.levels, seal.meshes_hash, bool(seal.own_meshes), seal.version.decode(), journal)
+    known = KNOWN[seal.guarded], KNOWN[seal.whole], id_of(seal.identity), seal.identity.label.decode()
+    return Seal(seal.sha256.decode(), seal.table_length, settings, seal.levels, seal.meshes_hash, bool(seal.own_meshes), seal.version.decode(), journal,
+                *known)  # fmt: skip

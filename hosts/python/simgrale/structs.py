@@ -50,7 +50,11 @@ class row(Structure):
 
 class build_settings(Structure):
     _fields_ = [("atom", c_int), ("grid", grid), ("top", c_uint64), ("journal", c_char_p), ("meshes", c_char_p), ("flags", c_uint)]
-    _fields_ += [("lent", c_void_p)]
+    _fields_ += [("lent", c_void_p), ("label", c_char_p)]
+
+
+class identity(Structure):
+    _fields_ = [("id", c_uint8 * 16), ("label", c_char * 4097)]
 
 
 class journal_settled(Structure):
@@ -62,13 +66,15 @@ class progress(Structure):
         ("step", c_uint),
         ("ri", c_uint64),
         ("oi", c_uint64),
+        ("level_lost", c_int),
     ]
 
 
 class journal(Structure):
     _fields_ = [("atom", c_int), ("guarded", c_int), ("builder", builder)]
     _fields_ += [(name, c_uint64) for name in ("records", "bytes", "cut", "slabs", "set_count", "settled_count")]
-    _fields_ += [("set", POINTER(c_uint8)), ("settled", POINTER(c_uint8))]
+    _fields_ += [("set", POINTER(c_uint8)), ("settled", POINTER(c_uint8)), ("said", c_char * 400), ("build", c_uint64), ("meshes_hash", c_uint64)]
+    _fields_ += [("version", c_uint32), ("library", c_uint32 * 3), ("identity", identity)]
 
 
 class terms(Structure):
@@ -78,7 +84,9 @@ class terms(Structure):
 class seal(Structure):
     _fields_ = [("sha256", c_char * 65), ("table_length", c_uint64), ("atom", c_int), ("grid", grid), ("top", c_uint64), ("levels", c_uint64)]
     _fields_ += [("meshes_hash", c_uint64), ("own_meshes", c_int), ("version", c_char * 32), ("journaled", c_int), ("journal_sha256", c_char * 65)]
+    _fields_ += [("format", c_uint), ("guarded", c_uint), ("whole", c_uint), ("identity", identity)]
 
 
-ALL = (fault, grid, atom_grid, builder, table, atom_table, value, spanned, columns, row, build_settings, journal_settled, progress, journal, terms, seal)
+ALL = (fault, grid, atom_grid, builder, table, atom_table, value, spanned, columns, row, build_settings, identity, journal_settled, progress, journal)
+ALL += (terms, seal)
 LEADING = (journal,)

@@ -15,7 +15,7 @@ from .handle import Handle
 from .library import OTHER_KIND, PathLike, call, check, file_name, opened, words
 from .poses import Answers, Floats, Poses, directions, floats, read
 from .refused import Refused
-from .rows import Kind, rows_of, terms_of
+from .rows import Kind, Place, rows_of, terms_of
 from .settings import Grid, Seal, grid_of, seal_of
 
 Numbers = npt.NDArray[np.uint64]
@@ -110,6 +110,17 @@ class _Reader:
         rows = rows_of(self._section(self._start[3], 10 * self.grid.n_r * self.grid.n_omega))
         return rows if self._atom else rows.reshape(self.grid.n_r, self.grid.n_omega)
 
+    def place(self, r: npt.ArrayLike) -> Union[Place, npt.NDArray[np.uint8]]:
+        """Where each distance lies, as a reading compares it: an array of Place's numbers; of one distance a Place.
+
+        A reading below rmin is 0: `energies[table.place(r) == Place.NEARER] = np.inf` makes a wall of it.
+        """
+        at = floats(r, "r")
+        given, places = np.ascontiguousarray(at).reshape(-1), np.empty(at.size, np.uint8)
+        with self._handle.lent() as pointer:
+            call("reader_places", pointer, given.ctypes.data, given.size, places.ctypes.data)
+        return places.reshape(at.shape) if at.shape else Place(int(places[0]))
+
     def _slab(self, ri: int, oi: int) -> npt.NDArray[np.float32]:
         row = structs.row()
         ri, oi = operator.index(ri), operator.index(oi)
@@ -121,6 +132,14 @@ class _Reader:
             shape = (n,) if self._atom else (n, n)
             part = copied(call("reader_file", pointer, None) + self._start[4] + 4 * row.offset, 4 * int(np.prod(shape)))
         return part.view("<f4").astype(np.float32, copy=False).reshape(shape)
+
+    def meshes_hash(self, levels: Optional[int] = None) -> int:
+        """The hash of the meshes that it is read with (docs/FORMAT.md): of so many levels, or of all that it has."""
+        levels = self.levels if levels is None else operator.index(levels)
+        if not 1 <= levels <= self.levels:
+            raise ValueError(f"{levels} levels of a table with {self.levels}")
+        with self._handle.lent() as pointer:
+            return int(call("meshes_hash", call("reader_meshes", pointer), levels))
 
     def vertices(self, level: int) -> Floats:
         """The directions of a level's vertices, (n, 3)."""
@@ -147,8 +166,9 @@ def _energies(answers: Answers, numbers: bool) -> Union[Floats, tuple[Floats, Nu
 class Table(_Reader):
     """A table of two molecules.
 
-    Directions a and b have any length but 0; a is in the frame of the first molecule, toward the second, b in that of the second,
-    toward the first. Any number of threads may use one table at once.
+    Directions a and b have any length but 0. a is that of the second molecule in the frame of the first; b is that of
+    the first in the frame of the second, turned around z by omega (docs/GUIDE.md, What a table is). Any number of
+    threads may use one table at once.
     """
 
     _atom = False
@@ -163,7 +183,7 @@ class Table(_Reader):
 
     def energies(self, r: npt.ArrayLike, omega: npt.ArrayLike, a: npt.ArrayLike, b: npt.ArrayLike, beta: Optional[float] = None,
                  threads: int = 1, *, numbers: bool = False) -> Union[Floats, tuple[Floats, Numbers]]:  # fmt: skip
-        """The energy of each pose: infinity inside a wall, 0 outside the table's distances.
+        """The energy of each pose: infinity inside a wall, 0 outside the table's distances, also below rmin: place.
 
         r and omega: any shapes; a and b: shapes whose last axis is 3; they are broadcast. beta: weighted by temperature, else plain.
         Each energy is, to the bit, that of icotable_reading or icotable_boltzmann. threads: of the library, from 1 to 256.

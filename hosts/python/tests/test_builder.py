@@ -70,13 +70,33 @@ class Builds(InFolder):
         with open(journal, "ab") as file:
             file.write(b"torn")
         with simgrale.Builder(PAIR, journal) as build:
-            self.assertEqual(build.progress()[5:], (1, 0, build.progress().length, 2, 4))
+            self.assertEqual(build.progress()[5:], (1, 0, build.progress().length, 2, 4, False))
             self.assertRaises(TypeError, pickle.dumps, build)
         for top, number in (16, 2), (-1, 2):
             self.refused(number, simgrale.Builder, simgrale.Settings(**{**vars(PAIR), "top": top}))
         self.refused(1, simgrale.Builder, simgrale.Settings(**{**vars(PAIR), "dr": math.nan}))
         self.assertRaises(TypeError, simgrale.Builder, ATOM)
         self.assertRaises(TypeError, simgrale.AtomBuilder, PAIR)
+
+    def test_labelled(self):
+        journal = self.at("labelled")
+        with simgrale.Builder.begin(PAIR, journal, label="water and ethanol, ångström") as build:
+            self.assertEqual((build.label, len(build.id)), ("water and ethanol, ångström", 32))
+            id = build.id
+        error = self.refused(219, simgrale.Builder.resume, PAIR, journal, label="two of water")
+        self.assertIn("label 'water and ethanol, ångström', not 'two of water'", str(error))
+        for label in "a\nb", "a\0b", "\ud800", "x" * 4097:
+            self.refused(218, simgrale.Builder.resume, PAIR, journal, label=label)
+        with simgrale.Builder(PAIR, journal) as build:
+            self.assertEqual((build.label, build.id), ("water and ethanol, ångström", id))
+            finish(build, self.at("labelled.table"))
+        with simgrale.Table.open(self.at("labelled.table")) as table:
+            seal = table.seal()
+        self.assertEqual((seal.guarded, seal.whole, seal.id, seal.label), (True, True, id, "water and ethanol, ångström"))
+        with simgrale.AtomBuilder(ATOM, label="in memory") as build:
+            self.assertEqual((build.label, build.id), ("in memory", None))
+        with simgrale.AtomBuilder(ATOM, self.at("first"), version_1=True) as build:
+            self.assertEqual((build.label, build.id), ("", None))
 
     def test_refused(self):
         build = simgrale.Builder(PAIR)
@@ -167,6 +187,29 @@ class Builds(InFolder):
         self.assertRaises(ValueError, build.write_tail, self.at("tailed"), simgrale.Tail([(1, 0, -1)], 1))
         build.write_tail(self.at("none"), simgrale.Tail([], 1))
         self.assertEqual(self.bytes_of("none"), self.bytes_of("pair"))
+
+    def lost(self, build, walls):
+        """Whether the level is told to be lost: at first, after a wall with one other energy, and after a well."""
+        told, atom = [build.progress().level_lost], isinstance(build, simgrale.AtomBuilder)
+        for step in build.steps():
+            if step.ri == 2:
+                return told
+            if step.do is simgrale.Do.SETTLE:
+                build.settle(step.ri)
+                told.append(build.progress().level_lost)
+                continue
+            count = len(build.vertices()) ** (1 if atom else 2)
+            slab = np.full(count, 1e6) if step.ri == 0 else np.arange(count) % 7 * 1.0
+            slab[0] = walls if step.ri == 0 else 0
+            build.set(*((step.ri,) if atom else (step.ri, step.oi)), slab)
+
+    def test_a_level_that_is_lost_inside_the_wall(self):
+        """A wall whose weights are flat drops the level before the well; one that is Repulsive does not."""
+        for kind, settings in (simgrale.Builder, PAIR), (simgrale.AtomBuilder, ATOM):
+            with kind(settings) as build:
+                self.assertEqual(self.lost(build, 9), [False, True, True])
+            with kind(settings) as build:
+                self.assertEqual(self.lost(build, 1e6), [False, False, False])
 
 
 if __name__ == "__main__":

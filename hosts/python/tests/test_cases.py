@@ -57,6 +57,8 @@ class Run:
         beta = 2 if "beta2" in options else 1
         common = {"rmin": 0, "dr": 1, "threshold": 0.5, "beta": beta, "top": top}
         named = {"meshes": meshes("foreign") if "foreign" in options else None, "guarded": "unguarded" not in options}
+        labels = [option[6:] for option in options if option.startswith("label=")] + ["a\nb"] * ("badlabel" in options)
+        named.update(label=labels[0] if labels else None, version_1=not labels and "v2" not in options)
         if kind == "atom":
             return getattr(simgrale.AtomBuilder, how)(simgrale.AtomSettings(rmax=4, **common), journal, **named)
         return getattr(simgrale.Builder, how)(simgrale.Settings(rmax=3, omega_step=3, **common), journal, **named)
@@ -168,6 +170,12 @@ class Run:
 
     def do_gone(self, name):
         return 1 if self.at(name).exists() else 0
+
+    def do_sealed(self, table, guarded, whole, label):
+        with simgrale.open_table(self.at(table)) as opened:
+            seal = opened.seal()
+        said = [{None: "unknown", True: "yes", False: "no"}[known] for known in (seal.guarded, seal.whole)]
+        return 0 if [*said, seal.label or "-"] == [guarded, whole, label] else 1
 
     def do_sum(self, name, wanted):
         return self.summed(self.at(name).read_bytes(), wanted)

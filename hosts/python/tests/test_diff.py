@@ -4,6 +4,8 @@ import os
 import re
 import subprocess
 import unittest
+from dataclasses import replace
+from pathlib import Path
 
 import numpy as np
 
@@ -34,6 +36,23 @@ class Diff(InFolder):
         c = simgrale.open_table(self.at("atom"))
         self.assertTrue(simgrale.diff(a, c) and not simgrale.diff(a, c).same_kind)
         self.assertIn("of two kinds", str(simgrale.diff(a, c)))
+
+    def test_meshes(self):
+        mesh = Path(__file__).resolve().parents[2] / "cases" / "foreign.mesh"
+        small = replace(PAIR, top=1)
+        finish(simgrale.Builder(small), self.at("own"))
+        finish(simgrale.Builder(small, meshes=mesh), self.at("turned"))
+        with simgrale.Table.open(self.at("own")) as a, simgrale.Table.open(self.at("turned")) as b:
+            self.assertEqual(a.file(), b.file())
+            self.assertNotEqual(a.meshes_hash(), b.meshes_hash())
+            self.assertRaises(ValueError, a.meshes_hash, 3)
+            found = simgrale.diff(a, b)
+            self.assertTrue(found and found.same_bytes and found.meshes)
+            self.assertIn("the meshes differ: ", str(found).splitlines()[0])
+            self.assertFalse(simgrale.diff(a, a))
+            said = self.tool(a, b)
+        if said is not None:
+            self.assertIn("byte for byte, over other meshes\nthe meshes differ: ", said)
 
     def test_energy(self):
         table = simgrale.open_table(self.at("pair"))

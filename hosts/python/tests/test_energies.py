@@ -2,12 +2,14 @@
 
 import ctypes
 import hashlib
+import importlib.util
 import math
 import os
 import pickle
 import subprocess
 import threading
 import unittest
+from pathlib import Path
 
 import numpy as np
 
@@ -227,6 +229,55 @@ class Contents(InFolder):
             os.rename(self.at("pair.meta"), self.at("away"))
             self.assertIsNone(table.seal())
             os.rename(self.at("away"), self.at("pair.meta"))
+
+
+class Places(InFolder):
+    """Where a distance lies, beside readings and spans; both tables have the distances from 1 to 5."""
+
+    def test_places(self):
+        ends = [-math.inf, np.nextafter(1, 0), 1, 5, np.nextafter(5, 6), math.inf, math.nan]
+        wanted = [simgrale.Place[name] for name in "NEARER NEARER INSIDE INSIDE BEYOND BEYOND NOWHERE".split()]
+        for table in map(simgrale.open_table, (self.at("pair"), self.at("atom"))):
+            with table:
+                self.assertEqual(table.place(ends).tolist(), wanted)
+                self.assertEqual([table.place(r) for r in ends], wanted)
+                self.assertEqual(table.place(np.reshape(ends * 2, (7, 2)).T).shape, (2, 7))
+                self.assertEqual(table.place(np.reshape(ends * 2, (2, 7)).T).T.tolist(), [wanted, wanted])
+                self.assertIs(table.place(0), simgrale.Place.NEARER)
+                self.assertEqual(table.place([]).size, 0)
+            self.refused(261, table.place, 2)
+
+    def test_a_wall_below_rmin(self):
+        r, up = np.array([0.5, 2.0, 9.0]), [0, 0, 1]
+        with simgrale.Table.open(self.at("pair")) as table:
+            energies = table.energies(r, 0, up, up)
+            self.assertEqual((energies[0], energies[2]), (0, 0))
+            for at, place in zip(r, table.place(r)):
+                if place != simgrale.Place.INSIDE:
+                    self.refused(26, table.span, at, at, 0)
+            energies[table.place(r) == simgrale.Place.NEARER] = np.inf
+            self.assertEqual((energies[0], energies[1] < np.inf, energies[2]), (np.inf, True, 0))
+
+
+
+class Plotted(InFolder):
+    """examples/plot.py: its mean is over omega, too."""
+
+    def test_the_mean(self):
+        place = Path(__file__).resolve().parents[1] / "examples" / "plot.py"
+        plot = importlib.util.module_from_spec(importlib.util.spec_from_file_location("plot", place))
+        plot.__spec__.loader.exec_module(plot)
+        heights = [0.0, 3.0, -2.0]
+        with simgrale.Builder(PAIR, guarded=False) as build:
+            for oi, height in enumerate(heights):
+                build.set(1, oi, np.full(len(build.vertices()) ** 2, height))
+            build.write(self.at("plotted"))
+        with simgrale.Table.open(self.at("plotted")) as table:
+            r, some, mean = plot.profiles(table)
+        wanted = -np.log(np.mean(np.exp(-plot.BETA * np.array(heights)))) / plot.BETA
+        inside = np.abs(r - 2) < 0.5
+        self.assertTrue(np.allclose(mean[inside], wanted, rtol=1e-6), (mean[inside], wanted))
+        self.assertEqual(set(np.round(some[inside].reshape(-1), 6)), set(heights))
 
 
 if __name__ == "__main__":

@@ -8,7 +8,7 @@ use crate::refusal::{answer, Refusal};
 use crate::row::Row;
 use crate::sizing::atom_sizing;
 use crate::sys::{self, AtomGrid, Grid};
-use crate::table::other_kind;
+use crate::table::{other_kind, Place};
 use crate::Mesh;
 use std::path::Path;
 use std::sync::Arc;
@@ -84,7 +84,7 @@ impl AtomBuilder {
 
     /// Writes the table, its seal and, where they are not the library's own, its meshes, as [`Builder::save`](crate::Builder::save) does.
     pub fn save(&self, path: impl AsRef<Path>) -> Result<(), Error> {
-        let plan = Plan { atom: true, grid: pair_grid(self.grid()), mesh: &self.mesh, flags: 0 };
+        let plan = Plan { atom: true, grid: pair_grid(self.grid()), mesh: &self.mesh, flags: 0, label: None };
         plan.save(&self.write()?, path.as_ref())
     }
 
@@ -153,7 +153,13 @@ impl AtomTable {
         Ok(AtomTable { held, reader: Arc::new(reader) })
     }
 
-    /// The energy at a distance and a direction of any length: infinity inside a repulsive wall, 0 outside the table's distances.
+    /// Where a distance lies, as a reading compares it; [`Table::place`](crate::Table::place) has an example.
+    pub fn place(&self, r: f64) -> Result<Place, Refusal> {
+        Place::of(&self.reader, r)
+    }
+
+    /// The energy at a distance and a direction of any length: infinity inside a repulsive wall, 0 outside the table's
+    /// distances, also below rmin.
     pub fn lookup(&self, r: f64, direction: [f64; 3]) -> Result<f64, Refusal> {
         let value = self.reader.atom_energy(r, direction);
         answer(value.number, value.energy)

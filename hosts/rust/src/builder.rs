@@ -157,7 +157,7 @@ impl Builder {
     }
 
     fn plan(&self) -> Plan<'_> {
-        Plan { atom: false, grid: self.grid(), mesh: &self.mesh, flags: 0 }
+        Plan { atom: false, grid: self.grid(), mesh: &self.mesh, flags: 0, label: None }
     }
 
     /// The length of the file that [`write`](Builder::write) would give now, in bytes. The builder counts as it is built, so no row is walked.

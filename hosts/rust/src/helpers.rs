@@ -46,6 +46,15 @@ pub(crate) struct BuildSettings {
     pub(crate) meshes: *const c_char,
     pub(crate) flags: c_uint,
     pub(crate) lent: *const Meshes,
+    pub(crate) label: *const c_char,
+}
+
+/// Which build it is, beside its settings.
+#[repr(C)]
+#[derive(Clone, Copy)]
+pub(crate) struct Identity {
+    pub(crate) id: [u8; 16],
+    pub(crate) label: [c_char; 4097],
 }
 
 #[repr(C)]
@@ -61,6 +70,7 @@ pub(crate) struct Progress {
     pub(crate) step: c_uint,
     pub(crate) ri: u64,
     pub(crate) oi: u64,
+    pub(crate) level_lost: c_int,
 }
 
 #[repr(C)]
@@ -70,7 +80,7 @@ pub(crate) struct JournalSettled {
     pub(crate) comparisons: u64,
 }
 
-/// The first fields alone.
+/// Its first part; the second is C's own.
 #[repr(C)]
 pub(crate) struct Journal {
     pub(crate) atom: c_int,
@@ -84,6 +94,13 @@ pub(crate) struct Journal {
     pub(crate) settled_count: u64,
     pub(crate) set: *const u8,
     pub(crate) settled: *const u8,
+    pub(crate) said: [c_char; 400],
+    pub(crate) build: u64,
+    pub(crate) meshes_hash: u64,
+    pub(crate) version: u32,
+    pub(crate) library: [u32; 3],
+    pub(crate) identity: Identity,
+    hidden: [u64; 12],
 }
 
 #[repr(C)]
@@ -108,6 +125,10 @@ pub(crate) struct Seal {
     pub(crate) version: [c_char; 32],
     pub(crate) journaled: c_int,
     pub(crate) journal_sha256: [c_char; 65],
+    pub(crate) format: c_uint,
+    pub(crate) guarded: c_uint,
+    pub(crate) whole: c_uint,
+    pub(crate) identity: Identity,
 }
 
 #[repr(C)]
@@ -117,6 +138,7 @@ pub(crate) struct Slab {
     pub(crate) level: u64,
     pub(crate) ri: u64,
     pub(crate) oi: u64,
+    pub(crate) identity: Identity,
     pub(crate) said: [c_char; 400],
 }
 
@@ -174,6 +196,7 @@ extern "C" {
     ) -> Value;
     fn icotable_reader_tail(t: *const RawReader, r: f64) -> Value;
     fn icotable_reader_span(t: *const RawReader, low: f64, high: f64, omega: f64) -> Spanned;
+    fn icotable_reader_place(t: *const RawReader, r: f64) -> c_uint;
     fn icotable_reader_atom_energy(t: *const RawReader, r: f64, x: f64, y: f64, z: f64) -> Energy;
     fn icotable_reader_atom_boltzmann(t: *const RawReader, r: f64, x: f64, y: f64, z: f64, beta: f64) -> Energy;
     fn icotable_reader_energies(
@@ -182,10 +205,26 @@ extern "C" {
     ) -> u64;
     fn icotable_seal_read(s: *mut Seal, path: *const c_char, fault: *mut Fault) -> u64;
     fn icotable_build_hash(atom: c_int, grid: Grid, top: u64, meshes: *const Meshes) -> u64;
+    fn icotable_journal_look(j: *mut Journal, path: *const c_char) -> u64;
+    fn icotable_slab_of(j: *const Journal, level: u64, ri: u64, oi: u64) -> Slab;
     fn icotable_slab_count(s: *const Slab) -> u64;
     fn icotable_slab_name(s: *const Slab, name: *mut c_char);
     fn icotable_slab_write(s: *mut Slab, folder: *const c_char, energies: *const f64, count: usize) -> u64;
     fn icotable_slab_read(s: *mut Slab, folder: *const c_char, energies: *mut f64, count: usize) -> u64;
+}
+
+impl Identity {
+    const NONE: Identity = Identity { id: [0; 16], label: [0; 4097] };
+
+    /// In 32 hexadecimal digits, as the tool shows it.
+    pub(crate) fn id(&self) -> Option<String> {
+        let digits = || self.id.iter().map(|byte| format!("{byte:02x}")).collect();
+        (self.id != [0; 16]).then(digits)
+    }
+
+    pub(crate) fn label(&self) -> String {
+        field(&self.label)
+    }
 }
 
 // ---- strings and refusals
@@ -291,19 +330,27 @@ pub(crate) struct Plan<'a> {
     pub(crate) grid: Grid,
     pub(crate) mesh: &'a Arc<Mesh>,
     pub(crate) flags: u32,
+    pub(crate) label: Option<&'a str>,
 }
 
 impl Plan<'_> {
-    fn settings(&self, lent: &Meshes, journal: *const c_char) -> BuildSettings {
-        let (atom, top) = (c_int::from(self.atom), self.mesh.top());
-        BuildSettings { atom, grid: self.grid, top, journal, meshes: null(), flags: self.flags, lent }
+    fn settings(&self, lent: &Meshes, journal: *const c_char, label: &Option<CString>) -> BuildSettings {
+        let (atom, top, label) = (c_int::from(self.atom), self.mesh.top(), label.as_ref().map_or(null(), |label| label.as_ptr()));
+        BuildSettings { atom, grid: self.grid, top, journal, meshes: null(), flags: self.flags, lent, label }
+    }
+
+    /// The label as C takes it, which would end at a zero byte.
+    fn label(&self) -> Result<Option<CString>, Error> {
+        const LABEL: u64 = 218;
+        let zero = |_| Error::Handle { number: LABEL, message: format!("{}: a zero byte", words(LABEL)) };
+        self.label.map(CString::new).transpose().map_err(zero)
     }
 
     /// A table in memory, its mesh file and its seal.
     pub(crate) fn save(&self, table: &[u8], path: &Path) -> Result<(), Error> {
         linked();
         let (path, lent, mut fault) = (name(path)?, self.mesh.lists(), Fault::new());
-        let settings = self.settings(&lent, null());
+        let settings = self.settings(&lent, null(), &None);
         let number = unsafe { icotable_table_save(&settings, table.as_ptr(), table.len(), path.as_ptr(), &mut fault) };
         accepted(number, &fault)
     }
@@ -336,13 +383,13 @@ impl Drop for Build {
 impl Build {
     pub(crate) fn new(how: How, journal: &Path, plan: &Plan) -> Result<Build, Error> {
         linked();
-        let (journal, lent, mut fault) = (name(journal)?, plan.mesh.lists(), Fault::new());
+        let (journal, label, lent, mut fault) = (name(journal)?, plan.label()?, plan.mesh.lists(), Fault::new());
         let opening: Opening = match how {
             How::Begin => icotable_build_begin,
             How::Resume => icotable_build_resume,
             How::Open => icotable_build_open,
         };
-        let raw = unsafe { opening(&plan.settings(&lent, journal.as_ptr()), &mut fault) };
+        let raw = unsafe { opening(&plan.settings(&lent, journal.as_ptr(), &label), &mut fault) };
         match NonNull::new(raw) {
             Some(raw) => Ok(Build { raw, mesh: plan.mesh.clone() }),
             None => Err(fault.error()),
@@ -489,6 +536,11 @@ impl Reader {
         unsafe { icotable_reader_span(self.raw.as_ptr(), low, high, omega) }
     }
 
+    /// One of enum icotable_place.
+    pub(crate) fn place(&self, r: f64) -> c_uint {
+        unsafe { icotable_reader_place(self.raw.as_ptr(), r) }
+    }
+
     pub(crate) fn atom_energy(&self, r: f64, d: [f64; 3]) -> Energy {
         unsafe { icotable_reader_atom_energy(self.raw.as_ptr(), r, d[0], d[1], d[2]) }
     }
@@ -528,7 +580,22 @@ impl Slab {
         linked();
         let atom = c_int::from(plan.atom);
         let build = unsafe { icotable_build_hash(atom, plan.grid, plan.mesh.top(), &plan.mesh.lists()) };
-        Slab { atom, build, level, ri, oi, said: [0; 400] }
+        Slab { atom, build, level, ri, oi, identity: Identity::NONE, said: [0; 400] }
+    }
+
+    /// Of the build whose journal this is, by its head.
+    pub(crate) fn of_journal(path: &Path, level: u64, ri: u64, oi: u64) -> Result<Slab, Error> {
+        linked();
+        let path = name(path)?;
+        let mut journal: Box<Journal> = Box::new(unsafe { std::mem::zeroed() });
+        match unsafe { icotable_journal_look(&mut *journal, path.as_ptr()) } {
+            0 => Ok(unsafe { icotable_slab_of(&*journal, level, ri, oi) }),
+            number => Err(Error::Handle { number, message: field(&journal.said) }),
+        }
+    }
+
+    pub(crate) fn of_build(build: &Build, level: u64, ri: u64, oi: u64) -> Slab {
+        unsafe { icotable_slab_of(build.state(), level, ri, oi) }
     }
 
     pub(crate) fn count(&self) -> usize {
@@ -591,18 +658,22 @@ mod tests {
         places!(l, "meshes", Meshes: top vertices angles neighbour_counts neighbours cell_vertices faces cell_offsets face_offsets);
         places!(l, "meshes", Meshes: vertices_count angles_count neighbour_counts_count neighbours_count);
         places!(l, "meshes", Meshes: cell_offsets_count cell_vertices_count face_offsets_count faces_count);
-        places!(l, "build_settings", BuildSettings: atom grid top journal meshes flags lent);
-        places!(l, "progress", Progress: n_r n_omega top level slabs set settled length step ri oi);
+        places!(l, "build_settings", BuildSettings: atom grid top journal meshes flags lent label);
+        places!(l, "progress", Progress: n_r n_omega top level slabs set settled length step ri oi level_lost);
         places!(l, "journal_settled", JournalSettled: number gradient comparisons);
+        places!(l, "identity", Identity: id label);
         places!(l, "journal", Journal: atom guarded builder records bytes cut slabs set_count settled_count set settled);
+        places!(l, "journal", Journal: said build meshes_hash version library identity);
         places!(l, "terms", Terms: coefficients kappas powers count prefactor);
         places!(l, "seal", Seal: sha256 table_length atom grid top levels meshes_hash own_meshes version journaled journal_sha256);
-        places!(l, "slab", Slab: atom build level ri oi said);
+        places!(l, "seal", Seal: format guarded whole identity);
+        places!(l, "slab", Slab: atom build level ri oi identity said);
         size::<Fault>(&mut l, "fault");
         size::<Meshes>(&mut l, "meshes");
         size::<BuildSettings>(&mut l, "build_settings");
         size::<Progress>(&mut l, "progress");
         size::<JournalSettled>(&mut l, "journal_settled");
+        size::<Identity>(&mut l, "identity");
         size::<Terms>(&mut l, "terms");
         size::<Seal>(&mut l, "seal");
         size::<Slab>(&mut l, "slab");

@@ -6,7 +6,7 @@ use crate::helpers::{Build, How, Plan};
 use crate::refusal::Refusal;
 use crate::sys::{AtomGrid, Grid};
 use crate::tail::{self, Tail};
-use crate::{AtomBuilder, Builder, Mesh};
+use crate::{AtomBuilder, Builder, Mesh, Slab};
 use std::marker::PhantomData;
 use std::path::Path;
 use std::sync::Arc;
@@ -39,6 +39,71 @@ pub enum Guard {
     On,
     /// The library alone decides.
     Off,
+}
+
+/// How a journal is kept: with the guard or without, and with a label. A [`Guard`] alone is taken for it, too.
+///
+/// ```
+/// use simgrale::{settings, Builder, Error, Guard, JournalOptions, JournalRefusal, Mesh};
+///
+/// let grid = settings(1.0, 4.0, 1.0, 3.2, 0.5, 0.4);
+/// # let path = std::env::temp_dir().join(format!("simgrale-label-{}.journal", std::process::id()));
+/// let options = JournalOptions::new().label("water and ethanol, OPLS");
+/// let build = Builder::with_journal(&path, grid, Mesh::icospheres(0)?, options)?;
+/// assert_eq!((build.label().as_str(), build.id().map(|id| id.len())), ("water and ethanol, OPLS", Some(32)));
+/// # drop(build);
+/// // a resume that hands over a label refuses a journal with another one; without a label any journal is resumed
+/// let resumed = |options| Builder::resume(&path, grid, Mesh::icospheres(0).unwrap(), options);
+/// let error = resumed(JournalOptions::new().label("two of water")).unwrap_err();
+/// assert_eq!(error.journal(), Some(JournalRefusal::OtherIdentity));
+/// assert_eq!(resumed(Guard::On.into())?.label(), "water and ethanol, OPLS");
+/// # std::fs::remove_file(&path)?;
+/// // for a library before 0.24, and without the guard
+/// let options = JournalOptions::new().guard(Guard::Off).version_1();
+/// assert_eq!(Builder::with_journal(&path, grid, Mesh::icospheres(0)?, options)?.id(), None);
+/// # std::fs::remove_file(path)?;
+/// # Ok::<(), Error>(())
+/// ```
+#[derive(Clone, Debug, Default, PartialEq, Eq)]
+pub struct JournalOptions {
+    guard: Guard,
+    label: Option<String>,
+    version_1: bool,
+}
+
+impl JournalOptions {
+    /// With the guard, and without a label.
+    pub fn new() -> JournalOptions {
+        JournalOptions::default()
+    }
+
+    /// With the guard, or without it.
+    pub fn guard(mut self, guard: Guard) -> JournalOptions {
+        self.guard = guard;
+        self
+    }
+
+    /// Your words for what is sampled, molecules and force field: UTF-8 of at most 4,096 bytes without control characters.
+    pub fn label(mut self, label: impl Into<String>) -> JournalOptions {
+        self.label = Some(label.into());
+        self
+    }
+
+    /// A journal that begins has format version 1, without id and label, for a library before 0.24.
+    pub fn version_1(mut self) -> JournalOptions {
+        self.version_1 = true;
+        self
+    }
+
+    fn flags(&self) -> u32 {
+        u32::from(self.guard == Guard::Off) + 4 * u32::from(self.version_1)
+    }
+}
+
+impl From<Guard> for JournalOptions {
+    fn from(guard: Guard) -> JournalOptions {
+        JournalOptions { guard, ..JournalOptions::default() }
+    }
 }
 
 /// What a build does next, from contact outwards: what [`Journaled::next_step`] answers.
@@ -80,7 +145,10 @@ pub enum Step {
 ///                 let pairs = build.directions().len().pow(2) as u64;
 ///                 build.set(ri, oi, &(0..pairs).map(|i| ((i + oi) % 7) as f64 / (ri + 1) as f64).collect::<Vec<_>>())?
 ///             }
-///             Step::Settle { ri } => drop(build.settle(ri)?),
+///             Step::Settle { ri } => {
+///                 build.settle(ri)?;
+///                 assert!(!build.level_lost(), "the remedy is a larger rmin");
+///             }
 ///             Step::Write => return build.write(folder.join("table.icotable")),
 ///         }
 ///     }
@@ -115,32 +183,47 @@ impl<B> Journaled<B> {
 }
 
 // What a build of each kind is opened with.
-fn pair_plan(grid: Grid, mesh: &Arc<Mesh>, guard: Guard) -> Plan<'_> {
-    Plan { atom: false, grid, mesh, flags: u32::from(guard == Guard::Off) }
+fn pair_plan<'a>(grid: Grid, mesh: &'a Arc<Mesh>, options: &'a JournalOptions) -> Plan<'a> {
+    Plan { atom: false, grid, mesh, flags: options.flags(), label: options.label.as_deref() }
 }
 
-fn atom_plan(grid: AtomGrid, mesh: &Arc<Mesh>, guard: Guard) -> Plan<'_> {
-    Plan { atom: true, grid: pair_grid(grid), mesh, flags: u32::from(guard == Guard::Off) }
+fn atom_plan<'a>(grid: AtomGrid, mesh: &'a Arc<Mesh>, options: &'a JournalOptions) -> Plan<'a> {
+    Plan { atom: true, grid: pair_grid(grid), mesh, flags: options.flags(), label: options.label.as_deref() }
 }
 
 impl Builder {
     /// [Resumes](Builder::resume) the journal where it is there, and [begins](Builder::with_journal) it where it is not: what a job calls that a
     /// scheduler starts again. [`Journaled`] has an example.
-    pub fn open_journal(path: impl AsRef<Path>, settings: Grid, mesh: impl Into<Arc<Mesh>>, guard: Guard) -> Result<Journaled<Builder>, Error> {
-        Journaled::new(How::Open, path.as_ref(), &pair_plan(settings, &mesh.into(), guard))
+    pub fn open_journal(
+        path: impl AsRef<Path>,
+        settings: Grid,
+        mesh: impl Into<Arc<Mesh>>,
+        options: impl Into<JournalOptions>,
+    ) -> Result<Journaled<Builder>, Error> {
+        Journaled::new(How::Open, path.as_ref(), &pair_plan(settings, &mesh.into(), &options.into()))
     }
 
     /// A build with no slab set, and a new journal of its calls. Refused ([`JournalRefusal::Exists`](crate::JournalRefusal::Exists)) where there is
     /// such a file. [`Journaled`] has an example.
-    pub fn with_journal(path: impl AsRef<Path>, settings: Grid, mesh: impl Into<Arc<Mesh>>, guard: Guard) -> Result<Journaled<Builder>, Error> {
-        Journaled::new(How::Begin, path.as_ref(), &pair_plan(settings, &mesh.into(), guard))
+    pub fn with_journal(
+        path: impl AsRef<Path>,
+        settings: Grid,
+        mesh: impl Into<Arc<Mesh>>,
+        options: impl Into<JournalOptions>,
+    ) -> Result<Journaled<Builder>, Error> {
+        Journaled::new(How::Begin, path.as_ref(), &pair_plan(settings, &mesh.into(), &options.into()))
     }
 
     /// The build that a journal's calls lead to, played again from fresh; each has to be answered as it was. Settings and meshes
-    /// have to be those of the journal, to the bit. A last record that is not whole is cut off; any other damage is refused with
-    /// its place.
-    pub fn resume(path: impl AsRef<Path>, settings: Grid, mesh: impl Into<Arc<Mesh>>, guard: Guard) -> Result<Journaled<Builder>, Error> {
-        Journaled::new(How::Resume, path.as_ref(), &pair_plan(settings, &mesh.into(), guard))
+    /// have to be those of the journal, to the bit, and so does a label that is handed over. A last record that is not whole is cut off; any other
+    /// damage is refused with its place.
+    pub fn resume(
+        path: impl AsRef<Path>,
+        settings: Grid,
+        mesh: impl Into<Arc<Mesh>>,
+        options: impl Into<JournalOptions>,
+    ) -> Result<Journaled<Builder>, Error> {
+        Journaled::new(How::Resume, path.as_ref(), &pair_plan(settings, &mesh.into(), &options.into()))
     }
 }
 
@@ -150,9 +233,9 @@ impl AtomBuilder {
         path: impl AsRef<Path>,
         settings: AtomGrid,
         mesh: impl Into<Arc<Mesh>>,
-        guard: Guard,
+        options: impl Into<JournalOptions>,
     ) -> Result<Journaled<AtomBuilder>, Error> {
-        Journaled::new(How::Open, path.as_ref(), &atom_plan(settings, &mesh.into(), guard))
+        Journaled::new(How::Open, path.as_ref(), &atom_plan(settings, &mesh.into(), &options.into()))
     }
 
     /// As [`Builder::with_journal`].
@@ -179,14 +262,19 @@ impl AtomBuilder {
         path: impl AsRef<Path>,
         settings: AtomGrid,
         mesh: impl Into<Arc<Mesh>>,
-        guard: Guard,
+        options: impl Into<JournalOptions>,
     ) -> Result<Journaled<AtomBuilder>, Error> {
-        Journaled::new(How::Begin, path.as_ref(), &atom_plan(settings, &mesh.into(), guard))
+        Journaled::new(How::Begin, path.as_ref(), &atom_plan(settings, &mesh.into(), &options.into()))
     }
 
     /// As [`Builder::resume`].
-    pub fn resume(path: impl AsRef<Path>, settings: AtomGrid, mesh: impl Into<Arc<Mesh>>, guard: Guard) -> Result<Journaled<AtomBuilder>, Error> {
-        Journaled::new(How::Resume, path.as_ref(), &atom_plan(settings, &mesh.into(), guard))
+    pub fn resume(
+        path: impl AsRef<Path>,
+        settings: AtomGrid,
+        mesh: impl Into<Arc<Mesh>>,
+        options: impl Into<JournalOptions>,
+    ) -> Result<Journaled<AtomBuilder>, Error> {
+        Journaled::new(How::Resume, path.as_ref(), &atom_plan(settings, &mesh.into(), &options.into()))
     }
 }
 
@@ -211,9 +299,30 @@ impl<B> Journaled<B> {
         self.build.progress().level
     }
 
+    /// Whether the level dropped before the first interpolated slice, as it does inside a wall, whose weights are flat
+    /// where they are nearly 0. The well then has a coarser mesh than the top level's; begin again with a larger rmin.
+    pub fn level_lost(&self) -> bool {
+        self.build.progress().level_lost != 0
+    }
+
     /// The length of the table's file in bytes, were it written now.
     pub fn file_length(&self) -> u64 {
         self.build.progress().length
+    }
+
+    /// The host's own words for what is sampled, of the journal's head; empty without any.
+    pub fn label(&self) -> String {
+        self.build.state().identity.label()
+    }
+
+    /// The id of the build in 32 hexadecimal digits, drawn when the journal was begun; none of a journal of format version 1.
+    pub fn id(&self) -> Option<String> {
+        self.build.state().identity.id()
+    }
+
+    /// The slab file of slab (ri, oi) at the current level; against an atom oi is 0. [`Slab`] has an example.
+    pub fn slab(&self, ri: u64, oi: u64) -> Slab {
+        Slab::of_build(&self.build, self.level(), ri, oi)
     }
 
     /// The meshes that it is built over.

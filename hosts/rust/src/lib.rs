@@ -8,7 +8,7 @@
 //! |---|---|
 //! | [`Mesh`] | the meshes and locators of all levels; [`search`] finds a direction without a locator |
 //! | [`Builder`], [`AtomBuilder`] | a table that is being built, of two molecules and of one against an atom |
-//! | [`Journaled`] | a builder whose calls are kept in a file, so that a killed job goes on |
+//! | [`Journaled`], [`JournalOptions`] | a builder whose calls are kept in a file, so that a killed job goes on |
 //! | [`Table`], [`AtomTable`] | a table that is read; [`repack`] packs one that was loosely packed |
 //! | [`Seal`] | what a table on disk was built with, and which bytes it has |
 //! | [`Slab`] | a file of one slab's energies, which a task of a cluster writes |
@@ -78,7 +78,7 @@ pub use builder::{Builder, Settled};
 pub use environment::FloatEnvironment;
 pub use error::Error;
 pub use found::{search, Found};
-pub use journal::{Guard, Journaled, Step};
+pub use journal::{Guard, JournalOptions, Journaled, Step};
 pub use journal_refusal::JournalRefusal;
 pub use mesh::{Level, Mesh};
 pub use refusal::Refusal;
@@ -88,7 +88,7 @@ pub use seal::Seal;
 pub use sizing::{atom_sizing, sizing, sizing_with_terms, LevelSizing, Sizing};
 pub use slab::Slab;
 pub use sys::{AtomGrid, Grid};
-pub use table::{Reading, Span, Table};
+pub use table::{Place, Reading, Span, Table};
 pub use tail::{power, Tail, Term};
 pub use words::{rows_to_words, words_to_rows, RowLists};
 

@@ -19,6 +19,8 @@ use std::path::Path;
 /// let seal = Seal::read(&path)?.expect("it was saved with one");
 /// assert_eq!((seal.grid, seal.top, seal.own_meshes), (builder.grid(), 1, true));
 /// assert_eq!((seal.table_length, seal.sha256.len(), seal.journal_sha256), (builder.file_length(), 64, None));
+/// // a table that the host wrote itself: nothing is known of its build
+/// assert_eq!((seal.guarded, seal.whole, seal.id, seal.label.as_str()), (None, None, None, ""));
 /// # std::fs::remove_dir_all(folder)?;
 /// # Ok::<(), simgrale::Error>(())
 /// ```
@@ -43,6 +45,23 @@ pub struct Seal {
     pub version: String,
     /// The SHA-256 of the build's journal, if it had one.
     pub journal_sha256: Option<String>,
+    /// Whether the guard was on; none where the seal does not know.
+    pub guarded: Option<bool>,
+    /// Whether every slab was set and every slice settled after its sets; none where the seal does not know. An unset slab reads as 0.0.
+    pub whole: Option<bool>,
+    /// The id of the build in 32 hexadecimal digits, if it had a journal of format version 2.
+    pub id: Option<String>,
+    /// The host's own words for what was sampled; empty without any.
+    pub label: String,
+}
+
+// enum icotable_known
+fn known(known: u32) -> Option<bool> {
+    match known {
+        1 => Some(true),
+        2 => Some(false),
+        _ => None,
+    }
 }
 
 impl Seal {
@@ -58,6 +77,10 @@ impl Seal {
             own_meshes: s.own_meshes != 0,
             version: helpers::field(&s.version),
             journal_sha256: (s.journaled != 0).then(|| helpers::field(&s.journal_sha256)),
+            guarded: known(s.guarded),
+            whole: known(s.whole),
+            id: s.identity.id(),
+            label: s.identity.label(),
         }))
     }
 }

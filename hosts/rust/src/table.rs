@@ -68,6 +68,28 @@ impl Reading {
     }
 }
 
+/// Where a distance lies: [`Table::place`].
+#[derive(Clone, Copy, Debug, PartialEq, Eq)]
+pub enum Place {
+    /// Below rmin, where every reading is 0. A simulation takes such a pair for one that overlaps.
+    Nearer,
+    /// In the table's distances, to which both ends belong.
+    Inside,
+    /// Above the table's rmax, where every reading is 0 and a host adds the long-range tail.
+    Beyond,
+}
+
+impl Place {
+    pub(crate) fn of(reader: &Reader, r: f64) -> Result<Place, Refusal> {
+        match reader.place(r) {
+            1 => Ok(Place::Nearer),
+            2 => Ok(Place::Inside),
+            3 => Ok(Place::Beyond),
+            _ => Err(Refusal::Query),
+        }
+    }
+}
+
 /// What the distances of a span have in common; [`Table::span`] has an example.
 #[derive(Clone, Copy, Debug, PartialEq)]
 pub struct Span {
@@ -176,8 +198,27 @@ impl Table {
         Table::read(file, mesh)
     }
 
-    /// The energy at a distance, a dihedral angle and two directions of any length: infinity inside a repulsive wall, 0 outside the table's
-    /// distances.
+    /// Where a distance lies, as a reading compares it. A NaN is refused, as a reading refuses it.
+    ///
+    /// ```
+    /// # use simgrale::{settings, Builder, Mesh, Place, Refusal, Table};
+    /// # let mut builder = Builder::new(settings(1.0, 4.0, 1.0, 3.2, 0.5, 0.4), Mesh::icospheres(0)?)?;
+    /// # let table = Table::read(builder.write()?, builder.mesh().clone())?;
+    /// # let (r, a, b) = (0.5, [0.0, 0.0, 1.0], [0.0, 0.0, 1.0]);
+    /// // below rmin a reading is 0, and a simulation wants a wall there
+    /// let energy = if table.place(r)? == Place::Nearer { f64::INFINITY } else { table.lookup(r, 0.0, a, b)? };
+    /// assert_eq!((table.lookup(r, 0.0, a, b)?, energy), (0.0, f64::INFINITY));
+    /// assert_eq!((table.place(4.0), table.place(4.1)), (Ok(Place::Inside), Ok(Place::Beyond)));
+    /// assert_eq!(table.place(f64::NAN), Err(Refusal::Query));
+    /// # Ok::<(), simgrale::Error>(())
+    /// ```
+    pub fn place(&self, r: f64) -> Result<Place, Refusal> {
+        Place::of(&self.reader, r)
+    }
+
+    /// The energy at a distance, a dihedral angle and two directions of any length: infinity inside a repulsive wall, 0
+    /// outside the table's distances, also below rmin ([`place`](Table::place) tells). Which pose they stand for:
+    /// docs/GUIDE.md, What a table is.
     pub fn lookup(&self, r: f64, omega: f64, a: [f64; 3], b: [f64; 3]) -> Result<f64, Refusal> {
         self.reading(r, omega, a, b).map(|reading| reading.energy)
     }

@@ -1,5 +1,6 @@
 //! The table of cases that the suites of C, Rust and Python share: hosts/cases/cases.txt, which says what its lines mean.
-use simgrale::{atom_settings, settings, AtomBuilder, AtomTable, Builder, Error, Guard, Journaled, Mesh, Step, Table, Tail, Term};
+use simgrale::{atom_settings, settings, AtomBuilder, AtomTable, Builder, Error, Guard, JournalOptions, Journaled, Mesh, Seal, Step};
+use simgrale::{Table, Tail, Term};
 use std::os::unix::process::ExitStatusExt;
 use std::path::{Path, PathBuf};
 use std::process::Command;
@@ -54,6 +55,17 @@ fn mesh(name: &str) -> Arc<Mesh> {
     Arc::new(made.expect("meshes"))
 }
 
+// Journals are of format version 1 but where an option says otherwise.
+fn options(words: &[&str]) -> JournalOptions {
+    let guarded = JournalOptions::from(if words.contains(&"unguarded") { Guard::Off } else { Guard::On });
+    match words.iter().find_map(|word| word.strip_prefix("label=")) {
+        Some(label) => guarded.label(label),
+        None if words.contains(&"badlabel") => guarded.label("a\nb"),
+        None if words.contains(&"v2") => guarded,
+        None => guarded.version_1(),
+    }
+}
+
 impl Build {
     // HOW KIND JOURNAL OPTION..
     fn new(folder: &Path, how: &str, words: &[&str]) -> Result<Build, Error> {
@@ -66,20 +78,20 @@ impl Build {
         } else {
             "own"
         });
-        let guard = if has("unguarded") { Guard::Off } else { Guard::On };
+        let options = options(&words[2..]);
         if words[0] == "atom" {
             let grid = atom_settings(0.0, 4.0, 1.0, 0.5, beta);
             return Ok(Build::Atom(match how {
-                "begin" => AtomBuilder::with_journal(path, grid, mesh, guard)?,
-                "resume" => AtomBuilder::resume(path, grid, mesh, guard)?,
-                _ => AtomBuilder::open_journal(path, grid, mesh, guard)?,
+                "begin" => AtomBuilder::with_journal(path, grid, mesh, options)?,
+                "resume" => AtomBuilder::resume(path, grid, mesh, options)?,
+                _ => AtomBuilder::open_journal(path, grid, mesh, options)?,
             }));
         }
         let grid = settings(0.0, 3.0, 1.0, 3.0, 0.5, beta);
         Ok(Build::Pair(match how {
-            "begin" => Builder::with_journal(path, grid, mesh, guard)?,
-            "resume" => Builder::resume(path, grid, mesh, guard)?,
-            _ => Builder::open_journal(path, grid, mesh, guard)?,
+            "begin" => Builder::with_journal(path, grid, mesh, options)?,
+            "resume" => Builder::resume(path, grid, mesh, options)?,
+            _ => Builder::open_journal(path, grid, mesh, options)?,
         }))
     }
 
@@ -178,6 +190,12 @@ impl Run {
             "there" => self.at(words[1]).exists(),
             "gone" => !self.at(words[1]).exists(),
             "sum" => sum(&std::fs::read(self.at(words[1]))?, words[2]),
+            "sealed" => {
+                let seal = Seal::read(self.at(words[1]))?.expect("a seal");
+                let word = |known: Option<bool>| known.map_or("unknown", |yes| if yes { "yes" } else { "no" });
+                let label = if words[4] == "-" { "" } else { words[4] };
+                (word(seal.guarded), word(seal.whole), seal.label.as_str()) == (words[2], words[3], label)
+            }
             "energies" => {
                 let table = self.table.as_ref().expect("a table");
                 sum(&(0..32).flat_map(|i| table.energy(i).to_le_bytes()).collect::<Vec<u8>>(), words[1])

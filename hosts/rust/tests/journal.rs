@@ -1,6 +1,7 @@
 //! Builders with a journal, used as a host does. tests/hosts/journal.c has the kills, the full disks and the damage; here is what the
 //! wrapper itself decides.
-use simgrale::{atom_settings, settings, AtomBuilder, Builder, Error, Grid, Guard, JournalRefusal, Journaled, Mesh, Refusal, Step};
+use simgrale::{atom_settings, settings, AtomBuilder, Builder, Error, Grid, Guard, JournalOptions, JournalRefusal, Journaled, Mesh, Refusal};
+use simgrale::{Seal, Slab, Step};
 use std::path::{Path, PathBuf};
 use std::sync::Arc;
 
@@ -35,12 +36,17 @@ impl Drop for Name {
     }
 }
 
+// Of format version 1, whose bytes are the same each time.
+fn first(guard: Guard) -> JournalOptions {
+    JournalOptions::from(guard).version_1()
+}
+
 fn begin(name: &Name) -> Journaled<Builder> {
-    Builder::with_journal(name, small(), mesh(0), Guard::On).expect("begin")
+    Builder::with_journal(name, small(), mesh(0), first(Guard::On)).expect("begin")
 }
 
 fn resume(name: &Name) -> Result<Journaled<Builder>, Error> {
-    Builder::resume(name, small(), mesh(0), Guard::On)
+    Builder::resume(name, small(), mesh(0), first(Guard::On))
 }
 
 fn energies(ri: u64, oi: u64) -> Vec<f64> {
@@ -157,7 +163,7 @@ fn the_guard_names_the_bins() {
 #[test]
 fn without_the_guard_the_library_decides() {
     let name = Name::new("unguarded");
-    let mut j = Builder::with_journal(&name, small(), mesh(0), Guard::Off).unwrap();
+    let mut j = Builder::with_journal(&name, small(), mesh(0), first(Guard::Off)).unwrap();
     j.set(2, 0, &energies(2, 0)).unwrap();
     j.settle(2).unwrap();
     j.set(2, 0, &energies(2, 0)).unwrap();
@@ -180,6 +186,31 @@ fn refused_calls_are_not_recorded() {
     assert_eq!((j.records(), j.bytes()), (1, 160));
 }
 
+// Slices of one story: a wall whose weights are flat, or one that is Repulsive; then a well.
+fn level_lost(name: &str, first: f64) -> Vec<bool> {
+    let name = Name::new(name);
+    let grid = settings(1.0, 3.0, 1.0, 6.3, 0.3, 1.0);
+    let mut j = Builder::with_journal(&name, grid, mesh(1), Guard::On).expect("begin");
+    let mut told = vec![j.level_lost()];
+    for ri in 0..2 {
+        let mut slab = vec![1e6; j.directions().len().pow(2)];
+        slab[0] = first;
+        if ri == 1 {
+            slab.iter_mut().enumerate().for_each(|(i, e)| *e = 0.5 * (i % 7) as f64);
+        }
+        j.set(ri, 0, &slab).expect("set");
+        j.settle(ri).expect("settle");
+        told.push(j.level_lost());
+    }
+    told
+}
+
+#[test]
+fn a_level_that_is_lost_inside_the_wall_is_told() {
+    assert_eq!(level_lost("lost", 9.0), [false, true, true]);
+    assert_eq!(level_lost("sound", 1e6), [false, false, false]);
+}
+
 #[test]
 fn another_build_is_told() {
     let name = Name::new("other");
@@ -194,4 +225,35 @@ fn another_build_is_told() {
     assert_eq!(refused(AtomBuilder::resume(&name, atom, mesh(0), Guard::On)).0, 207);
     assert_eq!(refused(AtomBuilder::resume("/dev/null", atom, mesh(0), Guard::On)).0, 204);
     assert_eq!(refused(AtomBuilder::resume(Name::new("none"), atom, mesh(0), Guard::On)).0, 202);
+}
+
+#[test]
+fn builds_with_equal_settings_are_told_apart() {
+    let (one, other, table) = (Name::new("one"), Name::new("other_label"), Name::new("labelled.table"));
+    let folder = std::env::temp_dir().join(format!("simgrale-told-apart-{}", std::process::id()));
+    std::fs::create_dir_all(&folder).unwrap();
+    let begin = |name: &Name, label: &str| Builder::with_journal(name, small(), mesh(0), JournalOptions::new().label(label)).unwrap();
+    let mut j = begin(&one, "water and ethanol");
+    let id = j.id().expect("an id");
+    assert_eq!((id.len(), j.label().as_str()), (32, "water and ethanol"));
+    Slab::of_journal(&one, 0, 0, 0).unwrap().write(&folder, &energies(0, 0)).unwrap();
+    assert_eq!(j.slab(0, 0).read(&folder).unwrap(), energies(0, 0));
+    let (number, said) = refused(begin(&other, "two of water").slab(0, 0).read(&folder));
+    assert!(number == 240 && said.contains("'water and ethanol'") && said.contains("'two of water'"), "{said}");
+    let (number, said) = refused(Slab::new(small(), &mesh(0), 0, 0, 0).read(&folder));
+    assert!(number == 240, "{said}");
+    go_on(&mut j, 100);
+    j.write(&table).unwrap();
+    let seal = Seal::read(&table).unwrap().unwrap();
+    assert_eq!((seal.guarded, seal.whole, seal.id.as_ref(), seal.label.as_str()), (Some(true), Some(true), Some(&id), "water and ethanol"));
+    drop(j);
+    let resumed = |label: &str| Builder::resume(&one, small(), mesh(0), JournalOptions::new().label(label));
+    assert_eq!(resumed("water and ethanol").unwrap().id(), Some(id));
+    let (number, said) = refused(resumed("two of water"));
+    assert!(number == 219 && said.contains("label 'water and ethanol', not 'two of water'"), "{said}");
+    for label in ["a\nb", "a\0b", &"x".repeat(4097)] {
+        assert_eq!(refused(resumed(label)).0, 218);
+    }
+    assert_eq!(refused(Slab::of_journal(Name::new("none"), 0, 0, 0)).0, 202);
+    std::fs::remove_dir_all(folder).unwrap();
 }

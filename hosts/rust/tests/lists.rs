@@ -1,6 +1,6 @@
 //! The random lists of calls of tests/hosts/lists.c, made in Rust: answers, messages, journals and tables are those of hosts/cases/lists.txt, which
 //! the C helpers of 0.22.0 gave.
-use simgrale::{atom_settings, settings, AtomBuilder, AtomGrid, AtomTable, Builder, Error, Grid, Guard, Journaled, Level, Mesh};
+use simgrale::{atom_settings, settings, AtomBuilder, AtomGrid, AtomTable, Builder, Error, Grid, Guard, JournalOptions, Journaled, Level, Mesh};
 use simgrale::{Settled, Step, Table, Tail, Term};
 use std::path::Path;
 use std::sync::Arc;
@@ -130,15 +130,17 @@ impl<'a> List<'a> {
 
     // ---- calls
 
+    // The stored journals are of format version 1.
     fn opened(&mut self, how: How, guard: Guard, beta: f64) {
+        let options = JournalOptions::from(guard).version_1();
         let (mesh, pair, atom) = (self.mesh.clone(), Grid { beta, ..self.pair_grid }, AtomGrid { beta, ..self.atom_grid });
         let made = match (self.atom, how) {
-            (false, How::Begin) => Builder::with_journal(JOURNAL, pair, mesh, guard).map(Build::Pair),
-            (false, How::Resume) => Builder::resume(JOURNAL, pair, mesh, guard).map(Build::Pair),
-            (false, How::Open) => Builder::open_journal(JOURNAL, pair, mesh, guard).map(Build::Pair),
-            (true, How::Begin) => AtomBuilder::with_journal(JOURNAL, atom, mesh, guard).map(Build::Atom),
-            (true, How::Resume) => AtomBuilder::resume(JOURNAL, atom, mesh, guard).map(Build::Atom),
-            (true, How::Open) => AtomBuilder::open_journal(JOURNAL, atom, mesh, guard).map(Build::Atom),
+            (false, How::Begin) => Builder::with_journal(JOURNAL, pair, mesh, options).map(Build::Pair),
+            (false, How::Resume) => Builder::resume(JOURNAL, pair, mesh, options).map(Build::Pair),
+            (false, How::Open) => Builder::open_journal(JOURNAL, pair, mesh, options).map(Build::Pair),
+            (true, How::Begin) => AtomBuilder::with_journal(JOURNAL, atom, mesh, options).map(Build::Atom),
+            (true, How::Resume) => AtomBuilder::resume(JOURNAL, atom, mesh, options).map(Build::Atom),
+            (true, How::Open) => AtomBuilder::open_journal(JOURNAL, atom, mesh, options).map(Build::Atom),
         };
         if let Some(build) = self.told(made) {
             self.build = Some(build);

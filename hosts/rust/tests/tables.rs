@@ -1,5 +1,5 @@
 //! Tables of both kinds: files that are opened and saved, levels that are asked for once, rows one after another, threads.
-use simgrale::{atom_settings, settings, AtomBuilder, AtomTable, Builder, Error, Kind, Level, Mesh, Refusal, Row, Seal, Table};
+use simgrale::{atom_settings, settings, AtomBuilder, AtomTable, Builder, Error, Kind, Level, Mesh, Place, Refusal, Row, Seal, Table};
 use std::io;
 use std::path::PathBuf;
 use std::sync::Arc;
@@ -220,4 +220,21 @@ fn a_build_goes_on_in_another_thread() {
     here.set(2, 1, &energies).unwrap();
     let there = std::thread::spawn(move || b.set(2, 1, &energies).map(|()| b)).join().unwrap().unwrap();
     assert!(there == here && there.write().unwrap() == here.write().unwrap());
+}
+
+#[test]
+fn a_distance_has_its_place() {
+    let (pair, atom) = (pair(), atom());
+    let table = Table::read(pair.write().expect("write"), mesh(1)).expect("read");
+    let ions = AtomTable::read(atom.write().expect("write"), mesh(1)).expect("read");
+    let (low, high) = (f64::from_bits(1f64.to_bits() - 1), f64::from_bits(4f64.to_bits() + 1));
+    let wanted = [(-f64::INFINITY, Place::Nearer), (low, Place::Nearer), (1.0, Place::Inside), (4.0, Place::Inside), (high, Place::Beyond)];
+    for (r, place) in wanted {
+        assert_eq!((table.place(r), ions.place(r)), (Ok(place), Ok(place)), "{r}");
+        // a span from r to r is refused outside the table
+        assert_eq!(table.span(r, r, 0.0).err(), (place != Place::Inside).then_some(Refusal::Span), "{r}");
+        let energy = table.lookup(r, 0.0, [0.0, 0.0, 1.0], [0.0, 0.0, 1.0]).expect("a reading");
+        assert!(place == Place::Inside || energy == 0.0, "{r}");
+    }
+    assert_eq!((table.place(f64::NAN), ions.place(f64::NAN)), (Err(Refusal::Query), Err(Refusal::Query)));
 }

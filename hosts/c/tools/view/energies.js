@@ -154,7 +154,8 @@ function drawPair(t, row, energies, n, state, scale, choice) {
     drawSphere(t, byId('b-sphere'), row.level, overOther(energies, n, false, choice, state.a), scale, state.b);
     drawMatrix(energies, n, scale, state);
     byId('a-words').textContent = `Direction a, in the frame of the first molecule, toward the second: ${OTHER[choice]} b`;
-    byId('b-words').textContent = `Direction b, in the frame of the second molecule, toward the first: ${OTHER[choice]} a`;
+    const b = 'Direction b, in the frame of the second molecule toward the first, turned around z by omega';
+    byId('b-words').textContent = `${b}: ${OTHER[choice]} a`;
     byId('matrix-words').textContent = `All ${grouped(n * n)} energies: a line for each vertex a, downward, a column for each vertex b`;
 }
 

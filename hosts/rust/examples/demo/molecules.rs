@@ -30,26 +30,28 @@ const NEAREST: f64 = 0.25;
 /// Where the sites of a molecule are once it is turned.
 pub type Pose = [[f64; 3]; 4];
 
-// Turns p so that the unit direction d comes to lie up the axis.
-fn up(d: [f64; 3], p: [f64; 3]) -> [f64; 3] {
-    let across = (d[0] * d[0] + d[1] * d[1]).sqrt();
-    let (c, s) = if across > 0.0 { (d[0] / across, d[1] / across) } else { (1.0, 0.0) };
-    let (x, y) = (c * p[0] + s * p[1], c * p[1] - s * p[0]);
-    [d[2] * x - across * p[2], y, across * x + d[2] * p[2]]
+// Turns p by the least rotation that takes the unit direction d to the pole, 1 up the axis and -1 down it; where d is
+// the other pole, by half a turn around y.
+fn to_pole(d: [f64; 3], pole: f64, p: [f64; 3]) -> [f64; 3] {
+    let (along, x, y) = (pole * d[2], pole * d[1], -pole * d[0]);
+    if along < -1.0 + 1e-12 {
+        return [-p[0], p[1], -p[2]];
+    }
+    let part = (x * p[0] + y * p[1]) / (1.0 + along);
+    [along * p[0] + y * p[2] + part * x, along * p[1] - x * p[2] + part * y, along * p[2] + x * p[1] - y * p[0]]
 }
 
-/// The first molecule with direction a up the axis.
+/// The first molecule by the least rotation that takes direction a up the axis.
 pub fn first_pose(a: [f64; 3]) -> Pose {
-    [0, 1, 2, 3].map(|k| up(a, FIRST[k].at))
+    [0, 1, 2, 3].map(|k| to_pole(a, 1.0, FIRST[k].at))
 }
 
-/// The second with direction b down it, then turned by omega around it.
+/// The second by omega around the axis, then by the least rotation that takes direction b down it.
 pub fn second_pose(b: [f64; 3], omega: f64) -> Pose {
     let (c, s) = (omega.cos(), omega.sin());
     [0, 1, 2, 3].map(|k| {
-        let p = up(b, SECOND[k].at);
-        let y = -p[1];
-        [c * p[0] - s * y, s * p[0] + c * y, -p[2]]
+        let p = SECOND[k].at;
+        to_pole(b, -1.0, [c * p[0] - s * p[1], s * p[0] + c * p[1], p[2]])
     })
 }
 
