@@ -3,15 +3,15 @@ use Rattle.std.specs.Prelude.{Bool, true, not, cond, ◌&&◌, List, ℕ, suc, l
 use Rattle.std.specs.Float.Ieee.{is_nan}
 use Rattle.lists.specs.Questions.{ask, first}
 use Rattle.lists.specs.Lists.{every}
-use Rattle.mesh.specs.Levels.{vertexCount, verticesBelow}
-use Rattle.mesh.specs.Mesh.{Mesh, levelPart, meshLong, meshesKeep}
-use Rattle.grid.specs.Atom.{atomQuestion, atomCounted}
+use Rattle.mesh.specs.Levels.{vertex_count, vertices_below}
+use Rattle.mesh.specs.Mesh.{Mesh, level_part, mesh_long, meshes_keep}
+use Rattle.grid.specs.Atom.{atom_question, atom_counted}
 use Rattle.grid.specs.declared.AtomGrid.{AtomGrid}
-use Rattle.rows.specs.Rows.{Row, rowKnown}
-use Rattle.settling.specs.Gradient.{zero, lineComparisons}
-use Rattle.settling.specs.Settling.{fromLevel, new_row, replacedBy, comparisonsFor, atomVerdictOf, atomLevel}
-use Rattle.builder.specs.BuilderLists.{BuilderLists, row_in, slabRoom}
-use Rattle.builder.specs.Calls.{filledSlabs, slabSet}
+use Rattle.rows.specs.Rows.{Row, row_known}
+use Rattle.settling.specs.Gradient.{zero, line_comparisons}
+use Rattle.settling.specs.Settling.{from_level, new_row, replaced_by, comparisons_for, atom_verdict_of, atom_level}
+use Rattle.builder.specs.BuilderLists.{BuilderLists, row_in, slab_room}
+use Rattle.builder.specs.Calls.{filled_slabs, slab_set}
 use Rattle.builder.specs.declared.AtomBuilder.{AtomBuilder}
 use Rattle.builder.specs.declared.AtomBuilt.{AtomBuilt}
 use Rattle.builder.specs.declared.AtomBuilt.TheVariants.{Accepted as Builds, Refused as NotBuilt}
@@ -19,43 +19,43 @@ use Rattle.builder.specs.declared.AtomSettled.{AtomSettled}
 use Rattle.builder.specs.declared.AtomSettled.TheVariants.{Accepted as Settles, Refused as NotSettled}
 
 -- "A slab holds n energies and a slice is one slab." (S18.1)
-abbrev pub atomRow : ℕ → BuilderLists → ℕ → Row Float
-atomRow top l s = row_in vertexCount top l s
+abbrev pub atom_row : ℕ → BuilderLists → ℕ → Row Float
+atom_row top l s = row_in vertex_count top l s
 
 -- ---- the questions, in 01's order
 
-abbrev pub atomBuilderQuestion : AtomBuilder → ℕ
-atomBuilderQuestion b = atomQuestion b.grid b.top b.level
+abbrev pub atom_builder_question : AtomBuilder → ℕ
+atom_builder_question b = atom_question b.grid b.top b.level
 
 -- 6, of store and rows
-unfoldable pub atomRoom : AtomGrid → ℕ → ℕ → ℕ → ℕ → ℕ → Bool
-atomRoom g top store kinds levels values = slabRoom g.n_r (vertexCount top) store kinds levels values
+unfoldable pub atom_room : AtomGrid → ℕ → ℕ → ℕ → ℕ → ℕ → Bool
+atom_room g top store kinds levels values = slab_room g.n_r (vertex_count top) store kinds levels values
 
-abbrev pub atomListsLong : AtomBuilder → BuilderLists → Bool
-atomListsLong b l = atomRoom b.grid b.top (length l.store) (length l.rows.kinds) (length l.rows.levels) (length l.rows.values)
+abbrev pub atom_lists_long : AtomBuilder → BuilderLists → Bool
+atom_lists_long b l = atom_room b.grid b.top (length l.store) (length l.rows.kinds) (length l.rows.levels) (length l.rows.values)
 
 -- 1 to 7, of a call that the meshes are lent to
-unfoldable pub atomMeshedRefusal : AtomBuilder → Mesh → BuilderLists → ℕ
-atomMeshedRefusal b m l =
-    first (atomBuilderQuestion b) (ask (atomListsLong b l && meshLong (verticesBelow (suc b.top)) m) 6 (ask (meshesKeep b.top m) 7 0))
+unfoldable pub atom_meshed_refusal : AtomBuilder → Mesh → BuilderLists → ℕ
+atom_meshed_refusal b m l =
+    first (atom_builder_question b) (ask (atom_lists_long b l && mesh_long (vertices_below (suc b.top)) m) 6 (ask (meshes_keep b.top m) 7 0))
 
 -- 8 of the distance bin; "Questions 5 and 9 count n here"; 10 (S18.2)
-unfoldable pub atomSetQuestion : AtomGrid → ℕ → ℕ → List Float → ℕ
-atomSetQuestion g level ri e =
+unfoldable pub atom_set_question : AtomGrid → ℕ → ℕ → List Float → ℕ
+atom_set_question g level ri e =
     ask (ltb ri g.n_r) 8
-    (ask (eqb (length e) (vertexCount level)) 9
+    (ask (eqb (length e) (vertex_count level)) 9
     (ask (every (λ x. not (is_nan x)) e) 10 0))
 
-unfoldable pub atomSetRefusal : AtomBuilder → BuilderLists → ℕ → List Float → ℕ
-atomSetRefusal b l ri e = first (atomBuilderQuestion b) (ask (atomListsLong b l) 6 (atomSetQuestion b.grid b.level ri e))
+unfoldable pub atom_set_refusal : AtomBuilder → BuilderLists → ℕ → List Float → ℕ
+atom_set_refusal b l ri e = first (atom_builder_question b) (ask (atom_lists_long b l) 6 (atom_set_question b.grid b.level ri e))
 
 -- 8, then 15 and 11 of the slice's one row
-unfoldable pub atomSettleRefusal : AtomBuilder → Mesh → BuilderLists → ℕ → ℕ
-atomSettleRefusal b m l ri =
-    first (atomMeshedRefusal b m l)
+unfoldable pub atom_settle_refusal : AtomBuilder → Mesh → BuilderLists → ℕ → ℕ
+atom_settle_refusal b m l ri =
+    first (atom_meshed_refusal b m l)
     (ask (ltb ri b.grid.n_r) 8
-    (ask (rowKnown b.top l.rows ri) 15
-    (ask (fromLevel b.level (atomRow b.top l ri)) 11 0)))
+    (ask (row_known b.top l.rows ri) 15
+    (ask (from_level b.level (atom_row b.top l ri)) 11 0)))
 
 -- ---- 01's number and values for each case of an answer. A refused call hands no builder back: the caller keeps the one that it handed in
 
@@ -63,14 +63,14 @@ pub record AtomBuiltValues : Type 0 where
   pub number : ℕ
   pub builder : AtomBuilder
 
-abbrev pub atomBuiltValues : AtomBuilder → AtomBuilt → AtomBuiltValues
-atomBuiltValues kept (Builds b) = record { number = 0; builder = b }
-atomBuiltValues kept (NotBuilt n) = record { number = n; builder = kept }
+abbrev pub atom_built_values : AtomBuilder → AtomBuilt → AtomBuiltValues
+atom_built_values kept (Builds b) = record { number = 0; builder = b }
+atom_built_values kept (NotBuilt n) = record { number = n; builder = kept }
 
 -- a refusal has a number: 0 is acceptance alone
-abbrev pub atomBuiltNumbered : AtomBuilt → Bool
-atomBuiltNumbered (Builds b) = true
-atomBuiltNumbered (NotBuilt n) = not (eqb n 0)
+abbrev pub atom_built_numbered : AtomBuilt → Bool
+atom_built_numbered (Builds b) = true
+atom_built_numbered (NotBuilt n) = not (eqb n 0)
 
 -- "any other settling returns its slab's gradient"; document 02, paper 8: "Settling reports the comparisons it made"; beside a number that refuses stands 0
 pub record AtomSettledValues : Type 0 where
@@ -79,17 +79,17 @@ pub record AtomSettledValues : Type 0 where
   pub comparisons : ℕ
   pub builder : AtomBuilder
 
-abbrev pub atomSettledValues : AtomBuilder → AtomSettled → AtomSettledValues
-atomSettledValues kept (Settles b x k) = record { number = 0; gradient = x; comparisons = k; builder = b }
-atomSettledValues kept (NotSettled n) = record { number = n; gradient = zero; comparisons = 0; builder = kept }
+abbrev pub atom_settled_values : AtomBuilder → AtomSettled → AtomSettledValues
+atom_settled_values kept (Settles b x k) = record { number = 0; gradient = x; comparisons = k; builder = b }
+atom_settled_values kept (NotSettled n) = record { number = n; gradient = zero; comparisons = 0; builder = kept }
 
-abbrev pub atomSettledNumbered : AtomSettled → Bool
-atomSettledNumbered (Settles b x k) = true
-atomSettledNumbered (NotSettled n) = not (eqb n 0)
+abbrev pub atom_settled_numbered : AtomSettled → Bool
+atom_settled_numbered (Settles b x k) = true
+atom_settled_numbered (NotSettled n) = not (eqb n 0)
 
 -- what stands for a builder where fresh is refused
-abbrev pub noAtomBuilder : AtomBuilder
-noAtomBuilder =
+abbrev pub no_atom_builder : AtomBuilder
+no_atom_builder =
     record { grid = record { rmin = zero; rmax = zero; dr = zero; threshold = zero; beta = zero; n_r = 0 }; top = 0; level = 0 }
 
 -- what fresh and set leave, and what settle leaves: the answer and every list that is lent to be altered
@@ -103,41 +103,41 @@ pub record AtomSettleOut : Type 0 where
 
 -- ---- fresh
 
-unfoldable pub atomFreshBuilder : AtomGrid → ℕ → AtomBuilder
-atomFreshBuilder g top = record { grid = atomCounted g; top = top; level = top }
+unfoldable pub atom_fresh_builder : AtomGrid → ℕ → AtomBuilder
+atom_fresh_builder g top = record { grid = atom_counted g; top = top; level = top }
 
-unfoldable pub atomFreshOut : AtomGrid → ℕ → Mesh → BuilderLists → AtomBuiltOut
-atomFreshOut g top m l =
-    let b = atomFreshBuilder g top in
-    let r = atomMeshedRefusal b m l in
+unfoldable pub atom_fresh_out : AtomGrid → ℕ → Mesh → BuilderLists → AtomBuiltOut
+atom_fresh_out g top m l =
+    let b = atom_fresh_builder g top in
+    let r = atom_meshed_refusal b m l in
     cond (eqb r 0)
-    (record { answer = atomBuiltValues noAtomBuilder (Builds b); lists = filledSlabs b.grid.n_r (vertexCount top) l })
-    (record { answer = atomBuiltValues noAtomBuilder (NotBuilt r); lists = l })
+    (record { answer = atom_built_values no_atom_builder (Builds b); lists = filled_slabs b.grid.n_r (vertex_count top) l })
+    (record { answer = atom_built_values no_atom_builder (NotBuilt r); lists = l })
 
 -- ---- set
 
-unfoldable pub atomSetOut : AtomBuilder → BuilderLists → ℕ → List Float → AtomBuiltOut
-atomSetOut b l ri e =
-    let r = atomSetRefusal b l ri e in
+unfoldable pub atom_set_out : AtomBuilder → BuilderLists → ℕ → List Float → AtomBuiltOut
+atom_set_out b l ri e =
+    let r = atom_set_refusal b l ri e in
     cond (eqb r 0)
-    (record { answer = atomBuiltValues b (Builds b); lists = slabSet (vertexCount b.top) b.level l ri e })
-    (record { answer = atomBuiltValues b (NotBuilt r); lists = l })
+    (record { answer = atom_built_values b (Builds b); lists = slab_set (vertex_count b.top) b.level l ri e })
+    (record { answer = atom_built_values b (NotBuilt r); lists = l })
 
 -- ---- settle
 
 -- "settle leaves the store" (S18.4)
-unfoldable pub atomSettleAccepted : AtomBuilder → Mesh → BuilderLists → ℕ → AtomSettleOut
-atomSettleAccepted b m l ri =
+unfoldable pub atom_settle_accepted : AtomBuilder → Mesh → BuilderLists → ℕ → AtomSettleOut
+atom_settle_accepted b m l ri =
     let g = b.grid in
     let c = b.level in
-    let v = atomVerdictOf g.threshold g.beta (levelPart c m) (vertexCount c) (atomRow b.top l ri) in
-    let k = comparisonsFor (lineComparisons (levelPart c m) (vertexCount c)) v.verdict in
+    let v = atom_verdict_of g.threshold g.beta (level_part c m) (vertex_count c) (atom_row b.top l ri) in
+    let k = comparisons_for (line_comparisons (level_part c m) (vertex_count c)) v.verdict in
     record {
-      answer = atomSettledValues b (Settles (record { grid = g; top = b.top; level = atomLevel g.threshold c v }) v.gradient k);
-      lists = record { store = l.store; rows = replacedBy l.rows ri (new_row c v.verdict) };
+      answer = atom_settled_values b (Settles (record { grid = g; top = b.top; level = atom_level g.threshold c v }) v.gradient k);
+      lists = record { store = l.store; rows = replaced_by l.rows ri (new_row c v.verdict) };
     }
 
-unfoldable pub atomSettleOut : AtomBuilder → Mesh → BuilderLists → ℕ → AtomSettleOut
-atomSettleOut b m l ri =
-    let r = atomSettleRefusal b m l ri in
-    cond (eqb r 0) (atomSettleAccepted b m l ri) (record { answer = atomSettledValues b (NotSettled r); lists = l })
+unfoldable pub atom_settle_out : AtomBuilder → Mesh → BuilderLists → ℕ → AtomSettleOut
+atom_settle_out b m l ri =
+    let r = atom_settle_refusal b m l ri in
+    cond (eqb r 0) (atom_settle_accepted b m l ri) (record { answer = atom_settled_values b (NotSettled r); lists = l })

@@ -1,13 +1,13 @@
 // The builder of a table against an atom, by value; its store, rows and meshes are lent. A slab is a distance bin, and a slice of its own.
 ghost use Rattle.std.specs.Prelude.{◌≡◌, true, ◌&&◌, [], suc, ◌≤◌};
 ghost use Rattle.lists.specs.Questions.{ask, first};
-ghost use Rattle.mesh.specs.Levels.{verticesBelow};
-ghost use Rattle.mesh.specs.Mesh.{meshLong, meshesKeep, meshOf, neighbourTotal};
+ghost use Rattle.mesh.specs.Levels.{vertices_below};
+ghost use Rattle.mesh.specs.Mesh.{mesh_long, meshes_keep, mesh_of, neighbour_total};
 ghost use Rattle.rows.specs.Rows.{rows_of};
-ghost use Rattle.settling.specs.Settling.{comparisonsFor};
+ghost use Rattle.settling.specs.Settling.{comparisons_for};
 ghost use Rattle.builder.specs.BuilderLists.{lists_of};
-ghost use Rattle.builder.specs.Atom.{AtomBuiltOut, AtomSettleOut, atomBuiltValues, atomBuiltNumbered, atomSettledValues, atomSettledNumbered, noAtomBuilder, atomBuilderQuestion, atomRoom, atomFreshBuilder, atomFreshOut, atomSetQuestion, atomSetOut, atomSettleRefusal, atomSettleOut};
-ghost use Rattle.builder.specs.Internal.{AtomSettleReady, partLinks, atomSettleQuestion, atomSettledSlab};
+ghost use Rattle.builder.specs.Atom.{AtomBuiltOut, AtomSettleOut, atom_built_values, atom_built_numbered, atom_settled_values, atom_settled_numbered, no_atom_builder, atom_builder_question, atom_room, atom_fresh_builder, atom_fresh_out, atom_set_question, atom_set_out, atom_settle_refusal, atom_settle_out};
+ghost use Rattle.builder.specs.Internal.{AtomSettleReady, part_links, atom_settle_question, atom_settled_slab};
 
 use crate::{AtomBuilder, AtomBuilt, AtomSettled, copies, questions};
 use grid::AtomGrid;
@@ -25,9 +25,9 @@ pub fn atom_meshed_refusal(
     neighbours: &[u16],
     angles: &[f64],
 ) -> u64
-    ensures { result ≡ first (atomBuilderQuestion b)
-        (ask (atomRoom b.grid b.top store kinds levels values && meshLong (verticesBelow (suc b.top)) (meshOf vertices.now counts.now neighbours.now angles.now)) 6
-        (ask (meshesKeep b.top (meshOf vertices.now counts.now neighbours.now angles.now)) 7 0)) }
+    ensures { result ≡ first (atom_builder_question b)
+        (ask (atom_room b.grid b.top store kinds levels values && mesh_long (vertices_below (suc b.top)) (mesh_of vertices.now counts.now neighbours.now angles.now)) 6
+        (ask (meshes_keep b.top (mesh_of vertices.now counts.now neighbours.now angles.now)) 7 0)) }
 {
     let g = b.grid;
     let top = b.top;
@@ -53,7 +53,7 @@ pub fn atom_meshed_refusal(
 }
 
 fn atom_fresh_builder(g: AtomGrid, top: u64) -> AtomBuilder
-    ensures { result ≡ atomFreshBuilder g top }
+    ensures { result ≡ atom_fresh_builder g top }
 {
     AtomBuilder {
         grid: grid::atom_counted(g),
@@ -75,9 +75,9 @@ pub fn atom_fresh(
     neighbours: &[u16],
     angles: &[f64],
 ) -> AtomBuilt
-    ensures { (atomBuiltNumbered result ≡ true) × ◌≡◌ {A = AtomBuiltOut}
-        (record { answer = atomBuiltValues noAtomBuilder result; lists = lists_of store.new kinds.new levels.new values.new })
-        (atomFreshOut g top (meshOf vertices.now counts.now neighbours.now angles.now)
+    ensures { (atom_built_numbered result ≡ true) × ◌≡◌ {A = AtomBuiltOut}
+        (record { answer = atom_built_values no_atom_builder result; lists = lists_of store.new kinds.new levels.new values.new })
+        (atom_fresh_out g top (mesh_of vertices.now counts.now neighbours.now angles.now)
         (lists_of store.old kinds.old levels.old values.old)) }
 {
     let made = atom_fresh_builder(g, top);
@@ -118,7 +118,7 @@ fn atom_set_refusal(
     ri: u64,
     energies: &[f64],
 ) -> u64
-    ensures { result ≡ first (atomBuilderQuestion b) (ask (atomRoom b.grid b.top store kinds levels values) 6 (atomSetQuestion b.grid b.level ri energies.now)) }
+    ensures { result ≡ first (atom_builder_question b) (ask (atom_room b.grid b.top store kinds levels values) 6 (atom_set_question b.grid b.level ri energies.now)) }
 {
     let g = b.grid;
     let top = b.top;
@@ -151,9 +151,9 @@ pub fn atom_set(
     ri: u64,
     energies: &[f64],
 ) -> AtomBuilt
-    ensures { (atomBuiltNumbered result ≡ true) × ◌≡◌ {A = AtomBuiltOut}
-        (record { answer = atomBuiltValues b result; lists = lists_of store.new kinds.new levels.new values.new })
-        (atomSetOut b (lists_of store.old kinds.old levels.old values.old) ri energies.now) }
+    ensures { (atom_built_numbered result ≡ true) × ◌≡◌ {A = AtomBuiltOut}
+        (record { answer = atom_built_values b result; lists = lists_of store.new kinds.new levels.new values.new })
+        (atom_set_out b (lists_of store.old kinds.old levels.old values.old) ri energies.now) }
 {
     let no = atom_set_refusal(
         b,
@@ -192,7 +192,7 @@ fn atom_settle_question(
     values: &[u32],
     ri: u64,
 ) -> u64
-    ensures { result ≡ atomSettleQuestion bins top level (rows_of kinds.now levels.now values.now) ri }
+    ensures { result ≡ atom_settle_question bins top level (rows_of kinds.now levels.now values.now) ri }
 {
     if bins <= ri {
         return 8;
@@ -219,7 +219,7 @@ fn atom_settle_refusal(
     angles: &[f64],
     ri: u64,
 ) -> u64
-    ensures { result ≡ atomSettleRefusal b (meshOf vertices.now counts.now neighbours.now angles.now)
+    ensures { result ≡ atom_settle_refusal b (mesh_of vertices.now counts.now neighbours.now angles.now)
         (lists_of store.now kinds.now levels.now values.now) ri }
 {
     let no = atom_meshed_refusal(
@@ -254,8 +254,8 @@ fn atom_settle_slab(
     levels: &mut [u8],
     values: &mut [u32],
 ) -> AtomVerdict
-    requires { AtomSettleReady b (meshOf [] counts.now neighbours.now angles.now) store.now ri }
-    ensures { atomSettledSlab b (partLinks b.level (meshOf [] counts.now neighbours.now angles.now)) store.now
+    requires { AtomSettleReady b (mesh_of [] counts.now neighbours.now angles.now) store.now ri }
+    ensures { atom_settled_slab b (part_links b.level (mesh_of [] counts.now neighbours.now angles.now)) store.now
         ri (rows_of kinds.old levels.old values.old) result (rows_of kinds.new levels.new values.new) }
 {
     let threshold = b.grid.threshold;
@@ -288,7 +288,7 @@ fn atom_settle_slab(
 // The comparisons of a slab: the level's total of neighbours, if it reached the gradient.
 fn atom_compared(level: u64, v: Verdict, counts: &[u8]) -> u64
     requires { level ≤ 15 }
-    ensures { result ≡ comparisonsFor (neighbourTotal counts.now level) v }
+    ensures { result ≡ comparisons_for (neighbour_total counts.now level) v }
 {
     if settling::settles(v) {
         return mesh::neighbour_total(level as u8, counts);
@@ -309,9 +309,9 @@ pub fn atom_settle(
     angles: &[f64],
     ri: u64,
 ) -> AtomSettled
-    ensures { (atomSettledNumbered result ≡ true) × ◌≡◌ {A = AtomSettleOut}
-        (record { answer = atomSettledValues b result; lists = lists_of store.now kinds.new levels.new values.new })
-        (atomSettleOut b (meshOf vertices.now counts.now neighbours.now angles.now)
+    ensures { (atom_settled_numbered result ≡ true) × ◌≡◌ {A = AtomSettleOut}
+        (record { answer = atom_settled_values b result; lists = lists_of store.now kinds.new levels.new values.new })
+        (atom_settle_out b (mesh_of vertices.now counts.now neighbours.now angles.now)
         (lists_of store.now kinds.old levels.old values.old) ri) }
 {
     let no = atom_settle_refusal(

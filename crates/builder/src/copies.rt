@@ -2,8 +2,8 @@
 ghost use Rattle.std.specs.Prelude.{◌≡◌, ◌+◌, ◌*◌, ◌≤◌, length, replicate};
 ghost use Rattle.lists.specs.Lists.{put};
 ghost use Rattle.settling.specs.Gradient.{zero};
-ghost use Rattle.builder.specs.BuilderLists.{BuilderLists, lists_of, wordLists};
-ghost use Rattle.builder.specs.Calls.{filledSlabs, slabSet};
+ghost use Rattle.builder.specs.BuilderLists.{BuilderLists, lists_of, word_lists};
+ghost use Rattle.builder.specs.Calls.{filled_slabs, slab_set};
 
 use rows::SlabResolution;
 
@@ -61,8 +61,8 @@ fn clear_words(words: &mut [u64], n: usize)
 // n slabs of z energies each, with none set.
 pub(crate) fn clear_slabs(n: u64, z: u64, store: &mut [f64], words: &mut [u64])
     requires { (n * z ≤ length store.old) × (n ≤ length words.old) }
-    ensures { ◌≡◌ {A = BuilderLists} (wordLists store.new words.new)
-        (filledSlabs n z (wordLists store.old words.old)) }
+    ensures { ◌≡◌ {A = BuilderLists} (word_lists store.new words.new)
+        (filled_slabs n z (word_lists store.old words.old)) }
 {
     clear_store(store, (n * z) as usize);
     clear_words(words, n as usize);
@@ -79,7 +79,7 @@ pub(crate) fn atom_clear_slabs(
 )
     requires { (n * z ≤ length store.old) × (n ≤ length kinds.old) × (n ≤ length levels.old) × (n ≤ length values.old) }
     ensures { ◌≡◌ {A = BuilderLists} (lists_of store.new kinds.new levels.new values.new)
-        (filledSlabs n z (lists_of store.old kinds.old levels.old values.old)) }
+        (filled_slabs n z (lists_of store.old kinds.old levels.old values.old)) }
 {
     clear_store(store, (n * z) as usize);
     clear_rows(kinds, levels, values, n as usize);
@@ -95,8 +95,8 @@ pub(crate) fn set_slab(
     energies: &[f64],
 )
     requires { s * z + length energies.now ≤ length store.old }
-    ensures { ◌≡◌ {A = BuilderLists} (wordLists store.new words.new)
-        (slabSet z level (wordLists store.old words.old) s energies.now) }
+    ensures { ◌≡◌ {A = BuilderLists} (word_lists store.new words.new)
+        (slab_set z level (word_lists store.old words.old) s energies.now) }
 {
     copy_at(store, (s * z) as usize, energies);
     rows::replace_in(words, s, SlabResolution::Mesh(level, true));
@@ -115,7 +115,7 @@ pub(crate) fn atom_set_slab(
 )
     requires { s * z + length energies.now ≤ length store.old }
     ensures { ◌≡◌ {A = BuilderLists} (lists_of store.new kinds.new levels.new values.new)
-        (slabSet z level (lists_of store.old kinds.old levels.old values.old) s energies.now) }
+        (slab_set z level (lists_of store.old kinds.old levels.old values.old) s energies.now) }
 {
     copy_at(store, (s * z) as usize, energies);
     rows::replace(kinds, levels, values, s, SlabResolution::Mesh(level, true));

@@ -1,9 +1,9 @@
 // The builder of a table, by value; its store, rows and meshes are lent.
 ghost use Rattle.std.specs.Prelude.{◌≡◌, true, [], ◌≤◌};
-ghost use Rattle.mesh.specs.Mesh.{meshOf};
-ghost use Rattle.rows.specs.Rows.{rowWith};
-ghost use Rattle.builder.specs.BuilderLists.{wordLists};
-ghost use Rattle.builder.specs.Calls.{BuiltOut, SettleOut, builtValues, builtNumbered, settledValues, settledNumbered, noBuilder, freshBuilder, freshOut, setBuilder, setOut, settleOut};
+ghost use Rattle.mesh.specs.Mesh.{mesh_of};
+ghost use Rattle.rows.specs.Rows.{row_with};
+ghost use Rattle.builder.specs.BuilderLists.{word_lists};
+ghost use Rattle.builder.specs.Calls.{BuiltOut, SettleOut, built_values, built_numbered, settled_values, settled_numbered, no_builder, fresh_builder, fresh_out, set_builder, set_out, settle_out};
 
 use grid::{AtomGrid, Grid};
 use rows::SlabResolution;
@@ -63,7 +63,7 @@ pub enum AtomSettled {
 }
 
 fn fresh_builder(g: Grid, top: u64) -> Builder
-    ensures { result ≡ freshBuilder g top }
+    ensures { result ≡ fresh_builder g top }
 {
     Builder {
         grid: grid::counted(g),
@@ -84,10 +84,10 @@ pub fn fresh(
     neighbours: &[u16],
     angles: &[f64],
 ) -> Built
-    ensures { (builtNumbered result ≡ true) × ◌≡◌ {A = BuiltOut}
-        (record { answer = builtValues noBuilder result; lists = wordLists store.new words.new })
-        (freshOut g top (meshOf vertices.now counts.now neighbours.now angles.now)
-        (wordLists store.old words.old)) }
+    ensures { (built_numbered result ≡ true) × ◌≡◌ {A = BuiltOut}
+        (record { answer = built_values no_builder result; lists = word_lists store.new words.new })
+        (fresh_out g top (mesh_of vertices.now counts.now neighbours.now angles.now)
+        (word_lists store.old words.old)) }
 {
     let made = fresh_builder(g, top);
     let no = questions::meshed_refusal(
@@ -112,7 +112,7 @@ pub fn fresh(
 // The builder after a set that replaces this row.
 fn set_builder(b: Builder, row: SlabResolution) -> Builder
     requires { b.level ≤ 15 }
-    ensures { result ≡ setBuilder b (rowWith row []) }
+    ensures { result ≡ set_builder b (row_with row []) }
 {
     let grid = b.grid;
     let top = b.top;
@@ -137,9 +137,9 @@ pub fn set(
     oi: u64,
     energies: &[f64],
 ) -> Built
-    ensures { (builtNumbered result ≡ true) × ◌≡◌ {A = BuiltOut}
-        (record { answer = builtValues b result; lists = wordLists store.new words.new })
-        (setOut b (wordLists store.old words.old) ri oi energies.now) }
+    ensures { (built_numbered result ≡ true) × ◌≡◌ {A = BuiltOut}
+        (record { answer = built_values b result; lists = word_lists store.new words.new })
+        (set_out b (word_lists store.old words.old) ri oi energies.now) }
 {
     let no = questions::set_refusal(b, store.len() as u64, words, ri, oi, energies);
     if no != 0 {
@@ -172,10 +172,10 @@ pub fn settle(
     angles: &[f64],
     ri: u64,
 ) -> Settled
-    ensures { (settledNumbered result ≡ true) × ◌≡◌ {A = SettleOut}
-        (record { answer = settledValues b result; lists = wordLists store.now words.new })
-        (settleOut b (meshOf vertices.now counts.now neighbours.now angles.now)
-        (wordLists store.now words.old) ri) }
+    ensures { (settled_numbered result ≡ true) × ◌≡◌ {A = SettleOut}
+        (record { answer = settled_values b result; lists = word_lists store.now words.new })
+        (settle_out b (mesh_of vertices.now counts.now neighbours.now angles.now)
+        (word_lists store.now words.old) ri) }
 {
     let no = questions::settle_refusal(b, store, words, vertices, counts, neighbours, angles, ri);
     if no != 0 {

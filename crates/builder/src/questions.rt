@@ -3,14 +3,14 @@ ghost use Rattle.std.specs.Prelude.{◌≡◌, not, ◌&&◌, [], suc, ◌*◌, 
 ghost use Rattle.std.specs.Float.Ieee.{is_nan};
 ghost use Rattle.lists.specs.Questions.{ask, first};
 ghost use Rattle.lists.specs.Lists.{every};
-ghost use Rattle.mesh.specs.Levels.{verticesBelow};
-ghost use Rattle.mesh.specs.Mesh.{meshLong, meshesKeep, meshOf};
-ghost use Rattle.rows.specs.Rows.{rowWith, rowKnown};
-ghost use Rattle.rows.specs.Words.{wordRows};
-ghost use Rattle.settling.specs.Settling.{fromLevel};
-ghost use Rattle.builder.specs.BuilderLists.{slab, slabRoom, listRoom, rowsKnown, wordLists};
-ghost use Rattle.builder.specs.Internal.{rowsFromLevel, settleQuestion};
-ghost use Rattle.builder.specs.Refusals.{builderQuestion, setQuestion, settleRefusal};
+ghost use Rattle.mesh.specs.Levels.{vertices_below};
+ghost use Rattle.mesh.specs.Mesh.{mesh_long, meshes_keep, mesh_of};
+ghost use Rattle.rows.specs.Rows.{row_with, row_known};
+ghost use Rattle.rows.specs.Words.{word_rows};
+ghost use Rattle.settling.specs.Settling.{from_level};
+ghost use Rattle.builder.specs.BuilderLists.{slab, slab_room, list_room, rows_known, word_lists};
+ghost use Rattle.builder.specs.Internal.{rows_from_level, settle_question};
+ghost use Rattle.builder.specs.Refusals.{builder_question, set_question, settle_refusal};
 
 use crate::Builder;
 use rows::SlabResolution;
@@ -18,7 +18,7 @@ use rows::SlabResolution;
 // Question 6 of store and rows: n slabs of z energies each.
 fn slab_room(n: u64, z: u64, store: u64, kinds: u64, levels: u64, values: u64) -> bool
     requires { n * z ≤ 18446744073709551615 }
-    ensures { result ≡ slabRoom n z store kinds levels values }
+    ensures { result ≡ slab_room n z store kinds levels values }
 {
     (n * z <= store) & ((n <= kinds) & ((n <= levels) & (n <= values)))
 }
@@ -55,7 +55,7 @@ pub(crate) fn set_question(
     energies: &[f64],
 ) -> u64
     requires { n * z ≤ 18446744073709551615 }
-    ensures { result ≡ ask (slabRoom n z store kinds levels values) 6 (ask inside 8 (ask (eqb (length energies.now) m) 9 (ask (every (λ x. not (is_nan x)) energies.now) 10 0))) }
+    ensures { result ≡ ask (slab_room n z store kinds levels values) 6 (ask inside 8 (ask (eqb (length energies.now) m) 9 (ask (every (λ x. not (is_nan x)) energies.now) 10 0))) }
 {
     if !slab_room(n, z, store, kinds, levels, values) {
         return 6;
@@ -81,10 +81,10 @@ pub(crate) fn set_refusal(
     oi: u64,
     energies: &[f64],
 ) -> u64
-    ensures { result ≡ first (builderQuestion b)
-        (ask (listRoom b.grid b.top store (length words.now) (length words.now) (length words.now)) 6
-        (first (setQuestion b.grid b.level ri oi energies.now)
-        (ask (rowKnown b.top (wordRows words.now) (slab b.grid ri oi)) 15 0))) }
+    ensures { result ≡ first (builder_question b)
+        (ask (list_room b.grid b.top store (length words.now) (length words.now) (length words.now)) 6
+        (first (set_question b.grid b.level ri oi energies.now)
+        (ask (row_known b.top (word_rows words.now) (slab b.grid ri oi)) 15 0))) }
 {
     let g = b.grid;
     let top = b.top;
@@ -131,8 +131,8 @@ pub(crate) fn mesh_question(
     angles: &[f64],
 ) -> u64
     requires { (n * z ≤ 18446744073709551615) × (top ≤ 15) }
-    ensures { result ≡ ask (slabRoom n z store kinds levels values && meshLong (verticesBelow (suc top)) (meshOf vertices.now counts.now neighbours.now angles.now)) 6
-        (ask (meshesKeep top (meshOf vertices.now counts.now neighbours.now angles.now)) 7 0) }
+    ensures { result ≡ ask (slab_room n z store kinds levels values && mesh_long (vertices_below (suc top)) (mesh_of vertices.now counts.now neighbours.now angles.now)) 6
+        (ask (meshes_keep top (mesh_of vertices.now counts.now neighbours.now angles.now)) 7 0) }
 {
     if !slab_room(n, z, store, kinds, levels, values) {
         return 6;
@@ -162,9 +162,9 @@ pub fn meshed_refusal(
     neighbours: &[u16],
     angles: &[f64],
 ) -> u64
-    ensures { result ≡ first (builderQuestion b)
-        (ask (listRoom b.grid b.top store words words words && meshLong (verticesBelow (suc b.top)) (meshOf vertices.now counts.now neighbours.now angles.now)) 6
-        (ask (meshesKeep b.top (meshOf vertices.now counts.now neighbours.now angles.now)) 7 0)) }
+    ensures { result ≡ first (builder_question b)
+        (ask (list_room b.grid b.top store words words words && mesh_long (vertices_below (suc b.top)) (mesh_of vertices.now counts.now neighbours.now angles.now)) 6
+        (ask (meshes_keep b.top (mesh_of vertices.now counts.now neighbours.now angles.now)) 7 0)) }
 {
     let g = b.grid;
     let top = b.top;
@@ -193,7 +193,7 @@ pub fn meshed_refusal(
 // The kind and level part of question 15, of the rows of a slice.
 fn rows_known(top: u64, words: &[u64], s: u64, n: u64) -> bool
     requires { (s ≤ 4294967295) × (n ≤ 65535) }
-    ensures { result ≡ rowsKnown top (wordRows words.now) s n }
+    ensures { result ≡ rows_known top (word_rows words.now) s n }
 {
     let mut i: u64 = 0;
     while i < n {
@@ -207,7 +207,7 @@ fn rows_known(top: u64, words: &[u64], s: u64, n: u64) -> bool
 
 // A row's energies, if it holds any, are from a level.
 pub(crate) fn from_level(level: u64, row: SlabResolution) -> bool
-    ensures { result ≡ fromLevel level (rowWith row []) }
+    ensures { result ≡ from_level level (row_with row []) }
 {
     match row {
         SlabResolution::Scalar(_) => true,
@@ -219,7 +219,7 @@ pub(crate) fn from_level(level: u64, row: SlabResolution) -> bool
 // Question 11.
 fn rows_from_level(level: u64, words: &[u64], s: u64, n: u64) -> bool
     requires { (s ≤ 4294967295) × (n ≤ 65535) }
-    ensures { result ≡ rowsFromLevel level (wordRows words.now) s n }
+    ensures { result ≡ rows_from_level level (word_rows words.now) s n }
 {
     let mut i: u64 = 0;
     while i < n {
@@ -234,7 +234,7 @@ fn rows_from_level(level: u64, words: &[u64], s: u64, n: u64) -> bool
 // Questions 8, 15 and 11 of settle, with n rows a slice.
 fn settle_question(bins: u64, n: u64, top: u64, level: u64, words: &[u64], ri: u64) -> u64
     requires { (bins ≤ 65535) × (n ≤ 65535) }
-    ensures { result ≡ settleQuestion bins n top level (wordRows words.now) ri }
+    ensures { result ≡ settle_question bins n top level (word_rows words.now) ri }
 {
     if bins <= ri {
         return 8;
@@ -260,8 +260,8 @@ pub(crate) fn settle_refusal(
     angles: &[f64],
     ri: u64,
 ) -> u64
-    ensures { result ≡ settleRefusal b (meshOf vertices.now counts.now neighbours.now angles.now)
-        (wordLists store.now words.now) ri }
+    ensures { result ≡ settle_refusal b (mesh_of vertices.now counts.now neighbours.now angles.now)
+        (word_lists store.now words.now) ri }
 {
     let no = meshed_refusal(
         b,

@@ -1,11 +1,11 @@
 // The settling of a slice.
 ghost use Rattle.std.specs.Prelude.{◌≡◌, [], ◌+◌, ◌*◌, ◌≤◌, length, take, drop};
-ghost use Rattle.mesh.specs.Mesh.{meshOf, neighbourTotal};
-ghost use Rattle.builder.specs.BuilderLists.{wordLists};
-ghost use Rattle.mesh.specs.Levels.{vertexCount};
-ghost use Rattle.rows.specs.Rows.{resolutionAt, rowWith};
-ghost use Rattle.rows.specs.Words.{wordRows};
-ghost use Rattle.builder.specs.Internal.{SettleReady, SettleReadyIn, partLinks, settledSlab, SliceSettled, dropsBy, droppedBy};
+ghost use Rattle.mesh.specs.Mesh.{mesh_of, neighbour_total};
+ghost use Rattle.builder.specs.BuilderLists.{word_lists};
+ghost use Rattle.mesh.specs.Levels.{vertex_count};
+ghost use Rattle.rows.specs.Rows.{resolution_at, row_with};
+ghost use Rattle.rows.specs.Words.{word_rows};
+ghost use Rattle.builder.specs.Internal.{SettleReady, SettleReadyIn, part_links, settled_slab, SliceSettled, drops_by, dropped_by};
 
 use crate::Builder;
 use settling::Tally;
@@ -24,11 +24,11 @@ fn settle_slab(
     s: u64,
     t: Tally,
 ) -> Tally
-    requires { (level ≤ 15) × (at + vertexCount level * vertexCount level ≤ length store.now) }
-    ensures { settledSlab threshold beta (meshOf [] counts.now neighbours.now angles.now) level t
-        (rowWith (resolutionAt (wordRows words.old) s) (take (vertexCount level * vertexCount level) (drop at store.now))) s
-        (wordRows words.old)
-        result (wordRows words.new) }
+    requires { (level ≤ 15) × (at + vertex_count level * vertex_count level ≤ length store.now) }
+    ensures { settled_slab threshold beta (mesh_of [] counts.now neighbours.now angles.now) level t
+        (row_with (resolution_at (word_rows words.old) s) (take (vertex_count level * vertex_count level) (drop at store.now))) s
+        (word_rows words.old)
+        result (word_rows words.new) }
 {
     let row = rows::resolution_in(words, s);
     let n = mesh::vertex_count(level);
@@ -57,10 +57,10 @@ pub(crate) fn settle_rows(
     angles: &[f64],
     words: &mut [u64],
 ) -> Tally
-    requires { SettleReady b (wordLists store.now words.old) ri }
-    ensures { SliceSettled b (meshOf [] counts.now neighbours.now angles.now)
-        (wordLists store.now words.old) ri
-        result (wordRows words.new) }
+    requires { SettleReady b (word_lists store.now words.old) ri }
+    ensures { SliceSettled b (mesh_of [] counts.now neighbours.now angles.now)
+        (word_lists store.now words.old) ri
+        result (word_rows words.new) }
 {
     let threshold = b.grid.threshold;
     let beta = b.grid.beta;
@@ -108,11 +108,11 @@ pub(crate) fn settle_slice(
     angles: &[f64],
     words: &mut [u64],
 ) -> Tally
-    requires { SettleReadyIn b (meshOf [] counts.now neighbours.now angles.now)
-        (wordLists store.now words.old) ri }
-    ensures { SliceSettled b (partLinks b.level (meshOf [] counts.now neighbours.now angles.now))
-        (wordLists store.now words.old) ri
-        result (wordRows words.new) }
+    requires { SettleReadyIn b (mesh_of [] counts.now neighbours.now angles.now)
+        (word_lists store.now words.old) ri }
+    ensures { SliceSettled b (part_links b.level (mesh_of [] counts.now neighbours.now angles.now))
+        (word_lists store.now words.old) ri
+        result (word_rows words.new) }
 {
     let level = b.level as u8;
     let a = mesh::vertices_below(level) as usize;
@@ -132,7 +132,7 @@ pub(crate) fn settle_slice(
 
 // The level drops after a slice.
 fn drops(t: Tally, threshold: f64, level: u64) -> bool
-    ensures { result ≡ dropsBy t threshold level }
+    ensures { result ≡ drops_by t threshold level }
 {
     let gradient = t.gradient;
     let settled = t.settled;
@@ -142,7 +142,7 @@ fn drops(t: Tally, threshold: f64, level: u64) -> bool
 
 // The builder after a slice.
 pub(crate) fn dropped(b: Builder, t: Tally) -> Builder
-    ensures { result ≡ droppedBy b t }
+    ensures { result ≡ dropped_by b t }
 {
     let grid = b.grid;
     let threshold = grid.threshold;
@@ -167,8 +167,8 @@ pub(crate) fn dropped(b: Builder, t: Tally) -> Builder
 
 // The comparisons of a slice: for each slab that reached the gradient the level's total of neighbours, once for each vertex of either molecule.
 pub(crate) fn compared(b: Builder, t: Tally, counts: &[u8]) -> u64
-    requires { (b.level ≤ 15) × (t.reached ≤ 4294967295) × (neighbourTotal counts.now b.level ≤ vertexCount b.level * 6) }
-    ensures { result ≡ t.reached * (2 * vertexCount b.level * neighbourTotal counts.now b.level) }
+    requires { (b.level ≤ 15) × (t.reached ≤ 4294967295) × (neighbour_total counts.now b.level ≤ vertex_count b.level * 6) }
+    ensures { result ≡ t.reached * (2 * vertex_count b.level * neighbour_total counts.now b.level) }
 {
     let level = b.level as u8;
     let reached = t.reached;

@@ -21,25 +21,25 @@ crossed w n e l h = none (1 * 2 ^ w * down e) n (mul-pos (mul-pos (pow_pos 0) (p
 capped : (a n : ℕ) → n ≤ a → min a (n - 1) ≡ n - 1
 capped a n h = omega arith
 
-or-false : (a b : Bool) → (a || b) ≡ false → a ≡ false
-or-false true b h = h
-or-false false b h = refl
+or_false : (a b : Bool) → (a || b) ≡ false → a ≡ false
+or_false true b h = h
+or_false false b h = refl
 
-pub unsigned-top : (w : ℕ) (x : Float) → lt (fin false 0 (pos 0)) x ≡ true → lt x (fin false 1 (pos w)) ≡ false → to_unsigned w x ≡ 2 ^ w - 1
+pub unsigned_top : (w : ℕ) (x : Float) → lt (fin false 0 (pos 0)) x ≡ true → lt x (fin false 1 (pos w)) ≡ false → to_unsigned w x ≡ 2 ^ w - 1
 unfolding lt to_unsigned
-unsigned-top w nan p q = absurd (true≢false (sym p))
-unsigned-top w (inf true) p q = absurd (true≢false (sym p))
-unsigned-top w (inf false) p q = refl
-unsigned-top w (fin true m e) p q = absurd (true≢false (sym p))
-unsigned-top w (fin false m e) p q = capped (m * up e / down e) (2 ^ w) (reached w m e q)
+unsigned_top w nan p q = absurd (true≢false (sym p))
+unsigned_top w (inf true) p q = absurd (true≢false (sym p))
+unsigned_top w (inf false) p q = refl
+unsigned_top w (fin true m e) p q = absurd (true≢false (sym p))
+unsigned_top w (fin false m e) p q = capped (m * up e / down e) (2 ^ w) (reached w m e q)
 
-pub unsigned-low : (w : ℕ) (x : Float) → lt (fin false 0 (pos 0)) x ≡ false → to_unsigned w x ≡ 0
+pub unsigned_low : (w : ℕ) (x : Float) → lt (fin false 0 (pos 0)) x ≡ false → to_unsigned w x ≡ 0
 unfolding lt to_unsigned
-unsigned-low w nan p = refl
-unsigned-low w (inf true) p = refl
-unsigned-low w (inf false) p = absurd (true≢false p)
-unsigned-low w (fin true m e) p = refl
-unsigned-low w (fin false m e) p =
+unsigned_low w nan p = refl
+unsigned_low w (inf true) p = refl
+unsigned_low w (inf false) p = absurd (true≢false p)
+unsigned_low w (fin true m e) p = refl
+unsigned_low w (fin false m e) p =
     let l : m * up e * 1 ≤ 0 * 1 * down e = ltb-false (0 * 1 * down e) (m * up e * 1) p in
     let z : m * up e ≡ 0 = omega arith in
     ap (λ (a : ℕ). min (a / down e) (2 ^ w - 1)) z ∙ ap (λ (a : ℕ). min a (2 ^ w - 1)) (div-eq_of_lt (down_pos e)) ∙ min-eq_left zero-le
@@ -71,5 +71,5 @@ unfolding lt le to_signed
 signed_low h nan p q = absurd (true≢false (sym nan_differs ∙ q))
 signed_low h (inf true) p q = refl
 signed_low h (inf false) p q = absurd (true≢false p)
-signed_low h (fin true m e) p q = ap (λ (n : ℕ). neg_ℤ (pos n)) (min-eq_right (reached h m e (or-false _ _ p)))
-signed_low h (fin false m e) p q = absurd (crossed h _ e (le-add_right _ _) (or-false _ _ p))
+signed_low h (fin true m e) p q = ap (λ (n : ℕ). neg_ℤ (pos n)) (min-eq_right (reached h m e (or_false _ _ p)))
+signed_low h (fin false m e) p q = absurd (crossed h _ e (le-add_right _ _) (or_false _ _ p))

@@ -6,7 +6,7 @@ use lib.Ieee.{Float, nan, inf, fin, Format, binary64, low, hid, ones, top, of_fi
 use lib.Ieee.Exact.{HasValue}
 use lib.Ieee.Nearest.{div_same}
 use lib.Ieee.Scale.{finite}
-use Rattle.ieee.proofs.Fields.{as_fields, at_low, at_mid, finite-field}
+use Rattle.ieee.proofs.Fields.{as_fields, at_low, at_mid, finite_field}
 
 -- the digits with the leading one, which a field of 0 has not
 abbrev pub digits : Format → ℕ → ℕ → ℕ
@@ -30,7 +30,7 @@ pub parts : (f : Format) (s : Bool) (m : ℕ) (e : ℤ) → T (fits f (fin s m e
 parts f s m e h =
     let x = fin s m e in
     let b = to_bits f x in
-    subst (λ (y : Float). HasValue y (leb (top f) b) (digits f (field f b) (b % hid f) * 2 ^ (field f b - 1)) (2 ^ low f)) (sym (as_fields f x h)) (fields_value f (leb (top f) b) (field f b) (b % hid f) (finite-field f x h refl))
+    subst (λ (y : Float). HasValue y (leb (top f) b) (digits f (field f b) (b % hid f) * 2 ^ (field f b - 1)) (2 ^ low f)) (sym (as_fields f x h)) (fields_value f (leb (top f) b) (field f b) (b % hid f) (finite_field f x h refl))
 
 -- a finite value of the format, in units of the smallest one
 pub record Units (x : Float) : Type 0 where

@@ -8,8 +8,8 @@ use lib.Ieee.Bits.{of_bits-to_bits}
 use lib.Ieee.Exact.{HasValue, round_exact}
 use lib.Ieee.Scale.{round_same}
 use mir.ValLaws.{to_z-of_z}
-use Rattle.ieee.proofs.Pack.{value-bits}
-use Rattle.float.proofs.Values.{value-no-nan, no-nan-bits}
+use Rattle.ieee.proofs.Pack.{value_bits}
+use Rattle.float.proofs.Values.{value_no_nan, no-nan-bits}
 
 -- ---- an i64 as it is read back from its bits, by its sign
 positive : (k : ℤ) → le_z (pos 0) k ≡ true → k ≡ pos (mag k)
@@ -27,15 +27,15 @@ module _ (k : ℤ) (h : SFits w64 k) where
   pub room : Fits w64 (mag k)
   room = record { fits = lt_trans h.sfits (lit< tt) }
 
-  pub as-positive : le_z (pos 0) (to_z w64 (of_z w64 k)) ≡ true → k ≡ pos (mag k)
-  as-positive t = positive k (subst (λ (z : ℤ). le_z (pos 0) z ≡ true) read t)
+  pub as_positive : le_z (pos 0) (to_z w64 (of_z w64 k)) ≡ true → k ≡ pos (mag k)
+  as_positive t = positive k (subst (λ (z : ℤ). le_z (pos 0) z ≡ true) read t)
 
-  pub as-negative : le_z (pos 0) (to_z w64 (of_z w64 k)) ≡ false → k ≡ negsuc (mag k)
-  as-negative t = negative k (subst (λ (z : ℤ). le_z (pos 0) z ≡ false) read t)
+  pub as_negative : le_z (pos 0) (to_z w64 (of_z w64 k)) ≡ false → k ≡ negsuc (mag k)
+  as_negative t = negative k (subst (λ (z : ℤ). le_z (pos 0) z ≡ false) read t)
 
 -- ---- 2 ^ j units of a format's smallest value
-pub power-value : (f : Format) (j : ℕ) → j < low f + suc (emax f) → HasValue (round f false (2 ^ j) (2 ^ low f)) false (2 ^ j) (2 ^ low f)
-power-value f j h =
+pub power_value : (f : Format) (j : ℕ) → j < low f + suc (emax f) → HasValue (round f false (2 ^ j) (2 ^ low f)) false (2 ^ j) (2 ^ low f)
+power_value f j h =
     round_exact f false (2 ^ j) (2 ^ low f) 1 j (pow_pos (low f)) (pow-lt (two-le_pos (prec f) (two f))) (subst (λ (x : ℕ). x < 2 ^ (low f + suc (emax f))) (sym (one-mul (2 ^ j))) (pow-lt h))
     (ap (λ (x : ℕ). x * 2 ^ low f) (sym (one-mul (2 ^ j))))
 
@@ -43,12 +43,12 @@ power-value f j h =
 power-bits : (f : Format) (j q k : ℕ) → j < low f + suc (emax f) → 2 ^ j ≡ q * 2 ^ k → q ≤ 2 ^ prec f → (0 < k → hid f ≤ q) → of_bits f (k * hid f + q) ≡ round f false (2 ^ j) (2 ^ low f)
 power-bits f j q k h e a b =
     let y = round f false (2 ^ j) (2 ^ low f) in
-    ap (of_bits f) (sym (value-bits f y false q k (subst (λ (x : ℕ). HasValue y false x (2 ^ low f)) e (power-value f j h)) a b ∙ zero-add (k * hid f + q)))
+    ap (of_bits f) (sym (value_bits f y false q k (subst (λ (x : ℕ). HasValue y false x (2 ^ low f)) e (power_value f j h)) a b ∙ zero-add (k * hid f + q)))
     ∙ of_bits-to_bits f y (round-fits f false (2 ^ j) (2 ^ low f))
 
 -- the exponent's field alone
-pub high-power : (f : Format) (j : ℕ) → j < low f + suc (emax f) → prec f - 1 ≤ j → of_bits f ((j - (prec f - 2)) * hid f) ≡ round f false (2 ^ j) (2 ^ low f)
-high-power f j h l =
+pub high_power : (f : Format) (j : ℕ) → j < low f + suc (emax f) → prec f - 1 ≤ j → of_bits f ((j - (prec f - 2)) * hid f) ≡ round f false (2 ^ j) (2 ^ low f)
+high_power f j h l =
     let p = prec f in
     let d = j - (p - 1) in
     ap (of_bits f) (ap (λ (x : ℕ). x * hid f) (field p j (two f) l) ∙ suc-mul d (hid f))
@@ -60,12 +60,12 @@ high-power f j h l =
     field : (p j : ℕ) → 2 ≤ p → p - 1 ≤ j → j - (p - 2) ≡ suc (j - (p - 1))
     field p j h l = omega arith
 
-pub power-no-nan : (f : Format) (n j : ℕ) → j < low f + suc (emax f) → of_bits f n ≡ round f false (2 ^ j) (2 ^ low f) → T (not (nan_bits f n))
-power-no-nan f n j h e = no-nan-bits f n _ e (value-no-nan _ false (2 ^ j) (2 ^ low f) (power-value f j h))
+pub power_no_nan : (f : Format) (n j : ℕ) → j < low f + suc (emax f) → of_bits f n ≡ round f false (2 ^ j) (2 ^ low f) → T (not (nan_bits f n))
+power_no_nan f n j h e = no-nan-bits f n _ e (value_no_nan _ false (2 ^ j) (2 ^ low f) (power_value f j h))
 
 -- ---- the powers by their exponent
-pub up-power : (f : Format) (n : ℕ) → round f false (2 ^ (n + low f)) (2 ^ low f) ≡ round f false (2 ^ n) 1
-up-power f n = round_same f false (2 ^ (n + low f)) (2 ^ low f) (2 ^ n) 1 (pow_pos (low f)) (pow_pos 0) (mul-one (2 ^ (n + low f)) ∙ pow-add 2 n (low f))
+pub up_power : (f : Format) (n : ℕ) → round f false (2 ^ (n + low f)) (2 ^ low f) ≡ round f false (2 ^ n) 1
+up_power f n = round_same f false (2 ^ (n + low f)) (2 ^ low f) (2 ^ n) 1 (pow_pos (low f)) (pow_pos 0) (mul-one (2 ^ (n + low f)) ∙ pow-add 2 n (low f))
 
 pub down-power : (f : Format) (j n : ℕ) → j + n ≡ low f → round f false (2 ^ j) (2 ^ low f) ≡ round f false 1 (2 ^ n)
 down-power f j n h = round_same f false (2 ^ j) (2 ^ low f) 1 (2 ^ n) (pow_pos (low f)) (pow_pos n) (sym (pow-add 2 j n) ∙ ap (λ (x : ℕ). 2 ^ x) h ∙ sym (one-mul (2 ^ low f)))

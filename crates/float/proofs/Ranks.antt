@@ -7,11 +7,11 @@ use lib.Ieee.Fits.{down_pos, kept-lt}
 use lib.Ieee.Nearest.{div_mono}
 use lib.Ieee.Order.{transfer}
 use borrow.Author.Tests.{lt-leb}
-use Rattle.ieee.proofs.Fields.{less-no-nan}
-use Rattle.ieee.proofs.Pack.{le-or-lt, all_in_use, to_bits_val, twice_hid}
+use Rattle.ieee.proofs.Fields.{less_no_nan}
+use Rattle.ieee.proofs.Pack.{le_or_lt, all_in_use, to_bits_val, twice_hid}
 use Rattle.float.specs.Order.{rank, ordered}
 use Rattle.float.proofs.Fields.{digits, field, parts}
-use Rattle.float.proofs.Order.{clear, lt-asym}
+use Rattle.float.proofs.Order.{clear, lt_asym}
 use Rattle.float.proofs.Remainders.{units_under}
 
 -- ---- the pattern of a units of the smallest value, p digits being kept, grows with a
@@ -41,16 +41,16 @@ units : ℕ → ℤ → ℕ
 units m e = let b = to_bits binary64 (fin false m e) in digits binary64 (field binary64 b) (b % hid binary64) * 2 ^ (field binary64 b - 1)
 
 module _ (m : ℕ) (e : ℤ) (f : T (fits binary64 (fin false m e))) where
-  in-units : m * up e * 2 ^ 1074 ≡ units m e * down e
+  in_units : m * up e * 2 ^ 1074 ≡ units m e * down e
   unfolding units
-  in-units = (parts binary64 false m e f).1
+  in_units = (parts binary64 false m e f).1
 
   bits : to_bits binary64 (fin false m e) ≡ code 53 (units m e)
-  bits = to_bits_val binary64 (fin false m e) false (units m e) (refl, in-units) ∙ zero-add (code 53 (units m e))
+  bits = to_bits_val binary64 (fin false m e) false (units m e) (refl, in_units) ∙ zero-add (code 53 (units m e))
 
-  bits-under : to_bits binary64 (fin false m e) ≤ 0x7FF0_0000_0000_0000
+  bits_under : to_bits binary64 (fin false m e) ≤ 0x7FF0_0000_0000_0000
   unfolding units size
-  bits-under = le_trans (le_of_eq bits) (code_mono 53 (units m e) (2 ^ 2098) (lit< tt) (le_of_lt (units_under false m e f (digits binary64 (field binary64 (to_bits binary64 (fin false m e))) (to_bits binary64 (fin false m e) % hid binary64)) (field binary64 (to_bits binary64 (fin false m e)) - 1) in-units)))
+  bits_under = le_trans (le_of_eq bits) (code_mono 53 (units m e) (2 ^ 2098) (lit< tt) (le_of_lt (units_under false m e f (digits binary64 (field binary64 (to_bits binary64 (fin false m e))) (to_bits binary64 (fin false m e) % hid binary64)) (field binary64 (to_bits binary64 (fin false m e)) - 1) in_units)))
 
 bits_mono : (x y : Float) → T (fits binary64 x) → T (fits binary64 y) → T (clear x) → T (clear y) → T (not (is_nan x)) → lt y x ≡ false → to_bits binary64 x ≤ to_bits binary64 y
 unfolding lt to_bits is_nan
@@ -61,39 +61,39 @@ bits_mono (inf false) (inf true) f g p q i h = absurd q
 bits_mono (inf false) (inf false) f g p q i h = lit≤ tt
 bits_mono (inf false) (fin s n d) f g p q i h = absurd (true≢false h)
 bits_mono (fin true m e) y f g p q i h = absurd p
-bits_mono (fin false m e) nan f g p q i h = le_trans (bits-under m e f) (lit≤ tt)
+bits_mono (fin false m e) nan f g p q i h = le_trans (bits_under m e f) (lit≤ tt)
 bits_mono (fin false m e) (inf true) f g p q i h = absurd q
-bits_mono (fin false m e) (inf false) f g p q i h = bits-under m e f
+bits_mono (fin false m e) (inf false) f g p q i h = bits_under m e f
 bits_mono (fin false m e) (fin true n d) f g p q i h = absurd q
 bits_mono (fin false m e) (fin false n d) f g p q i h =
     le_trans (le_of_eq (bits m e f))
     (le_trans (code_mono 53 (units m e) (units n d) (lit< tt)
-    (le_of_mul-le-mul_right (transfer (units m e) (units n d) (2 ^ 1074) (2 ^ 1074) (m * up e) (n * up d) (down e) (down d) (down_pos e) (down_pos d) (sym (in-units m e f)) (sym (in-units n d g)) (ltb-false _ _ h)) (pow_pos 1074)))
+    (le_of_mul-le-mul_right (transfer (units m e) (units n d) (2 ^ 1074) (2 ^ 1074) (m * up e) (n * up d) (down e) (down d) (down_pos e) (down_pos d) (sym (in_units m e f)) (sym (in_units n d g)) (ltb-false _ _ h)) (pow_pos 1074)))
     (le_of_eq (sym (bits n d g))))
 
 -- ---- the law
-clear-rank : (x : Float) → T (fits binary64 x) → T (clear x) → rank x ≡ 2 ^ 63 + to_bits binary64 x
+clear_rank : (x : Float) → T (fits binary64 x) → T (clear x) → rank x ≡ 2 ^ 63 + to_bits binary64 x
 unfolding rank to_bits
-clear-rank nan f p = refl
-clear-rank (inf true) f p = absurd p
-clear-rank (inf false) f p = refl
-clear-rank (fin true m e) f p = absurd p
-clear-rank (fin false m e) f p = rw (lt-ltb (to_bits binary64 (fin false m e)) (2 ^ 63) (lt_of_le_of_lt (bits-under m e f) (lit< tt)))
+clear_rank nan f p = refl
+clear_rank (inf true) f p = absurd p
+clear_rank (inf false) f p = refl
+clear_rank (fin true m e) f p = absurd p
+clear_rank (fin false m e) f p = rw (lt-ltb (to_bits binary64 (fin false m e)) (2 ^ 63) (lt_of_le_of_lt (bits_under m e f) (lit< tt)))
 
-pub ordered-clear : (x y : Float) → T (fits binary64 x) → T (fits binary64 y) → T (clear x) → T (clear y) → T (not (is_nan x)) → ordered x y ≡ not (lt y x)
-ordered-clear x y f g p q i = rw (clear-rank x f p, clear-rank y g q) (by (lt y x) refl)
+pub ordered_clear : (x y : Float) → T (fits binary64 x) → T (fits binary64 y) → T (clear x) → T (clear y) → T (not (is_nan x)) → ordered x y ≡ not (lt y x)
+ordered_clear x y f g p q i = rw (clear_rank x f p, clear_rank y g q) (by (lt y x) refl)
   where
     more : (a b : ℕ) → a ≤ b → 2 ^ 63 + a ≤ 2 ^ 63 + b
     more a b h = omega arith
 
     by : (t : Bool) → lt y x ≡ t → leb (2 ^ 63 + to_bits binary64 x) (2 ^ 63 + to_bits binary64 y) ≡ not t
     by false h = le-leb _ _ (more _ _ (bits_mono x y f g p q i h))
-    by true h = lt-leb _ _ (fewer (le-or-lt (to_bits binary64 x) (to_bits binary64 y)))
+    by true h = lt-leb _ _ (fewer (le_or_lt (to_bits binary64 x) (to_bits binary64 y)))
       where
         -- equal patterns are equal numbers
         fewer : (to_bits binary64 x ≤ to_bits binary64 y) ⊎ (to_bits binary64 y < to_bits binary64 x) → 2 ^ 63 + to_bits binary64 y < 2 ^ 63 + to_bits binary64 x
         fewer (inr l) = omega (arith, l)
         fewer (inl l) =
-            let e = le_antisymm l (bits_mono y x g f q p (less-no-nan y x h) (lt-asym y x h)) in
+            let e = le_antisymm l (bits_mono y x g f q p (less_no_nan y x h) (lt_asym y x h)) in
             let same : x ≡ y = sym (of_bits-to_bits binary64 x f) ∙ ap (of_bits binary64) e ∙ of_bits-to_bits binary64 y g in
-            absurd (true≢false (sym h ∙ lt-asym x y (subst (λ (z : Float). lt x z ≡ true) same (subst (λ (z : Float). lt z x ≡ true) (sym same) h))))
+            absurd (true≢false (sym h ∙ lt_asym x y (subst (λ (z : Float). lt x z ≡ true) same (subst (λ (z : Float). lt z x ≡ true) (sym same) h))))

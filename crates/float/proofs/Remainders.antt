@@ -7,7 +7,7 @@ use lib.Ieee.Scale.{round_same}
 use Rattle.float.specs.Order.{tau}
 use Rattle.float.proofs.Fields.{digits, digits_lt, field, parts}
 use Rattle.float.proofs.Steps.{bounds}
-use Rattle.float.proofs.Values.{other-scale, same-value}
+use Rattle.float.proofs.Values.{other-scale, same_value}
 
 -- a number that the format holds is q * 2 ^ k units of its smallest value, and below the largest power of two
 pub units_under : (s : Bool) (m : ℕ) (e : ℤ) → T (fits binary64 (fin s m e)) → (q k : ℕ) → m * up e * 2 ^ low binary64 ≡ q * 2 ^ k * down e → q * 2 ^ k < 2 ^ (1074 + 1024)
@@ -15,33 +15,33 @@ units_under s m e h q k v =
     lt_of_mul-lt-mul_right (down e)
     (lt_of_le_of_lt (le_of_eq (sym v)) (lt_of_lt_of_le (mul-lt-mul_of_pos_right (bounds binary64 s m e h).1 (pow_pos 1074)) (le_of_eq (mul_right_comm (2 ^ 1024) (down e) (2 ^ 1074) ∙ ap (λ (z : ℕ). z * down e) (mul_comm (2 ^ 1024) (2 ^ 1074) ∙ sym (pow-add 2 1074 1024))))))
 
-pub own-round : (s : Bool) (m : ℕ) (e : ℤ) → T (fits binary64 (fin s m e)) → round binary64 s (m * up e) (down e) ≡ fin s m e
-own-round s m e h =
+pub own_round : (s : Bool) (m : ℕ) (e : ℤ) → T (fits binary64 (fin s m e)) → round binary64 s (m * up e) (down e) ≡ fin s m e
+own_round s m e h =
     let x = fin s m e in
     let b = to_bits binary64 x in
     let k = field binary64 b - 1 in
     let q = digits binary64 (field binary64 b) (b % hid binary64) in
     let v : m * up e * 2 ^ low binary64 ≡ q * 2 ^ k * down e = (parts binary64 s m e h).1 in
     let r = round_exact binary64 s (m * up e) (down e) q k (down_pos e) (digits_lt (field binary64 b) (b % hid binary64) (mod-lt b (pow_pos 52))) (units_under s m e h q k v) v in
-    same-value binary64 (round binary64 s (m * up e) (down e)) x s (q * 2 ^ k) (round-fits binary64 s (m * up e) (down e)) h
+    same_value binary64 (round binary64 s (m * up e) (down e)) x s (q * 2 ^ k) (round-fits binary64 s (m * up e) (down e)) h
     (other-scale (round binary64 s (m * up e) (down e)) s (m * up e) (down e) (q * 2 ^ k) (2 ^ low binary64) (down_pos e) v r) (refl, v)
 
 -- ---- the remainder by y, of a number between -y and y
-rem-own : (s : Bool) (m : ℕ) (e : ℤ) (n : ℕ) (d : ℤ) → T (fits binary64 (fin s m e)) → m * up e * down d < n * up d * down e → rem binary64 (fin s m e) (fin false n d) ≡ fin s m e
+rem_own : (s : Bool) (m : ℕ) (e : ℤ) (n : ℕ) (d : ℤ) → T (fits binary64 (fin s m e)) → m * up e * down d < n * up d * down e → rem binary64 (fin s m e) (fin false n d) ≡ fin s m e
 unfolding rem
-rem-own s m e n d h l =
+rem_own s m e n d h l =
     let some : (n ≡ 0 → ⊥) = λ z. let o : n * up d * down e ≡ 0 = ap (λ (k : ℕ). k * up d * down e) z ∙ omega arith in omega arith in
     rw (ne_eqb n 0 some, mod-eq_of_lt l)
     (round_same binary64 s (m * up e * down d) (down e * down d) (m * up e) (down e) (mul-pos (down_pos e) (down_pos d)) (down_pos e) (mul_assoc (m * up e) (down d) (down e) ∙ ap (λ (z : ℕ). m * up e * z) (mul_comm (down d) (down e)))
-    ∙ own-round s m e h)
+    ∙ own_round s m e h)
 
 between : (x : Float) (n : ℕ) (d : ℤ) → T (fits binary64 x) → lt x (fin false n d) ≡ true → lt (fin true n d) x ≡ true → rem binary64 x (fin false n d) ≡ x
 unfolding lt
 between nan n d h a b = unfold rem in refl
 between (inf true) n d h a b = absurd (true≢false (sym b))
 between (inf false) n d h a b = absurd (true≢false (sym a))
-between (fin true m e) n d h a b = rem-own true m e n d h (ltb-true _ _ b)
-between (fin false m e) n d h a b = rem-own false m e n d h (ltb-true _ _ a)
+between (fin true m e) n d h a b = rem_own true m e n d h (ltb-true _ _ b)
+between (fin false m e) n d h a b = rem_own false m e n d h (ltb-true _ _ a)
 
 pub within-tau : (x : Float) → T (fits binary64 x) → lt x tau ≡ true → lt (neg tau) x ≡ true → rem binary64 x tau ≡ x
 unfolding of_bits neg

@@ -24,8 +24,8 @@ bounds f s (suc m) e h =
     (ltb→lt (suc m) (2 ^ prec f) t.0, ltb→lt (suc m * up e) (2 ^ suc (emax f) * down e) t.1)
 
 -- ---- the whole part, rounded, is the whole part
-pub whole-value : (f : Format) (s : Bool) (m : ℕ) (e : ℤ) → T (fits f (fin s m e)) → HasValue (round f s (m * up e / down e) 1) s (m * up e / down e) 1
-whole-value f s m (pos k) h =
+pub whole_value : (f : Format) (s : Bool) (m : ℕ) (e : ℤ) → T (fits f (fin s m e)) → HasValue (round f s (m * up e / down e) 1) s (m * up e / down e) 1
+whole_value f s m (pos k) h =
     subst (λ (n : ℕ). HasValue (round f s n 1) s n 1) (sym (div-one (m * 2 ^ k)))
     (round_exact f s (m * 2 ^ k) 1 m (k + low f) (pow_pos 0) (bounds f s m (pos k) h).0
     (subst (λ (z : ℕ). z < 2 ^ (low f + suc (emax f))) spread
@@ -35,7 +35,7 @@ whole-value f s m (pos k) h =
   where
     spread : m * 2 ^ k * 2 ^ low f ≡ m * 2 ^ (k + low f)
     spread = mul_assoc m (2 ^ k) (2 ^ low f) ∙ ap (λ (z : ℕ). m * z) (sym (pow-add 2 k (low f)))
-whole-value f s m (negsuc k) h =
+whole_value f s m (negsuc k) h =
     round_whole f s (m * 1 / 2 ^ suc k) (le_trans (div-le_self (m * 1) (2 ^ suc k)) (le_trans (le_of_eq (mul-one m)) (le_of_lt (bounds f s m (negsuc k) h).0)))
 
 -- ---- one more
@@ -49,8 +49,8 @@ one_more f s n k d v = same s ∙ round_same f s (n * up d * 1 + 1 * down d) (do
     same false = unfold sum in refl
 
 -- ---- the comparison with the whole part
-cut-test : (a d c : ℕ) → 0 < c → ltb (a / d * d * c) (a * c) ≡ not (eqb (a % d) 0)
-cut-test a d c C = elim (eq-zero-or-pos (a % d)) [
+cut_test : (a d c : ℕ) → 0 < c → ltb (a / d * d * c) (a * c) ≡ not (eqb (a % d) 0)
+cut_test a d c C = elim (eq-zero-or-pos (a % d)) [
   | inl z ↦ le-ltb (a / d * d * c) (a * c) (le_of_eq (ap (λ (y : ℕ). y * c) (sym (whole_back a d z)))) ∙ sym (ap (λ (y : ℕ). not (eqb y 0)) z)
   | inr p ↦ lt-ltb (a / d * d * c) (a * c) (mul-lt-mul_of_pos_right (less (a / d * d) (a % d) a (div-add-mod' a d) p) C) ∙ sym (ap not (ne_eqb (a % d) 0 (λ z. lt_irrefl 0 (subst (λ (y : ℕ). 0 < y) z p))))
 ]
@@ -70,7 +70,7 @@ module _ (m : ℕ) (e : ℤ) (n : ℕ) (d : ℤ) (v : n * up d * 1 ≡ m * up e 
   over = ap (λ (z : ℕ). z * down e) (sym (mul-one (n * up d)) ∙ v) ∙ mul_right_comm (m * up e / down e) (down d) (down e)
 
   more : ltb (n * up d * down e) (m * up e * down d) ≡ not (eqb (m * up e % down e) 0)
-  more = ap (λ (z : ℕ). ltb z (m * up e * down d)) over ∙ cut-test (m * up e) (down e) (down d) (down_pos d)
+  more = ap (λ (z : ℕ). ltb z (m * up e * down d)) over ∙ cut_test (m * up e) (down e) (down d) (down_pos d)
 
   none : ltb (m * up e * down d) (n * up d * down e) ≡ false
   none = ap (λ (z : ℕ). ltb (m * up e * down d) z) over ∙ no_less (m * up e) (down e) (down d)
@@ -112,4 +112,4 @@ directed upward nan h true g = refl
 directed upward nan h false g = refl
 directed upward (inf s) h true g = refl
 directed upward (inf s) h false g = refl
-directed upward (fin s m e) h t g = answer upward s m e (round binary64 s (m * up e / down e) 1) (whole-value binary64 s m e h) refl t g
+directed upward (fin s m e) h t g = answer upward s m e (round binary64 s (m * up e / down e) 1) (whole_value binary64 s m e h) refl t g

@@ -5,17 +5,17 @@ use lib.Ieee.{Float, nan, inf, fin, binary64, up, down, round, lt, to_unsigned, 
 use lib.Ieee.Fits.{down_pos, round-fits}
 use lib.Ieee.Bits.{of_bits-to_bits, to_bits-lt}
 use lib.Ieee.Exact.{HasValue}
-use Rattle.ieee.proofs.Pack.{value-bits}
+use Rattle.ieee.proofs.Pack.{value_bits}
 use Rattle.ieee.proofs.Words.{whole_back}
 use Rattle.float.specs.Whole.{truncation}
-use Rattle.float.proofs.Values.{same-value, value-no-nan, other-scale}
+use Rattle.float.proofs.Values.{same_value, value_no_nan, other-scale}
 use Rattle.float.proofs.Fields.{digits, digits_lt, field, parts, no_whole, no_fraction, shifted}
-use Rattle.float.proofs.Steps.{whole-value}
+use Rattle.float.proofs.Steps.{whole_value}
 
-infinite-field : (s : Bool) → field binary64 (to_bits binary64 (inf s)) ≡ 2047
+infinite_field : (s : Bool) → field binary64 (to_bits binary64 (inf s)) ≡ 2047
 unfolding to_bits
-infinite-field true = refl
-infinite-field false = refl
+infinite_field true = refl
+infinite_field false = refl
 
 zero-whole : (s : Bool) → round binary64 s 0 1 ≡ fin s 0 (pos 0)
 unfolding round
@@ -30,7 +30,7 @@ rescaled y s n a c g = other-scale y s n 1 a c (pow_pos 0) (g ∙ sym (mul-one a
 tiny : (x : Float) → T (fits binary64 x) → T (not (is_nan x)) → field binary64 (to_bits binary64 x) < 1023 → truncation x ≡ fin (leb (2 ^ 63) (to_bits binary64 x)) 0 (pos 0)
 unfolding is_nan truncation
 tiny nan h k l = absurd k
-tiny (inf s) h k l = let e = infinite-field s in let z : ⊥ = omega arith in absurd z
+tiny (inf s) h k l = let e = infinite_field s in let z : ⊥ = omega arith in absurd z
 tiny (fin s m e) h k l =
     let b = to_bits binary64 (fin s m e) in
     let x = field binary64 b in
@@ -50,9 +50,9 @@ large (fin s m e) h l =
     let g : x - 1 ≡ x - 1075 + 1074 = omega arith in
     let z = no_fraction (m * up e) (down e) (digits binary64 x (b % 2 ^ 52)) (x - 1) 1074 (down_pos e) (parts binary64 s m e h).1 (x - 1075) g in
     let n = m * up e / down e in
-    same-value binary64 (fin s m e) (round binary64 s n 1) s (n * 2 ^ 1074) h (round-fits binary64 s n 1)
+    same_value binary64 (fin s m e) (round binary64 s n 1) s (n * 2 ^ 1074) h (round-fits binary64 s n 1)
     (rescaled (fin s m e) s n (n * 2 ^ 1074) (2 ^ 1074) refl (refl, mul-one (m * up e) ∙ sym (whole_back (m * up e) (down e) z)))
-    (rescaled (round binary64 s n 1) s n (n * 2 ^ 1074) (2 ^ 1074) refl (whole-value binary64 s m e h))
+    (rescaled (round binary64 s n 1) s n (n * 2 ^ 1074) (2 ^ 1074) refl (whole_value binary64 s m e h))
 
 -- ---- between: the digits below the point are cut off
 leading : (x t : ℕ) → 0 < x → digits binary64 x t ≡ 2 ^ 52 + t
@@ -83,9 +83,9 @@ cut_off s m e q k u h v lo hi g w =
     let lo' : 2 ^ 52 ≤ r =
     le_trans (le_of_eq even) (mul-le-mul_right (2 ^ u) ((le-div_iff_mul-le (pow_pos u)).1 (le_trans (le_of_eq (sym even)) lo))) in
     let c = (cond s 2048 0 + k) * 2 ^ (52 - u) in
-    let b : to_bits binary64 (fin s m e) ≡ c * 2 ^ u + q = value-bits binary64 (fin s m e) s q k (refl, v) (le_of_lt hi) (λ _. lo) ∙ above s k (52 - u) u q (split u w) in
+    let b : to_bits binary64 (fin s m e) ≡ c * 2 ^ u + q = value_bits binary64 (fin s m e) s q k (refl, v) (le_of_lt hi) (λ _. lo) ∙ above s k (52 - u) u q (split u w) in
     let t : to_bits binary64 y ≡ c * 2 ^ u + r =
-    value-bits binary64 y s r k (rescaled y s n (r * 2 ^ k) (2 ^ 1074) scaled (whole-value binary64 s m e h)) (le_trans (div-mul-le_self q (2 ^ u)) (le_of_lt hi)) (λ _. lo') ∙ above s k (52 - u) u r (split u w) in
+    value_bits binary64 y s r k (rescaled y s n (r * 2 ^ k) (2 ^ 1074) scaled (whole_value binary64 s m e h)) (le_trans (div-mul-le_self q (2 ^ u)) (le_of_lt hi)) (λ _. lo') ∙ above s k (52 - u) u r (split u w) in
     ap (of_bits binary64) (cut_sum _ c q (2 ^ u) (pow_pos u) b ∙ sym t) ∙ of_bits-to_bits binary64 y (round-fits binary64 s n 1)
   where
     split : (u : ℕ) → u ≤ 52 → 52 - u + u ≡ 52
@@ -98,7 +98,7 @@ between : (x : Float) → T (fits binary64 x) → T (not (is_nan x)) → 1023 �
     → let b = to_bits binary64 x in let u = 1075 - field binary64 b in of_bits binary64 (b / 2 ^ u * 2 ^ u) ≡ truncation x
 unfolding is_nan truncation
 between nan h k l g = absurd k
-between (inf s) h k l g = let e = infinite-field s in let z : ⊥ = omega arith in absurd z
+between (inf s) h k l g = let e = infinite_field s in let z : ⊥ = omega arith in absurd z
 between (fin s m e) h w l g =
     let b = to_bits binary64 (fin s m e) in
     let x = field binary64 b in
@@ -110,9 +110,9 @@ between (fin s m e) h w l g =
     (le_trans (le-add_right (2 ^ 52) t) (le_of_eq (sym (leading x t first)))) (digits_lt x t (mod-lt b (pow_pos 52))) place few
 
 -- the sign alone
-sign-alone : (b : ℕ) → b < 2 ^ 64 → of_bits binary64 (b / 2 ^ 63 * 2 ^ 63) ≡ fin (leb (2 ^ 63) b) 0 (pos 0)
+sign_alone : (b : ℕ) → b < 2 ^ 64 → of_bits binary64 (b / 2 ^ 63 * 2 ^ 63) ≡ fin (leb (2 ^ 63) b) 0 (pos 0)
 unfolding of_bits
-sign-alone b h = go (leb (2 ^ 63) b) refl
+sign_alone b h = go (leb (2 ^ 63) b) refl
   where
     go : (t : Bool) → leb (2 ^ 63) b ≡ t → of_bits binary64 (b / 2 ^ 63 * 2 ^ 63) ≡ fin t 0 (pos 0)
     go true e = let g = leb-true (2 ^ 63) b e in let q : b / 2 ^ 63 ≡ 1 = omega (arith, g, h) in rw q
@@ -124,17 +124,17 @@ pub cut_short : (x : Float) → T (fits binary64 x) → T (not (is_nan x)) → f
 cut_short x h k g = go (ltb (field binary64 (to_bits binary64 x)) 1023) refl
   where
     go : (t : Bool) → ltb (field binary64 (to_bits binary64 x)) 1023 ≡ t → let b = to_bits binary64 x in let u = cond t 63 (1075 - field binary64 b) in of_bits binary64 (b / 2 ^ u * 2 ^ u) ≡ truncation x
-    go true e = sign-alone (to_bits binary64 x) (to_bits-lt binary64 x h) ∙ sym (tiny x h k (ltb-true _ _ e))
+    go true e = sign_alone (to_bits binary64 x) (to_bits-lt binary64 x h) ∙ sym (tiny x h k (ltb-true _ _ e))
     go false e = between x h k (ltb-false _ _ e) g
 
-pub stays-in : (b u : ℕ) → b < 2 ^ 64 → b / 2 ^ u * 2 ^ u % 2 ^ 64 ≡ b / 2 ^ u * 2 ^ u
-stays-in b u h = mod-eq_of_lt (lt_of_le_of_lt (div-mul-le_self b (2 ^ u)) h)
+pub stays_in : (b u : ℕ) → b < 2 ^ 64 → b / 2 ^ u * 2 ^ u % 2 ^ 64 ≡ b / 2 ^ u * 2 ^ u
+stays_in b u h = mod-eq_of_lt (lt_of_le_of_lt (div-mul-le_self b (2 ^ u)) h)
 
-pub truncation-no-nan : (x : Float) → T (fits binary64 x) → T (not (is_nan x)) → T (not (is_nan (truncation x)))
+pub truncation_no_nan : (x : Float) → T (fits binary64 x) → T (not (is_nan x)) → T (not (is_nan (truncation x)))
 unfolding is_nan truncation
-truncation-no-nan nan h k = k
-truncation-no-nan (inf s) h k = k
-truncation-no-nan (fin s m e) h k = value-no-nan (round binary64 s (m * up e / down e) 1) s (m * up e / down e) 1 (whole-value binary64 s m e h)
+truncation_no_nan nan h k = k
+truncation_no_nan (inf s) h k = k
+truncation_no_nan (fin s m e) h k = value_no_nan (round binary64 s (m * up e / down e) 1) s (m * up e / down e) 1 (whole_value binary64 s m e h)
 
 -- ---- the whole part as an integer: the digits with the leading one, without those below the point
 by_digits : (a d x t : ℕ) → 0 < d → t < 2 ^ 52 → a * 2 ^ 1074 ≡ digits binary64 x t * 2 ^ (x - 1) * d → x ≤ 1074 → (c : Bool) → ltb x 1023 ≡ c
@@ -157,14 +157,14 @@ by_digits a d x t D T v g false l =
 field_is : (b : ℕ) → b / 2 ^ 52 ≤ 1074 → field binary64 b ≡ b / 2 ^ 52
 field_is b g = let l : b < 2 ^ 63 = omega arith in ap (λ (z : ℕ). z / 2 ^ 52) (mod-eq_of_lt l)
 
-pub whole-digits : (x : Float) → T (fits binary64 x) → lt (fin false 0 (pos 0)) x ≡ true
+pub whole_digits : (x : Float) → T (fits binary64 x) → lt (fin false 0 (pos 0)) x ≡ true
     → let b = to_bits binary64 x in b / 2 ^ 52 ≤ 1074 → (b % 2 ^ 52 + 2 ^ 52) / 2 ^ cond (ltb (b / 2 ^ 52) 1023) 63 (1075 - b / 2 ^ 52) ≡ to_unsigned 64 x
 unfolding lt to_unsigned
-whole-digits nan h p g = absurd (true≢false (sym p))
-whole-digits (inf true) h p g = absurd (true≢false (sym p))
-whole-digits (inf false) h p g = let z : ⊥ = omega (arith, field_is (to_bits binary64 (inf false)) g, infinite-field false, g) in absurd z
-whole-digits (fin true m e) h p g = absurd (true≢false (sym p))
-whole-digits (fin false m e) h p g =
+whole_digits nan h p g = absurd (true≢false (sym p))
+whole_digits (inf true) h p g = absurd (true≢false (sym p))
+whole_digits (inf false) h p g = let z : ⊥ = omega (arith, field_is (to_bits binary64 (inf false)) g, infinite_field false, g) in absurd z
+whole_digits (fin true m e) h p g = absurd (true≢false (sym p))
+whole_digits (fin false m e) h p g =
     let b = to_bits binary64 (fin false m e) in
     by_digits (m * up e) (down e) (b / 2 ^ 52) (b % 2 ^ 52) (down_pos e) (mod-lt b (pow_pos 52))
     (subst (λ (k : ℕ). m * up e * 2 ^ 1074 ≡ digits binary64 k (b % 2 ^ 52) * 2 ^ (k - 1) * down e) (field_is b g) (parts binary64 false m e h).1) g (ltb (b / 2 ^ 52) 1023) refl

@@ -4,7 +4,7 @@ use Rattle.std.specs.Float.{nan, inf, fin, binary64}
 use Rattle.std.specs.Float.Ieee.{size, round, add, sub, mul, div, lt, is_nan, to_bits, of_bits, of_int, to_signed}
 use Rattle.float.specs.Order.{farther, larger, rank, ordered}
 use Rattle.float.specs.Whole.{integral, floored, ceiled}
-use Rattle.float.specs.Exp.{bits, twoTo, doublings, residue, halved, raised, scaled, exponential}
+use Rattle.float.specs.Exp.{bits, two_to, doublings, residue, halved, raised, scaled, exponential}
 use Rattle.float.specs.Log.{ratio, combined, over, places, logarithm}
 
 -- the floors of -0.5 and -0.0, and the ceiling of -0.5
@@ -27,7 +27,7 @@ exponentials : (to_bits binary64 (exponential (bits 0xC086_2000_0000_0000)) ≡ 
     × (to_bits binary64 (exponential (bits 0x4086_2800_0000_0000)) ≡ 0x7FDD_422D_2BE5_DC9B)
     × (to_bits binary64 (exponential (bits 0x8000_0000_0000_0000)) ≡ 0x3FF0_0000_0000_0000)
     × (to_bits binary64 (exponential (bits 0xBFFC_0000_0000_0000)) ≡ 0x3FC6_3E39_7E02_2072)
-unfolding to_bits of_bits exponential is_nan lt scaled raised halved mul add residue sub doublings integral twoTo to_signed
+unfolding to_bits of_bits exponential is_nan lt scaled raised halved mul add residue sub doublings integral two_to to_signed
 exponentials = (refl, refl, refl, refl)
 
 -- floor(k / 2) for 3, -3 and -1075
@@ -36,21 +36,21 @@ unfolding halved
 halves = (refl, refl, refl)
 
 -- E(-709), which is subnormal; at -745.1332191019411 and at the next number down, the last result above 0 and the first 0; E(-745.2) and E(-746)
-far-below : (to_bits binary64 (exponential (bits 0xC086_2800_0000_0000)) ≡ 0x0008_BFE5_5DE0_2338)
+far_below : (to_bits binary64 (exponential (bits 0xC086_2800_0000_0000)) ≡ 0x0008_BFE5_5DE0_2338)
     × (to_bits binary64 (exponential (bits 0xC087_4910_D52D_3051)) ≡ 1)
     × (to_bits binary64 (exponential (bits 0xC087_4910_D52D_3052)) ≡ 0)
     × (to_bits binary64 (exponential (bits 0xC087_4999_9999_999A)) ≡ 0)
     × (to_bits binary64 (exponential (bits 0xC087_5000_0000_0000)) ≡ 0)
-unfolding to_bits of_bits exponential is_nan lt scaled raised halved mul add residue sub doublings integral twoTo to_signed
-far-below = (refl, refl, refl, refl, refl)
+unfolding to_bits of_bits exponential is_nan lt scaled raised halved mul add residue sub doublings integral two_to to_signed
+far_below = (refl, refl, refl, refl, refl)
 
 -- at 709.782712893384 and at the next number up, the last finite result and the first infinity; E(709.79) and E(710)
-far-above : (to_bits binary64 (exponential (bits 0x4086_2E42_FEFA_39EF)) ≡ 0x7FEF_FFFF_FFFF_FF2A)
+far_above : (to_bits binary64 (exponential (bits 0x4086_2E42_FEFA_39EF)) ≡ 0x7FEF_FFFF_FFFF_FF2A)
     × (to_bits binary64 (exponential (bits 0x4086_2E42_FEFA_39F0)) ≡ 0x7FF0_0000_0000_0000)
     × (to_bits binary64 (exponential (bits 0x4086_2E51_EB85_1EB8)) ≡ 0x7FF0_0000_0000_0000)
     × (to_bits binary64 (exponential (bits 0x4086_3000_0000_0000)) ≡ 0x7FF0_0000_0000_0000)
-unfolding to_bits of_bits exponential is_nan lt scaled raised halved mul add residue sub doublings integral twoTo to_signed
-far-above = (refl, refl, refl, refl)
+unfolding to_bits of_bits exponential is_nan lt scaled raised halved mul add residue sub doublings integral two_to to_signed
+far_above = (refl, refl, refl, refl)
 
 -- the logarithms of 1, of 2 ^ -1074, of 1.4142135623730951 and of the next number, whose m is halved
 logarithms : (to_bits binary64 (logarithm (bits 0x3FF0_0000_0000_0000)) ≡ 0)

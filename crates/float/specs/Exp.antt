@@ -5,15 +5,15 @@ use Rattle.std.specs.Float.Ieee.{up, down, round, add, sub, mul, lt, to_signed}
 use Rattle.float.specs.Whole.{floored}
 
 -- 2 ^ k, rounded: an infinity above 2 ^ 1023, and 0 below 2 ^ -1074 (S2.13)
-unfoldable pub twoTo : ℤ → Float
-twoTo k = round binary64 false (up k) (down k)
+unfoldable pub two_to : ℤ → Float
+two_to k = round binary64 false (up k) (down k)
 
 abbrev pub bits : ℕ → Float
 bits = from_bits binary64
 
 -- 1/j! for j from 12 down to 0 (S2.13)
-abbrev pub inverseFactorials : List ℕ
-inverseFactorials =
+abbrev pub inverse_factorials : List ℕ
+inverse_factorials =
     0x3E21_EED8_EFF8_D898 ∷ 0x3E5A_E645_67F5_44E4 ∷ 0x3E92_7E4F_B778_9F5C ∷ 0x3EC7_1DE3_A556_C734
     ∷ 0x3EFA_01A0_1A01_A01A ∷ 0x3F2A_01A0_1A01_A01A ∷ 0x3F56_C16C_16C1_6C17 ∷ 0x3F81_1111_1111_1111
     ∷ 0x3FA5_5555_5555_5555 ∷ 0x3FC5_5555_5555_5555 ∷ 0x3FE0_0000_0000_0000 ∷ 0x3FF0_0000_0000_0000
@@ -47,11 +47,11 @@ halved (negsuc n) = negsuc (n / 2)
 
 -- p is multiplied by 2 ^ h and then by 2 ^ (k - h), with h = floor(k / 2) (S2.13)
 unfoldable pub raised : Float → ℤ → Float
-raised p k = let h = halved k in mul binary64 (mul binary64 p (twoTo h)) (twoTo (k -ℤ h))
+raised p k = let h = halved k in mul binary64 (mul binary64 p (two_to h)) (two_to (k -ℤ h))
 
 -- p = 1/13! and then the steps down to 1/0!, raised by k
 unfoldable pub scaled : Float → Float → Float
-scaled y k = raised (horner (residue y k) (bits 0x3DE6_1246_13A8_6D09) inverseFactorials) (to_signed 63 k)
+scaled y k = raised (horner (residue y k) (bits 0x3DE6_1246_13A8_6D09) inverse_factorials) (to_signed 63 k)
 
 -- E(y): NaN for a NaN, 0 for y below -745.2, infinity above 709.79 (S2.13)
 unfoldable pub exponential : Float → Float

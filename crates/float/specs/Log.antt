@@ -5,8 +5,8 @@ use Rattle.std.specs.Float.Ieee.{size, add, sub, mul, div, lt, of_int}
 use Rattle.float.specs.Exp.{bits, horner, H, W}
 
 -- 1/(2j+1) for j from 9 down to 0 (S2.16)
-abbrev pub inverseOdds : List ℕ
-inverseOdds =
+abbrev pub inverse_odds : List ℕ
+inverse_odds =
     0x3FAA_F286_BCA1_AF28 ∷ 0x3FAE_1E1E_1E1E_1E1E ∷ 0x3FB1_1111_1111_1111 ∷ 0x3FB3_B13B_13B1_3B14
     ∷ 0x3FB7_45D1_745D_1746 ∷ 0x3FBC_71C7_1C71_C71C ∷ 0x3FC2_4924_9249_2492 ∷ 0x3FC9_9999_9999_999A
     ∷ 0x3FD5_5555_5555_5555 ∷ 0x3FF0_0000_0000_0000 ∷ []
@@ -18,7 +18,7 @@ ratio m = div binary64 (sub binary64 m (bits 0x3FF0_0000_0000_0000)) (add binary
 -- e·H + ((2·s)·q + e·W); q is the Horner sum in t = s·s, begun at 1/21 (S2.16)
 unfoldable pub combined : Float → Float → Float
 combined s e =
-    let q = horner (mul binary64 s s) (bits 0x3FA8_6186_1861_8618) inverseOdds in
+    let q = horner (mul binary64 s s) (bits 0x3FA8_6186_1861_8618) inverse_odds in
     add binary64 (mul binary64 e (bits H)) (add binary64 (mul binary64 (mul binary64 (bits 0x4000_0000_0000_0000) s) q) (mul binary64 e (bits W)))
 
 -- n / 2 ^ k, which is not rounded

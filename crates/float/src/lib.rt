@@ -8,8 +8,8 @@ ghost use Rattle.std.specs.Float.Ieee.{rem, to_unsigned, to_signed, of_int, lt, 
 ghost use Rattle.std.specs.Float.Ieee.Exact.{HasValue};
 ghost use Rattle.float.specs.Order.{magnitude, larger, smaller, rank, ordered, tau, angle};
 ghost use Rattle.float.specs.Whole.{floored, ceiled, truncation};
-ghost use Rattle.float.specs.Exp.{bits, inverseFactorials, horner, doublings, scaled, exponential};
-ghost use Rattle.float.specs.Log.{inverseOdds, ratio, combined, logarithm};
+ghost use Rattle.float.specs.Exp.{bits, inverse_factorials, horner, doublings, scaled, exponential};
+ghost use Rattle.float.specs.Log.{inverse_odds, ratio, combined, logarithm};
 ghost use Rattle.float.specs.Power.{power};
 
 // Its bits are 401921FB54442D18.
@@ -166,7 +166,7 @@ pub fn ceiling(x: f64) -> f64
 
 // The sum of r ^ j / j! for j up to 13.
 fn series(r: f64) -> f64
-    ensures { result ≡ horner r (bits 0x3DE6_1246_13A8_6D09) inverseFactorials }
+    ensures { result ≡ horner r (bits 0x3DE6_1246_13A8_6D09) inverse_factorials }
 {
     let p = 1.6059043836821613e-10;
     let p = p * r + 2.08767569878681e-09;
@@ -249,7 +249,7 @@ pub fn exp_list(list: &mut [f64])
 
 // The sum of t ^ j / (2 * j + 1) for j up to 10.
 fn odd_series(t: f64) -> f64
-    ensures { result ≡ horner t (bits 0x3FA8_6186_1861_8618) inverseOdds }
+    ensures { result ≡ horner t (bits 0x3FA8_6186_1861_8618) inverse_odds }
 {
     let q = 0.047619047619047616;
     let q = q * t + 0.05263157894736842;

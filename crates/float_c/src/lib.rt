@@ -3,7 +3,7 @@ ghost use Rattle.std.specs.Prelude.{◌≡◌, pos};
 ghost use Rattle.ieee.specs.Root.{root};
 ghost use Rattle.ieee.specs.Fused.{fused};
 ghost use Rattle.ieee.specs.Narrow.{narrowed};
-ghost use Rattle.ieee.specs.Cases.{narrowCase};
+ghost use Rattle.ieee.specs.Cases.{narrow_case};
 ghost use Rattle.std.specs.Float.{binary64};
 ghost use Rattle.std.specs.Float.Ieee.{to_unsigned, to_signed, of_int};
 ghost use Rattle.std.specs.Float.Ieee.Scale.{finite};
@@ -12,7 +12,7 @@ ghost use Rattle.float.specs.Whole.{floored, ceiled};
 ghost use Rattle.float.specs.Exp.{exponential};
 ghost use Rattle.float.specs.Log.{logarithm};
 ghost use Rattle.float.specs.Power.{power};
-ghost use Rattle.float_c.specs.Narrows.{narrowedAll};
+ghost use Rattle.float_c.specs.Narrows.{narrowed_all};
 
 #[unsafe(no_mangle)]
 pub extern "C" fn float_root(x: f64) -> f64
@@ -37,7 +37,7 @@ pub extern "C" fn float_narrow(x: f64) -> f32
 
 #[unsafe(no_mangle)]
 pub extern "C" fn float_narrow_case(x: f64) -> u64
-    ensures { result ≡ narrowCase x }
+    ensures { result ≡ narrow_case x }
 {
     ieee::narrow_case(x)
 }
@@ -150,7 +150,7 @@ pub extern "C" fn float_rem_tau(x: f64) -> f64
 // Narrows as many as both lists have. What `out` has beyond that stays.
 #[unsafe(no_mangle)]
 pub extern "C" fn float_narrow_all(xs: &[f64], out: &mut [f32])
-    ensures { out.new ≡ narrowedAll xs.now out.old }
+    ensures { out.new ≡ narrowed_all xs.now out.old }
 {
     ieee::narrow_list(xs, out);
 }

@@ -1,12 +1,12 @@
 // The settings of a table against an atom.
 ghost use Rattle.std.specs.Prelude.{◌≡◌, ◌≤◌};
-ghost use Rattle.grid.specs.Atom.{atomInRange, binCount, atomCountValid, atomSlabsFit, atomQuestion, atomCounted, atomGridRange, atomGridValid};
+ghost use Rattle.grid.specs.Atom.{atom_in_range, bin_count, atom_count_valid, atom_slabs_fit, atom_question, atom_counted, atom_grid_range, atom_grid_valid};
 
 use crate::AtomGrid;
 
 // Question 1.
 fn atom_in_range(g: AtomGrid) -> bool
-    ensures { result ≡ atomInRange g }
+    ensures { result ≡ atom_in_range g }
 {
     let rmin = g.rmin;
     let rmax = g.rmax;
@@ -20,14 +20,14 @@ fn atom_in_range(g: AtomGrid) -> bool
 }
 
 fn bin_count(n: u64) -> bool
-    ensures { result ≡ binCount n }
+    ensures { result ≡ bin_count n }
 {
     (1 <= n) & (n <= 65535)
 }
 
 // Question 3.
 fn atom_count_valid(g: AtomGrid) -> bool
-    ensures { result ≡ atomCountValid g }
+    ensures { result ≡ atom_count_valid g }
 {
     let rmin = g.rmin;
     let rmax = g.rmax;
@@ -39,14 +39,14 @@ fn atom_count_valid(g: AtomGrid) -> bool
 // Question 5, once the others are answered yes.
 fn atom_slabs_fit(n: u64, top: u64) -> bool
     requires { (n ≤ 65535) × (top ≤ 15) }
-    ensures { result ≡ atomSlabsFit n top }
+    ensures { result ≡ atom_slabs_fit n top }
 {
     n * mesh::vertex_count(top as u8) <= 4294967295
 }
 
 // Questions 1 to 5 of a held builder: the number of the first one that is answered no, or 0.
 pub fn atom_question(g: AtomGrid, top: u64, level: u64) -> u64
-    ensures { result ≡ atomQuestion g top level }
+    ensures { result ≡ atom_question g top level }
 {
     let rmin = g.rmin;
     let dr = g.dr;
@@ -71,7 +71,7 @@ pub fn atom_question(g: AtomGrid, top: u64, level: u64) -> u64
 
 // The settings with the count that they give.
 pub fn atom_counted(g: AtomGrid) -> AtomGrid
-    ensures { result ≡ atomCounted g }
+    ensures { result ≡ atom_counted g }
 {
     let rmin = g.rmin;
     let rmax = g.rmax;
@@ -90,7 +90,7 @@ pub fn atom_counted(g: AtomGrid) -> AtomGrid
 
 // Question 14 of a table's grid and level count, but for the slabs.
 fn atom_grid_range(g: AtomGrid, levels: u64) -> bool
-    ensures { result ≡ atomGridRange g levels }
+    ensures { result ≡ atom_grid_range g levels }
 {
     let rmin = g.rmin;
     let dr = g.dr;
@@ -103,7 +103,7 @@ fn atom_grid_range(g: AtomGrid, levels: u64) -> bool
 
 // Question 14 of a table's grid and level count.
 pub fn atom_grid_valid(g: AtomGrid, levels: u64) -> bool
-    ensures { result ≡ atomGridValid g levels }
+    ensures { result ≡ atom_grid_valid g levels }
 {
     let n_r = g.n_r;
     if !atom_grid_range(g, levels) {

@@ -1,8 +1,8 @@
 // The settings of a table's grid, the bin counts that they give, and the bins of a reading.
 ghost use Rattle.std.specs.Prelude.{◌≡◌, ◌≤◌};
 ghost use Rattle.std.specs.Float.Ieee.{lt};
-ghost use Rattle.grid.specs.Bins.{nearestBin, distanceCount, dihedralCount, tableRmax, distanceBin, dihedralBin};
-ghost use Rattle.grid.specs.Settings.{above, in_range, levelsValid, binsInRange, countsValid, ownCount, slabsFit, question, counted, freshQuestion, gridRange, gridValid};
+ghost use Rattle.grid.specs.Bins.{nearest_bin, distance_count, dihedral_count, table_rmax, distance_bin, dihedral_bin};
+ghost use Rattle.grid.specs.Settings.{above, in_range, levels_valid, bins_in_range, counts_valid, own_count, slabs_fit, question, counted, fresh_question, grid_range, grid_valid};
 
 mod atom;
 
@@ -36,33 +36,33 @@ pub struct AtomGrid {
 
 // x / step, to the nearest whole number, in floats.
 fn nearest_bin(x: f64, step: f64) -> u64
-    ensures { result ≡ nearestBin x step }
+    ensures { result ≡ nearest_bin x step }
 {
     float::to_u64(x / step + 0.5)
 }
 
 pub fn distance_count(rmin: f64, rmax: f64, dr: f64) -> u64
-    ensures { result ≡ distanceCount rmin rmax dr }
+    ensures { result ≡ distance_count rmin rmax dr }
 {
     nearest_bin(rmax - rmin, dr)
 }
 
 pub fn dihedral_count(step: f64) -> u64
-    ensures { result ≡ dihedralCount step }
+    ensures { result ≡ dihedral_count step }
 {
     nearest_bin(float::TAU, step)
 }
 
 // The table's own rmax, by one fused operation.
 pub fn table_rmax(n: u64, dr: f64, rmin: f64) -> f64
-    ensures { result ≡ tableRmax n dr rmin }
+    ensures { result ≡ table_rmax n dr rmin }
 {
     ieee::mul_add(float::of_u64(n), dr, rmin)
 }
 
 // A distance above the table's own rmax. With n less 2 to the power of -20 two operations stay below it, which spares most distances the fused one.
 pub fn above_rmax(r: f64, n: u64, dr: f64, rmin: f64) -> bool
-    ensures { result ≡ lt (tableRmax n dr rmin) r }
+    ensures { result ≡ lt (table_rmax n dr rmin) r }
 {
     if n < 4294967296 {
         // of 32 bits the machine makes a float at once
@@ -77,7 +77,7 @@ pub fn above_rmax(r: f64, n: u64, dr: f64, rmin: f64) -> bool
 
 // The bin of a distance; from rmax on it is the last one.
 pub fn distance_bin(r: f64, rmin: f64, dr: f64, n: u64) -> u64
-    ensures { result ≡ distanceBin r rmin dr n }
+    ensures { result ≡ distance_bin r rmin dr n }
 {
     let b = nearest_bin(r - rmin, dr);
     if n == 0 {
@@ -88,7 +88,7 @@ pub fn distance_bin(r: f64, rmin: f64, dr: f64, n: u64) -> u64
 
 // The bin of a dihedral angle; near TAU it is the first one again. A step that gives n leaves nothing to divide.
 pub fn dihedral_bin(omega: f64, step: f64, n: u64) -> u64
-    ensures { result ≡ dihedralBin omega step n }
+    ensures { result ≡ dihedral_bin omega step n }
 {
     let b = nearest_bin(float::rem_tau(omega), step);
     if n == 0 {
@@ -129,21 +129,21 @@ pub fn in_range(g: Grid) -> bool
 
 // Question 2.
 pub fn levels_valid(top: u64, level: u64) -> bool
-    ensures { result ≡ levelsValid top level }
+    ensures { result ≡ levels_valid top level }
 {
     (top <= 15) & (level <= top)
 }
 
 // Question 3 of a fresh builder: both counts from 1 to 65,535.
 pub fn bins_in_range(n: u64, m: u64) -> bool
-    ensures { result ≡ binsInRange n m }
+    ensures { result ≡ bins_in_range n m }
 {
     (1 <= n) & ((n <= 65535) & ((1 <= m) & (m <= 65535)))
 }
 
 // Question 3 of a held builder: they are also those that the settings give.
 pub fn counts_valid(g: Grid) -> bool
-    ensures { result ≡ countsValid g }
+    ensures { result ≡ counts_valid g }
 {
     let rmin = g.rmin;
     let rmax = g.rmax;
@@ -157,7 +157,7 @@ pub fn counts_valid(g: Grid) -> bool
 
 // Question 4: the distance count comes out the same with the table's own rmax.
 pub fn own_count(n: u64, dr: f64, rmin: f64) -> bool
-    ensures { result ≡ ownCount n dr rmin }
+    ensures { result ≡ own_count n dr rmin }
 {
     n == distance_count(rmin, table_rmax(n, dr, rmin), dr)
 }
@@ -165,7 +165,7 @@ pub fn own_count(n: u64, dr: f64, rmin: f64) -> bool
 // Question 5, once the others are answered yes.
 fn slabs_fit(n: u64, m: u64, top: u64) -> bool
     requires { (n ≤ 65535) × (m ≤ 65535) × (top ≤ 15) }
-    ensures { result ≡ slabsFit n m top }
+    ensures { result ≡ slabs_fit n m top }
 {
     n * m * mesh::per_level(top as u8) <= 4294967295
 }
@@ -220,14 +220,14 @@ pub fn counted(g: Grid) -> Grid
 
 // Questions 1 to 5 of a fresh builder.
 pub fn fresh_question(g: Grid, top: u64) -> u64
-    ensures { result ≡ freshQuestion g top }
+    ensures { result ≡ fresh_question g top }
 {
     question(counted(g), top, top)
 }
 
 // Question 14 of a table's grid and level count, but for the slabs.
 fn grid_range(g: Grid, levels: u64) -> bool
-    ensures { result ≡ gridRange g levels }
+    ensures { result ≡ grid_range g levels }
 {
     let rmin = g.rmin;
     let dr = g.dr;
@@ -245,7 +245,7 @@ fn grid_range(g: Grid, levels: u64) -> bool
 
 // Question 14 of a table's grid and level count.
 pub fn grid_valid(g: Grid, levels: u64) -> bool
-    ensures { result ≡ gridValid g levels }
+    ensures { result ≡ grid_valid g levels }
 {
     let n_r = g.n_r;
     let n_omega = g.n_omega;

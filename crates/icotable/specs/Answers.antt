@@ -5,7 +5,7 @@ use Rattle.builder.specs.Calls.{BuiltValues, SettledValues}
 use Rattle.writer.specs.Write.{WrittenValues}
 use Rattle.table.specs.declared.Table.{Table}
 use Rattle.table.specs.Read.{ReadValues}
-use Rattle.reading.specs.Resolve.{ReadingValues, noDistance}
+use Rattle.reading.specs.Resolve.{ReadingValues, no_distance}
 use Rattle.tail.specs.Reading.{TailValues}
 use Rattle.icotable.specs.declared.BuildAnswer.{BuildAnswer}
 use Rattle.icotable.specs.declared.SettleAnswer.{SettleAnswer}
@@ -15,26 +15,26 @@ use Rattle.icotable.specs.declared.ValueAnswer.{ValueAnswer}
 
 -- ---- the number and values that a struct holds: of fresh and set, of settle, of write, of a reading
 
-unfoldable pub builtIn : BuildAnswer → BuiltValues
-builtIn a = record { number = a.number; builder = a.builder }
+unfoldable pub built_in : BuildAnswer → BuiltValues
+built_in a = record { number = a.number; builder = a.builder }
 
-unfoldable pub settledIn : SettleAnswer → SettledValues
-settledIn a = record { number = a.number; gradient = a.gradient; comparisons = a.comparisons; builder = a.builder }
+unfoldable pub settled_in : SettleAnswer → SettledValues
+settled_in a = record { number = a.number; gradient = a.gradient; comparisons = a.comparisons; builder = a.builder }
 
-unfoldable pub writtenIn : WriteAnswer → WrittenValues
-writtenIn a = record { number = a.number; length = a.length }
+unfoldable pub written_in : WriteAnswer → WrittenValues
+written_in a = record { number = a.number; length = a.length }
 
-unfoldable pub valueIn : ValueAnswer → ReadingValues
-valueIn a = record { number = a.number; energy = a.energy; distanceA = a.distance_a; distanceB = a.distance_b }
+unfoldable pub value_in : ValueAnswer → ReadingValues
+value_in a = record { number = a.number; energy = a.energy; distance_a = a.distance_a; distance_b = a.distance_b }
 
 -- a reading of the tail, in the same struct: it shows no distances
-unfoldable pub tailShown : TailValues → ReadingValues
-tailShown v = record { number = v.number; energy = v.energy; distanceA = noDistance; distanceB = noDistance }
+unfoldable pub tail_shown : TailValues → ReadingValues
+tail_shown v = record { number = v.number; energy = v.energy; distance_a = no_distance; distance_b = no_distance }
 
 -- ---- read
 
-unfoldable pub tableWith : ℕ → Table → TableAnswer
-tableWith n t =
+unfoldable pub table_with : ℕ → Table → TableAnswer
+table_with n t =
     record {
       number = n;
       grid = t.grid;
@@ -45,14 +45,14 @@ tableWith n t =
       start = t.grid_start ∷ (t.bins_start ∷ (t.levels_start ∷ (t.rows_start ∷ (t.energies_start ∷ (t.tail_start ∷ [])))));
     }
 
-unfoldable pub tableAnswer : ReadValues → TableAnswer
-tableAnswer v = tableWith v.number v.table
+unfoldable pub table_answer : ReadValues → TableAnswer
+table_answer v = table_with v.number v.table
 
 -- ---- reading
 
 -- read's answer as a host hands it back: its number is not looked at, and its fields may be any
-unfoldable pub tableFrom : TableAnswer → Table
-tableFrom t =
+unfoldable pub table_from : TableAnswer → Table
+table_from t =
     record {
       grid = t.grid;
       levels = t.levels;

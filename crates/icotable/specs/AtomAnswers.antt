@@ -3,26 +3,26 @@ use Rattle.std.specs.Prelude.{[], ◌∷◌, ℕ, get_or}
 use Rattle.builder.specs.Atom.{AtomBuiltValues, AtomSettledValues}
 use Rattle.table.specs.declared.AtomTable.{AtomTable}
 use Rattle.table.specs.Atom.{AtomReadValues}
-use Rattle.reading.specs.Resolve.{ReadingValues, noDistance}
+use Rattle.reading.specs.Resolve.{ReadingValues, no_distance}
 use Rattle.icotable.specs.declared.atom.AtomBuildAnswer.{AtomBuildAnswer}
 use Rattle.icotable.specs.declared.atom.AtomSettleAnswer.{AtomSettleAnswer}
 use Rattle.icotable.specs.declared.atom.AtomTableAnswer.{AtomTableAnswer}
 use Rattle.icotable.specs.declared.atom.EnergyAnswer.{EnergyAnswer}
 
-unfoldable pub atomBuiltIn : AtomBuildAnswer → AtomBuiltValues
-atomBuiltIn a = record { number = a.number; builder = a.builder }
+unfoldable pub atom_built_in : AtomBuildAnswer → AtomBuiltValues
+atom_built_in a = record { number = a.number; builder = a.builder }
 
-unfoldable pub atomSettledIn : AtomSettleAnswer → AtomSettledValues
-atomSettledIn a = record { number = a.number; gradient = a.gradient; comparisons = a.comparisons; builder = a.builder }
+unfoldable pub atom_settled_in : AtomSettleAnswer → AtomSettledValues
+atom_settled_in a = record { number = a.number; gradient = a.gradient; comparisons = a.comparisons; builder = a.builder }
 
 -- a reading against an atom shows no distances
-unfoldable pub energyIn : EnergyAnswer → ReadingValues
-energyIn a = record { number = a.number; energy = a.energy; distanceA = noDistance; distanceB = noDistance }
+unfoldable pub energy_in : EnergyAnswer → ReadingValues
+energy_in a = record { number = a.number; energy = a.energy; distance_a = no_distance; distance_b = no_distance }
 
 -- ---- read
 
-unfoldable pub atomTableWith : ℕ → AtomTable → AtomTableAnswer
-atomTableWith n t =
+unfoldable pub atom_table_with : ℕ → AtomTable → AtomTableAnswer
+atom_table_with n t =
     record {
       number = n;
       grid = t.grid;
@@ -32,14 +32,14 @@ atomTableWith n t =
       start = t.grid_start ∷ (t.bins_start ∷ (t.levels_start ∷ (t.rows_start ∷ (t.energies_start ∷ []))));
     }
 
-unfoldable pub atomTableAnswer : AtomReadValues → AtomTableAnswer
-atomTableAnswer v = atomTableWith v.number v.table
+unfoldable pub atom_table_answer : AtomReadValues → AtomTableAnswer
+atom_table_answer v = atom_table_with v.number v.table
 
 -- ---- reading
 
 -- read's answer as a host hands it back: its number is not looked at, and its fields may be any
-unfoldable pub atomTableFrom : AtomTableAnswer → AtomTable
-atomTableFrom t =
+unfoldable pub atom_table_from : AtomTableAnswer → AtomTable
+atom_table_from t =
     record {
       grid = t.grid;
       levels = t.levels;

@@ -2,5 +2,5 @@
 use Rattle.repack.specs.Repack.{RepackedValues}
 use Rattle.icotable.specs.declared.repacks.RepackAnswer.{RepackAnswer}
 
-unfoldable pub repackedIn : RepackAnswer → RepackedValues
-repackedIn a = record { number = a.number; length = a.length; moved = a.moved }
+unfoldable pub repacked_in : RepackAnswer → RepackedValues
+repacked_in a = record { number = a.number; length = a.length; moved = a.moved }

@@ -3,5 +3,5 @@ use Rattle.span.specs.Spans.{SpanValues}
 use Rattle.icotable.specs.declared.spans.SpannedAnswer.{SpannedAnswer}
 
 -- the number and the values that the struct holds; where the call is refused all others are 0 (S24.1)
-unfoldable pub spannedIn : SpannedAnswer → SpanValues
-spannedIn a = record { number = a.number; first = a.first; last = a.last; smallest = a.smallest; largest = a.largest; scalarNans = a.scalar_nans }
+unfoldable pub spanned_in : SpannedAnswer → SpanValues
+spanned_in a = record { number = a.number; first = a.first; last = a.last; smallest = a.smallest; largest = a.largest; scalar_nans = a.scalar_nans }

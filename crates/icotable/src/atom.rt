@@ -1,17 +1,17 @@
 // The operations of a table against an atom, as lib.rt has those of a table.
 ghost use Rattle.std.specs.Prelude.{◌≡◌};
-ghost use Rattle.mesh.specs.Mesh.{meshOf};
-ghost use Rattle.search.specs.Search.{locatorOf};
+ghost use Rattle.mesh.specs.Mesh.{mesh_of};
+ghost use Rattle.search.specs.Search.{locator_of};
 ghost use Rattle.builder.specs.BuilderLists.{lists_of};
-ghost use Rattle.builder.specs.Atom.{AtomBuiltOut, AtomSettleOut, atomBuiltValues, atomSettledValues, noAtomBuilder, atomFreshOut, atomSetOut, atomSettleOut};
-ghost use Rattle.writer.specs.Atom.{AtomWriteOut, atomWriteOut};
-ghost use Rattle.table.specs.Atom.{atomReadValues, atomReadOut};
-ghost use Rattle.reading.specs.Resolve.{linear, boltzmann, readingValues};
-ghost use Rattle.reading.specs.Atom.{atomReadingBy};
-ghost use Rattle.reading.specs.Internal.{energyAlone};
-ghost use Rattle.sizing.specs.Sizing.{atomSizingOut};
-ghost use Rattle.icotable.specs.Answers.{writtenIn};
-ghost use Rattle.icotable.specs.AtomAnswers.{atomBuiltIn, atomSettledIn, energyIn, atomTableWith, atomTableAnswer, atomTableFrom};
+ghost use Rattle.builder.specs.Atom.{AtomBuiltOut, AtomSettleOut, atom_built_values, atom_settled_values, no_atom_builder, atom_fresh_out, atom_set_out, atom_settle_out};
+ghost use Rattle.writer.specs.Atom.{AtomWriteOut, atom_write_out};
+ghost use Rattle.table.specs.Atom.{atom_read_values, atom_read_out};
+ghost use Rattle.reading.specs.Resolve.{linear, boltzmann, reading_values};
+ghost use Rattle.reading.specs.Atom.{atom_reading_by};
+ghost use Rattle.reading.specs.Internal.{energy_alone};
+ghost use Rattle.sizing.specs.Sizing.{atom_sizing_out};
+ghost use Rattle.icotable.specs.Answers.{written_in};
+ghost use Rattle.icotable.specs.AtomAnswers.{atom_built_in, atom_settled_in, energy_in, atom_table_with, atom_table_answer, atom_table_from};
 
 use crate::{WriteAnswer, write_answer};
 use builder::{AtomBuilder, AtomBuilt, AtomSettled};
@@ -58,7 +58,7 @@ pub struct EnergyAnswer {
 }
 
 fn no_atom_grid() -> AtomGrid
-    ensures { result ≡ noAtomBuilder.grid }
+    ensures { result ≡ no_atom_builder.grid }
 {
     AtomGrid {
         rmin: 0.0,
@@ -71,7 +71,7 @@ fn no_atom_grid() -> AtomGrid
 }
 
 fn no_atom_builder() -> AtomBuilder
-    ensures { result ≡ noAtomBuilder }
+    ensures { result ≡ no_atom_builder }
 {
     AtomBuilder {
         grid: no_atom_grid(),
@@ -81,7 +81,7 @@ fn no_atom_builder() -> AtomBuilder
 }
 
 fn atom_built_answer(kept: AtomBuilder, a: AtomBuilt) -> AtomBuildAnswer
-    ensures { atomBuiltIn result ≡ atomBuiltValues kept a }
+    ensures { atom_built_in result ≡ atom_built_values kept a }
 {
     match a {
         AtomBuilt::Accepted(builder) => AtomBuildAnswer { number: 0, builder },
@@ -93,7 +93,7 @@ fn atom_built_answer(kept: AtomBuilder, a: AtomBuilt) -> AtomBuildAnswer
 }
 
 fn atom_settle_answer(kept: AtomBuilder, a: AtomSettled) -> AtomSettleAnswer
-    ensures { atomSettledIn result ≡ atomSettledValues kept a }
+    ensures { atom_settled_in result ≡ atom_settled_values kept a }
 {
     match a {
         AtomSettled::Accepted(builder, gradient, comparisons) => AtomSettleAnswer {
@@ -112,7 +112,7 @@ fn atom_settle_answer(kept: AtomBuilder, a: AtomSettled) -> AtomSettleAnswer
 }
 
 fn atom_table_with(number: u64, t: AtomTable) -> AtomTableAnswer
-    ensures { result ≡ atomTableWith number t }
+    ensures { result ≡ atom_table_with number t }
 {
     let grid = t.grid;
     let levels = t.levels;
@@ -136,7 +136,7 @@ fn atom_table_with(number: u64, t: AtomTable) -> AtomTableAnswer
 }
 
 fn atom_table_answer(a: AtomReadAnswer) -> AtomTableAnswer
-    ensures { result ≡ atomTableAnswer (atomReadValues a) }
+    ensures { result ≡ atom_table_answer (atom_read_values a) }
 {
     match a {
         AtomReadAnswer::Accepted(t) => atom_table_with(0, t),
@@ -153,7 +153,7 @@ fn atom_table_answer(a: AtomReadAnswer) -> AtomTableAnswer
 
 // Read's answer as it is handed back to a reading, whatever it holds by then.
 fn atom_table_from(t: AtomTableAnswer) -> AtomTable
-    ensures { result ≡ atomTableFrom t }
+    ensures { result ≡ atom_table_from t }
 {
     let grid = t.grid;
     let levels = t.levels;
@@ -174,7 +174,7 @@ fn atom_table_from(t: AtomTableAnswer) -> AtomTable
 }
 
 fn energy_answer(a: Reading) -> EnergyAnswer
-    ensures { energyIn result ≡ energyAlone (readingValues a) }
+    ensures { energy_in result ≡ energy_alone (reading_values a) }
 {
     match a {
         Reading::Energy(_, energy, _) => EnergyAnswer { number: 0, energy },
@@ -199,8 +199,8 @@ pub extern "C" fn icotable_atom_fresh(
     angles: &[f64],
 ) -> AtomBuildAnswer
     ensures { ◌≡◌ {A = AtomBuiltOut}
-        (record { answer = atomBuiltIn result; lists = lists_of store.new kinds.new levels.new values.new })
-        (atomFreshOut grid top (meshOf vertices.now neighbour_counts.now neighbours.now angles.now)
+        (record { answer = atom_built_in result; lists = lists_of store.new kinds.new levels.new values.new })
+        (atom_fresh_out grid top (mesh_of vertices.now neighbour_counts.now neighbours.now angles.now)
         (lists_of store.old kinds.old levels.old values.old)) }
 {
     let none = no_atom_builder();
@@ -230,8 +230,8 @@ pub extern "C" fn icotable_atom_set(
     energies: &[f64],
 ) -> AtomBuildAnswer
     ensures { ◌≡◌ {A = AtomBuiltOut}
-        (record { answer = atomBuiltIn result; lists = lists_of store.new kinds.new levels.new values.new })
-        (atomSetOut builder (lists_of store.old kinds.old levels.old values.old) ri energies.now) }
+        (record { answer = atom_built_in result; lists = lists_of store.new kinds.new levels.new values.new })
+        (atom_set_out builder (lists_of store.old kinds.old levels.old values.old) ri energies.now) }
 {
     let a = builder::atom_set(builder, store, kinds, levels, values, ri, energies);
     atom_built_answer(builder, a)
@@ -251,8 +251,8 @@ pub extern "C" fn icotable_atom_settle(
     ri: u64,
 ) -> AtomSettleAnswer
     ensures { ◌≡◌ {A = AtomSettleOut}
-        (record { answer = atomSettledIn result; lists = lists_of store.now kinds.new levels.new values.new })
-        (atomSettleOut builder (meshOf vertices.now neighbour_counts.now neighbours.now angles.now)
+        (record { answer = atom_settled_in result; lists = lists_of store.now kinds.new levels.new values.new })
+        (atom_settle_out builder (mesh_of vertices.now neighbour_counts.now neighbours.now angles.now)
         (lists_of store.now kinds.old levels.old values.old) ri) }
 {
     let a = builder::atom_settle(
@@ -284,8 +284,8 @@ pub extern "C" fn icotable_atom_write(
     output: &mut [u8],
 ) -> WriteAnswer
     ensures { ◌≡◌ {A = AtomWriteOut}
-        (record { answer = writtenIn result; builder = builder; lists = lists_of store.now kinds.now levels.now values.now; output = output.new })
-        (atomWriteOut builder (meshOf vertices.now neighbour_counts.now neighbours.now angles.now)
+        (record { answer = written_in result; builder = builder; lists = lists_of store.now kinds.now levels.now values.now; output = output.new })
+        (atom_write_out builder (mesh_of vertices.now neighbour_counts.now neighbours.now angles.now)
         (lists_of store.now kinds.now levels.now values.now) output.old) }
 {
     let a = writer::atom_write(
@@ -305,7 +305,7 @@ pub extern "C" fn icotable_atom_write(
 
 #[unsafe(no_mangle)]
 pub extern "C" fn icotable_atom_read(file: &[u8]) -> AtomTableAnswer
-    ensures { result ≡ atomTableAnswer (atomReadOut file.now) }
+    ensures { result ≡ atom_table_answer (atom_read_out file.now) }
 {
     let a = table::atom_read(file);
     atom_table_answer(a)
@@ -324,8 +324,8 @@ fn atom_reading_of(
     dy: f64,
     dz: f64,
 ) -> EnergyAnswer
-    ensures { energyIn result ≡ atomReadingBy file.now (atomTableFrom table) vertices.now
-        (locatorOf cell_offsets.now cell_vertices.now face_offsets.now faces.now)
+    ensures { energy_in result ≡ atom_reading_by file.now (atom_table_from table) vertices.now
+        (locator_of cell_offsets.now cell_vertices.now face_offsets.now faces.now)
         linear (record { r = r; d = record { x = dx; y = dy; result = dz } }) }
 {
     let t = atom_table_from(table);
@@ -363,8 +363,8 @@ pub extern "C" fn icotable_atom_reading(
     dy: f64,
     dz: f64,
 ) -> EnergyAnswer
-    ensures { energyIn result ≡ atomReadingBy file.now (atomTableFrom table.now) vertices.now
-        (locatorOf cell_offsets.now cell_vertices.now face_offsets.now faces.now)
+    ensures { energy_in result ≡ atom_reading_by file.now (atom_table_from table.now) vertices.now
+        (locator_of cell_offsets.now cell_vertices.now face_offsets.now faces.now)
         linear (record { r = r; d = record { x = dx; y = dy; result = dz } }) }
 {
     atom_reading_of(
@@ -396,8 +396,8 @@ fn atom_boltzmann_of(
     dz: f64,
     beta: f64,
 ) -> EnergyAnswer
-    ensures { energyIn result ≡ atomReadingBy file.now (atomTableFrom table) vertices.now
-        (locatorOf cell_offsets.now cell_vertices.now face_offsets.now faces.now)
+    ensures { energy_in result ≡ atom_reading_by file.now (atom_table_from table) vertices.now
+        (locator_of cell_offsets.now cell_vertices.now face_offsets.now faces.now)
         (boltzmann beta) (record { r = r; d = record { x = dx; y = dy; result = dz } }) }
 {
     let t = atom_table_from(table);
@@ -437,8 +437,8 @@ pub extern "C" fn icotable_atom_boltzmann(
     dz: f64,
     beta: f64,
 ) -> EnergyAnswer
-    ensures { energyIn result ≡ atomReadingBy file.now (atomTableFrom table.now) vertices.now
-        (locatorOf cell_offsets.now cell_vertices.now face_offsets.now faces.now)
+    ensures { energy_in result ≡ atom_reading_by file.now (atom_table_from table.now) vertices.now
+        (locator_of cell_offsets.now cell_vertices.now face_offsets.now faces.now)
         (boltzmann beta) (record { r = r; d = record { x = dx; y = dy; result = dz } }) }
 {
     atom_boltzmann_of(
@@ -465,7 +465,7 @@ pub extern "C" fn icotable_atom_sizing(
     neighbour_counts: &[u8],
     neighbours: &[u16],
 ) -> Size
-    ensures { result ≡ atomSizingOut grid top neighbour_counts.now neighbours.now }
+    ensures { result ≡ atom_sizing_out grid top neighbour_counts.now neighbours.now }
 {
     sizing::atom_sizing(grid, top, neighbour_counts, neighbours)
 }

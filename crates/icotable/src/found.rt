@@ -1,7 +1,7 @@
 // The search over a mesh without a locator.
 ghost use Rattle.std.specs.Prelude.{◌≡◌, []};
-ghost use Rattle.mesh.specs.Mesh.{meshOf};
-ghost use Rattle.mesh_search.specs.MeshSearch.{searchOut};
+ghost use Rattle.mesh.specs.Mesh.{mesh_of};
+ghost use Rattle.mesh_search.specs.MeshSearch.{search_out};
 
 use search::{Located, Vector3};
 
@@ -17,7 +17,7 @@ pub extern "C" fn icotable_search(
     y: f64,
     z: f64,
 ) -> Located
-    ensures { result ≡ searchOut level (meshOf vertices.now neighbour_counts.now neighbours.now []) (record { x = x; y = y; z = z }) }
+    ensures { result ≡ search_out level (mesh_of vertices.now neighbour_counts.now neighbours.now []) (record { x = x; y = y; z = z }) }
 {
     mesh_search::search_mesh(
         level,

@@ -1,25 +1,25 @@
 // The table's operations for a caller in C or Rust: include/icotable.h declares them. Each function calls the operation and turns its answer into a struct whose first field is document 01's number, 0 for accepted.
 ghost use Rattle.std.specs.Prelude.{◌≡◌};
-ghost use Rattle.mesh.specs.Mesh.{meshOf};
-ghost use Rattle.search.specs.Search.{locatorOf};
-ghost use Rattle.builder.specs.BuilderLists.{wordLists};
+ghost use Rattle.mesh.specs.Mesh.{mesh_of};
+ghost use Rattle.search.specs.Search.{locator_of};
+ghost use Rattle.builder.specs.BuilderLists.{word_lists};
 ghost use Rattle.ieee.specs.Root.{root};
 ghost use Rattle.ieee.specs.Fused.{fused};
 ghost use Rattle.ieee.specs.Narrow.{narrowed};
-ghost use Rattle.ieee.specs.Cases.{narrowCase};
+ghost use Rattle.ieee.specs.Cases.{narrow_case};
 ghost use Rattle.float.specs.Exp.{exponential};
 ghost use Rattle.float.specs.Log.{logarithm};
 ghost use Rattle.float.specs.Power.{power};
-ghost use Rattle.builder.specs.Calls.{BuiltOut, SettleOut, builtValues, settledValues, noBuilder, freshOut, setOut, settleOut};
-ghost use Rattle.writer.specs.Write.{WriteOut, writtenValues, writeOut};
-ghost use Rattle.table.specs.Read.{readValues, readOut};
-ghost use Rattle.table.specs.View.{viewer, readOver};
-ghost use Rattle.locator.specs.Locator.{LocatorOut, locatorOut};
-ghost use Rattle.reading.specs.Resolve.{boltzmann, readingValues};
-ghost use Rattle.reading.specs.Reading.{readingBy, readingOut};
-ghost use Rattle.sizing.specs.Sizing.{sizingOut};
-ghost use Rattle.icotable.specs.Sizes.{heldVertices, heldCells};
-ghost use Rattle.icotable.specs.Answers.{builtIn, settledIn, writtenIn, valueIn, tableWith, tableAnswer, tableFrom};
+ghost use Rattle.builder.specs.Calls.{BuiltOut, SettleOut, built_values, settled_values, no_builder, fresh_out, set_out, settle_out};
+ghost use Rattle.writer.specs.Write.{WriteOut, written_values, write_out};
+ghost use Rattle.table.specs.Read.{read_values, read_out};
+ghost use Rattle.table.specs.View.{viewer, read_over};
+ghost use Rattle.locator.specs.Locator.{LocatorOut, locator_out};
+ghost use Rattle.reading.specs.Resolve.{boltzmann, reading_values};
+ghost use Rattle.reading.specs.Reading.{reading_by, reading_out};
+ghost use Rattle.sizing.specs.Sizing.{sizing_out};
+ghost use Rattle.icotable.specs.Sizes.{held_vertices, held_cells};
+ghost use Rattle.icotable.specs.Answers.{built_in, settled_in, written_in, value_in, table_with, table_answer, table_from};
 
 use builder::{Builder, Built, Settled};
 use grid::Grid;
@@ -85,7 +85,7 @@ pub struct ValueAnswer {
 }
 
 fn no_grid() -> Grid
-    ensures { result ≡ noBuilder.grid }
+    ensures { result ≡ no_builder.grid }
 {
     Grid {
         rmin: 0.0,
@@ -100,7 +100,7 @@ fn no_grid() -> Grid
 }
 
 fn no_builder() -> Builder
-    ensures { result ≡ noBuilder }
+    ensures { result ≡ no_builder }
 {
     Builder {
         grid: no_grid(),
@@ -111,7 +111,7 @@ fn no_builder() -> Builder
 }
 
 fn built_answer(kept: Builder, a: Built) -> BuildAnswer
-    ensures { builtIn result ≡ builtValues kept a }
+    ensures { built_in result ≡ built_values kept a }
 {
     match a {
         Built::Accepted(builder) => BuildAnswer { number: 0, builder },
@@ -123,7 +123,7 @@ fn built_answer(kept: Builder, a: Built) -> BuildAnswer
 }
 
 fn settle_answer(kept: Builder, a: Settled) -> SettleAnswer
-    ensures { settledIn result ≡ settledValues kept a }
+    ensures { settled_in result ≡ settled_values kept a }
 {
     match a {
         Settled::Accepted(builder, gradient, comparisons) => SettleAnswer {
@@ -142,7 +142,7 @@ fn settle_answer(kept: Builder, a: Settled) -> SettleAnswer
 }
 
 fn write_answer(a: Written) -> WriteAnswer
-    ensures { writtenIn result ≡ writtenValues a }
+    ensures { written_in result ≡ written_values a }
 {
     match a {
         Written::Accepted(length) => WriteAnswer { number: 0, length },
@@ -151,7 +151,7 @@ fn write_answer(a: Written) -> WriteAnswer
 }
 
 fn table_with(number: u64, t: Table) -> TableAnswer
-    ensures { result ≡ tableWith number t }
+    ensures { result ≡ table_with number t }
 {
     let grid = t.grid;
     let levels = t.levels;
@@ -178,7 +178,7 @@ fn table_with(number: u64, t: Table) -> TableAnswer
 }
 
 fn table_answer(a: ReadAnswer) -> TableAnswer
-    ensures { result ≡ tableAnswer (readValues a) }
+    ensures { result ≡ table_answer (read_values a) }
 {
     match a {
         ReadAnswer::Accepted(t) => table_with(0, t),
@@ -196,7 +196,7 @@ fn table_answer(a: ReadAnswer) -> TableAnswer
 
 // Read's answer as it is handed back to a reading, whatever it holds by then.
 fn table_from(t: TableAnswer) -> Table
-    ensures { result ≡ tableFrom t }
+    ensures { result ≡ table_from t }
 {
     let grid = t.grid;
     let levels = t.levels;
@@ -220,7 +220,7 @@ fn table_from(t: TableAnswer) -> Table
 }
 
 fn value_answer(a: Reading) -> ValueAnswer
-    ensures { valueIn result ≡ readingValues a }
+    ensures { value_in result ≡ reading_values a }
 {
     match a {
         Reading::Energy(distance_a, energy, distance_b) => ValueAnswer {
@@ -250,9 +250,9 @@ pub extern "C" fn icotable_fresh(
     angles: &[f64],
 ) -> BuildAnswer
     ensures { ◌≡◌ {A = BuiltOut}
-        (record { answer = builtIn result; lists = wordLists store.new words.new })
-        (freshOut grid top (meshOf vertices.now neighbour_counts.now neighbours.now angles.now)
-        (wordLists store.old words.old)) }
+        (record { answer = built_in result; lists = word_lists store.new words.new })
+        (fresh_out grid top (mesh_of vertices.now neighbour_counts.now neighbours.now angles.now)
+        (word_lists store.old words.old)) }
 {
     let none = no_builder();
     let a = builder::fresh(
@@ -278,8 +278,8 @@ pub extern "C" fn icotable_set(
     energies: &[f64],
 ) -> BuildAnswer
     ensures { ◌≡◌ {A = BuiltOut}
-        (record { answer = builtIn result; lists = wordLists store.new words.new })
-        (setOut builder (wordLists store.old words.old) ri oi energies.now) }
+        (record { answer = built_in result; lists = word_lists store.new words.new })
+        (set_out builder (word_lists store.old words.old) ri oi energies.now) }
 {
     let a = builder::set(builder, store, words, ri, oi, energies);
     built_answer(builder, a)
@@ -297,9 +297,9 @@ pub extern "C" fn icotable_settle(
     ri: u64,
 ) -> SettleAnswer
     ensures { ◌≡◌ {A = SettleOut}
-        (record { answer = settledIn result; lists = wordLists store.now words.new })
-        (settleOut builder (meshOf vertices.now neighbour_counts.now neighbours.now angles.now)
-        (wordLists store.now words.old) ri) }
+        (record { answer = settled_in result; lists = word_lists store.now words.new })
+        (settle_out builder (mesh_of vertices.now neighbour_counts.now neighbours.now angles.now)
+        (word_lists store.now words.old) ri) }
 {
     let a = builder::settle(
         builder,
@@ -326,9 +326,9 @@ pub extern "C" fn icotable_write(
     output: &mut [u8],
 ) -> WriteAnswer
     ensures { ◌≡◌ {A = WriteOut}
-        (record { answer = writtenIn result; builder = builder; lists = wordLists store.now words.now; output = output.new })
-        (writeOut builder (meshOf vertices.now neighbour_counts.now neighbours.now angles.now)
-        (wordLists store.now words.now) output.old) }
+        (record { answer = written_in result; builder = builder; lists = word_lists store.now words.now; output = output.new })
+        (write_out builder (mesh_of vertices.now neighbour_counts.now neighbours.now angles.now)
+        (word_lists store.now words.now) output.old) }
 {
     let a = writer::write(
         builder,
@@ -345,7 +345,7 @@ pub extern "C" fn icotable_write(
 
 #[unsafe(no_mangle)]
 pub extern "C" fn icotable_read(file: &[u8]) -> TableAnswer
-    ensures { result ≡ tableAnswer (readOut file.now) }
+    ensures { result ≡ table_answer (read_out file.now) }
 {
     let a = table::read(file);
     table_answer(a)
@@ -354,7 +354,7 @@ pub extern "C" fn icotable_read(file: &[u8]) -> TableAnswer
 // The same for the viewer, which opens small tables alone.
 #[unsafe(no_mangle)]
 pub extern "C" fn icotable_view(file: &[u8]) -> TableAnswer
-    ensures { result ≡ tableAnswer (readOver viewer file.now) }
+    ensures { result ≡ table_answer (read_over viewer file.now) }
 {
     let a = table::view(file);
     table_answer(a)
@@ -373,9 +373,9 @@ pub extern "C" fn icotable_locator(
     faces: &mut [u16],
 ) -> u64
     ensures { ◌≡◌ {A = LocatorOut}
-        (record { number = result; lists = locatorOf cell_offsets.new cell_vertices.new face_offsets.new faces.new })
-        (locatorOut level (meshOf vertices.now neighbour_counts.now neighbours.now angles.now)
-        (locatorOf cell_offsets.old cell_vertices.old face_offsets.old faces.old)) }
+        (record { number = result; lists = locator_of cell_offsets.new cell_vertices.new face_offsets.new faces.new })
+        (locator_out level (mesh_of vertices.now neighbour_counts.now neighbours.now angles.now)
+        (locator_of cell_offsets.old cell_vertices.old face_offsets.old faces.old)) }
 {
     locator::locator(
         level,
@@ -407,8 +407,8 @@ fn reading_of(
     by: f64,
     bz: f64,
 ) -> ValueAnswer
-    ensures { valueIn result ≡ readingOut file.now (tableFrom table) vertices.now
-        (locatorOf cell_offsets.now cell_vertices.now face_offsets.now faces.now)
+    ensures { value_in result ≡ reading_out file.now (table_from table) vertices.now
+        (locator_of cell_offsets.now cell_vertices.now face_offsets.now faces.now)
         (record { r = r; omega = omega; a = record { x = ax; y = ay; result = az }; b = record { x = bx; y = by; result = bz } }) }
 {
     let t = table_from(table);
@@ -457,8 +457,8 @@ pub extern "C" fn icotable_reading(
     by: f64,
     bz: f64,
 ) -> ValueAnswer
-    ensures { valueIn result ≡ readingOut file.now (tableFrom table.now) vertices.now
-        (locatorOf cell_offsets.now cell_vertices.now face_offsets.now faces.now)
+    ensures { value_in result ≡ reading_out file.now (table_from table.now) vertices.now
+        (locator_of cell_offsets.now cell_vertices.now face_offsets.now faces.now)
         (record { r = r; omega = omega; a = record { x = ax; y = ay; result = az }; b = record { x = bx; y = by; result = bz } }) }
 {
     reading_of(
@@ -498,8 +498,8 @@ fn boltzmann_of(
     bz: f64,
     beta: f64,
 ) -> ValueAnswer
-    ensures { valueIn result ≡ readingBy file.now (tableFrom table) vertices.now
-        (locatorOf cell_offsets.now cell_vertices.now face_offsets.now faces.now)
+    ensures { value_in result ≡ reading_by file.now (table_from table) vertices.now
+        (locator_of cell_offsets.now cell_vertices.now face_offsets.now faces.now)
         (boltzmann beta) (record { r = r; omega = omega; a = record { x = ax; y = ay; result = az }; b = record { x = bx; y = by; result = bz } }) }
 {
     let t = table_from(table);
@@ -550,8 +550,8 @@ pub extern "C" fn icotable_boltzmann(
     bz: f64,
     beta: f64,
 ) -> ValueAnswer
-    ensures { valueIn result ≡ readingBy file.now (tableFrom table.now) vertices.now
-        (locatorOf cell_offsets.now cell_vertices.now face_offsets.now faces.now)
+    ensures { value_in result ≡ reading_by file.now (table_from table.now) vertices.now
+        (locator_of cell_offsets.now cell_vertices.now face_offsets.now faces.now)
         (boltzmann beta) (record { r = r; omega = omega; a = record { x = ax; y = ay; result = az }; b = record { x = bx; y = by; result = bz } }) }
 {
     boltzmann_of(
@@ -583,7 +583,7 @@ pub extern "C" fn icotable_sizing(
     neighbours: &[u16],
     terms: u64,
 ) -> Size
-    ensures { result ≡ sizingOut grid top neighbour_counts.now neighbours.now terms }
+    ensures { result ≡ sizing_out grid top neighbour_counts.now neighbours.now terms }
 {
     sizing::sizing(grid, top, neighbour_counts, neighbours, terms)
 }
@@ -591,7 +591,7 @@ pub extern "C" fn icotable_sizing(
 // The vertices of a level; 0 above level 15.
 #[unsafe(no_mangle)]
 pub extern "C" fn icotable_vertices(level: u64) -> u64
-    ensures { result ≡ heldVertices level }
+    ensures { result ≡ held_vertices level }
 {
     if level <= 15 {
         return mesh::vertex_count(level as u8);
@@ -602,7 +602,7 @@ pub extern "C" fn icotable_vertices(level: u64) -> u64
 // The cell offsets of a level; 0 above level 15.
 #[unsafe(no_mangle)]
 pub extern "C" fn icotable_cells(level: u64) -> u64
-    ensures { result ≡ heldCells level }
+    ensures { result ≡ held_cells level }
 {
     if level <= 15 {
         let m = level as u8;
@@ -655,7 +655,7 @@ pub extern "C" fn icotable_narrow(x: f64) -> f32
 
 #[unsafe(no_mangle)]
 pub extern "C" fn icotable_narrow_case(x: f64) -> u64
-    ensures { result ≡ narrowCase x }
+    ensures { result ≡ narrow_case x }
 {
     ieee::narrow_case(x)
 }

@@ -1,8 +1,8 @@
 // Many readings in one call.
 ghost use Rattle.std.specs.Prelude.{◌≡◌};
-ghost use Rattle.search.specs.Search.{locatorOf};
-ghost use Rattle.reading.specs.Poses.{wayBy, ReadingsOut, readingsOut};
-ghost use Rattle.icotable.specs.Answers.{tableFrom};
+ghost use Rattle.search.specs.Search.{locator_of};
+ghost use Rattle.reading.specs.Poses.{way_by, ReadingsOut, readings_out};
+ghost use Rattle.icotable.specs.Answers.{table_from};
 
 use crate::{TableAnswer, table_from};
 
@@ -21,9 +21,9 @@ fn readings_of(
 ) -> u64
     ensures { ◌≡◌ {A = ReadingsOut}
         (record { count = result; numbers = numbers.new; answers = answers.new })
-        (readingsOut file.now (tableFrom table) vertices.now
-        (locatorOf cell_offsets.now cell_vertices.now face_offsets.now faces.now)
-        (wayBy beta.now) poses.now numbers.old answers.old) }
+        (readings_out file.now (table_from table) vertices.now
+        (locator_of cell_offsets.now cell_vertices.now face_offsets.now faces.now)
+        (way_by beta.now) poses.now numbers.old answers.old) }
 {
     let t = table_from(table);
     reading::lookup_all(
@@ -58,9 +58,9 @@ pub extern "C" fn icotable_readings(
 ) -> u64
     ensures { ◌≡◌ {A = ReadingsOut}
         (record { count = result; numbers = numbers.new; answers = answers.new })
-        (readingsOut file.now (tableFrom table.now) vertices.now
-        (locatorOf cell_offsets.now cell_vertices.now face_offsets.now faces.now)
-        (wayBy beta.now) poses.now numbers.old answers.old) }
+        (readings_out file.now (table_from table.now) vertices.now
+        (locator_of cell_offsets.now cell_vertices.now face_offsets.now faces.now)
+        (way_by beta.now) poses.now numbers.old answers.old) }
 {
     readings_of(
         *table,

@@ -1,7 +1,7 @@
 // Rows moved between the three lists and words.
 ghost use Rattle.std.specs.Prelude.{◌≡◌};
 ghost use Rattle.rows.specs.Rows.{rows_of};
-ghost use Rattle.words.specs.Moves.{ToWords, rowsToWords, ToRows, wordsToRows};
+ghost use Rattle.words.specs.Moves.{ToWords, rows_to_words, ToRows, words_to_rows};
 
 #[unsafe(no_mangle)]
 pub extern "C" fn icotable_rows_to_words(
@@ -13,7 +13,7 @@ pub extern "C" fn icotable_rows_to_words(
 ) -> u64
     ensures { ◌≡◌ {A = ToWords}
         (record { number = result; words = words.new })
-        (rowsToWords rows (rows_of kinds.now levels.now values.now) words.old) }
+        (rows_to_words rows (rows_of kinds.now levels.now values.now) words.old) }
 {
     words::rows_to_words(rows, kinds, levels, values, words)
 }
@@ -28,7 +28,7 @@ pub extern "C" fn icotable_words_to_rows(
 ) -> u64
     ensures { ◌≡◌ {A = ToRows}
         (record { number = result; rows = rows_of kinds.new levels.new values.new })
-        (wordsToRows rows words.now (rows_of kinds.old levels.old values.old)) }
+        (words_to_rows rows words.now (rows_of kinds.old levels.old values.old)) }
 {
     words::words_to_rows(rows, words, kinds, levels, values)
 }

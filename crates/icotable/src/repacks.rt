@@ -1,7 +1,7 @@
 // The repacking of a loosely packed file.
 ghost use Rattle.std.specs.Prelude.{◌≡◌};
-ghost use Rattle.repack.specs.Repack.{RepackOut, repackedValues, repackOut};
-ghost use Rattle.icotable.specs.RepackAnswers.{repackedIn};
+ghost use Rattle.repack.specs.Repack.{RepackOut, repacked_values, repack_out};
+ghost use Rattle.icotable.specs.RepackAnswers.{repacked_in};
 
 use repack::Repacked;
 
@@ -15,7 +15,7 @@ pub struct RepackAnswer {
 }
 
 fn repack_answer(a: Repacked) -> RepackAnswer
-    ensures { repackedIn result ≡ repackedValues a }
+    ensures { repacked_in result ≡ repacked_values a }
 {
     match a {
         Repacked::Accepted(length, moved) => RepackAnswer {
@@ -33,7 +33,7 @@ fn repack_answer(a: Repacked) -> RepackAnswer
 
 #[unsafe(no_mangle)]
 pub extern "C" fn icotable_repack(file: &[u8], output: &mut [u8]) -> RepackAnswer
-    ensures { ◌≡◌ {A = RepackOut} (record { answer = repackedIn result; output = output.new }) (repackOut file.now output.old) }
+    ensures { ◌≡◌ {A = RepackOut} (record { answer = repacked_in result; output = output.new }) (repack_out file.now output.old) }
 {
     let a = repack::repack(file, output);
     repack_answer(a)

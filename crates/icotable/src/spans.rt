@@ -1,8 +1,8 @@
 // Distances known within a span.
 ghost use Rattle.std.specs.Prelude.{◌≡◌};
-ghost use Rattle.span.specs.Spans.{spanValues, spanOut};
-ghost use Rattle.icotable.specs.Answers.{tableFrom};
-ghost use Rattle.icotable.specs.SpanAnswers.{spannedIn};
+ghost use Rattle.span.specs.Spans.{span_values, span_out};
+ghost use Rattle.icotable.specs.Answers.{table_from};
+ghost use Rattle.icotable.specs.SpanAnswers.{spanned_in};
 
 use crate::{TableAnswer, table_from};
 use span::SpanAnswer;
@@ -21,7 +21,7 @@ pub struct SpannedAnswer {
 }
 
 fn spanned_answer(a: SpanAnswer) -> SpannedAnswer
-    ensures { spannedIn result ≡ spanValues a }
+    ensures { spanned_in result ≡ span_values a }
 {
     match a {
         SpanAnswer::Accepted(s) => SpannedAnswer {
@@ -44,7 +44,7 @@ fn spanned_answer(a: SpanAnswer) -> SpannedAnswer
 }
 
 fn span_of(table: TableAnswer, file: &[u8], low: f64, high: f64, omega: f64) -> SpannedAnswer
-    ensures { spannedIn result ≡ spanOut file.now (tableFrom table) low high omega }
+    ensures { spanned_in result ≡ span_out file.now (table_from table) low high omega }
 {
     let t = table_from(table);
     let a = span::span(t, file, low, high, omega);
@@ -60,7 +60,7 @@ pub extern "C" fn icotable_span(
     high: f64,
     omega: f64,
 ) -> SpannedAnswer
-    ensures { spannedIn result ≡ spanOut file.now (tableFrom table.now) low high omega }
+    ensures { spanned_in result ≡ span_out file.now (table_from table.now) low high omega }
 {
     span_of(*table, file, low, high, omega)
 }

@@ -1,11 +1,11 @@
 // The long-range tail of a table: its writing and its reading.
 ghost use Rattle.std.specs.Prelude.{◌≡◌};
-ghost use Rattle.mesh.specs.Mesh.{meshOf};
-ghost use Rattle.builder.specs.BuilderLists.{wordLists};
+ghost use Rattle.mesh.specs.Mesh.{mesh_of};
+ghost use Rattle.builder.specs.BuilderLists.{word_lists};
 ghost use Rattle.writer.specs.Write.{WriteOut};
-ghost use Rattle.writer.specs.Tailed.{tailLists, writeTailOut};
-ghost use Rattle.tail.specs.Reading.{tailValues, tailOut};
-ghost use Rattle.icotable.specs.Answers.{writtenIn, valueIn, tailShown, tableFrom};
+ghost use Rattle.writer.specs.Tailed.{tail_lists, write_tail_out};
+ghost use Rattle.tail.specs.Reading.{tail_values, tail_out};
+ghost use Rattle.icotable.specs.Answers.{written_in, value_in, tail_shown, table_from};
 
 use crate::{TableAnswer, ValueAnswer, WriteAnswer, table_from, write_answer};
 use builder::Builder;
@@ -27,10 +27,10 @@ pub extern "C" fn icotable_write_tail(
     output: &mut [u8],
 ) -> WriteAnswer
     ensures { ◌≡◌ {A = WriteOut}
-        (record { answer = writtenIn result; builder = builder; lists = wordLists store.now words.now; output = output.new })
-        (writeTailOut builder (meshOf vertices.now neighbour_counts.now neighbours.now angles.now)
-        (wordLists store.now words.now)
-        (tailLists coefficients.now kappas.now powers.now prefactor.now) output.old) }
+        (record { answer = written_in result; builder = builder; lists = word_lists store.now words.now; output = output.new })
+        (write_tail_out builder (mesh_of vertices.now neighbour_counts.now neighbours.now angles.now)
+        (word_lists store.now words.now)
+        (tail_lists coefficients.now kappas.now powers.now prefactor.now) output.old) }
 {
     let a = writer::write_tail(
         builder,
@@ -50,7 +50,7 @@ pub extern "C" fn icotable_write_tail(
 }
 
 fn tail_answer(a: TailAnswer) -> ValueAnswer
-    ensures { valueIn result ≡ tailShown (tailValues a) }
+    ensures { value_in result ≡ tail_shown (tail_values a) }
 {
     match a {
         TailAnswer::Energy(energy) => ValueAnswer {
@@ -69,7 +69,7 @@ fn tail_answer(a: TailAnswer) -> ValueAnswer
 }
 
 fn tail_of(table: TableAnswer, file: &[u8], r: f64) -> ValueAnswer
-    ensures { valueIn result ≡ tailShown (tailOut file.now (tableFrom table) r) }
+    ensures { value_in result ≡ tail_shown (tail_out file.now (table_from table) r) }
 {
     let t = table_from(table);
     let a = tail::tail_energy(t, file, r);
@@ -79,7 +79,7 @@ fn tail_of(table: TableAnswer, file: &[u8], r: f64) -> ValueAnswer
 // The tail's energy at a distance; the table is lent, as to a reading.
 #[unsafe(no_mangle)]
 pub extern "C" fn icotable_tail(table: &TableAnswer, file: &[u8], r: f64) -> ValueAnswer
-    ensures { valueIn result ≡ tailShown (tailOut file.now (tableFrom table.now) r) }
+    ensures { value_in result ≡ tail_shown (tail_out file.now (table_from table.now) r) }
 {
     tail_of(*table, file, r)
 }

@@ -11,75 +11,75 @@ use Rattle.lists.proofs.Counting.{chosen}
 use Rattle.ieee.specs.Narrow.{narrowed}
 
 -- ---- the test for a NaN
-pub no-nan-of-same : (x : Float) → ne x x ≡ false → T (not (is_nan x))
+pub no_nan_of_same : (x : Float) → ne x x ≡ false → T (not (is_nan x))
 unfolding is_nan
-no-nan-of-same nan h = absurd (true≢false (sym nan_differs ∙ h))
-no-nan-of-same (inf s) h = tt
-no-nan-of-same (fin s m e) h = tt
+no_nan_of_same nan h = absurd (true≢false (sym nan_differs ∙ h))
+no_nan_of_same (inf s) h = tt
+no_nan_of_same (fin s m e) h = tt
 
-pub less-no-nan : (x y : Float) → lt x y ≡ true → T (not (is_nan x))
+pub less_no_nan : (x y : Float) → lt x y ≡ true → T (not (is_nan x))
 unfolding lt is_nan
-less-no-nan nan y h = absurd (false≢true h)
-less-no-nan (inf s) y h = tt
-less-no-nan (fin s m e) y h = tt
+less_no_nan nan y h = absurd (false≢true h)
+less_no_nan (inf s) y h = tt
+less_no_nan (fin s m e) y h = tt
 
 -- a pattern that stands for a value that is no NaN is no NaN's
-pub no-nan-bits : (f : Format) (n : ℕ) (x : Float) → of_bits f n ≡ x → T (not (is_nan x)) → T (not (nan_bits f n))
-no-nan-bits f n x e h = subst (λ (t : Bool). T (not t)) (sym (nan_bits_is f n ∙ ap is_nan e)) h
+pub no_nan_bits : (f : Format) (n : ℕ) (x : Float) → of_bits f n ≡ x → T (not (is_nan x)) → T (not (nan_bits f n))
+no_nan_bits f n x e h = subst (λ (t : Bool). T (not t)) (sym (nan_bits_is f n ∙ ap is_nan e)) h
 
-pub more-no-nan : (x y : Float) → lt x y ≡ true → T (not (is_nan y))
+pub more_no_nan : (x y : Float) → lt x y ≡ true → T (not (is_nan y))
 unfolding lt is_nan
-more-no-nan nan y h = absurd (false≢true h)
-more-no-nan (inf s) nan h = absurd (false≢true h)
-more-no-nan (inf s) (inf t) h = tt
-more-no-nan (inf s) (fin t n d) h = tt
-more-no-nan (fin s m e) nan h = absurd (false≢true h)
-more-no-nan (fin s m e) (inf t) h = tt
-more-no-nan (fin s m e) (fin t n d) h = tt
+more_no_nan nan y h = absurd (false≢true h)
+more_no_nan (inf s) nan h = absurd (false≢true h)
+more_no_nan (inf s) (inf t) h = tt
+more_no_nan (inf s) (fin t n d) h = tt
+more_no_nan (fin s m e) nan h = absurd (false≢true h)
+more_no_nan (fin s m e) (inf t) h = tt
+more_no_nan (fin s m e) (fin t n d) h = tt
 
 -- ---- finite numbers
-pub finite-test : (x : Float) → (lt x (inf false) && lt (inf true) x) ≡ finite x
+pub finite_test : (x : Float) → (lt x (inf false) && lt (inf true) x) ≡ finite x
 unfolding lt
-finite-test nan = refl
-finite-test (inf true) = refl
-finite-test (inf false) = refl
-finite-test (fin s m e) = refl
+finite_test nan = refl
+finite_test (inf true) = refl
+finite_test (inf false) = refl
+finite_test (fin s m e) = refl
 
-pub finite-no-nan : (x : Float) → finite x ≡ true → T (not (is_nan x))
+pub finite_no_nan : (x : Float) → finite x ≡ true → T (not (is_nan x))
 unfolding is_nan
-finite-no-nan nan h = absurd (false≢true h)
-finite-no-nan (inf s) h = tt
-finite-no-nan (fin s m e) h = tt
+finite_no_nan nan h = absurd (false≢true h)
+finite_no_nan (inf s) h = tt
+finite_no_nan (fin s m e) h = tt
 
 -- a NaN or an infinity among three numbers leaves no finite x * y + z
 either_way : (b s : Bool) → (finite (cond b nan (inf s)) ≡ true → ⊥) × (finite (cond b (inf s) nan) ≡ true → ⊥)
 either_way true s = (λ e. false≢true e, λ e. false≢true e)
 either_way false s = (λ e. false≢true e, λ e. false≢true e)
 
-pub product-finite : (x y : Float) → finite (mul binary64 x y) ≡ true → (finite x ≡ true) × (finite y ≡ true)
+pub product_finite : (x y : Float) → finite (mul binary64 x y) ≡ true → (finite x ≡ true) × (finite y ≡ true)
 unfolding mul
-product-finite nan y h = absurd (false≢true h)
-product-finite (inf s) nan h = absurd (false≢true h)
-product-finite (inf s) (inf t) h = absurd (false≢true h)
-product-finite (inf s) (fin t n d) h = absurd ((either_way (eqb n 0) (unlike s t)).0 h)
-product-finite (fin s m e) nan h = absurd (false≢true h)
-product-finite (fin s m e) (inf t) h = absurd ((either_way (eqb m 0) (unlike s t)).0 h)
-product-finite (fin s m e) (fin t n d) h = (refl, refl)
+product_finite nan y h = absurd (false≢true h)
+product_finite (inf s) nan h = absurd (false≢true h)
+product_finite (inf s) (inf t) h = absurd (false≢true h)
+product_finite (inf s) (fin t n d) h = absurd ((either_way (eqb n 0) (unlike s t)).0 h)
+product_finite (fin s m e) nan h = absurd (false≢true h)
+product_finite (fin s m e) (inf t) h = absurd ((either_way (eqb m 0) (unlike s t)).0 h)
+product_finite (fin s m e) (fin t n d) h = (refl, refl)
 
-pub sum-finite : (x y : Float) → finite (add binary64 x y) ≡ true → (finite x ≡ true) × (finite y ≡ true)
+pub sum_finite : (x y : Float) → finite (add binary64 x y) ≡ true → (finite x ≡ true) × (finite y ≡ true)
 unfolding add
-sum-finite nan y h = absurd (false≢true h)
-sum-finite (inf s) nan h = absurd (false≢true h)
-sum-finite (inf s) (inf t) h = absurd ((either_way (beq s t) s).1 h)
-sum-finite (inf s) (fin t n d) h = absurd (false≢true h)
-sum-finite (fin s m e) nan h = absurd (false≢true h)
-sum-finite (fin s m e) (inf t) h = absurd (false≢true h)
-sum-finite (fin s m e) (fin t n d) h = (refl, refl)
+sum_finite nan y h = absurd (false≢true h)
+sum_finite (inf s) nan h = absurd (false≢true h)
+sum_finite (inf s) (inf t) h = absurd ((either_way (beq s t) s).1 h)
+sum_finite (inf s) (fin t n d) h = absurd (false≢true h)
+sum_finite (fin s m e) nan h = absurd (false≢true h)
+sum_finite (fin s m e) (inf t) h = absurd (false≢true h)
+sum_finite (fin s m e) (fin t n d) h = (refl, refl)
 
-pub finite-sum : (x y z : Float) → finite (add binary64 (mul binary64 x y) z) ≡ true → (finite x && (finite y && finite z)) ≡ true
-finite-sum x y z h =
-    let a = sum-finite (mul binary64 x y) z h in
-    let b = product-finite x y a.0 in
+pub finite_sum : (x y z : Float) → finite (add binary64 (mul binary64 x y) z) ≡ true → (finite x && (finite y && finite z)) ≡ true
+finite_sum x y z h =
+    let a = sum_finite (mul binary64 x y) z h in
+    let b = product_finite x y a.0 in
     ap (λ (t : Bool). t && (finite y && finite z)) b.0 ∙ ap (λ (t : Bool). t && finite z) b.1 ∙ a.1
 
 -- ---- the fields
@@ -103,10 +103,10 @@ at_ones f s zero t e n = absurd (ones_pos (emax f) e)
 at_ones f s (suc x) t e n = pick (eqb (suc x) (ones f)) (eqb t 0) s (odd (prec f) s (hid f + t) x (low f)) (eq→eqb e) n
 
 -- it is no finite number's
-pub finite-field : (f : Format) (x : Float) → T (fits f x) → finite x ≡ true → to_bits f x % top f / hid f ≡ ones f → ⊥
-finite-field f x h t e =
+pub finite_field : (f : Format) (x : Float) → T (fits f x) → finite x ≡ true → to_bits f x % top f / hid f ≡ ones f → ⊥
+finite_field f x h t e =
     let v = as_fields f x h in
-    false≢true (sym (ap finite (v ∙ at_ones f (leb (top f) (to_bits f x)) (to_bits f x % top f / hid f) (to_bits f x % hid f) e (subst (λ (y : Float). T (not (is_nan y))) v (finite-no-nan x t)))) ∙ t)
+    false≢true (sym (ap finite (v ∙ at_ones f (leb (top f) (to_bits f x)) (to_bits f x % top f / hid f) (to_bits f x % hid f) e (subst (λ (y : Float). T (not (is_nan y))) v (finite_no_nan x t)))) ∙ t)
 
 -- the lowest field: no leading digit
 pub at_low : (f : Format) (s : Bool) (x t : ℕ) → x ≡ 0 → HasValue (of_fields f s x t) s (t * 2 ^ 0) (2 ^ low f)
@@ -142,11 +142,11 @@ unfolding round
 round_number f s n d = units_number f s _ _
 
 -- ---- `narrowed` is a value of the format, and a NaN only at one
-pub narrowed-fits : (x : Float) → T (fits binary32 (narrowed x))
+pub narrowed_fits : (x : Float) → T (fits binary32 (narrowed x))
 unfolding narrowed
-narrowed-fits nan = nan-fits binary32
-narrowed-fits (inf s) = inf-fits binary32 s
-narrowed-fits (fin s m e) = round-fits binary32 s (m * up e) (down e)
+narrowed_fits nan = nan-fits binary32
+narrowed_fits (inf s) = inf-fits binary32 s
+narrowed_fits (fin s m e) = round-fits binary32 s (m * up e) (down e)
 
 pub narrowed-number : (x : Float) → is_nan (narrowed x) ≡ is_nan x
 unfolding narrowed is_nan
@@ -155,12 +155,12 @@ narrowed-number (inf s) = refl
 narrowed-number (fin s m e) = round_number binary32 s (m * up e) (down e)
 
 -- ---- `narrowed`, at any fraction that the value equals
-pub narrowed-value : (x : Float) (s : Bool) (a c : ℕ) → 0 < c → HasValue x s a c → narrowed x ≡ round binary32 s a c
+pub narrowed_value : (x : Float) (s : Bool) (a c : ℕ) → 0 < c → HasValue x s a c → narrowed x ≡ round binary32 s a c
 unfolding narrowed
-narrowed-value nan s a c C h = absurd h
-narrowed-value (inf t) s a c C h = absurd h
-narrowed-value (fin t m e) s a c C h = ap (λ (b : Bool). round binary32 b (m * up e) (down e)) h.0 ∙ round_same binary32 s (m * up e) (down e) a c (down_pos e) C h.1
+narrowed_value nan s a c C h = absurd h
+narrowed_value (inf t) s a c C h = absurd h
+narrowed_value (fin t m e) s a c C h = ap (λ (b : Bool). round binary32 b (m * up e) (down e)) h.0 ∙ round_same binary32 s (m * up e) (down e) a c (down_pos e) C h.1
 
-pub narrowed-nan : narrowed nan ≡ nan
+pub narrowed_nan : narrowed nan ≡ nan
 unfolding narrowed
-narrowed-nan = refl
+narrowed_nan = refl

@@ -3,12 +3,12 @@ use Rattle.std.proofs.Common.{◌≡◌, ℕ, ◌+◌, ◌-◌, ◌*◌, ◌/◌
 use lib.Ieee.{Float, binary64, fits, to_bits, of_bits, of_fields}
 use lib.Ieee.Exact.{HasValue}
 use borrow.Author.Tests.{lt-leb}
-use Rattle.ieee.specs.Root.{root, rootOf}
+use Rattle.ieee.specs.Root.{root, root_of}
 use Rattle.ieee.specs.Internal.{NearestRoot}
-use Rattle.ieee.proofs.Pack.{le-or-lt}
+use Rattle.ieee.proofs.Pack.{le_or_lt}
 use Rattle.ieee.proofs.Fields.{as_fields, at_mid}
 use Rattle.ieee.proofs.Squares.{four}
-use Rattle.ieee.proofs.RootSteps.{finished, root-positive}
+use Rattle.ieee.proofs.RootSteps.{finished, root_positive}
 
 -- ---- the whole number nearest to a root, for h = 2 ^ 52
 
@@ -54,11 +54,11 @@ below h j k m r J e f a b s =
     record { one = omega arith; below = omega arith; above = omega arith }
 
 -- ---- a number by its exponent's field and its digits
-by-fields : (x : Float) (i t : ℕ) → T (fits binary64 x) → to_bits binary64 x ≡ (i + 1) * 2 ^ 52 + t → t < 2 ^ 52 → i < 2046 → root x ≡ rootOf ((2 ^ 52 + t) * 2 ^ (i + 1022 + 54))
-by-fields x i t f e small far =
+by_fields : (x : Float) (i t : ℕ) → T (fits binary64 x) → to_bits binary64 x ≡ (i + 1) * 2 ^ 52 + t → t < 2 ^ 52 → i < 2046 → root x ≡ root_of ((2 ^ 52 + t) * 2 ^ (i + 1022 + 54))
+by_fields x i t f e small far =
     let m = 2 ^ 52 + t in
-    sym (root-positive x (m * 2 ^ i) (subst (λ (y : Float). HasValue y false (m * 2 ^ i) (2 ^ 1074)) (sym shown) value) (mul-pos (omega arith) (pow_pos i)))
-    ∙ ap rootOf (mul_assoc m (2 ^ i) (2 ^ 1076) ∙ ap (λ (z : ℕ). m * z) (sym (pow-add 2 i 1076) ∙ ap (λ (z : ℕ). 2 ^ z) (whole i)))
+    sym (root_positive x (m * 2 ^ i) (subst (λ (y : Float). HasValue y false (m * 2 ^ i) (2 ^ 1074)) (sym shown) value) (mul-pos (omega arith) (pow_pos i)))
+    ∙ ap root_of (mul_assoc m (2 ^ i) (2 ^ 1076) ∙ ap (λ (z : ℕ). m * z) (sym (pow-add 2 i 1076) ∙ ap (λ (z : ℕ). 2 ^ z) (whole i)))
   where
     whole : (i : ℕ) → i + 1076 ≡ i + 1022 + 54
     whole i = omega arith
@@ -88,45 +88,45 @@ by-fields x i t f e small far =
         last i h z = omega arith
 
 -- j * j for a small j
-small-square : (j : ℕ) → j ≤ 2 ^ 25 → j * j ≤ 2 ^ 50
-small-square j h = mul-le-mul h h
+small_square : (j : ℕ) → j ≤ 2 ^ 25 → j * j ≤ 2 ^ 50
+small_square j h = mul-le-mul h h
 
 -- k last places of 1 above it
-from-above : (x : Float) (k : ℕ) → T (fits binary64 x) → to_bits binary64 x ≡ 1023 * 2 ^ 52 + k → k < 2 ^ 26 → of_bits binary64 (1023 * 2 ^ 52 + k / 2) ≡ root x
-from-above x k f e h =
+from_above : (x : Float) (k : ℕ) → T (fits binary64 x) → to_bits binary64 x ≡ 1023 * 2 ^ 52 + k → k < 2 ^ 26 → of_bits binary64 (1023 * 2 ^ 52 + k / 2) ≡ root x
+from_above x k f e h =
     let q = 2 ^ 52 + k / 2 in
-    let n = above (2 ^ 52) (k / 2) k (lit≤ tt) (omega arith) (omega arith) (lt_of_le_of_lt (small-square (k / 2) (omega arith)) (lit< tt)) in
+    let n = above (2 ^ 52) (k / 2) k (lit≤ tt) (omega arith) (omega arith) (lt_of_le_of_lt (small_square (k / 2) (omega arith)) (lit< tt)) in
     ap (of_bits binary64) (whole k)
     ∙ (finished (2 ^ 52 + k) 2044 q (omega arith) (omega arith) (subst (λ (z : ℕ). NearestRoot (z * 2 ^ 52) q) (sym (mul-one (2 ^ 52 + k))) n)).1 (omega arith)
-    ∙ sym (by-fields x 1022 k f e (omega arith) (lit< tt))
+    ∙ sym (by_fields x 1022 k f e (omega arith) (lit< tt))
   where
     whole : (k : ℕ) → 1023 * 2 ^ 52 + k / 2 ≡ 2044 / 2 * 2 ^ 52 + (2 ^ 52 + k / 2)
     whole k = omega arith
 
 -- k last places of what is just below 1
-from-below : (x : Float) (k : ℕ) → T (fits binary64 x) → to_bits binary64 x + k ≡ 1023 * 2 ^ 52 → 1 ≤ k → k ≤ 2 ^ 26 → of_bits binary64 (1023 * 2 ^ 52 - (k + 1) / 2) ≡ root x
-from-below x k f e o h =
+from_below : (x : Float) (k : ℕ) → T (fits binary64 x) → to_bits binary64 x + k ≡ 1023 * 2 ^ 52 → 1 ≤ k → k ≤ 2 ^ 26 → of_bits binary64 (1023 * 2 ^ 52 - (k + 1) / 2) ≡ root x
+from_below x k f e o h =
     let j = (k + 1) / 2 in
     let q = 2 ^ 53 - j in
     let m = 2 ^ 52 + (2 ^ 52 - k) in
-    let n = below (2 ^ 52) j k m q (omega arith) (omega arith) (omega arith) (omega arith) (omega arith) (omega (arith, small-square j (omega arith))) in
+    let n = below (2 ^ 52) j k m q (omega arith) (omega arith) (omega arith) (omega arith) (omega arith) (omega (arith, small_square j (omega arith))) in
     ap (of_bits binary64) (whole k h)
     ∙ (finished m 2043 q (omega arith) (omega arith) n).1 (omega arith)
-    ∙ sym (by-fields x 1021 (2 ^ 52 - k) f (omega arith) (omega arith) (lit< tt))
+    ∙ sym (by_fields x 1021 (2 ^ 52 - k) f (omega arith) (omega arith) (lit< tt))
   where
     whole : (k : ℕ) → k ≤ 2 ^ 26 → 1023 * 2 ^ 52 - (k + 1) / 2 ≡ 2043 / 2 * 2 ^ 52 + (2 ^ 53 - (k + 1) / 2)
     whole k h = omega arith
 
 -- ---- the law
-pub root-next : (x : Float) → T (fits binary64 x) → 1023 * 2 ^ 52 ≤ to_bits binary64 x + 2 ^ 26 → to_bits binary64 x < 1023 * 2 ^ 52 + 2 ^ 26 → of_bits binary64 ((1023 * 2 ^ 52 + to_bits binary64 x) / 2) ≡ root x
-root-next x f a b = by (le-or-lt (1023 * 2 ^ 52) (to_bits binary64 x))
+pub root_next : (x : Float) → T (fits binary64 x) → 1023 * 2 ^ 52 ≤ to_bits binary64 x + 2 ^ 26 → to_bits binary64 x < 1023 * 2 ^ 52 + 2 ^ 26 → of_bits binary64 ((1023 * 2 ^ 52 + to_bits binary64 x) / 2) ≡ root x
+root_next x f a b = by (le_or_lt (1023 * 2 ^ 52) (to_bits binary64 x))
   where
     by : (1023 * 2 ^ 52 ≤ to_bits binary64 x) ⊎ (to_bits binary64 x < 1023 * 2 ^ 52) → of_bits binary64 ((1023 * 2 ^ 52 + to_bits binary64 x) / 2) ≡ root x
-    by (inl h) = ap (of_bits binary64) (half (to_bits binary64 x) h) ∙ from-above x (to_bits binary64 x - 1023 * 2 ^ 52) f (omega arith) (omega arith)
+    by (inl h) = ap (of_bits binary64) (half (to_bits binary64 x) h) ∙ from_above x (to_bits binary64 x - 1023 * 2 ^ 52) f (omega arith) (omega arith)
       where
         half : (b : ℕ) → 1023 * 2 ^ 52 ≤ b → (1023 * 2 ^ 52 + b) / 2 ≡ 1023 * 2 ^ 52 + (b - 1023 * 2 ^ 52) / 2
         half b h = omega arith
-    by (inr h) = ap (of_bits binary64) (half (to_bits binary64 x) h) ∙ from-below x (1023 * 2 ^ 52 - to_bits binary64 x) f (omega arith) (omega arith) (omega arith)
+    by (inr h) = ap (of_bits binary64) (half (to_bits binary64 x) h) ∙ from_below x (1023 * 2 ^ 52 - to_bits binary64 x) f (omega arith) (omega arith) (omega arith)
       where
         half : (b : ℕ) → b < 1023 * 2 ^ 52 → (1023 * 2 ^ 52 + b) / 2 ≡ 1023 * 2 ^ 52 - (1023 * 2 ^ 52 - b + 1) / 2
         half b h = omega arith

@@ -13,15 +13,15 @@ use lib.Ieee.Order.{kept}
 use lib.Ieee.Scale.{finite}
 use Rattle.ieee.specs.Narrow.{narrowed}
 use Rattle.ieee.specs.Internal.{plain}
-use Rattle.ieee.proofs.Pack.{le-or-lt, pow_lt_back, value-bits, other-scale}
-use Rattle.ieee.proofs.Sticky.{closest-lt, closest-eq, closest-gt, cut-law}
-use Rattle.ieee.proofs.Fields.{as_fields, at_low, at_mid, finite-field, finite-no-nan, narrowed-value, narrowed-fits, narrowed-number}
+use Rattle.ieee.proofs.Pack.{le_or_lt, pow_lt_back, value_bits, other_scale}
+use Rattle.ieee.proofs.Sticky.{closest_lt, closest_eq, closest_gt, cut_law}
+use Rattle.ieee.proofs.Fields.{as_fields, at_low, at_mid, finite_field, finite_no_nan, narrowed_value, narrowed_fits, narrowed-number}
 
 -- ---- half a unit less one, and one more where the quotient is odd, carry into the quotient just where it is rounded up
 half-even : (v : ℕ) → (v + 0xfff_ffff + v / 2 ^ 29 % 2) / 2 ^ 29 ≡ closest v (2 ^ 29)
-half-even v = elim (le-or-lt (v % 2 ^ 29 * 2) (2 ^ 29)) [
-  | inr g ↦ up_one v g ∙ sym (closest-gt v (2 ^ 29) g)
-  | inl g ↦ elim (eq-or-lt_of_le g) [ inl t ↦ tie v t ∙ sym (closest-eq v (2 ^ 29) t) | inr t ↦ stays v t ∙ sym (closest-lt v (2 ^ 29) t) ]
+half-even v = elim (le_or_lt (v % 2 ^ 29 * 2) (2 ^ 29)) [
+  | inr g ↦ up_one v g ∙ sym (closest_gt v (2 ^ 29) g)
+  | inl g ↦ elim (eq-or-lt_of_le g) [ inl t ↦ tie v t ∙ sym (closest_eq v (2 ^ 29) t) | inr t ↦ stays v t ∙ sym (closest_lt v (2 ^ 29) t) ]
 ]
   where
     up_one : (v : ℕ) → 2 ^ 29 < v % 2 ^ 29 * 2 → (v + 0xfff_ffff + v / 2 ^ 29 % 2) / 2 ^ 29 ≡ suc (v / 2 ^ 29)
@@ -37,8 +37,8 @@ abbrev pub rounded : ℕ → ℕ
 rounded b = (b + 0xfff_ffff + b / 2 ^ 29 % 2) / 2 ^ 29 * 2 ^ 29
 
 -- sign and exponent stand above the digits, and are even
-above-digits : (c v : ℕ) → rounded (c * 2 ^ 30 + v) ≡ c * 2 ^ 30 + closest v (2 ^ 29) * 2 ^ 29
-above-digits c v =
+above_digits : (c v : ℕ) → rounded (c * 2 ^ 30 + v) ≡ c * 2 ^ 30 + closest v (2 ^ 29) * 2 ^ 29
+above_digits c v =
     ap (λ (o : ℕ). (c * 2 ^ 30 + v + 0xfff_ffff + o) / 2 ^ 29 * 2 ^ 29) (parity c v)
     ∙ ap (λ (q : ℕ). q * 2 ^ 29) (over c v (v / 2 ^ 29 % 2) ∙ ap (λ (q : ℕ). c * 2 + q) (half-even v))
     ∙ joined c (closest v (2 ^ 29))
@@ -54,17 +54,17 @@ above-digits c v =
 
 -- ---- x is m * 2 ^ (i + 896) / 2 ^ 1074, with an m of 53 digits, or fewer where i is 0
 module _ (x : Float) (s : Bool) (m i : ℕ) (h : HasValue x s (m * 2 ^ (i + 896)) (2 ^ 1074)) (small : m < 2 ^ 53) (lead : 0 < i → 2 ^ 52 ≤ m) (far : i < 253) where
-  cut-le : closest m (2 ^ 29) ≤ 2 ^ 24
-  cut-le = le_trans (nearest-le (m / 2 ^ 29) (compare (m % 2 ^ 29 * 2) (2 ^ 29))) (omega arith)
+  cut_le : closest m (2 ^ 29) ≤ 2 ^ 24
+  cut_le = le_trans (nearest-le (m / 2 ^ 29) (compare (m % 2 ^ 29 * 2) (2 ^ 29))) (omega arith)
 
-  cut-ge : 2 ^ 52 ≤ m → 2 ^ 23 ≤ closest m (2 ^ 29)
-  cut-ge l = le_trans (omega arith) (nearest-ge (m / 2 ^ 29) (compare (m % 2 ^ 29 * 2) (2 ^ 29)))
+  cut_ge : 2 ^ 52 ≤ m → 2 ^ 23 ≤ closest m (2 ^ 29)
+  cut_ge l = le_trans (omega arith) (nearest-ge (m / 2 ^ 29) (compare (m % 2 ^ 29 * 2) (2 ^ 29)))
 
-  narrowed-units : narrowed x ≡ units binary32 s (closest m (2 ^ 29)) i
-  narrowed-units =
+  narrowed_units : narrowed x ≡ units binary32 s (closest m (2 ^ 29)) i
+  narrowed_units =
       let n = m * 2 ^ (i + 896) * 2 ^ 149 in
-      let r = cut-law 24 n (2 ^ 1074) m 29 i (lit< tt) (pow_pos 1074) (lit≤ tt) (inl (spread m i 896 149 29)) small lead in
-      narrowed-value x s (m * 2 ^ (i + 896)) (2 ^ 1074) (pow_pos 1074) h
+      let r = cut_law 24 n (2 ^ 1074) m 29 i (lit< tt) (pow_pos 1074) (lit≤ tt) (inl (spread m i 896 149 29)) small lead in
+      narrowed_value x s (m * 2 ^ (i + 896)) (2 ^ 1074) (pow_pos 1074) h
       ∙ round_is binary32 s (m * 2 ^ (i + 896)) (2 ^ 1074)
       ∙ ap (λ (k : ℕ). units binary32 s (kept 24 n (2 ^ 1074)) k) r.0
       ∙ ap (λ (q : ℕ). units binary32 s q i) r.1
@@ -76,9 +76,9 @@ module _ (x : Float) (s : Bool) (m i : ℕ) (h : HasValue x s (m * 2 ^ (i + 896)
   narrowed-has =
       let q = closest m (2 ^ 29) in
       let room : 24 + i < 277 = omega arith in
-      let under : q * 2 ^ i < 2 ^ 277 = lt_of_le_of_lt (le_trans (mul-le-mul_right (2 ^ i) cut-le) (le_of_eq (sym (pow-add 2 24 i)))) (pow-lt room) in
-      other-scale (narrowed x) s (q * 2 ^ i) (2 ^ 149) (q * 2 ^ 29 * 2 ^ (i + 896)) (2 ^ 1074) (pow_pos 149) (spread q i 29 896 149)
-      (subst (λ (y : Float). HasValue y s (q * 2 ^ i) (2 ^ 149)) (sym narrowed-units) (units_val binary32 s q i under))
+      let under : q * 2 ^ i < 2 ^ 277 = lt_of_le_of_lt (le_trans (mul-le-mul_right (2 ^ i) cut_le) (le_of_eq (sym (pow-add 2 24 i)))) (pow-lt room) in
+      other_scale (narrowed x) s (q * 2 ^ i) (2 ^ 149) (q * 2 ^ 29 * 2 ^ (i + 896)) (2 ^ 1074) (pow_pos 149) (spread q i 29 896 149)
+      (subst (λ (y : Float). HasValue y s (q * 2 ^ i) (2 ^ 149)) (sym narrowed_units) (units_val binary32 s q i under))
     where
       spread : (q i a b c : ℕ) → q * 2 ^ i * 2 ^ (a + b + c) ≡ q * 2 ^ a * 2 ^ (i + b) * 2 ^ c
       spread q i a b c = simp (pow-add, mul_assoc, mul_left_comm)
@@ -87,9 +87,9 @@ module _ (x : Float) (s : Bool) (m i : ℕ) (h : HasValue x s (m * 2 ^ (i + 896)
   narrowed-bits : 2 ^ 52 ≤ m → rounded (to_bits binary64 x) ≡ to_bits binary64 (narrowed x)
   narrowed-bits l =
       let q = closest m (2 ^ 29) in
-      ap rounded (value-bits binary64 x s m (i + 896) h (omega arith) (λ _. l) ∙ high s (i + 896) m)
-      ∙ above-digits (cond s (2 ^ 33) 0 + (i + 896) * 2 ^ 22) m
-      ∙ sym (value-bits binary64 (narrowed x) s (q * 2 ^ 29) (i + 896) narrowed-has (omega (arith, cut-le)) (λ _. omega (arith, cut-ge l)) ∙ high s (i + 896) (q * 2 ^ 29))
+      ap rounded (value_bits binary64 x s m (i + 896) h (omega arith) (λ _. l) ∙ high s (i + 896) m)
+      ∙ above_digits (cond s (2 ^ 33) 0 + (i + 896) * 2 ^ 22) m
+      ∙ sym (value_bits binary64 (narrowed x) s (q * 2 ^ 29) (i + 896) narrowed-has (omega (arith, cut_le)) (λ _. omega (arith, cut_ge l)) ∙ high s (i + 896) (q * 2 ^ 29))
     where
       high : (s : Bool) (k m : ℕ) → cond s (2 ^ 63) 0 + (k * 2 ^ 52 + m) ≡ (cond s (2 ^ 33) 0 + k * 2 ^ 22) * 2 ^ 30 + m
       high true k m = omega arith
@@ -99,9 +99,9 @@ module _ (x : Float) (s : Bool) (m i : ℕ) (h : HasValue x s (m * 2 ^ (i + 896)
 zero_bits : (x : Float) (s : Bool) (a : ℕ) → HasValue x s a (2 ^ 1074) → a ≡ 0 → rounded (to_bits binary64 x) ≡ to_bits binary64 (narrowed x)
 zero_bits x s a h z =
     let v = narrowed-has x s 0 0 (subst (λ (y : ℕ). HasValue x s y (2 ^ 1074)) (z ∙ sym (zero-mul (2 ^ 896))) h) (lit< tt) (λ l. absurd (lt_irrefl 0 l)) (lit< tt) in
-    ap rounded (value-bits binary64 x s 0 0 (subst (λ (y : ℕ). HasValue x s y (2 ^ 1074)) z h) (lit≤ tt) (λ l. absurd (lt_irrefl 0 l)))
+    ap rounded (value_bits binary64 x s 0 0 (subst (λ (y : ℕ). HasValue x s y (2 ^ 1074)) z h) (lit≤ tt) (λ l. absurd (lt_irrefl 0 l)))
     ∙ none s
-    ∙ sym (value-bits binary64 (narrowed x) s 0 0 (subst (λ (y : ℕ). HasValue (narrowed x) s y (2 ^ 1074)) (ap (λ (q : ℕ). q * 2 ^ 29 * 2 ^ 896) (closest-lt 0 (2 ^ 29) (lit< tt)) ∙ zero-mul (2 ^ 896)) v) (lit≤ tt) (λ l. absurd (lt_irrefl 0 l)))
+    ∙ sym (value_bits binary64 (narrowed x) s 0 0 (subst (λ (y : ℕ). HasValue (narrowed x) s y (2 ^ 1074)) (ap (λ (q : ℕ). q * 2 ^ 29 * 2 ^ 896) (closest_lt 0 (2 ^ 29) (lit< tt)) ∙ zero-mul (2 ^ 896)) v) (lit≤ tt) (λ l. absurd (lt_irrefl 0 l)))
   where
     none : (s : Bool) → rounded (cond s (2 ^ 63) 0 + (0 * 2 ^ 52 + 0)) ≡ cond s (2 ^ 63) 0 + (0 * 2 ^ 52 + 0)
     none true = refl
@@ -116,8 +116,8 @@ within (inf false) p q = absurd (false≢true p)
 within (fin s m e) p q = refl
 
 -- u / d is a / k
-less-size : (u d a n k : ℕ) → 0 < d → 0 < k → u * k ≡ a * d → u * 1 < 1 * n * d → a < n * k
-less-size u d a n k D K e l =
+less_size : (u d a n k : ℕ) → 0 < d → 0 < k → u * k ≡ a * d → u * 1 < 1 * n * d → a < n * k
+less_size u d a n k D K e l =
     let lt' : u < n * d = subst (λ (y : ℕ). y < n * d) (mul-one u) (subst (λ (y : ℕ). u * 1 < y * d) (one-mul n) l) in
     lt_of_mul-lt-mul_right d (lt_of_le_of_lt (le_of_eq (sym e)) (lt_of_lt_of_le (mul-lt-mul_of_pos_right lt' K) (le_of_eq (mul_right_comm n d k))))
 
@@ -126,32 +126,32 @@ more-size u d a n k D e l =
     le_of_mul-le-mul_right
     (le_trans (le_of_eq (mul_comm n d)) (le_trans (mul-le-mul_right n (le_trans (le_of_eq (sym (one-mul d))) l)) (le_of_eq (mul_assoc u k n ∙ ap (λ (y : ℕ). u * y) (mul_comm k n) ∙ e)))) D
 
-under-most : (x : Float) (s : Bool) (a : ℕ) → HasValue x s a (2 ^ 1074) → lt x (of_bits binary64 0x47E0_0000_0000_0000) ≡ true → lt (neg (of_bits binary64 0x47E0_0000_0000_0000)) x ≡ true → a < 2 ^ 127 * 2 ^ 1074
+under_most : (x : Float) (s : Bool) (a : ℕ) → HasValue x s a (2 ^ 1074) → lt x (of_bits binary64 0x47E0_0000_0000_0000) ≡ true → lt (neg (of_bits binary64 0x47E0_0000_0000_0000)) x ≡ true → a < 2 ^ 127 * 2 ^ 1074
 unfolding lt neg of_bits
-under-most nan s a h p q = absurd h
-under-most (inf t) s a h p q = absurd h
-under-most (fin false m e) s a h p q = less-size (m * up e) (down e) a (2 ^ 127) (2 ^ 1074) (down_pos e) (pow_pos 1074) h.1 (ltb-true _ _ p)
-under-most (fin true m e) s a h p q = less-size (m * up e) (down e) a (2 ^ 127) (2 ^ 1074) (down_pos e) (pow_pos 1074) h.1 (ltb-true _ _ q)
+under_most nan s a h p q = absurd h
+under_most (inf t) s a h p q = absurd h
+under_most (fin false m e) s a h p q = less_size (m * up e) (down e) a (2 ^ 127) (2 ^ 1074) (down_pos e) (pow_pos 1074) h.1 (ltb-true _ _ p)
+under_most (fin true m e) s a h p q = less_size (m * up e) (down e) a (2 ^ 127) (2 ^ 1074) (down_pos e) (pow_pos 1074) h.1 (ltb-true _ _ q)
 
 -- b is a at least, on one side of 0 or on the other
-on-a-side : (t : Bool) (a b : ℕ) → ((below false a t b || level false a t b) || (below t b true a || level t b true a)) ≡ true → a ≤ b
-on-a-side t a b h = elim (le-or-lt a b) [ inl l ↦ l | inr l ↦ absurd (true≢false (sym h ∙ no t l)) ]
+on_a_side : (t : Bool) (a b : ℕ) → ((below false a t b || level false a t b) || (below t b true a || level t b true a)) ≡ true → a ≤ b
+on_a_side t a b h = elim (le_or_lt a b) [ inl l ↦ l | inr l ↦ absurd (true≢false (sym h ∙ no t l)) ]
   where
     no : (t : Bool) → b < a → ((below false a t b || level false a t b) || (below t b true a || level t b true a)) ≡ false
     no true l = rw (le-ltb a b (omega arith), ne_eqb a b (λ e. omega arith), ne_eqb b a (λ e. omega arith))
     no false l = rw (le-ltb a b (omega arith), ne_eqb a b (λ e. omega arith), ne_eqb b a (λ e. omega arith))
 
-over-least : (x : Float) (s : Bool) (a : ℕ) → HasValue x s a (2 ^ 948 * 2 ^ 126) → (le (of_bits binary64 0x3810_0000_0000_0000) x || le x (neg (of_bits binary64 0x3810_0000_0000_0000))) ≡ true → 2 ^ 948 ≤ a
+over_least : (x : Float) (s : Bool) (a : ℕ) → HasValue x s a (2 ^ 948 * 2 ^ 126) → (le (of_bits binary64 0x3810_0000_0000_0000) x || le x (neg (of_bits binary64 0x3810_0000_0000_0000))) ≡ true → 2 ^ 948 ≤ a
 unfolding le neg of_bits
-over-least nan s a h p = absurd h
-over-least (inf t) s a h p = absurd h
-over-least (fin t m e) s a h p = more-size (m * up e) (down e) a (2 ^ 948) (2 ^ 126) (down_pos e) h.1 (on-a-side t (1 * 1 * down e) (m * up e * 2 ^ 126) p)
+over_least nan s a h p = absurd h
+over_least (inf t) s a h p = absurd h
+over_least (fin t m e) s a h p = more-size (m * up e) (down e) a (2 ^ 948) (2 ^ 126) (down_pos e) h.1 (on_a_side t (1 * 1 * down e) (m * up e * 2 ^ 126) p)
 
-no_size : (x : Float) (s : Bool) (a : ℕ) → HasValue x s a (2 ^ 1074) → eq x (of_bits binary64 0) ≡ true → a ≡ 0
+no_size_lem : (x : Float) (s : Bool) (a : ℕ) → HasValue x s a (2 ^ 1074) → eq x (of_bits binary64 0) ≡ true → a ≡ 0
 unfolding eq of_bits
-no_size nan s a h p = absurd h
-no_size (inf t) s a h p = absurd h
-no_size (fin t m e) s a h p =
+no_size_lem nan s a h p = absurd h
+no_size_lem (inf t) s a h p = absurd h
+no_size_lem (fin t m e) s a h p =
     let z : m * up e * 1 ≡ 0 * 1 * down e = eqb-true _ _ ((and-eq-true_iff (eqb (m * up e * 1) (0 * 1 * down e)) _).0 p).0 in
     let u : m * up e ≡ 0 = sym (mul-one (m * up e)) ∙ z ∙ zero-mul (down e) in
     eq_of_mul-eq-mul_right (down e) (down_pos e) a 0 (sym h.1 ∙ ap (λ (y : ℕ). y * 2 ^ 1074) u ∙ zero-mul (2 ^ 1074) ∙ sym (zero-mul (down e)))
@@ -176,7 +176,7 @@ plain-bits x f p =
     let k = (and-eq-true_iff (lt x most && lt (neg most) x) (far || eq x (of_bits binary64 0))).0 p in
     let w = (and-eq-true_iff (lt x most) (lt (neg most) x)).0 k.0 in
     let b = to_bits binary64 x in
-    by (leb (2 ^ 63) b) (b % 2 ^ 63 / 2 ^ 52) (b % 2 ^ 52) (mod-lt b (pow_pos 52)) (as_fields binary64 x f) (finite-field binary64 x f (within x w.0 w.1)) w.0 w.1 (either far (eq x (of_bits binary64 0)) k.1)
+    by (leb (2 ^ 63) b) (b % 2 ^ 63 / 2 ^ 52) (b % 2 ^ 52) (mod-lt b (pow_pos 52)) (as_fields binary64 x f) (finite_field binary64 x f (within x w.0 w.1)) w.0 w.1 (either far (eq x (of_bits binary64 0)) k.1)
   where
     either : (a b : Bool) → (a || b) ≡ true → (a ≡ true) ⊎ (b ≡ true)
     either true b h = inl refl
@@ -186,7 +186,7 @@ plain-bits x f p =
         → ((le (of_bits binary64 0x3810_0000_0000_0000) x || le x (neg (of_bits binary64 0x3810_0000_0000_0000))) ≡ true) ⊎ (eq x (of_bits binary64 0) ≡ true) → rounded (to_bits binary64 x) ≡ to_bits binary64 (narrowed x)
     by s zero t small is n a c d =
         let v : HasValue x s (t * 2 ^ 0) (2 ^ 1074) = subst (λ (y : Float). HasValue y s (t * 2 ^ 0) (2 ^ 1074)) (sym is) (at_low binary64 s 0 t refl) in
-        elim d [ inl g ↦ absurd (tiny t small (over-least x s (t * 2 ^ 0) v g)) | inr g ↦ zero_bits x s (t * 2 ^ 0) v (no_size x s (t * 2 ^ 0) v g) ]
+        elim d [ inl g ↦ absurd (tiny t small (over_least x s (t * 2 ^ 0) v g)) | inr g ↦ zero_bits x s (t * 2 ^ 0) v (no_size_lem x s (t * 2 ^ 0) v g) ]
       where
         tiny : (t : ℕ) → t < 2 ^ 52 → 2 ^ 948 ≤ t * 2 ^ 0 → ⊥
         tiny t l g = lt_irrefl (2 ^ 52) (lt_of_le_of_lt (le_trans (lit≤ tt) (le_trans g (le_of_eq (mul-one t)))) l)
@@ -194,24 +194,24 @@ plain-bits x f p =
         let z = (2 ^ 52 + t) * 2 ^ e in
         let back : suc e - 1 ≡ e = omega arith in
         let v : HasValue x s z (2 ^ 1074) = subst (λ (y : Float). HasValue y s z (2 ^ 1074)) (sym is) (rw back at (at_mid binary64 s (suc e) t (suc-ne-zero e) n)) in
-        elim d [ inl g ↦ by_field x s e t small v (under-most x s z v a c) (over-least x s z v g) | inr g ↦ zero_bits x s z v (no_size x s z v g) ]
+        elim d [ inl g ↦ by_field x s e t small v (under_most x s z v a c) (over_least x s z v g) | inr g ↦ zero_bits x s z v (no_size_lem x s z v g) ]
 
-pub plain-finite : (x : Float) → plain x ≡ true → finite x ≡ true
+pub plain_finite : (x : Float) → plain x ≡ true → finite x ≡ true
 unfolding plain
-plain-finite x p =
+plain_finite x p =
     let most = of_bits binary64 0x47E0_0000_0000_0000 in
     let w = (and-eq-true_iff (lt x most) (lt (neg most) x)).0 ((and-eq-true_iff (lt x most && lt (neg most) x) _).0 p).0 in
     within x w.0 w.1
 
 -- there is room above the pattern for what is added
-pub plain-room : (x : Float) → T (fits binary64 x) → plain x ≡ true → to_bits binary64 x + 2 ^ 52 ≤ 2 ^ 64
-plain-room x f p = room (to_bits binary64 x) (to_bits-lt binary64 x f) (finite-field binary64 x f (plain-finite x p))
+pub plain_room : (x : Float) → T (fits binary64 x) → plain x ≡ true → to_bits binary64 x + 2 ^ 52 ≤ 2 ^ 64
+plain_room x f p = room (to_bits binary64 x) (to_bits-lt binary64 x f) (finite_field binary64 x f (plain_finite x p))
   where
     room : (b : ℕ) → b < 2 ^ 64 → (b % 2 ^ 63 / 2 ^ 52 ≡ 2047 → ⊥) → b + 2 ^ 52 ≤ 2 ^ 64
     room b l n = omega arith
 
 pub plain-narrowed : (x : Float) → T (fits binary64 x) → plain x ≡ true → of_bits binary64 (rounded (to_bits binary64 x)) ≡ narrowed x
-plain-narrowed x f p = ap (of_bits binary64) (plain-bits x f p) ∙ of_bits-to_bits binary64 (narrowed x) (fits_widens (narrowed x) (narrowed-fits x))
+plain-narrowed x f p = ap (of_bits binary64) (plain-bits x f p) ∙ of_bits-to_bits binary64 (narrowed x) (fits_widens (narrowed x) (narrowed_fits x))
 
 pub plain-number : (x : Float) → plain x ≡ true → T (not (is_nan (narrowed x)))
-plain-number x p = subst (λ (t : Bool). T (not t)) (sym (narrowed-number x)) (finite-no-nan x (plain-finite x p))
+plain-number x p = subst (λ (t : Bool). T (not t)) (sym (narrowed-number x)) (finite_no_nan x (plain_finite x p))

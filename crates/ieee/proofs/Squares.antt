@@ -6,10 +6,10 @@ use lib.Ieee.{binary64, size, units}
 use lib.Ieee.Digits.{size-lt, size-le}
 use lib.Ieee.Fits.{round_is}
 use lib.Ieee.Nearest.{closest, closest_same, div_same}
-use Rattle.ieee.specs.Root.{rootIn, isqrt, rootOf}
+use Rattle.ieee.specs.Root.{root_in, isqrt, root_of}
 use lib.Arith.{digits_div, digits_mod}
-use Rattle.ieee.proofs.Pack.{pow_lt_back, le-or-lt}
-use Rattle.ieee.proofs.Sticky.{closest-lt, closest-gt}
+use Rattle.ieee.proofs.Pack.{pow_lt_back, le_or_lt}
+use Rattle.ieee.proofs.Sticky.{closest_lt, closest_gt}
 
 -- r is the root of n, cut to a whole number
 abbrev pub Cut : ℕ → ℕ → Type 0
@@ -35,13 +35,13 @@ step n x c = go (leb ((2 * x + 1) * (2 * x + 1)) n) (leb→le ((2 * x + 1) * (2 
     go true f g = (f tt, hi n ((2 * x + 1 + 1) * (2 * x + 1 + 1)) ((x + 1) * (x + 1)) (ap (λ (y : ℕ). y * y) (next x) ∙ four (x + 1)) c.1)
     go false f g = (lo n (2 * x * (2 * x)) (x * x) (four x) c.0, g tt)
 
-cut_in : (k n : ℕ) → n < 4 ^ k → Cut n (rootIn k n)
-unfolding rootIn
-cut_in zero n h = zero-cut n h
+cut_in : (k n : ℕ) → n < 4 ^ k → Cut n (root_in k n)
+unfolding root_in
+cut_in zero n h = zero_cut n h
   where
-    zero-cut : (n : ℕ) → n < 1 → Cut n 0
-    zero-cut n h = (omega arith, omega arith)
-cut_in (suc k) n h = step n (rootIn k (n / 4)) (cut_in k (n / 4) (quarter n (4 ^ k) (subst (λ (x : ℕ). n < x) (pow-suc 4 k) h)))
+    zero_cut : (n : ℕ) → n < 1 → Cut n 0
+    zero_cut n h = (omega arith, omega arith)
+cut_in (suc k) n h = step n (root_in k (n / 4)) (cut_in k (n / 4) (quarter n (4 ^ k) (subst (λ (x : ℕ). n < x) (pow-suc 4 k) h)))
   where
     quarter : (n p : ℕ) → n < p * 4 → n / 4 < p
     quarter n p h = omega arith
@@ -50,18 +50,18 @@ two-four : (k : ℕ) → 2 ^ k ≤ 4 ^ k
 two-four zero = le_refl 1
 two-four (suc k) = le_trans (le_of_eq (pow-suc 2 k)) (le_trans (mul-le-mul (two-four k) (lit≤ tt)) (le_of_eq (sym (pow-suc 4 k))))
 
-pub isqrt-cut : (n : ℕ) → Cut n (isqrt n)
+pub isqrt_cut : (n : ℕ) → Cut n (isqrt n)
 unfolding isqrt
-isqrt-cut n = cut_in (size n) n (lt_of_lt_of_le (size-lt n) (two-four (size n)))
+isqrt_cut n = cut_in (size n) n (lt_of_lt_of_le (size-lt n) (two-four (size n)))
 
 -- ---- a fraction N / 2h that is above q - 1/2 and below q + 1/2 is rounded to q
-closest-at : (N h q : ℕ) → q * (2 * h) < N + h → N < q * (2 * h) + h → closest N (2 * h) ≡ q
-closest-at N h q a b = elim (le-or-lt (q * (2 * h)) N) [
+closest_at : (N h q : ℕ) → q * (2 * h) < N + h → N < q * (2 * h) + h → closest N (2 * h) ≡ q
+closest_at N h q a b = elim (le_or_lt (q * (2 * h)) N) [
   | inl k ↦
       let r = N - q * (2 * h) in
       let small : r < 2 * h = omega arith in
       let e : q * (2 * h) + r ≡ N = omega arith in
-      closest-lt N (2 * h) (subst (λ (x : ℕ). x * 2 < 2 * h) (sym (rest q r e small)) (omega arith)) ∙ quotient q r e small
+      closest_lt N (2 * h) (subst (λ (x : ℕ). x * 2 < 2 * h) (sym (rest q r e small)) (omega arith)) ∙ quotient q r e small
   | inr l ↦ under q a l
 ]
   where
@@ -82,59 +82,59 @@ closest-at N h q a b = elim (le-or-lt (q * (2 * h)) N) [
         let r = N - P in
         let small : r < 2 * h = omega arith in
         let e : P + r ≡ N = omega arith in
-        closest-gt N (2 * h) (subst (λ (x : ℕ). 2 * h < x * 2) (sym (rest p r e small)) (omega arith)) ∙ ap suc (quotient p r e small)
+        closest_gt N (2 * h) (subst (λ (x : ℕ). 2 * h < x * 2) (sym (rest p r e small)) (omega arith)) ∙ ap suc (quotient p r e small)
 
 size_is : (a n : ℕ) → 2 ^ a ≤ n → n < 2 ^ suc a → size n ≡ suc a
 size_is a n lo hi = le_antisymm (size-le n (suc a) hi) (pow_lt_back a (size n) (lt_of_le_of_lt lo (size-lt n)))
 
 -- ---- squares keep the order
-pub square-lt : (a b : ℕ) → a * a < b * b → a < b
-square-lt a b h = lt_of_not-le (λ (g : b ≤ a). not-le_of_lt h (mul-le-mul g g))
+pub square_lt : (a b : ℕ) → a * a < b * b → a < b
+square_lt a b h = lt_of_not-le (λ (g : b ≤ a). not-le_of_lt h (mul-le-mul g g))
 
-pub next-sq : (w : ℕ) → (w + 1) * (w + 1) ≡ w * w + 2 * w + 1
-next-sq w = mul-add (w + 1) w 1 ∙ ap (λ (x : ℕ). x + (w + 1) * 1) (add-mul w 1 w) ∙ omega arith
+pub next_sq : (w : ℕ) → (w + 1) * (w + 1) ≡ w * w + 2 * w + 1
+next_sq w = mul-add (w + 1) w 1 ∙ ap (λ (x : ℕ). x + (w + 1) * 1) (add-mul w 1 w) ∙ omega arith
 
 pub square_le : (a b : ℕ) → a * a ≤ b * b → a ≤ b
-square_le a b h = let l = square-lt a (b + 1) (omega (arith, next-sq b)) in omega arith
+square_le a b h = let l = square_lt a (b + 1) (omega (arith, next_sq b)) in omega arith
 
 -- ---- the number that is handed to `round`: 2 * r, and one more where r * r is not n
 abbrev pub twice : ℕ → ℕ → ℕ
 twice n r = 2 * r + cond (eqb (r * r) n) 0 1
 
-pub twice-ge : (n r : ℕ) → 2 * r ≤ twice n r
-twice-ge n r = go (eqb (r * r) n)
+pub twice_ge : (n r : ℕ) → 2 * r ≤ twice n r
+twice_ge n r = go (eqb (r * r) n)
   where
     go : (t : Bool) → 2 * r ≤ 2 * r + cond t 0 1
     go true = omega arith
     go false = omega arith
 
-twice-lt : (n r : ℕ) → twice n r < 2 * (r + 1)
-twice-lt n r = go (eqb (r * r) n)
+twice_lt : (n r : ℕ) → twice n r < 2 * (r + 1)
+twice_lt n r = go (eqb (r * r) n)
   where
     go : (t : Bool) → 2 * r + cond t 0 1 < 2 * (r + 1)
     go true = omega arith
     go false = omega arith
 
 -- above 2 * a for each a whose square is below n
-twice-gt : (n r a : ℕ) → Cut n r → a * a < n → 2 * a < twice n r
-twice-gt n r a c h = go (eqb (r * r) n) (eqb→eq (r * r) n) (square-lt a (r + 1) (lt_of_lt_of_le h (le_of_lt c.1)))
+twice_gt : (n r a : ℕ) → Cut n r → a * a < n → 2 * a < twice n r
+twice_gt n r a c h = go (eqb (r * r) n) (eqb→eq (r * r) n) (square_lt a (r + 1) (lt_of_lt_of_le h (le_of_lt c.1)))
   where
     go : (t : Bool) → (T t → r * r ≡ n) → a < r + 1 → 2 * a < 2 * r + cond t 0 1
     go true e l =
-        let k : a < r = square-lt a r (lt_of_lt_of_le h (le_of_eq (sym (e tt)))) in
+        let k : a < r = square_lt a r (lt_of_lt_of_le h (le_of_eq (sym (e tt)))) in
         omega arith
     go false e l = omega arith
 
 -- ---- the parts of n = M * 4 * P * P
 -- t is 2 * q - 1 and u is 2 * q + 1
-low-square : (M q t : ℕ) → t + 1 ≡ 2 * q → q * q < M + q → t * t < 4 * M
-low-square M q t e h =
+low_square : (M q t : ℕ) → t + 1 ≡ 2 * q → q * q < M + q → t * t < 4 * M
+low_square M q t e h =
     let s : (t + 1) * (t + 1) ≡ 4 * (q * q) = ap (λ (x : ℕ). x * x) e ∙ four q in
     let x : (t + 1) * (t + 1) ≡ t * t + t + (t + 1) = simp (mul-add, add-mul, mul-one, one-mul) (omega arith) in
     omega arith
 
-high-square : (M q u : ℕ) → u ≡ 2 * q + 1 → M ≤ q * q + q → 4 * M < u * u
-high-square M q u e h =
+high_square : (M q u : ℕ) → u ≡ 2 * q + 1 → M ≤ q * q + q → 4 * M < u * u
+high_square M q u e h =
     let s : (2 * q + 1) * (2 * q + 1) ≡ 4 * (q * q) + 2 * q + (2 * q + 1) = expand q in
     let z : u * u ≡ (2 * q + 1) * (2 * q + 1) = ap (λ (x : ℕ). x * x) e in
     omega arith
@@ -146,40 +146,40 @@ high-square M q u e h =
         ∙ ap (λ (x : ℕ). 4 * (q * q) + 2 * q + x) (mul-one (2 * q + 1))
 
 -- a square times P * P, against 4 * M times P * P
-scaled-lt : (a M P : ℕ) → 0 < P → a * a < 4 * M → (a * P) * (a * P) < M * (4 * (P * P))
-scaled-lt a M P p h =
+scaled_lt : (a M P : ℕ) → 0 < P → a * a < 4 * M → (a * P) * (a * P) < M * (4 * (P * P))
+scaled_lt a M P p h =
     lt_of_lt_of_le (subst (λ (x : ℕ). x < 4 * M * (P * P)) (sym (mul-mul-mul_comm a P a P)) (mul-lt-mul_of_pos_right h (mul-pos p p)))
     (le_of_eq (ap (λ (x : ℕ). x * (P * P)) (mul_comm 4 M) ∙ mul_assoc M 4 (P * P)))
 
-scaled-gt : (a M P : ℕ) → 0 < P → 4 * M < a * a → M * (4 * (P * P)) < (a * P) * (a * P)
-scaled-gt a M P p h =
+scaled_gt : (a M P : ℕ) → 0 < P → 4 * M < a * a → M * (4 * (P * P)) < (a * P) * (a * P)
+scaled_gt a M P p h =
     lt_of_le_of_lt (le_of_eq (sym (ap (λ (x : ℕ). x * (P * P)) (mul_comm 4 M) ∙ mul_assoc M 4 (P * P))))
     (subst (λ (x : ℕ). 4 * M * (P * P) < x) (sym (mul-mul-mul_comm a P a P)) (mul-lt-mul_of_pos_right h (mul-pos p p)))
 
 -- ---- q is nearest to the root of M: then q * 2 ^ k units are nearest to the root of M * 4 * 2 ^ k * 2 ^ k
 module _ (M q k : ℕ) (one : 1 ≤ q) (lo : 2 ^ 104 ≤ M) (hi : M < 2 ^ 106) (below : M ≤ q * q + q) (above : q * q < M + q) where
-  pub nearest-root : rootOf (M * (4 * (2 ^ k * 2 ^ k))) ≡ units binary64 false q k
-  unfolding rootOf
-  nearest-root =
+  pub nearest_root : root_of (M * (4 * (2 ^ k * 2 ^ k))) ≡ units binary64 false q k
+  unfolding root_of
+  nearest_root =
       let P = 2 ^ k in
       let p : 0 < P = pow_pos k in
       let n = M * (4 * (P * P)) in
       let r = isqrt n in
-      let c = isqrt-cut n in
+      let c = isqrt_cut n in
       let N = twice n r in
       let t = 2 * q - 1 in
       let u = 2 * q + 1 in
       let te : t + 1 ≡ 2 * q = omega arith in
       let tp : t * P + P ≡ 2 * (q * P) = sym (ap (λ (x : ℕ). t * P + x) (one-mul P)) ∙ sym (add-mul t 1 P) ∙ ap (λ (x : ℕ). x * P) te ∙ mul_assoc 2 q P in
       let up : u * P ≡ 2 * (q * P) + P = add-mul (2 * q) 1 P ∙ ap (λ (x : ℕ). x + 1 * P) (mul_assoc 2 q P) ∙ ap (λ (x : ℕ). 2 * (q * P) + x) (one-mul P) in
-      let n-gt : 2 * (t * P) < N = twice-gt n r (t * P) c (scaled-lt t M P p (low-square M q t te above)) in
-      let r-lt : r < u * P = square-lt r (u * P) (lt_of_le_of_lt c.0 (scaled-gt u M P p (high-square M q u refl below))) in
-      let n-lt : N < 2 * (r + 1) = twice-lt n r in
+      let n-gt : 2 * (t * P) < N = twice_gt n r (t * P) c (scaled_lt t M P p (low_square M q t te above)) in
+      let r-lt : r < u * P = square_lt r (u * P) (lt_of_le_of_lt c.0 (scaled_gt u M P p (high_square M q u refl below))) in
+      let n-lt : N < 2 * (r + 1) = twice_lt n r in
       let qp : q * (2 * (2 * P)) ≡ 4 * (q * P) = simp mul_left_comm (omega arith) in
-      let at : closest N (2 * (2 * P)) ≡ q = closest-at N (2 * P) q (omega arith) (omega arith) in
-      let r-ge : 2 ^ 53 * P < r + 1 = square-lt (2 ^ 53 * P) (r + 1) (lt_of_le_of_lt (least M P lo) c.1) in
-      let r-le : r < 2 ^ 54 * P = square-lt r (2 ^ 54 * P) (lt_of_le_of_lt c.0 (scaled-gt (2 ^ 54) M P p (omega arith))) in
-      let n-ge : 2 * r ≤ N = twice-ge n r in
+      let at : closest N (2 * (2 * P)) ≡ q = closest_at N (2 * P) q (omega arith) (omega arith) in
+      let r-ge : 2 ^ 53 * P < r + 1 = square_lt (2 ^ 53 * P) (r + 1) (lt_of_le_of_lt (least M P lo) c.1) in
+      let r-le : r < 2 ^ 54 * P = square_lt r (2 ^ 54 * P) (lt_of_le_of_lt c.0 (scaled_gt (2 ^ 54) M P p (omega arith))) in
+      let n-ge : 2 * r ≤ N = twice_ge n r in
       let d : N * 2 ^ 1074 / 2 ^ 1076 ≡ N / 4 = div_same (N * 2 ^ 1074) (2 ^ 1076) N 4 (pow_pos 1076) (pow_pos 2) (mul_assoc N (2 ^ 1074) 4) in
       let z : size (N / 4) ≡ suc (52 + k) =
       size_is (52 + k) (N / 4)

@@ -11,19 +11,19 @@ use lib.Ieee.Fits.{two-le_pos, nearest-le}
 use lib.Ieee.Nearest.{closest, closest_same, div_same}
 use lib.Ieee.Order.{drop, kept}
 use Rattle.ieee.specs.Internal.{pattern}
-use Rattle.ieee.proofs.Pack.{le-or-lt, pattern-round, two-more, twice_hid, pow_lt_back}
-use Rattle.ieee.proofs.Sticky.{closest-lt, closest-eq, closest-gt, cut-law}
+use Rattle.ieee.proofs.Pack.{le_or_lt, pattern_round, two-more, twice_hid, pow_lt_back}
+use Rattle.ieee.proofs.Sticky.{closest_lt, closest_eq, closest_gt, cut_law}
 
 -- ---- a test as a number
-pub flag-le : (b : Bool) → bool_byte b ≤ 1
-flag-le true = lit≤ tt
-flag-le false = lit≤ tt
+pub flag_le : (b : Bool) → bool_byte b ≤ 1
+flag_le true = lit≤ tt
+flag_le false = lit≤ tt
 
-pub flag-yes : (a b : ℕ) → a < b → bool_byte (ltb a b) ≡ 1
-flag-yes a b h = ap bool_byte (lt-ltb a b h)
+pub flag_yes : (a b : ℕ) → a < b → bool_byte (ltb a b) ≡ 1
+flag_yes a b h = ap bool_byte (lt-ltb a b h)
 
-pub flag-no : (a b : ℕ) → b ≤ a → bool_byte (ltb a b) ≡ 0
-flag-no a b h = ap bool_byte (le-ltb a b h)
+pub flag_no : (a b : ℕ) → b ≤ a → bool_byte (ltb a b) ≡ 0
+flag_no a b h = ap bool_byte (le-ltb a b h)
 
 -- ---- `cut`: half is h, and what is left of w below the quotient q is r
 module _ (w h q : ℕ) (s : Bool) (H : 0 < h) (is : q ≡ w / 2 / h) where
@@ -33,15 +33,15 @@ module _ (w h q : ℕ) (s : Bool) (H : 0 < h) (is : q ≡ w / 2 / h) where
   twice : q * (2 * h) ≡ q * h * 2
   twice = mul_left_comm q 2 h ∙ mul_comm 2 (q * h)
 
-  pub cut-rest : (q * h * 2 ≤ w) × (w - q * h * 2 < 2 * h)
-  cut-rest = parts (q * (2 * h)) (q * h * 2) (w % (2 * h)) w (2 * h) split.0 split.1 twice
+  pub cut_rest : (q * h * 2 ≤ w) × (w - q * h * 2 < 2 * h)
+  cut_rest = parts (q * (2 * h)) (q * h * 2) (w % (2 * h)) w (2 * h) split.0 split.1 twice
     where
       parts : (x y r w m : ℕ) → x + r ≡ w → r < m → x ≡ y → (y ≤ w) × (w - y < m)
       parts x y r w m e l f = (omega arith, omega arith)
 
   -- the number that is rounded is q * 4h and 2r, with one more where it goes on
   whole : q * (4 * h) + (2 * (w - q * h * 2) + bool_byte s) ≡ 2 * w + bool_byte s
-  whole = sum (q * h * 2) w (bool_byte s) (q * (4 * h)) cut-rest.0 (mul_left_comm q 4 h ∙ four (q * h))
+  whole = sum (q * h * 2) w (bool_byte s) (q * (4 * h)) cut_rest.0 (mul_left_comm q 4 h ∙ four (q * h))
     where
       sum : (y w b z : ℕ) → y ≤ w → z ≡ 2 * y → z + (2 * (w - y) + b) ≡ 2 * w + b
       sum y w b z l e = omega arith
@@ -50,7 +50,7 @@ module _ (w h q : ℕ) (s : Bool) (H : 0 < h) (is : q ≡ w / 2 / h) where
       four x = omega arith
 
   small : 2 * (w - q * h * 2) + bool_byte s < 4 * h
-  small = under (w - q * h * 2) (bool_byte s) h cut-rest.1 (flag-le s)
+  small = under (w - q * h * 2) (bool_byte s) h cut_rest.1 (flag_le s)
     where
       under : (r b h : ℕ) → r < 2 * h → b ≤ 1 → 2 * r + b < 4 * h
       under r b h l k = omega arith
@@ -62,18 +62,18 @@ module _ (w h q : ℕ) (s : Bool) (H : 0 < h) (is : q ≡ w / 2 / h) where
   rem = ap (λ (x : ℕ). x % (4 * h)) (sym whole) ∙ digits_mod q small
 
   down : (2 * (w - q * h * 2) + bool_byte s) * 2 < 4 * h → q + 0 ≡ closest (2 * w + bool_byte s) (4 * h)
-  down l = add-zero q ∙ sym (closest-lt (2 * w + bool_byte s) (4 * h) (subst (λ (x : ℕ). x * 2 < 4 * h) (sym rem) l) ∙ quo)
+  down l = add-zero q ∙ sym (closest_lt (2 * w + bool_byte s) (4 * h) (subst (λ (x : ℕ). x * 2 < 4 * h) (sym rem) l) ∙ quo)
 
   even : (2 * (w - q * h * 2) + bool_byte s) * 2 ≡ 4 * h → q + q % 2 ≡ closest (2 * w + bool_byte s) (4 * h)
-  even e = sym (closest-eq (2 * w + bool_byte s) (4 * h) (ap (λ (x : ℕ). x * 2) rem ∙ e) ∙ ap (λ (x : ℕ). x + x % 2) quo)
+  even e = sym (closest_eq (2 * w + bool_byte s) (4 * h) (ap (λ (x : ℕ). x * 2) rem ∙ e) ∙ ap (λ (x : ℕ). x + x % 2) quo)
 
   over : 4 * h < (2 * (w - q * h * 2) + bool_byte s) * 2 → q + 1 ≡ closest (2 * w + bool_byte s) (4 * h)
-  over l = add-one q ∙ sym (closest-gt (2 * w + bool_byte s) (4 * h) (subst (λ (x : ℕ). 4 * h < x * 2) (sym rem) l) ∙ ap suc quo)
+  over l = add-one q ∙ sym (closest_gt (2 * w + bool_byte s) (4 * h) (subst (λ (x : ℕ). 4 * h < x * 2) (sym rem) l) ∙ ap suc quo)
 
 -- o is 1 where a tie goes up
 tie : (h r o : ℕ) → 0 < h → r ≡ h → o ≤ 1 → bool_byte (ltb (h - o) r) ≡ o
-tie h r zero H e l = flag-no (h - 0) r (omega arith)
-tie h r (suc zero) H e l = flag-yes (h - 1) r (lt_of_lt_of_le (less h H) (le_of_eq (sym e)))
+tie h r zero H e l = flag_no (h - 0) r (omega arith)
+tie h r (suc zero) H e l = flag_yes (h - 1) r (lt_of_lt_of_le (less h H) (le_of_eq (sym e)))
   where
     less : (h : ℕ) → 0 < h → h - 1 < h
     less h H = omega arith
@@ -93,15 +93,15 @@ parity q = go (q % 2) (mod-lt q (zero-lt-suc 1))
         no : (x : ℕ) → suc (suc x) < 2 → ⊥
         no x l = omega arith
 
-pub cut-is : (w h q : ℕ) (s : Bool) → 0 < h → q ≡ w / 2 / h → q + bool_byte (ltb (h - bool_byte (s || eqb (q % 2) 1)) (w - q * h * 2)) ≡ closest (2 * w + bool_byte s) (4 * h)
-cut-is w h q s H is =
+pub cut_is : (w h q : ℕ) (s : Bool) → 0 < h → q ≡ w / 2 / h → q + bool_byte (ltb (h - bool_byte (s || eqb (q % 2) 1)) (w - q * h * 2)) ≡ closest (2 * w + bool_byte s) (4 * h)
+cut_is w h q s H is =
     let r = w - q * h * 2 in
     let o = bool_byte (s || eqb (q % 2) 1) in
-    elim (le-or-lt h r) [
-      | inr l ↦ ap (λ (x : ℕ). q + x) (flag-no (h - o) r (before h r o l (flag-le (s || eqb (q % 2) 1)))) ∙ down w h q s H is (low r h (bool_byte s) l (flag-le s))
-      | inl g ↦ elim (le-or-lt r h) [
-        | inr l ↦ ap (λ (x : ℕ). q + x) (flag-yes (h - o) r (lt_of_le_of_lt (sub-le h o) l)) ∙ over w h q s H is (high r h (bool_byte s) l)
-        | inl l ↦ ap (λ (x : ℕ). q + x) (tie h r o H (le_antisymm l g) (flag-le (s || eqb (q % 2) 1))) ∙ half s is (le_antisymm l g)
+    elim (le_or_lt h r) [
+      | inr l ↦ ap (λ (x : ℕ). q + x) (flag_no (h - o) r (before h r o l (flag_le (s || eqb (q % 2) 1)))) ∙ down w h q s H is (low r h (bool_byte s) l (flag_le s))
+      | inl g ↦ elim (le_or_lt r h) [
+        | inr l ↦ ap (λ (x : ℕ). q + x) (flag_yes (h - o) r (lt_of_le_of_lt (sub-le h o) l)) ∙ over w h q s H is (high r h (bool_byte s) l)
+        | inl l ↦ ap (λ (x : ℕ). q + x) (tie h r o H (le_antisymm l g) (flag_le (s || eqb (q % 2) 1))) ∙ half s is (le_antisymm l g)
       ]
     ]
   where
@@ -157,31 +157,31 @@ lead w r p h =
     after : (z r j : ℕ) → z + suc j ≡ 64 → j < 64 - r → suc j + (z - r) ≡ 64 - r
     after z r j e l = omega arith
 
-pub normal-form : (w : ℕ) → 0 < w → w < 2 ^ 64 → Lead w 0 (count_leading_zeros 64 w)
-normal-form w p h = rw sub-zero at (lead w 0 p h).1
+pub normal_form : (w : ℕ) → 0 < w → w < 2 ^ 64 → Lead w 0 (count_leading_zeros 64 w)
+normal_form w p h = rw sub-zero at (lead w 0 p h).1
 
 -- c digits of a number of 65 digits are cut, and k units dropped
-pattern-cut : (p n t B c k : ℕ) → 0 < p → 2 ≤ c → 2 ^ 64 ≤ n → n < 2 ^ 65 → c + t ≡ B + k → 65 ≤ p + c → (0 < k → p + c ≡ 65)
+pattern_cut : (p n t B c k : ℕ) → 0 < p → 2 ≤ c → 2 ^ 64 ≤ n → n < 2 ^ 65 → c + t ≡ B + k → 65 ≤ p + c → (0 < k → p + c ≡ 65)
     → pattern p (n * 2 ^ t) (2 ^ B) ≡ k * 2 ^ (p - 1) + closest n (2 ^ c)
-pattern-cut p n t B c k P C lo hi S far near =
+pattern_cut p n t B c k P C lo hi S far near =
     let same : n * (2 ^ B * 2 ^ k) ≡ n * 2 ^ t * 2 ^ c =
     ap (λ (x : ℕ). n * x) (sym (pow-add 2 B k) ∙ ap (λ (x : ℕ). 2 ^ x) (sym S ∙ add_comm c t) ∙ pow-add 2 t c) ∙ sym (mul_assoc n (2 ^ t) (2 ^ c)) in
-    let r = cut-law p (n * 2 ^ t) (2 ^ B) n c k P (pow_pos B) C (inl same) (lt_of_lt_of_le hi (pow_mono far)) (λ l. le_trans (pow_mono (top-place p c P (near l))) lo) in
+    let r = cut_law p (n * 2 ^ t) (2 ^ B) n c k P (pow_pos B) C (inl same) (lt_of_lt_of_le hi (pow_mono far)) (λ l. le_trans (pow_mono (top_place p c P (near l))) lo) in
     ap (λ (x : ℕ). x * 2 ^ (p - 1) + kept p (n * 2 ^ t) (2 ^ B)) r.0 ∙ ap (λ (x : ℕ). k * 2 ^ (p - 1) + x) r.1
   where
-    top-place : (p c : ℕ) → 0 < p → p + c ≡ 65 → p - 1 + c ≤ 64
-    top-place p c P e = omega arith
+    top_place : (p c : ℕ) → 0 < p → p + c ≡ 65 → p - 1 + c ≤ 64
+    top_place p c P e = omega arith
 
 pub pattern-zero : (p a d : ℕ) → 0 < p → 0 < d → a ≡ 0 → pattern p a d ≡ 0
 pattern-zero p a d P D e =
-    let r = cut-law p 0 d 0 2 0 P D (lit≤ tt) (inl (zero-mul (d * 1))) (pow_pos (p + 2)) (λ l. absurd (lt_irrefl 0 l)) in
+    let r = cut_law p 0 d 0 2 0 P D (lit≤ tt) (inl (zero-mul (d * 1))) (pow_pos (p + 2)) (λ l. absurd (lt_irrefl 0 l)) in
     ap (λ (x : ℕ). pattern p x d) e ∙ ap (λ (x : ℕ). x * 2 ^ (p - 1) + kept p 0 d) r.0 ∙ ap (λ (x : ℕ). 0 * 2 ^ (p - 1) + x) r.1 ∙ ap (λ (x : ℕ). x + 0) (zero-mul (2 ^ (p - 1)))
 
-closest-none : (n c : ℕ) → n < 2 ^ 65 → 66 ≤ c → closest n (2 ^ c) ≡ 0
-closest-none n c h g =
+closest_none : (n c : ℕ) → n < 2 ^ 65 → 66 ≤ c → closest n (2 ^ c) ≡ 0
+closest_none n c h g =
     let m = 2 ^ c in
     let l : n * 2 < m = lt_of_lt_of_le (dbl n h) (pow_mono g) in
-    closest-lt n m (subst (λ (x : ℕ). x * 2 < m) (sym (mod-eq_of_lt (less n m l))) l) ∙ div-eq_of_lt (less n m l)
+    closest_lt n m (subst (λ (x : ℕ). x * 2 < m) (sym (mod-eq_of_lt (less n m l))) l) ∙ div-eq_of_lt (less n m l)
   where
     dbl : (n : ℕ) → n < 2 ^ 65 → n * 2 < 2 ^ 66
     dbl n h = omega arith
@@ -197,41 +197,41 @@ pattern-same p a b c d B D e =
     ap (λ (z : ℕ). z * 2 ^ (p - 1) + closest a (b * 2 ^ z)) k
     ∙ ap (λ (z : ℕ). j * 2 ^ (p - 1) + z) (closest_same a (b * 2 ^ j) c (d * 2 ^ j) (mul-pos B (pow_pos j)) (mul-pos D (pow_pos j)) (sym (mul_assoc a d (2 ^ j)) ∙ ap (λ (z : ℕ). z * 2 ^ j) e ∙ mul_assoc c b (2 ^ j)))
 
-pub float-law : (f : Format) (s : Bool) (a B m : ℕ) → m ≡ pattern (prec f) a (2 ^ B) → of_bits f (cond s (top f) 0 + min m (ones f * hid f)) ≡ round f s a (2 ^ (B + low f))
-float-law f s a B m e =
+pub float_law : (f : Format) (s : Bool) (a B m : ℕ) → m ≡ pattern (prec f) a (2 ^ B) → of_bits f (cond s (top f) 0 + min m (ones f * hid f)) ≡ round f s a (2 ^ (B + low f))
+float_law f s a B m e =
     ap (λ (x : ℕ). of_bits f (cond s (top f) 0 + min x (ones f * hid f)))
     (e ∙ pattern-same (prec f) a (2 ^ B) (a * 2 ^ low f) (2 ^ (B + low f)) (pow_pos B) (pow_pos (B + low f)) (ap (λ (x : ℕ). a * x) (pow-add 2 B (low f) ∙ mul_comm (2 ^ B) (2 ^ low f)) ∙ sym (mul_assoc a (2 ^ low f) (2 ^ B))))
-    ∙ pattern-round f s a (2 ^ (B + low f))
+    ∙ pattern_round f s a (2 ^ (B + low f))
 
 -- ---- the three ways through `pattern_top`: n is the number of 65 digits
 module _ (p n t : ℕ) (lo : 2 ^ 64 ≤ n) (hi : n < 2 ^ 65) (P : 2 ≤ p) (Q : p ≤ 53) where
   at : (c k : ℕ) → 2 ≤ c → c + t ≡ 4161 + k → 65 ≤ p + c → (0 < k → p + c ≡ 65) → pattern p (n * 2 ^ t) (2 ^ 4161) ≡ k * 2 ^ (p - 1) + closest n (2 ^ c)
-  at c k C S far near = pattern-cut p n t 4161 c k (two-le_pos p P) C lo hi S far near
+  at c k C S far near = pattern_cut p n t 4161 c k (two-le_pos p P) C lo hi S far near
 
   at_zero : (c : ℕ) → 2 ≤ c → c + t ≡ 4161 → 65 ≤ p + c → pattern p (n * 2 ^ t) (2 ^ 4161) ≡ closest n (2 ^ c)
   at_zero c C S far = at c 0 C S far (λ h. absurd (lt_irrefl 0 h)) ∙ ap (λ (y : ℕ). y + closest n (2 ^ c)) (zero-mul (2 ^ (p - 1))) ∙ zero-add (closest n (2 ^ c))
 
   -- `cut` takes two digits less for its last argument
-  as-cut : (m c : ℕ) → 2 + m ≡ c → closest n (4 * 2 ^ m) ≡ closest n (2 ^ c)
-  as-cut m c s = ap (λ (x : ℕ). closest n x) (sym (pow-add 2 2 m) ∙ ap (λ (x : ℕ). 2 ^ x) s)
+  as_cut : (m c : ℕ) → 2 + m ≡ c → closest n (4 * 2 ^ m) ≡ closest n (2 ^ c)
+  as_cut m c s = ap (λ (x : ℕ). closest n x) (sym (pow-add 2 2 m) ∙ ap (λ (x : ℕ). 2 ^ x) s)
 
-  pub top-none : t < 4096 → 0 ≡ pattern p (n * 2 ^ t) (2 ^ 4161)
-  top-none l = sym (at_zero (4161 - t) (omega arith) (omega arith) (omega arith) ∙ closest-none n (4161 - t) hi (omega arith))
+  pub top_none : t < 4096 → 0 ≡ pattern p (n * 2 ^ t) (2 ^ 4161)
+  top_none l = sym (at_zero (4161 - t) (omega arith) (omega arith) (omega arith) ∙ closest_none n (4161 - t) hi (omega arith))
 
-  pub top-low : (r : ℕ) → 4096 ≤ t → t < 4096 + p → r ≡ closest n (4 * 2 ^ (4159 - t)) → r ≡ pattern p (n * 2 ^ t) (2 ^ 4161)
-  top-low r g l h = h ∙ as-cut (4159 - t) (4161 - t) (omega arith) ∙ sym (at_zero (4161 - t) (omega arith) (omega arith) (omega arith))
+  pub top_low : (r : ℕ) → 4096 ≤ t → t < 4096 + p → r ≡ closest n (4 * 2 ^ (4159 - t)) → r ≡ pattern p (n * 2 ^ t) (2 ^ 4161)
+  top_low r g l h = h ∙ as_cut (4159 - t) (4161 - t) (omega arith) ∙ sym (at_zero (4161 - t) (omega arith) (omega arith) (omega arith))
 
-  pub top-high : (r : ℕ) → 4096 + p ≤ t → t ≤ 8100 → r ≡ closest n (4 * 2 ^ (63 - p)) → (t - p - 4096) * 2 ^ (p - 1) % 2 ^ 64 + r ≡ pattern p (n * 2 ^ t) (2 ^ 4161)
-  top-high r g m h =
+  pub top_high : (r : ℕ) → 4096 + p ≤ t → t ≤ 8100 → r ≡ closest n (4 * 2 ^ (63 - p)) → (t - p - 4096) * 2 ^ (p - 1) % 2 ^ 64 + r ≡ pattern p (n * 2 ^ t) (2 ^ 4161)
+  top_high r g m h =
       let k = t - p - 4096 in
       let small : k < 2 ^ 12 = omega arith in
       ap (λ (x : ℕ). x + r) (shl_exact 12 (p - 1) 64 small (omega arith))
-      ∙ ap (λ (x : ℕ). k * 2 ^ (p - 1) + x) (h ∙ as-cut (63 - p) (65 - p) (omega arith))
+      ∙ ap (λ (x : ℕ). k * 2 ^ (p - 1) + x) (h ∙ as_cut (63 - p) (65 - p) (omega arith))
       ∙ sym (at (65 - p) k (omega arith) (omega arith) (omega arith) (λ _. omega arith))
 
 -- ---- `pattern_of`: the normal form of w in its place
-pub pattern-lead : (p w e z n : ℕ) → z ≤ 63 → n ≡ w * 2 ^ z → pattern p ((2 * n + 0) * 2 ^ (e + 64 - z)) (2 ^ 4161) ≡ pattern p (w * 2 ^ e) (2 ^ 4096)
-pattern-lead p w e z n Z N =
+pub pattern_lead : (p w e z n : ℕ) → z ≤ 63 → n ≡ w * 2 ^ z → pattern p ((2 * n + 0) * 2 ^ (e + 64 - z)) (2 ^ 4161) ≡ pattern p (w * 2 ^ e) (2 ^ 4096)
+pattern_lead p w e z n Z N =
     pattern-same p ((2 * n + 0) * 2 ^ (e + 64 - z)) (2 ^ 4161) (w * 2 ^ e) (2 ^ 4096) (pow_pos 4161) (pow_pos 4096)
     (ap (λ (x : ℕ). x * 2 ^ (e + 64 - z) * 2 ^ 4096) (add-zero (2 * n) ∙ ap (λ (x : ℕ). 2 * x) N ∙ mul_left_comm 2 w (2 ^ z) ∙ ap (λ (x : ℕ). w * x) (sym (pow-add 2 1 z))) ∙ scale w (1 + z) (e + 64 - z) e 4096 4161 (omega arith))
   where
@@ -242,8 +242,8 @@ pattern-lead p w e z n Z N =
         powers w a b d = simp (pow-add, mul_assoc)
 
 -- ---- the sum of the two fields fits a word
-pub packed-fits : (p k n r : ℕ) → 2 ≤ p → p ≤ 53 → k < 4094 → n < 2 ^ 65 → r ≡ closest n (4 * 2 ^ (63 - p)) → k * 2 ^ (p - 1) % 2 ^ 64 + r < 2 ^ 64
-packed-fits p k n r P Q K N e =
+pub packed_fits : (p k n r : ℕ) → 2 ≤ p → p ≤ 53 → k < 4094 → n < 2 ^ 65 → r ≡ closest n (4 * 2 ^ (63 - p)) → k * 2 ^ (p - 1) % 2 ^ 64 + r < 2 ^ 64
+packed_fits p k n r P Q K N e =
     let m = 63 - p in
     let u = 4 * 2 ^ m in
     let c : closest n u ≤ 2 ^ p =
@@ -280,13 +280,13 @@ no_nan f s m b e =
     subst (λ (t : Bool). T (not t)) (sym (nan_bits_above f (cond s (top f) 0 + b)))
     (subst (λ (x : ℕ). T (not (ltb (ones f * hid f) x))) (sym (rest s)) (le→nltb (ones f * hid f) b h))
   where
-    top-is : (h o t : ℕ) → t ≡ o * h + h → 0 < h → o * h < t
-    top-is h o t e p = omega arith
+    top_is : (h o t : ℕ) → t ≡ o * h + h → 0 < h → o * h < t
+    top_is h o t e p = omega arith
 
     under : b < top f
     under =
         lt_of_le_of_lt (le_trans (le_of_eq e) (min-le_right m (ones f * hid f)))
-        (top-is (hid f) (ones f) (top f) (mul_comm (hid f) (suc (ones f)) ∙ suc-mul (ones f) (hid f)) (pow_pos (prec f - 1)))
+        (top_is (hid f) (ones f) (top f) (mul_comm (hid f) (suc (ones f)) ∙ suc-mul (ones f) (hid f)) (pow_pos (prec f - 1)))
 
     rest : (s : Bool) → (cond s (top f) 0 + b) % top f ≡ b
     rest true = add-mod_left (top f) b ∙ mod-eq_of_lt under

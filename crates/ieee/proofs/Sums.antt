@@ -5,31 +5,31 @@ use mathlib.Core.Bool.{beq, and-true, and-false}
 use lib.Arith.{digits_lt}
 use lib.Ieee.{Format, prec, round, sum}
 use lib.Ieee.Scale.{round_same}
-use Rattle.ieee.proofs.Pack.{le-or-lt, next_le}
-use Rattle.ieee.specs.Internal.{wide, Sticky, jammed, sumSize, sumSign, Addable}
-use Rattle.ieee.proofs.Sticky.{round-sticky}
-use Rattle.ieee.proofs.Words.{zero_or, none_left, some_left, jammed-sticks, jammed-exact, whole_back}
+use Rattle.ieee.proofs.Pack.{le_or_lt, next_le}
+use Rattle.ieee.specs.Internal.{wide, Sticky, jammed, sum_size, sum_sign, Addable}
+use Rattle.ieee.proofs.Sticky.{round_sticky}
+use Rattle.ieee.proofs.Words.{zero_or, none_left, some_left, jammed_sticks, jammed-exact, whole_back}
 
 pub sub-mul : (a b c : ℕ) → (a - b) * c ≡ a * c - b * c
 sub-mul a b c = mul_comm (a - b) c ∙ mul-sub c a b ∙ ap (λ (x : ℕ). x - c * b) (mul_comm c a) ∙ ap (λ (x : ℕ). a * c - x) (mul_comm c b)
 
 -- ---- `sum`, by its cases
 -- `sign`, with no branch
-pub sign-flat : (s t u z : Bool) → ((u && t) || ((not u && s) && (not z || beq s t))) ≡ cond (beq s t) s (cond u t (s && not z))
-sign-flat true true true z = refl
-sign-flat true true false true = refl
-sign-flat true true false false = refl
-sign-flat true false true z = refl
-sign-flat true false false true = refl
-sign-flat true false false false = refl
-sign-flat false true true z = refl
-sign-flat false true false z = refl
-sign-flat false false true z = refl
-sign-flat false false false z = refl
+pub sign_flat : (s t u z : Bool) → ((u && t) || ((not u && s) && (not z || beq s t))) ≡ cond (beq s t) s (cond u t (s && not z))
+sign_flat true true true z = refl
+sign_flat true true false true = refl
+sign_flat true true false false = refl
+sign_flat true false true z = refl
+sign_flat true false false true = refl
+sign_flat true false false false = refl
+sign_flat false true true z = refl
+sign_flat false true false z = refl
+sign_flat false false true z = refl
+sign_flat false false false z = refl
 
 -- which side is the larger is asked only where neither is below the other
-pub sign-is : (s t : Bool) (a b hi lo : ℕ) → wide hi lo ≡ sumSize s a t b → cond (beq s t) s (cond (ltb a b) t (s && not (eqb hi 0 && eqb lo 0))) ≡ sumSign s a t b
-sign-is s t a b hi lo e = go (beq s t) (ltb a b) refl e
+pub sign_is : (s t : Bool) (a b hi lo : ℕ) → wide hi lo ≡ sum_size s a t b → cond (beq s t) s (cond (ltb a b) t (s && not (eqb hi 0 && eqb lo 0))) ≡ sum_sign s a t b
+sign_is s t a b hi lo e = go (beq s t) (ltb a b) refl e
   where
     zero-wide : (hi lo : ℕ) → (eqb hi 0 && eqb lo 0) ≡ eqb (wide hi lo) 0
     zero-wide zero zero = refl
@@ -42,7 +42,7 @@ sign-is s t a b hi lo e = go (beq s t) (ltb a b) refl e
     go : (x y : Bool) → ltb a b ≡ y → wide hi lo ≡ cond x (a + b) (cond y (b - a) (a - b)) → cond x s (cond y t (s && not (eqb hi 0 && eqb lo 0))) ≡ cond x s (cond y t (s && ltb b a))
     go true y l e = refl
     go false true l e = refl
-    go false false l e = ap (λ (x : Bool). s && x) (ap not (zero-wide hi lo ∙ ap (λ (x : ℕ). eqb x 0) e) ∙ over (le-or-lt a b))
+    go false false l e = ap (λ (x : Bool). s && x) (ap not (zero-wide hi lo ∙ ap (λ (x : ℕ). eqb x 0) e) ∙ over (le_or_lt a b))
       where
         nil : (a b : ℕ) → a ≤ b → a - b ≡ 0
         nil a b h = omega arith
@@ -109,7 +109,7 @@ module _ (f : Format) (A B J m t j : ℕ) (M : 0 < m) (ad : (J * m ≡ B) ⊎ ((
       go (inl e) = exactly s (A + J) (A * m + B) (add-mul A J m ∙ ap (λ (x : ℕ). A * m + x) e)
       go (inr (ev, inl e, l)) = exactly s (A + J) (A * m + B) (add-mul A J m ∙ ap (λ (x : ℕ). A * m + x) e)
       go (inr (ev, inr (o, lo, hi), l)) =
-          round-sticky f s (A + J) (A * m + B) m t j M
+          round_sticky f s (A + J) (A * m + B) m t j M
           (inr (
             odd A J ev o,
             subst (λ (x : ℕ). x < A * m + B + m) (sym (add-mul A J m)) (low (A * m) (J * m) B m lo),
@@ -167,7 +167,7 @@ module _ (f : Format) (A B J m t j : ℕ) (M : 0 < m) (ad : (J * m ≡ B) ⊎ ((
       go (inr (ev, inr (o, lo, hi), g)) =
           let under : B < A * m = lt_of_lt_of_le hi (le_trans (le_of_eq (ap (λ (x : ℕ). J * m + x) (sym (one-mul m)) ∙ sym (add-mul J 1 m))) (mul-le-mul_right m (next_le J A l))) in
           let jm : J * m < A * m = mul-lt-mul_of_pos_right l M in (
-            round-sticky f s (A - J) (A * m - B) m t j M
+            round_sticky f s (A - J) (A * m - B) m t j M
                 (inr (
                   odd A J ev o l,
                   subst (λ (x : ℕ). x < A * m - B + m) (sym (sub-mul A J m)) (low (A * m) (J * m) B m hi under jm),
@@ -177,7 +177,7 @@ module _ (f : Format) (A B J m t j : ℕ) (M : 0 < m) (ad : (J * m ≡ B) ⊎ ((
             under,
           )
 
-  pub summed : (s u : Bool) → round f (sumSign s A u J) (sumSize s A u J * 2 ^ t) (2 ^ j) ≡ sum f s (A * m * 2 ^ t) u (B * 2 ^ t) (m * 2 ^ j)
+  pub summed : (s u : Bool) → round f (sum_sign s A u J) (sum_size s A u J * 2 ^ t) (2 ^ j) ≡ sum f s (A * m * 2 ^ t) u (B * 2 ^ t) (m * 2 ^ j)
   summed s u = go (beq s u) (ltb A J) (ltb J A) refl refl refl
     where
       go : (x y z : Bool) → beq s u ≡ x → ltb A J ≡ y → ltb J A ≡ z
@@ -189,8 +189,8 @@ module _ (f : Format) (A B J m t j : ℕ) (M : 0 < m) (ad : (J * m ≡ B) ⊎ ((
           ap (λ (b : Bool). round f b ((A - J) * 2 ^ t) (2 ^ j)) (and-false s) ∙ level s u q (le_antisymm (ltb-false J A k) (ltb-false A J h))
 
 -- ---- a term cut to the scale of a higher one may be added to it
-exact-low : (B d : ℕ) → B % 1024 ≡ 0 → d ≤ 10 → B % 2 ^ d ≡ 0
-exact-low B d h l =
+exact_low : (B d : ℕ) → B % 1024 ≡ 0 → d ≤ 10 → B % 2 ^ d ≡ 0
+exact_low B d h l =
     let p : 2 ^ (10 - d) * 2 ^ d ≡ 1024 = sym (pow-add 2 (10 - d) d) ∙ ap (λ (x : ℕ). 2 ^ x) (back d l) in
     let y = B / 1024 in
     ap (λ (x : ℕ). x % 2 ^ d) (sym (whole_back B 1024 h) ∙ ap (λ (x : ℕ). y * x) (sym p) ∙ sym (mul_assoc y (2 ^ (10 - d)) (2 ^ d)))
@@ -199,8 +199,8 @@ exact-low B d h l =
     back : (d : ℕ) → d ≤ 10 → 10 - d + d ≡ 10
     back d h = omega arith
 
-jammed-le : (v m : ℕ) → jammed v m ≤ v / m + 1
-jammed-le v m = elim (zero_or (v % m)) [ inl z ↦ le_trans (le_of_eq (none_left (v / m) (v % m) z)) (up (v / m)) | inr n ↦ le_trans (le_of_eq (some_left (v / m) (v % m) n)) (one (v / m)) ]
+jammed_le : (v m : ℕ) → jammed v m ≤ v / m + 1
+jammed_le v m = elim (zero_or (v % m)) [ inl z ↦ le_trans (le_of_eq (none_left (v / m) (v % m) z)) (up (v / m)) | inr n ↦ le_trans (le_of_eq (some_left (v / m) (v % m) n)) (one (v / m)) ]
   where
     up : (q : ℕ) → q ≤ q + 1
     up q = omega arith
@@ -209,14 +209,14 @@ jammed-le v m = elim (zero_or (v % m)) [ inl z ↦ le_trans (le_of_eq (none_left
     one q = omega arith
 
 pub addable : (ah al bh bl d : ℕ) → 2 ^ 60 ≤ ah → al % 2 ≡ 0 → bh < 2 ^ 62 → bl < 2 ^ 64 → bl % 1024 ≡ 0 → Addable (wide ah al) (jammed (wide bh bl) (2 ^ d)) (wide bh bl) (2 ^ d)
-addable ah al bh bl d long even small low zeros = elim (le-or-lt d 10) [
-  | inl l ↦ inl (jammed-exact (wide bh bl) (2 ^ d) (exact-low (wide bh bl) d (ends bh bl zeros) l))
+addable ah al bh bl d long even small low zeros = elim (le_or_lt d 10) [
+  | inl l ↦ inl (jammed-exact (wide bh bl) (2 ^ d) (exact_low (wide bh bl) d (ends bh bl zeros) l))
   | inr l ↦
       let q : wide bh bl / 2 ^ d < 2 ^ 115 = shr_lt 115 d (lt_of_lt_of_le (digits_lt small low) (le_trans (le_of_eq (sym (pow-add 2 62 64))) (pow_mono (far d l)))) in
       inr (
         even-wide ah al even,
-        jammed-sticks (wide bh bl) (2 ^ d) (pow_pos d),
-        le_trans (raise (2 ^ 54) (le_trans (jammed-le (wide bh bl) (2 ^ d)) (next_le (wide bh bl / 2 ^ d) (2 ^ 115) q)))
+        jammed_sticks (wide bh bl) (2 ^ d) (pow_pos d),
+        le_trans (raise (2 ^ 54) (le_trans (jammed_le (wide bh bl) (2 ^ d)) (next_le (wide bh bl / 2 ^ d) (2 ^ 115) q)))
             (le_trans (lit≤ tt) (le_trans (mul-le-mul_right (2 ^ 64) long) (le-add_right (ah * 2 ^ 64) al))),
       )
 ]
@@ -239,7 +239,7 @@ high_word bh bl d jh jl a b e =
     lt_of_mul-lt-mul_right (2 ^ 64)
     (lt_of_le_of_lt (le-add_right (jh * 2 ^ 64) jl)
     (lt_of_le_of_lt (le_of_eq e)
-    (lt_of_le_of_lt (jammed-le (wide bh bl) (2 ^ d))
+    (lt_of_le_of_lt (jammed_le (wide bh bl) (2 ^ d))
     (lt_of_lt_of_le (next (wide bh bl / 2 ^ d) (2 ^ 62 * 2 ^ 64) (lt_of_le_of_lt (div-le_self (wide bh bl) (2 ^ d)) (digits_lt a b))) (lit≤ tt)))))
   where
     next : (q p : ℕ) → q < p → q + 1 < p + 1

@@ -9,7 +9,7 @@ use lib.Ieee.{Float, nan, inf, fin, Format, binary64, up, down, unlike, round, s
 use lib.Ieee.Fits.{down_pos}
 use lib.Ieee.Scale.{round_same, finite}
 use lib.Ieee.Exact.{HasValue}
-use Rattle.ieee.proofs.Pack.{le-or-lt}
+use Rattle.ieee.proofs.Pack.{le_or_lt}
 use Rattle.ieee.specs.Fused.{fused}
 use Rattle.ieee.specs.Internal.{wide, Placed}
 use Rattle.ieee.proofs.Sums.{sub-mul, sum_like, sum_less, sum_more, sum_level}
@@ -17,47 +17,47 @@ use Rattle.ieee.proofs.Words.{product_high}
 use Rattle.ieee.proofs.Steps.{Lead, lead}
 
 -- ---- `sum` sees only its fractions, and its sides may change places
-beq-is : (s t : Bool) → (beq s t ≡ true) ⊎ (beq s t ≡ false)
-beq-is s t = go (beq s t)
+beq_is : (s t : Bool) → (beq s t ≡ true) ⊎ (beq s t ≡ false)
+beq_is s t = go (beq s t)
   where
     go : (b : Bool) → (b ≡ true) ⊎ (b ≡ false)
     go true = inl refl
     go false = inr refl
 
-pub beq-eq : (s t : Bool) → beq s t ≡ true → s ≡ t
-beq-eq true true e = refl
-beq-eq true false e = absurd (false≢true e)
-beq-eq false true e = absurd (false≢true e)
-beq-eq false false e = refl
+pub beq_eq : (s t : Bool) → beq s t ≡ true → s ≡ t
+beq_eq true true e = refl
+beq_eq true false e = absurd (false≢true e)
+beq_eq false true e = absurd (false≢true e)
+beq_eq false false e = refl
 
-beq-swap : (s t : Bool) (b : Bool) → beq s t ≡ b → beq t s ≡ b
-beq-swap true true b e = e
-beq-swap true false b e = e
-beq-swap false true b e = e
-beq-swap false false b e = e
+beq_swap : (s t : Bool) (b : Bool) → beq s t ≡ b → beq t s ≡ b
+beq_swap true true b e = e
+beq_swap true false b e = e
+beq_swap false true b e = e
+beq_swap false false b e = e
 
-lt-or : (a b : ℕ) → (a < b) ⊎ ((b < a) ⊎ (a ≡ b))
-lt-or a b = elim (le-or-lt b a) [ inr l ↦ inl l | inl l ↦ elim (le-or-lt a b) [ inr g ↦ inr (inl g) | inl g ↦ inr (inr (le_antisymm g l)) ] ]
+lt_or : (a b : ℕ) → (a < b) ⊎ ((b < a) ⊎ (a ≡ b))
+lt_or a b = elim (le_or_lt b a) [ inr l ↦ inl l | inl l ↦ elim (le_or_lt a b) [ inr g ↦ inr (inl g) | inl g ↦ inr (inr (le_antisymm g l)) ] ]
 
-scaled-lt : (a b c a' b' c' : ℕ) → 0 < c' → a * c' ≡ a' * c → b * c' ≡ b' * c → a < b → a' < b'
-scaled-lt a b c a' b' c' C e f l = lt_of_mul-lt-mul_right c (subst (λ (x : ℕ). x < b' * c) e (subst (λ (x : ℕ). a * c' < x) f (mul-lt-mul_of_pos_right l C)))
+scaled_lt : (a b c a' b' c' : ℕ) → 0 < c' → a * c' ≡ a' * c → b * c' ≡ b' * c → a < b → a' < b'
+scaled_lt a b c a' b' c' C e f l = lt_of_mul-lt-mul_right c (subst (λ (x : ℕ). x < b' * c) e (subst (λ (x : ℕ). a * c' < x) f (mul-lt-mul_of_pos_right l C)))
 
 pub sum_same : (f : Format) (s t : Bool) (a b c a' b' c' : ℕ) → 0 < c → 0 < c' → a * c' ≡ a' * c → b * c' ≡ b' * c → sum f s a t b c ≡ sum f s a' t b' c'
-sum_same f s t a b c a' b' c' C C' e g = elim (beq-is s t) [
+sum_same f s t a b c a' b' c' C C' e g = elim (beq_is s t) [
   | inl q ↦
       sum_like f s t a b c q
       ∙ round_same f s (a + b) c (a' + b') c' C C' (add-mul a b c' ∙ ap (λ (x : ℕ). x + b * c') e ∙ ap (λ (x : ℕ). a' * c + x) g ∙ sym (add-mul a' b' c))
       ∙ sym (sum_like f s t a' b' c' q)
-  | inr q ↦ elim (lt-or a b) [
+  | inr q ↦ elim (lt_or a b) [
     | inl l ↦
         sum_less f s t a b c q l
         ∙ round_same f t (b - a) c (b' - a') c' C C' (sub-mul b a c' ∙ ap (λ (x : ℕ). x - a * c') g ∙ ap (λ (x : ℕ). b' * c - x) e ∙ sym (sub-mul b' a' c))
-        ∙ sym (sum_less f s t a' b' c' q (scaled-lt a b c a' b' c' C' e g l))
+        ∙ sym (sum_less f s t a' b' c' q (scaled_lt a b c a' b' c' C' e g l))
     | inr r ↦ elim r [
       | inl l ↦
           sum_more f s t a b c q l
           ∙ round_same f s (a - b) c (a' - b') c' C C' (sub-mul a b c' ∙ ap (λ (x : ℕ). x - b * c') e ∙ ap (λ (x : ℕ). a' * c - x) g ∙ sym (sub-mul a' b' c))
-          ∙ sym (sum_more f s t a' b' c' q (scaled-lt b a c b' a' c' C' g e l))
+          ∙ sym (sum_more f s t a' b' c' q (scaled_lt b a c b' a' c' C' g e l))
       | inr h ↦
           sum_level f s t a b c q h
           ∙ round_same f false (a - b) c (a' - b') c' C C' (sub-mul a b c' ∙ ap (λ (x : ℕ). x - b * c') e ∙ ap (λ (x : ℕ). a' * c - x) g ∙ sym (sub-mul a' b' c))
@@ -66,14 +66,14 @@ sum_same f s t a b c a' b' c' C C' e g = elim (beq-is s t) [
   ]
 ]
 
-pub sum-swap : (f : Format) (s t : Bool) (a b c : ℕ) → sum f s a t b c ≡ sum f t b s a c
-sum-swap f s t a b c = elim (beq-is s t) [
-  | inl q ↦ sum_like f s t a b c q ∙ ap (λ (x : Bool). round f x (a + b) c) (beq-eq s t q) ∙ ap (λ (x : ℕ). round f t x c) (add_comm a b) ∙ sym (sum_like f t s b a c (beq-swap s t true q))
-  | inr q ↦ elim (lt-or a b) [
-    | inl l ↦ sum_less f s t a b c q l ∙ sym (sum_more f t s b a c (beq-swap s t false q) l)
+pub sum_swap : (f : Format) (s t : Bool) (a b c : ℕ) → sum f s a t b c ≡ sum f t b s a c
+sum_swap f s t a b c = elim (beq_is s t) [
+  | inl q ↦ sum_like f s t a b c q ∙ ap (λ (x : Bool). round f x (a + b) c) (beq_eq s t q) ∙ ap (λ (x : ℕ). round f t x c) (add_comm a b) ∙ sym (sum_like f t s b a c (beq_swap s t true q))
+  | inr q ↦ elim (lt_or a b) [
+    | inl l ↦ sum_less f s t a b c q l ∙ sym (sum_more f t s b a c (beq_swap s t false q) l)
     | inr r ↦ elim r [
-      | inl l ↦ sum_more f s t a b c q l ∙ sym (sum_less f t s b a c (beq-swap s t false q) l)
-      | inr h ↦ sum_level f s t a b c q h ∙ ap (λ (x : ℕ). round f false x c) (nil a b h) ∙ sym (sum_level f t s b a c (beq-swap s t false q) (sym h))
+      | inl l ↦ sum_more f s t a b c q l ∙ sym (sum_less f t s b a c (beq_swap s t false q) l)
+      | inr h ↦ sum_level f s t a b c q h ∙ ap (λ (x : ℕ). round f false x c) (nil a b h) ∙ sym (sum_level f t s b a c (beq_swap s t false q) (sym h))
     ]
   ]
 ]
@@ -96,12 +96,12 @@ sum-exact f s u A B X Y t j a b =
     ∙ ap (λ (x : ℕ). sum f s X u Y x) (one-mul (2 ^ j))
 
 -- ---- a factor 0, or none
-pub factors-zero : (m n : ℕ) → (eqb m 0 || eqb n 0) ≡ true → m * n ≡ 0
-factors-zero zero n h = zero-mul n
-factors-zero (suc m) n h = ap (λ (x : ℕ). suc m * x) (eqb-true n 0 (sym (ap (λ (b : Bool). b || eqb n 0) (ne_eqb (suc m) 0 (suc-ne-zero m))) ∙ h)) ∙ mul_comm (suc m) 0 ∙ zero-mul (suc m)
+pub factors_zero : (m n : ℕ) → (eqb m 0 || eqb n 0) ≡ true → m * n ≡ 0
+factors_zero zero n h = zero-mul n
+factors_zero (suc m) n h = ap (λ (x : ℕ). suc m * x) (eqb-true n 0 (sym (ap (λ (b : Bool). b || eqb n 0) (ne_eqb (suc m) 0 (suc-ne-zero m))) ∙ h)) ∙ mul_comm (suc m) 0 ∙ zero-mul (suc m)
 
-pub factors-some : (m n : ℕ) → (eqb m 0 || eqb n 0) ≡ false → (0 < m) × (0 < n)
-factors-some m n h = go (eqb m 0) (eqb n 0) refl refl h
+pub factors_some : (m n : ℕ) → (eqb m 0 || eqb n 0) ≡ false → (0 < m) × (0 < n)
+factors_some m n h = go (eqb m 0) (eqb n 0) refl refl h
   where
     go : (a b : Bool) → eqb m 0 ≡ a → eqb n 0 ≡ b → (a || b) ≡ false → (0 < m) × (0 < n)
     go true b e f h = absurd (true≢false h)
@@ -138,8 +138,8 @@ addend m g y n G =
     most g y h = omega arith
 
 -- ---- `product_term`
-pub product-placed : (m n e y z hi lo : ℕ) → Lead m 1 y → Lead n 1 z → 5 ≤ y → 5 ≤ z → e ≤ 4090 → lo < 2 ^ 64 → wide hi lo ≡ m * 2 ^ y % 2 ^ 64 * (n * 2 ^ z % 2 ^ 64) → Placed (m * n) (e + 3022) hi lo (e + 3022 - y - z)
-product-placed m n e y z hi lo a b Y Z E L w =
+pub product_placed : (m n e y z hi lo : ℕ) → Lead m 1 y → Lead n 1 z → 5 ≤ y → 5 ≤ z → e ≤ 4090 → lo < 2 ^ 64 → wide hi lo ≡ m * 2 ^ y % 2 ^ 64 * (n * 2 ^ z % 2 ^ 64) → Placed (m * n) (e + 3022) hi lo (e + 3022 - y - z)
+product_placed m n e y z hi lo a b Y Z E L w =
     let p : wide hi lo ≡ m * 2 ^ y * (n * 2 ^ z) =
     w ∙ ap (λ (x : ℕ). x * (n * 2 ^ z % 2 ^ 64)) (mod-eq_of_lt (lt_of_lt_of_le a.high (lit≤ tt))) ∙ ap (λ (x : ℕ). m * 2 ^ y * x) (mod-eq_of_lt (lt_of_lt_of_le b.high (lit≤ tt))) in
     record {
@@ -184,21 +184,21 @@ fused-outside (fin s m e) (inf t) z h = refl
 fused-outside (fin s m e) (fin t n d) z h = absurd (true≢false h)
 
 -- only z is none
-pub fused-addend : (x y z : Float) → (finite x && finite y) ≡ true → (finite x && (finite y && finite z)) ≡ false → z ≡ fused x y z
+pub fused_addend : (x y z : Float) → (finite x && finite y) ≡ true → (finite x && (finite y && finite z)) ≡ false → z ≡ fused x y z
 unfolding fused
-fused-addend nan y z h k = absurd (false≢true h)
-fused-addend (inf s) y z h k = absurd (false≢true h)
-fused-addend (fin s m e) nan z h k = absurd (false≢true h)
-fused-addend (fin s m e) (inf t) z h k = absurd (false≢true h)
-fused-addend (fin s m e) (fin t n d) nan h k = refl
-fused-addend (fin s m e) (fin t n d) (inf u) h k = refl
-fused-addend (fin s m e) (fin t n d) (fin u l g) h k = absurd (true≢false k)
+fused_addend nan y z h k = absurd (false≢true h)
+fused_addend (inf s) y z h k = absurd (false≢true h)
+fused_addend (fin s m e) nan z h k = absurd (false≢true h)
+fused_addend (fin s m e) (inf t) z h k = absurd (false≢true h)
+fused_addend (fin s m e) (fin t n d) nan h k = refl
+fused_addend (fin s m e) (fin t n d) (inf u) h k = refl
+fused_addend (fin s m e) (fin t n d) (fin u l g) h k = absurd (true≢false k)
 
 -- the finite case, at the fractions that the values equal
-pub fused-finite : (x y z : Float) (s t u : Bool) (a b k c e g j : ℕ) → HasValue x s a c → HasValue y t b c → HasValue z u k c → 0 < c → 0 < j → e * (c * c) ≡ a * b * j → g * c ≡ k * j
+pub fused_finite : (x y z : Float) (s t u : Bool) (a b k c e g j : ℕ) → HasValue x s a c → HasValue y t b c → HasValue z u k c → 0 < c → 0 < j → e * (c * c) ≡ a * b * j → g * c ≡ k * j
     → sum binary64 (unlike s t) e u g j ≡ fused x y z
 unfolding fused
-fused-finite (fin s' m p) (fin t' n q) (fin u' l o) s t u a b k c e g j hx hy hz C J E G =
+fused_finite (fin s' m p) (fin t' n q) (fin u' l o) s t u a b k c e g j hx hy hz C J E G =
     let X = m * up p in
     let Y = n * up q in
     let Z = l * up o in
@@ -230,8 +230,8 @@ fused-finite (fin s' m p) (fin t' n q) (fin u' l o) s t u a b k c e g j hx hy hz
     go4 k O R j = simp (mul_assoc, mul_comm, mul_left_comm)
 
 -- ---- the scales of `mul_add`
-pub scale-product : (m n d e x y z : ℕ) → x + (y + y) ≡ z → m * n * 2 ^ (d + e + x) * (2 ^ y * 2 ^ y) ≡ m * 2 ^ d * (n * 2 ^ e) * 2 ^ z
-scale-product m n d e x y z h =
+pub scale_product : (m n d e x y z : ℕ) → x + (y + y) ≡ z → m * n * 2 ^ (d + e + x) * (2 ^ y * 2 ^ y) ≡ m * 2 ^ d * (n * 2 ^ e) * 2 ^ z
+scale_product m n d e x y z h =
     ap (λ (u : ℕ). m * n * 2 ^ (d + e + x) * u) (sym (pow-add 2 y y))
     ∙ mul_assoc (m * n) (2 ^ (d + e + x)) (2 ^ (y + y))
     ∙ ap (λ (u : ℕ). m * n * u) (sym (pow-add 2 (d + e + x) (y + y)) ∙ ap (λ (u : ℕ). 2 ^ u) (at d e x y z h) ∙ pow-add 2 (d + e) z ∙ ap (λ (u : ℕ). u * 2 ^ z) (pow-add 2 d e))
@@ -241,8 +241,8 @@ scale-product m n d e x y z h =
     at : (d e x y z : ℕ) → x + (y + y) ≡ z → d + e + x + (y + y) ≡ d + e + z
     at d e x y z h = omega arith
 
-pub scale-addend : (k g x y z : ℕ) → x + y ≡ z → k * 2 ^ (g + x) * 2 ^ y ≡ k * 2 ^ g * 2 ^ z
-scale-addend k g x y z h =
+pub scale_addend : (k g x y z : ℕ) → x + y ≡ z → k * 2 ^ (g + x) * 2 ^ y ≡ k * 2 ^ g * 2 ^ z
+scale_addend k g x y z h =
     mul_assoc k (2 ^ (g + x)) (2 ^ y)
     ∙ ap (λ (u : ℕ). k * u) (sym (pow-add 2 (g + x) y) ∙ ap (λ (u : ℕ). 2 ^ u) (at g x y z h) ∙ pow-add 2 g z)
     ∙ sym (mul_assoc k (2 ^ g) (2 ^ z))

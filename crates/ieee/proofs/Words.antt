@@ -8,10 +8,10 @@ use lib.Pow.{pow-lt}
 use lib.Count.{count_leading_zeros, leading_top}
 use lib.Ieee.{Format, prec, round}
 use lib.Ieee.Scale.{round_same}
-use Rattle.ieee.proofs.Pack.{le-or-lt, before-next}
+use Rattle.ieee.proofs.Pack.{le_or_lt, before_next}
 use Rattle.ieee.specs.Internal.{wide, Sticky, stuck, jammed}
-use Rattle.ieee.proofs.Sticky.{round-sticky}
-use Rattle.ieee.proofs.Steps.{flag-yes, flag-no, normal-form}
+use Rattle.ieee.proofs.Sticky.{round_sticky}
+use Rattle.ieee.proofs.Steps.{flag_yes, flag_no, normal_form}
 
 -- ---- the sticky bit
 pub none_left : (q r : ℕ) → r ≡ 0 → stuck q r ≡ q
@@ -50,13 +50,13 @@ stuck-twice q r s = elim (zero_or r) [
     still q = omega arith
 
 -- with no branch
-pub stick-flat : (q : ℕ) (b : Bool) → q + (1 - q % 2) * bool_byte (not b) ≡ q + cond b 0 (1 - q % 2)
-stick-flat q true = omega arith
-stick-flat q false = ap (λ (x : ℕ). q + x) (mul-one (1 - q % 2))
+pub stick_flat : (q : ℕ) (b : Bool) → q + (1 - q % 2) * bool_byte (not b) ≡ q + cond b 0 (1 - q % 2)
+stick_flat q true = omega arith
+stick_flat q false = ap (λ (x : ℕ). q + x) (mul-one (1 - q % 2))
 
-pub stick-fits : (q : ℕ) (b : Bool) → q < 2 ^ 64 → ((1 - q % 2) * bool_byte b < 2 ^ 64) × (q + (1 - q % 2) * bool_byte b < 2 ^ 64)
-stick-fits q true h = (omega arith, omega arith)
-stick-fits q false h = (omega arith, omega arith)
+pub stick_fits : (q : ℕ) (b : Bool) → q < 2 ^ 64 → ((1 - q % 2) * bool_byte b < 2 ^ 64) × (q + (1 - q % 2) * bool_byte b < 2 ^ 64)
+stick_fits q true h = (omega arith, omega arith)
+stick_fits q false h = (omega arith, omega arith)
 
 -- nothing is cut off
 pub whole_back : (v m : ℕ) → v % m ≡ 0 → v / m * m ≡ v
@@ -66,8 +66,8 @@ pub jammed-exact : (v m : ℕ) → v % m ≡ 0 → jammed v m * m ≡ v
 jammed-exact v m z = ap (λ (x : ℕ). x * m) (none_left (v / m) (v % m) z) ∙ whole_back v m z
 
 -- a cut number with its sticky bit sticks
-pub jammed-sticks : (v m : ℕ) → 0 < m → Sticky (jammed v m) v m
-jammed-sticks v m M = elim (zero_or (v % m)) [
+pub jammed_sticks : (v m : ℕ) → 0 < m → Sticky (jammed v m) v m
+jammed_sticks v m M = elim (zero_or (v % m)) [
   | inl z ↦ inl (jammed-exact v m z)
   | inr n ↦
       let o = over (v / m) (v % m) (div-add-mod' v m) n (mod-lt v M) in
@@ -115,8 +115,8 @@ same-zero hi lo M P = (
     no : (r s : ℕ) → 0 < r → r + s ≡ 0 → ⊥
     no r s p e = omega arith
 
-pub jam-all : (hi lo k s t : ℕ) → hi < 2 ^ 64 → lo < 2 ^ 64 → 128 ≤ k → s ≡ stuck 0 hi → t ≡ stuck s lo → wide 0 t ≡ jammed (wide hi lo) (2 ^ k)
-jam-all hi lo k s t a b h e f =
+pub jam_all : (hi lo k s t : ℕ) → hi < 2 ^ 64 → lo < 2 ^ 64 → 128 ≤ k → s ≡ stuck 0 hi → t ≡ stuck s lo → wide 0 t ≡ jammed (wide hi lo) (2 ^ k)
+jam_all hi lo k s t a b h e f =
     let v = wide hi lo in
     let l : v < 2 ^ k = lt_of_lt_of_le (digits_lt a b) (pow_mono h) in
     let z = same-zero hi lo (2 ^ 64) (pow_pos 64) in
@@ -127,8 +127,8 @@ jam-all hi lo k s t a b h e f =
 pub one_shifted : (n : ℕ) → n < 64 → 1 * 2 ^ n % 2 ^ 64 ≡ 2 ^ n
 one_shifted n h = ap (λ (x : ℕ). x % 2 ^ 64) (one-mul (2 ^ n)) ∙ mod-eq_of_lt (pow-lt h)
 
-pub jam-high : (hi lo n k s t : ℕ) → hi < 2 ^ 64 → lo < 2 ^ 64 → k ≡ n + 64 → s ≡ stuck (hi / 2 ^ n) (hi % 2 ^ n) → t ≡ stuck s lo → wide 0 t ≡ jammed (wide hi lo) (2 ^ k)
-jam-high hi lo n k s t a b h e f =
+pub jam_high : (hi lo n k s t : ℕ) → hi < 2 ^ 64 → lo < 2 ^ 64 → k ≡ n + 64 → s ≡ stuck (hi / 2 ^ n) (hi % 2 ^ n) → t ≡ stuck s lo → wide 0 t ≡ jammed (wide hi lo) (2 ^ k)
+jam_high hi lo n k s t a b h e f =
     let v = wide hi lo in
     let p : 2 ^ k ≡ 2 ^ n * 2 ^ 64 = ap (λ (x : ℕ). 2 ^ x) h ∙ pow-add 2 n 64 in
     let top : v / 2 ^ 64 ≡ hi = digits_div hi b in
@@ -156,8 +156,8 @@ module _ (hi lo k : ℕ) (a : hi < 2 ^ 64) (b : lo < 2 ^ 64) (h : k < 64) where
       ∙ ap (λ (x : ℕ). hi % 2 ^ k * 2 ^ (64 - k) + x) (mul-mod_left hi (2 ^ (64 - k)))
       ∙ add-zero (hi % 2 ^ k * 2 ^ (64 - k))
 
-  pub joined-lt : hi * 2 ^ (64 - k) % 2 ^ 64 + lo / 2 ^ k < 2 ^ 64
-  joined-lt =
+  pub joined_lt : hi * 2 ^ (64 - k) % 2 ^ 64 + lo / 2 ^ k < 2 ^ 64
+  joined_lt =
       subst (λ (x : ℕ). x + lo / 2 ^ k < 2 ^ 64) (sym shifted)
       (subst (λ (x : ℕ). hi % 2 ^ k * 2 ^ (64 - k) + lo / 2 ^ k < x) up
       (digits_lt (mod-lt hi (pow_pos k)) (shr_lt (64 - k) k (subst (λ (x : ℕ). lo < 2 ^ x) (back k h) b))))
@@ -181,8 +181,8 @@ module _ (hi lo k : ℕ) (a : hi < 2 ^ 64) (b : lo < 2 ^ 64) (h : k < 64) where
       ap (λ (x : ℕ). x % 2 ^ k) (ap (λ (x : ℕ). x + lo) (ap (λ (x : ℕ). hi * x) (sym up ∙ mul_comm (2 ^ k) (2 ^ (64 - k))) ∙ sym (mul_assoc hi (2 ^ (64 - k)) (2 ^ k))))
       ∙ mul-add-mod_self_right (hi * 2 ^ (64 - k)) (2 ^ k) lo
 
-  pub jam-low : (s : ℕ) → s ≡ stuck (hi * 2 ^ (64 - k) % 2 ^ 64 + lo / 2 ^ k) (lo % 2 ^ k) → wide (hi / 2 ^ k) s ≡ jammed (wide hi lo) (2 ^ k)
-  jam-low s e =
+  pub jam_low : (s : ℕ) → s ≡ stuck (hi * 2 ^ (64 - k) % 2 ^ 64 + lo / 2 ^ k) (lo % 2 ^ k) → wide (hi / 2 ^ k) s ≡ jammed (wide hi lo) (2 ^ k)
+  jam_low s e =
       let l = hi * 2 ^ (64 - k) % 2 ^ 64 + lo / 2 ^ k in
       ap (λ (x : ℕ). hi / 2 ^ k * 2 ^ 64 + x) e
       ∙ above (hi / 2 ^ k * 2 ^ 64) l (cond (eqb (lo % 2 ^ k) 0) 0 (1 - l % 2)) (cond (eqb (lo % 2 ^ k) 0) 0 (1 - (hi / 2 ^ k * 2 ^ 64 + l) % 2)) (ap (λ (x : ℕ). cond (eqb (lo % 2 ^ k) 0) 0 (1 - x)) (even (hi / 2 ^ k) l))
@@ -200,13 +200,13 @@ pub picked-wide : (u : Bool) (ah al bh bl hi lo : ℕ) → hi ≡ cond u ah bh �
 picked-wide true ah al bh bl hi lo e f = ap (λ (x : ℕ). wide x lo) e ∙ ap (wide ah) f
 picked-wide false ah al bh bl hi lo e f = ap (λ (x : ℕ). wide x lo) e ∙ ap (wide bh) f
 
-pub picked-lt : (u : Bool) (x y n m : ℕ) → n ≡ cond u x y → x < m → y < m → n < m
-picked-lt true x y n m e a b = lt_of_le_of_lt (le_of_eq e) a
-picked-lt false x y n m e a b = lt_of_le_of_lt (le_of_eq e) b
+pub picked_lt : (u : Bool) (x y n m : ℕ) → n ≡ cond u x y → x < m → y < m → n < m
+picked_lt true x y n m e a b = lt_of_le_of_lt (le_of_eq e) a
+picked_lt false x y n m e a b = lt_of_le_of_lt (le_of_eq e) b
 
-pub picked-le : (u : Bool) (a b : ℕ) → u ≡ ltb a b → cond u a b ≤ cond u b a
-picked-le true a b e = le_of_lt (ltb→lt a b (subst T e tt))
-picked-le false a b e = nltb→le a b (subst (λ (x : Bool). T (not x)) e tt)
+pub picked_le : (u : Bool) (a b : ℕ) → u ≡ ltb a b → cond u a b ≤ cond u b a
+picked_le true a b e = le_of_lt (ltb→lt a b (subst T e tt))
+picked_le false a b e = nltb→le a b (subst (λ (x : Bool). T (not x)) e tt)
 
 -- both ways give the sum, or the difference
 pub picked-size : (like u : Bool) (a b : ℕ) → cond like (cond u b a + cond u a b) (cond u b a - cond u a b) ≡ cond like (a + b) (cond u (b - a) (a - b))
@@ -216,8 +216,8 @@ picked-size false true a b = refl
 picked-size false false a b = refl
 
 -- ---- `shifted`
-pub shifted-is : (v t : ℕ) → t < 64 → wide (v / 2 / 2 ^ (63 - t)) (v * 2 ^ t % 2 ^ 64) ≡ v * 2 ^ t
-shifted-is v t l =
+pub shifted_is : (v t : ℕ) → t < 64 → wide (v / 2 / 2 ^ (63 - t)) (v * 2 ^ t % 2 ^ 64) ≡ v * 2 ^ t
+shifted_is v t l =
     ap (λ (x : ℕ). x * 2 ^ 64 + v * 2 ^ t % 2 ^ 64)
     (div-div-eq-div-mul v 2 (2 ^ (63 - t))
     ∙ div_same v (2 * 2 ^ (63 - t)) (v * 2 ^ t) (2 ^ 64) (mul-pos (zero-lt-suc 1) (pow_pos (63 - t))) (pow_pos 64)
@@ -230,27 +230,27 @@ shifted-is v t l =
 half : (v : ℕ) → v < 2 ^ 64 → v / 2 < 2 ^ 63
 half v h = omega arith
 
-pub shifted-high : (v t : ℕ) → v < 2 ^ 64 → t < 63 → v / 2 / 2 ^ (63 - t) < 2 ^ 62
-shifted-high v t h l = shr_lt 62 (63 - t) (lt_of_lt_of_le (half v h) (pow_mono (far t l)))
+pub shifted_high : (v t : ℕ) → v < 2 ^ 64 → t < 63 → v / 2 / 2 ^ (63 - t) < 2 ^ 62
+shifted_high v t h l = shr_lt 62 (63 - t) (lt_of_lt_of_le (half v h) (pow_mono (far t l)))
   where
     far : (t : ℕ) → t < 63 → 63 ≤ 62 + (63 - t)
     far t l = omega arith
 
 -- ---- the difference of two numbers, word by word
-pub less-high : (ah al bh bl M : ℕ) → bh * M + bl ≤ ah * M + al → al < bl → bh < ah
-less-high ah al bh bl M h l = elim (le-or-lt ah bh) [ inl g ↦ absurd (no (ah * M) al (bh * M) bl h l (mul-le-mul_right M g)) | inr g ↦ g ]
+pub less_high : (ah al bh bl M : ℕ) → bh * M + bl ≤ ah * M + al → al < bl → bh < ah
+less_high ah al bh bl M h l = elim (le_or_lt ah bh) [ inl g ↦ absurd (no (ah * M) al (bh * M) bl h l (mul-le-mul_right M g)) | inr g ↦ g ]
   where
     no : (x al y bl : ℕ) → y + bl ≤ x + al → al < bl → x ≤ y → ⊥
     no x al y bl h l g = omega arith
 
-pub at-most-high : (ah al bh bl M : ℕ) → bh * M + bl ≤ ah * M + al → al < M → bh ≤ ah
-at-most-high ah al bh bl M h l = elim (le-or-lt bh ah) [ inl g ↦ g | inr g ↦ absurd (no (ah * M) al (bh * M) bl M h l (le_trans (le_of_eq (sym (suc-mul ah M))) (mul-le-mul_right M g))) ]
+pub at_most_high : (ah al bh bl M : ℕ) → bh * M + bl ≤ ah * M + al → al < M → bh ≤ ah
+at_most_high ah al bh bl M h l = elim (le_or_lt bh ah) [ inl g ↦ g | inr g ↦ absurd (no (ah * M) al (bh * M) bl M h l (le_trans (le_of_eq (sym (suc-mul ah M))) (mul-le-mul_right M g))) ]
   where
     no : (x al y bl M : ℕ) → y + bl ≤ x + al → al < M → x + M ≤ y → ⊥
     no x al y bl M h l g = omega arith
 
-pub with-borrow : (ah al bh bl M : ℕ) → bh < ah → al < bl → bl < M → (ah - bh - 1) * M + (M - 1 - bl + al + 1) ≡ ah * M + al - (bh * M + bl)
-with-borrow ah al bh bl M h l g =
+pub with_borrow : (ah al bh bl M : ℕ) → bh < ah → al < bl → bl < M → (ah - bh - 1) * M + (M - 1 - bl + al + 1) ≡ ah * M + al - (bh * M + bl)
+with_borrow ah al bh bl M h l g =
     let x = ah - bh - 1 in
     all (ah * M) (bh * M) (x * M) al bl M (ap (λ (y : ℕ). y * M) (whole ah bh h) ∙ add-mul (bh + 1) x M ∙ ap (λ (y : ℕ). y + x * M) (add-mul bh 1 M ∙ ap (λ (y : ℕ). bh * M + y) (one-mul M))) l g
   where
@@ -284,11 +284,11 @@ carries p al bl = bool_byte (ltb ((al + flipped p bl) % 2 ^ 64) (flipped p bl)) 
 words : (h h' l l' : ℕ) → h ≡ h' → l ≡ l' → wide h l ≡ wide h' l'
 words h h' l l' e f = ap (λ (x : ℕ). wide x l) e ∙ ap (wide h') f
 
-pub combined-is : (p : Bool) (ah al bh bl : ℕ) → ah < 2 ^ 63 → al < 2 ^ 64 → bh < 2 ^ 63 → bl < 2 ^ 64 → wide bh bl ≤ wide ah al
+pub combined_is : (p : Bool) (ah al bh bl : ℕ) → ah < 2 ^ 63 → al < 2 ^ 64 → bh < 2 ^ 63 → bl < 2 ^ 64 → wide bh bl ≤ wide ah al
     → wide (((ah + flipped p bh) % 2 ^ 64 + carries p al bl) % 2 ^ 64) (low_word p al bl) ≡ cond p (wide ah al + wide bh bl) (wide ah al - wide bh bl)
-combined-is true ah al bh bl a b d e h = elim (le-or-lt (2 ^ 64) (al + bl)) [
-  | inl g ↦ words _ (ah + bh + 1) _ (al + bl - 2 ^ 64) (ap (λ (x : ℕ). ((ah + bh) % 2 ^ 64 + x) % 2 ^ 64) (full g) ∙ more ah bh 1 a d (lit≤ tt)) (over al bl b e g) ∙ carry-in ah al bh bl g
-  | inr g ↦ words _ (ah + bh + 0) _ (al + bl) (ap (λ (x : ℕ). ((ah + bh) % 2 ^ 64 + x) % 2 ^ 64) (empty g) ∙ more ah bh 0 a d (lit≤ tt)) (within al bl g) ∙ carry-none ah al bh bl
+combined_is true ah al bh bl a b d e h = elim (le_or_lt (2 ^ 64) (al + bl)) [
+  | inl g ↦ words _ (ah + bh + 1) _ (al + bl - 2 ^ 64) (ap (λ (x : ℕ). ((ah + bh) % 2 ^ 64 + x) % 2 ^ 64) (full g) ∙ more ah bh 1 a d (lit≤ tt)) (over al bl b e g) ∙ carry_in ah al bh bl g
+  | inr g ↦ words _ (ah + bh + 0) _ (al + bl) (ap (λ (x : ℕ). ((ah + bh) % 2 ^ 64 + x) % 2 ^ 64) (empty g) ∙ more ah bh 0 a d (lit≤ tt)) (within al bl g) ∙ carry_none ah al bh bl
 ]
   where
     more : (x y k : ℕ) → x < 2 ^ 63 → y < 2 ^ 63 → k ≤ 1 → ((x + y) % 2 ^ 64 + k) % 2 ^ 64 ≡ x + y + k
@@ -302,8 +302,8 @@ combined-is true ah al bh bl a b d e h = elim (le-or-lt (2 ^ 64) (al + bl)) [
 
     full : 2 ^ 64 ≤ al + bl → carries true al bl ≡ 1
     full g =
-        let x : bool_byte (ltb ((al + bl) % 2 ^ 64) bl) ≡ 1 = flag-yes ((al + bl) % 2 ^ 64) bl (less al bl b e g) in
-        let y : bool_byte (ltb (low_word true al bl) 0) ≡ 0 = flag-no (low_word true al bl) 0 zero-le in
+        let x : bool_byte (ltb ((al + bl) % 2 ^ 64) bl) ≡ 1 = flag_yes ((al + bl) % 2 ^ 64) bl (less al bl b e g) in
+        let y : bool_byte (ltb (low_word true al bl) 0) ≡ 0 = flag_no (low_word true al bl) 0 zero-le in
         ap (λ (u : ℕ). u + bool_byte (ltb (low_word true al bl) 0)) x ∙ ap (λ (u : ℕ). 1 + u) y
       where
         less : (x y : ℕ) → x < 2 ^ 64 → y < 2 ^ 64 → 2 ^ 64 ≤ x + y → (x + y) % 2 ^ 64 < y
@@ -311,27 +311,27 @@ combined-is true ah al bh bl a b d e h = elim (le-or-lt (2 ^ 64) (al + bl)) [
 
     empty : al + bl < 2 ^ 64 → carries true al bl ≡ 0
     empty g =
-        let x : bool_byte (ltb ((al + bl) % 2 ^ 64) bl) ≡ 0 = flag-no ((al + bl) % 2 ^ 64) bl (at_least al bl g) in
-        let y : bool_byte (ltb (low_word true al bl) 0) ≡ 0 = flag-no (low_word true al bl) 0 zero-le in
+        let x : bool_byte (ltb ((al + bl) % 2 ^ 64) bl) ≡ 0 = flag_no ((al + bl) % 2 ^ 64) bl (at_least al bl g) in
+        let y : bool_byte (ltb (low_word true al bl) 0) ≡ 0 = flag_no (low_word true al bl) 0 zero-le in
         ap (λ (u : ℕ). u + bool_byte (ltb (low_word true al bl) 0)) x ∙ ap (λ (u : ℕ). 0 + u) y
       where
         at_least : (x y : ℕ) → x + y < 2 ^ 64 → y ≤ (x + y) % 2 ^ 64
         at_least x y g = omega arith
 
-    carry-in : (ah al bh bl : ℕ) → 2 ^ 64 ≤ al + bl → (ah + bh + 1) * 2 ^ 64 + (al + bl - 2 ^ 64) ≡ ah * 2 ^ 64 + al + (bh * 2 ^ 64 + bl)
-    carry-in ah al bh bl g = omega arith
+    carry_in : (ah al bh bl : ℕ) → 2 ^ 64 ≤ al + bl → (ah + bh + 1) * 2 ^ 64 + (al + bl - 2 ^ 64) ≡ ah * 2 ^ 64 + al + (bh * 2 ^ 64 + bl)
+    carry_in ah al bh bl g = omega arith
 
-    carry-none : (ah al bh bl : ℕ) → (ah + bh + 0) * 2 ^ 64 + (al + bl) ≡ ah * 2 ^ 64 + al + (bh * 2 ^ 64 + bl)
-    carry-none ah al bh bl = omega arith
-combined-is false ah al bh bl a b d e h = elim (le-or-lt bl al) [
+    carry_none : (ah al bh bl : ℕ) → (ah + bh + 0) * 2 ^ 64 + (al + bl) ≡ ah * 2 ^ 64 + al + (bh * 2 ^ 64 + bl)
+    carry_none ah al bh bl = omega arith
+combined_is false ah al bh bl a b d e h = elim (le_or_lt bl al) [
   | inl g ↦
-      let k = at-most-high ah al bh bl (2 ^ 64) h b in
-      words _ (ah - bh) _ (al - bl) (ap (λ (x : ℕ). ((ah + (2 ^ 64 - 1 - bh)) % 2 ^ 64 + x) % 2 ^ 64) (one-carry g) ∙ less_one ah bh (under ah a) (under bh d) k) (less_one al bl b e g)
+      let k = at_most_high ah al bh bl (2 ^ 64) h b in
+      words _ (ah - bh) _ (al - bl) (ap (λ (x : ℕ). ((ah + (2 ^ 64 - 1 - bh)) % 2 ^ 64 + x) % 2 ^ 64) (one_carry g) ∙ less_one ah bh (under ah a) (under bh d) k) (less_one al bl b e g)
       ∙ no_borrow ah al bh bl (2 ^ 64) k g
   | inr g ↦
-      let k = less-high ah al bh bl (2 ^ 64) h g in
-      words _ (ah - bh - 1) _ (2 ^ 64 - 1 - bl + al + 1) (ap (λ (x : ℕ). ((ah + (2 ^ 64 - 1 - bh)) % 2 ^ 64 + x) % 2 ^ 64) (no-carry g) ∙ less_two ah bh (under ah a) (under bh d) k) (wrapped al bl e g)
-      ∙ with-borrow ah al bh bl (2 ^ 64) k g e
+      let k = less_high ah al bh bl (2 ^ 64) h g in
+      words _ (ah - bh - 1) _ (2 ^ 64 - 1 - bl + al + 1) (ap (λ (x : ℕ). ((ah + (2 ^ 64 - 1 - bh)) % 2 ^ 64 + x) % 2 ^ 64) (no_carry g) ∙ less_two ah bh (under ah a) (under bh d) k) (wrapped al bl e g)
+      ∙ with_borrow ah al bh bl (2 ^ 64) k g e
 ]
   where
     under : (x : ℕ) → x < 2 ^ 63 → x < 2 ^ 64
@@ -347,14 +347,14 @@ combined-is false ah al bh bl a b d e h = elim (le-or-lt bl al) [
     wrapped x y b g = omega arith
 
     -- where there is no borrow there is one carry, from the one addition or the other
-    one-carry : bl ≤ al → carries false al bl ≡ 1
-    one-carry g = elim (le-or-lt al bl) [
+    one_carry : bl ≤ al → carries false al bl ≡ 1
+    one_carry g = elim (le_or_lt al bl) [
       | inl l ↦
-          let x : bool_byte (ltb ((al + (2 ^ 64 - 1 - bl)) % 2 ^ 64) (2 ^ 64 - 1 - bl)) ≡ 0 = flag-no ((al + (2 ^ 64 - 1 - bl)) % 2 ^ 64) (2 ^ 64 - 1 - bl) (same al bl e l g) in
-          ap (λ (u : ℕ). u + bool_byte (ltb (low_word false al bl) 1)) x ∙ ap (λ (u : ℕ). 0 + u) (flag-yes (low_word false al bl) 1 (nil al bl e l g))
+          let x : bool_byte (ltb ((al + (2 ^ 64 - 1 - bl)) % 2 ^ 64) (2 ^ 64 - 1 - bl)) ≡ 0 = flag_no ((al + (2 ^ 64 - 1 - bl)) % 2 ^ 64) (2 ^ 64 - 1 - bl) (same al bl e l g) in
+          ap (λ (u : ℕ). u + bool_byte (ltb (low_word false al bl) 1)) x ∙ ap (λ (u : ℕ). 0 + u) (flag_yes (low_word false al bl) 1 (nil al bl e l g))
       | inr l ↦
-          let x : bool_byte (ltb ((al + (2 ^ 64 - 1 - bl)) % 2 ^ 64) (2 ^ 64 - 1 - bl)) ≡ 1 = flag-yes ((al + (2 ^ 64 - 1 - bl)) % 2 ^ 64) (2 ^ 64 - 1 - bl) (past al bl b l) in
-          ap (λ (u : ℕ). u + bool_byte (ltb (low_word false al bl) 1)) x ∙ ap (λ (u : ℕ). 1 + u) (flag-no (low_word false al bl) 1 (some al bl b l))
+          let x : bool_byte (ltb ((al + (2 ^ 64 - 1 - bl)) % 2 ^ 64) (2 ^ 64 - 1 - bl)) ≡ 1 = flag_yes ((al + (2 ^ 64 - 1 - bl)) % 2 ^ 64) (2 ^ 64 - 1 - bl) (past al bl b l) in
+          ap (λ (u : ℕ). u + bool_byte (ltb (low_word false al bl) 1)) x ∙ ap (λ (u : ℕ). 1 + u) (flag_no (low_word false al bl) 1 (some al bl b l))
     ]
       where
         same : (x y : ℕ) → y < 2 ^ 64 → x ≤ y → y ≤ x → 2 ^ 64 - 1 - y ≤ (x + (2 ^ 64 - 1 - y)) % 2 ^ 64
@@ -369,10 +369,10 @@ combined-is false ah al bh bl a b d e h = elim (le-or-lt bl al) [
         some : (x y : ℕ) → x < 2 ^ 64 → y < x → 1 ≤ ((x + (2 ^ 64 - 1 - y)) % 2 ^ 64 + 1) % 2 ^ 64
         some x y a l = omega arith
 
-    no-carry : al < bl → carries false al bl ≡ 0
-    no-carry l =
-        let x : bool_byte (ltb ((al + (2 ^ 64 - 1 - bl)) % 2 ^ 64) (2 ^ 64 - 1 - bl)) ≡ 0 = flag-no ((al + (2 ^ 64 - 1 - bl)) % 2 ^ 64) (2 ^ 64 - 1 - bl) (at_least al bl e l) in
-        ap (λ (u : ℕ). u + bool_byte (ltb (low_word false al bl) 1)) x ∙ ap (λ (u : ℕ). 0 + u) (flag-no (low_word false al bl) 1 (some al bl e l))
+    no_carry : al < bl → carries false al bl ≡ 0
+    no_carry l =
+        let x : bool_byte (ltb ((al + (2 ^ 64 - 1 - bl)) % 2 ^ 64) (2 ^ 64 - 1 - bl)) ≡ 0 = flag_no ((al + (2 ^ 64 - 1 - bl)) % 2 ^ 64) (2 ^ 64 - 1 - bl) (at_least al bl e l) in
+        ap (λ (u : ℕ). u + bool_byte (ltb (low_word false al bl) 1)) x ∙ ap (λ (u : ℕ). 0 + u) (flag_no (low_word false al bl) 1 (some al bl e l))
       where
         at_least : (x y : ℕ) → y < 2 ^ 64 → x < y → 2 ^ 64 - 1 - y ≤ (x + (2 ^ 64 - 1 - y)) % 2 ^ 64
         at_least x y b l = omega arith
@@ -391,8 +391,8 @@ pub record HalvesFit (a b : ℕ) : Type 0 where
   pub top : a / 2 ^ 32 * (b / 2 ^ 32) < 2 ^ 64
   pub high : a / 2 ^ 32 * (b / 2 ^ 32) + (a % 2 ^ 32 * (b / 2 ^ 32) + a / 2 ^ 32 * (b % 2 ^ 32) + a % 2 ^ 32 * (b % 2 ^ 32) / 2 ^ 32) / 2 ^ 32 < 2 ^ 64
 
-pub halves-fit : (a b : ℕ) → a < 2 ^ 63 → b < 2 ^ 63 → HalvesFit a b
-halves-fit a b h k =
+pub halves_fit : (a b : ℕ) → a < 2 ^ 63 → b < 2 ^ 63 → HalvesFit a b
+halves_fit a b h k =
     let x = halves a h in
     let y = halves b k in
     sums (mul-le-mul x.0 y.0) (mul-le-mul x.0 y.1) (mul-le-mul x.1 y.0) (mul-le-mul x.1 y.1)
@@ -495,55 +495,55 @@ module _ (hi lo : ℕ) (H : 0 < hi) (a : hi < 2 ^ 64) (b : lo < 2 ^ 64) where
   place : (j : ℕ) × (z + suc j ≡ 64) × (2 ^ j ≤ hi) × (hi < 2 ^ suc j)
   place = leading_top 64 hi H a
 
-  pub lead-room : z < 64
-  lead-room = suc-le-suc (normal-form hi H a).room
+  pub lead_room : z < 64
+  lead_room = suc-le-suc (normal_form hi H a).room
 
   abbrev low : ℕ
   low = lo / 2 / 2 ^ (63 - z)
 
-  low-lt : low < 2 ^ z
-  low-lt = shr_lt z (63 - z) (lt_of_lt_of_le (half lo b) (pow_mono (far z lead-room)))
+  low_lt : low < 2 ^ z
+  low_lt = shr_lt z (63 - z) (lt_of_lt_of_le (half lo b) (pow_mono (far z lead_room)))
     where
       far : (z : ℕ) → z < 64 → 63 ≤ z + (63 - z)
       far z l = omega arith
 
   under : hi * 2 ^ z + low < 2 ^ 64
-  under = subst (λ (x : ℕ). hi * 2 ^ z + low < x) (sym (pow-add 2 (suc place.0) z) ∙ ap (λ (x : ℕ). 2 ^ x) (add_comm (suc place.0) z ∙ place.1)) (digits_lt place.3 low-lt)
+  under = subst (λ (x : ℕ). hi * 2 ^ z + low < x) (sym (pow-add 2 (suc place.0) z) ∙ ap (λ (x : ℕ). 2 ^ x) (add_comm (suc place.0) z ∙ place.1)) (digits_lt place.3 low_lt)
 
   plain : hi * 2 ^ z % 2 ^ 64 ≡ hi * 2 ^ z
-  plain = mod-eq_of_lt (le-lt (hi * 2 ^ z) low (2 ^ 64) under)
+  plain = mod-eq_of_lt (le_lt (hi * 2 ^ z) low (2 ^ 64) under)
     where
-      le-lt : (x y m : ℕ) → x + y < m → x < m
-      le-lt x y m h = omega arith
+      le_lt : (x y m : ℕ) → x + y < m → x < m
+      le_lt x y m h = omega arith
 
-  pub lead-fits : hi * 2 ^ z % 2 ^ 64 + low < 2 ^ 64
-  lead-fits = subst (λ (x : ℕ). x + low < 2 ^ 64) (sym plain) under
+  pub lead_fits : hi * 2 ^ z % 2 ^ 64 + low < 2 ^ 64
+  lead_fits = subst (λ (x : ℕ). x + low < 2 ^ 64) (sym plain) under
 
-  pub lead-top : 2 ^ 63 ≤ hi * 2 ^ z % 2 ^ 64 + low
-  lead-top =
+  pub lead_top : 2 ^ 63 ≤ hi * 2 ^ z % 2 ^ 64 + low
+  lead_top =
       subst (λ (x : ℕ). 2 ^ 63 ≤ x + low) (sym plain)
-      (le_trans (normal-form hi H a).low (le-add_right (hi * 2 ^ z) low))
+      (le_trans (normal_form hi H a).low (le-add_right (hi * 2 ^ z) low))
 
   moved : (hi * 2 ^ z % 2 ^ 64 + low) * 2 ^ 64 + lo * 2 ^ z % 2 ^ 64 ≡ wide hi lo * 2 ^ z
   moved =
       ap (λ (x : ℕ). (x + low) * 2 ^ 64 + lo * 2 ^ z % 2 ^ 64) plain
       ∙ ap (λ (x : ℕ). x + lo * 2 ^ z % 2 ^ 64) (add-mul (hi * 2 ^ z) low (2 ^ 64))
       ∙ add_assoc (hi * 2 ^ z * 2 ^ 64) (low * 2 ^ 64) (lo * 2 ^ z % 2 ^ 64)
-      ∙ ap (λ (x : ℕ). hi * 2 ^ z * 2 ^ 64 + x) (shifted-is lo z lead-room)
+      ∙ ap (λ (x : ℕ). hi * 2 ^ z * 2 ^ 64 + x) (shifted_is lo z lead_room)
       ∙ ap (λ (x : ℕ). x + lo * 2 ^ z) (mul_right_comm hi (2 ^ z) (2 ^ 64))
       ∙ sym (add-mul (hi * 2 ^ 64) lo (2 ^ z))
 
   sticks : Sticky (2 * (hi * 2 ^ z % 2 ^ 64 + low) + bool_byte (not (eqb (lo * 2 ^ z % 2 ^ 64) 0))) (wide hi lo * 2 ^ z * 2) (2 ^ 64)
   sticks = goes_on (hi * 2 ^ z % 2 ^ 64 + low) (lo * 2 ^ z % 2 ^ 64) (wide hi lo * 2 ^ z) (2 ^ 64) moved (mod-lt (lo * 2 ^ z) (pow_pos 64))
 
-  pub wide-round : (f : Format) (s : Bool) (t j : ℕ) → suc (prec f) ≤ 64
+  pub wide_round : (f : Format) (s : Bool) (t j : ℕ) → suc (prec f) ≤ 64
       → round f s ((2 * (hi * 2 ^ z % 2 ^ 64 + low) + bool_byte (not (eqb (lo * 2 ^ z % 2 ^ 64) 0))) * 2 ^ (t + 128 - z)) (2 ^ (65 + j)) ≡ round f s (wide hi lo * 2 ^ t) (2 ^ j)
-  wide-round f s t j p =
+  wide_round f s t j p =
       let v = hi * 2 ^ z % 2 ^ 64 + low in
       let w = 2 * v + bool_byte (not (eqb (lo * 2 ^ z % 2 ^ 64) 0)) in
       let W = wide hi lo in
-      round-sticky f s w (W * 2 ^ z * 2) (2 ^ 64) (t + 128 - z) (65 + j) (pow_pos 64) sticks (le_trans (pow_mono p) (double v (bool_byte (not (eqb (lo * 2 ^ z % 2 ^ 64) 0))) lead-top))
-      ∙ round_same f s (W * 2 ^ z * 2 * 2 ^ (t + 128 - z)) (2 ^ 64 * 2 ^ (65 + j)) (W * 2 ^ t) (2 ^ j) (mul-pos (pow_pos 64) (pow_pos (65 + j))) (pow_pos j) (scale W z (t + 128 - z) t j 64 65 (whole z t lead-room))
+      round_sticky f s w (W * 2 ^ z * 2) (2 ^ 64) (t + 128 - z) (65 + j) (pow_pos 64) sticks (le_trans (pow_mono p) (double v (bool_byte (not (eqb (lo * 2 ^ z % 2 ^ 64) 0))) lead_top))
+      ∙ round_same f s (W * 2 ^ z * 2 * 2 ^ (t + 128 - z)) (2 ^ 64 * 2 ^ (65 + j)) (W * 2 ^ t) (2 ^ j) (mul-pos (pow_pos 64) (pow_pos (65 + j))) (pow_pos j) (scale W z (t + 128 - z) t j 64 65 (whole z t lead_room))
     where
       double : (v b : ℕ) → 2 ^ 63 ≤ v → 2 ^ 64 ≤ 2 * v + b
       double v b h = omega arith
@@ -562,23 +562,23 @@ module _ (hi lo : ℕ) (H : 0 < hi) (a : hi < 2 ^ 64) (b : lo < 2 ^ 64) where
           right W t x y j = simp (pow-add, mul_assoc)
 
 -- ---- `less`
-pub less-is : (ah al bh bl M : ℕ) → al < M → bl < M → ltb ah (bh + bool_byte (ltb al bl)) ≡ ltb (ah * M + al) (bh * M + bl)
-less-is ah al bh bl M a b = elim (le-or-lt bl al) [
-  | inl g ↦ ap (λ (x : ℕ). ltb ah (bh + x)) (flag-no al bl g) ∙ (elim (le-or-lt (bh + 0) ah) [
+pub less_is : (ah al bh bl M : ℕ) → al < M → bl < M → ltb ah (bh + bool_byte (ltb al bl)) ≡ ltb (ah * M + al) (bh * M + bl)
+less_is ah al bh bl M a b = elim (le_or_lt bl al) [
+  | inl g ↦ ap (λ (x : ℕ). ltb ah (bh + x)) (flag_no al bl g) ∙ (elim (le_or_lt (bh + 0) ah) [
     | inl l ↦ le-ltb ah (bh + 0) l ∙ sym (le-ltb (ah * M + al) (bh * M + bl) (at_least (ah * M) (bh * M) al bl g (mul-le-mul_right M (plain bh ah l))))
-    | inr l ↦ lt-ltb ah (bh + 0) l ∙ sym (lt-ltb (ah * M + al) (bh * M + bl) (lt_of_lt_of_le (digits_lt (plain-lt ah bh l) a) (le-add_right (bh * M) bl)))
+    | inr l ↦ lt-ltb ah (bh + 0) l ∙ sym (lt-ltb (ah * M + al) (bh * M + bl) (lt_of_lt_of_le (digits_lt (plain_lt ah bh l) a) (le-add_right (bh * M) bl)))
   ])
-  | inr g ↦ ap (λ (x : ℕ). ltb ah (bh + x)) (flag-yes al bl g) ∙ (elim (le-or-lt (bh + 1) ah) [
+  | inr g ↦ ap (λ (x : ℕ). ltb ah (bh + x)) (flag_yes al bl g) ∙ (elim (le_or_lt (bh + 1) ah) [
     | inl l ↦ le-ltb ah (bh + 1) l ∙ sym (le-ltb (ah * M + al) (bh * M + bl) (le_of_lt (lt_of_lt_of_le (digits_lt (next bh ah l) b) (le-add_right (ah * M) al))))
-    | inr l ↦ lt-ltb ah (bh + 1) l ∙ sym (lt-ltb (ah * M + al) (bh * M + bl) (below (ah * M) (bh * M) al bl g (mul-le-mul_right M (before-next ah bh l))))
+    | inr l ↦ lt-ltb ah (bh + 1) l ∙ sym (lt-ltb (ah * M + al) (bh * M + bl) (below (ah * M) (bh * M) al bl g (mul-le-mul_right M (before_next ah bh l))))
   ])
 ]
   where
     plain : (x y : ℕ) → x + 0 ≤ y → x ≤ y
     plain x y h = omega arith
 
-    plain-lt : (x y : ℕ) → x < y + 0 → x < y
-    plain-lt x y h = omega arith
+    plain_lt : (x y : ℕ) → x < y + 0 → x < y
+    plain_lt x y h = omega arith
 
     next : (x y : ℕ) → x + 1 ≤ y → x < y
     next x y h = omega arith

@@ -47,13 +47,13 @@ In aboveHalf a c = (a < bound * c) × (divisor a c < rest a c * 2)
 -- ---- the case, worked out
 
 -- by r / d, twice the part of a last place that is discarded, and by the last digit of q
-abbrev pub byHalf : ℕ → ℕ → ℕ → Case
-byHalf q r d = cond (nat_lt r d) belowHalf (cond (nat_lt d r) aboveHalf (cond (q % 2 == 0) halfEven halfOdd))
+abbrev pub by_half : ℕ → ℕ → ℕ → Case
+by_half q r d = cond (nat_lt r d) belowHalf (cond (nat_lt d r) aboveHalf (cond (q % 2 == 0) halfEven halfOdd))
 
 -- overflow is asked first
 unfoldable pub case_of : ℕ → ℕ → Case
 unfolding size
-case_of a c = cond (nat_le (bound * c) a) overflow (byHalf (whole a c) (rest a c * 2) (divisor a c))
+case_of a c = cond (nat_le (bound * c) a) overflow (by_half (whole a c) (rest a c * 2) (divisor a c))
 
 abbrev pub number : Case → ℕ
 number overflow = 1
@@ -63,19 +63,19 @@ number halfOdd = 4
 number aboveHalf = 5
 
 -- the number of an f64's case; infinities and NaN are in none (S2.17)
-unfoldable pub narrowCase : Float → ℕ
+unfoldable pub narrow_case : Float → ℕ
 unfolding case_of
-narrowCase nan = 0
-narrowCase (inf s) = 0
-narrowCase (fin s m e) = number (case_of (m * up e) (down e))
+narrow_case nan = 0
+narrow_case (inf s) = 0
+narrow_case (fin s m e) = number (case_of (m * up e) (down e))
 
 -- ---- what the case says
 
 -- The pattern, without a sign, of the whole number of last places in the magnitude: `place` stands above the 23 digits, as the exponent's field does,
 -- and the leading digit of a normal number adds one to it. `Clause` says that this pattern's value is that number of last places.
-unfoldable pub cutPattern : ℕ → ℕ → ℕ
+unfoldable pub cut_pattern : ℕ → ℕ → ℕ
 unfolding size
-cutPattern a c = place a c * 2 ^ 23 + whole a c
+cut_pattern a c = place a c * 2 ^ 23 + whole a c
 
 -- an infinity's pattern, without a sign
 abbrev pub infinite : ℕ

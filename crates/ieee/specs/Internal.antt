@@ -4,7 +4,7 @@ use Rattle.std.specs.Float.Ieee.Order.{drop, kept}
 use Rattle.std.specs.Bool.{beq}
 use lib.Ieee.{Float, binary64, sum, of_bits, neg, lt, le, eq}
 use Rattle.std.specs.Float.Ieee.Exact.{HasValue}
-use Rattle.ieee.specs.Cases.{whole, rest, divisor, byHalf, case_of, number, cutPattern}
+use Rattle.ieee.specs.Cases.{whole, rest, divisor, by_half, case_of, number, cut_pattern}
 use Rattle.ieee.specs.declared.fused.Sides.{Sides}
 
 -- ---- the bit pattern of a rounded fraction, without its sign, and before it is held to the pattern of an infinity
@@ -32,8 +32,8 @@ within x = lt x (of_bits binary64 0x47EF_FFFF_F000_0000) && lt (neg (of_bits bin
 
 -- the cut pattern of a / c, and the number of its case where it does not overflow
 pub record CutOff (a c cut part : ℕ) : Type 0 where
-  pub pattern : cut ≡ cutPattern a c
-  pub numbered : part ≡ number (byHalf (whole a c) (rest a c * 2) (divisor a c))
+  pub pattern : cut ≡ cut_pattern a c
+  pub numbered : part ≡ number (by_half (whole a c) (rest a c * 2) (divisor a c))
   pub small : cut < 2 ^ 40
 
 -- its sign, and the case and the cut pattern of its magnitude a / c
@@ -43,7 +43,7 @@ pub record Decided (x : Float) (neg : Bool) (case cut : ℕ) : Type 0 where
   pub some : 0 < c
   pub value : HasValue x neg a c
   pub numbered : case ≡ number (case_of a c)
-  pub pattern : cut ≡ cutPattern a c
+  pub pattern : cut ≡ cut_pattern a c
   pub small : cut < 2 ^ 40
 
 -- ---- what is narrowed with no jump
@@ -74,11 +74,11 @@ abbrev pub jammed : ℕ → ℕ → ℕ
 jammed v m = stuck (v / m) (v % m)
 
 -- the size and the sign of ±a + ±b, as `lib.Ieee.sum` has them
-abbrev pub sumSize : Bool → ℕ → Bool → ℕ → ℕ
-sumSize s a t b = cond (beq s t) (a + b) (cond (nat_lt a b) (b - a) (a - b))
+abbrev pub sum_size : Bool → ℕ → Bool → ℕ → ℕ
+sum_size s a t b = cond (beq s t) (a + b) (cond (nat_lt a b) (b - a) (a - b))
 
-abbrev pub sumSign : Bool → ℕ → Bool → ℕ → Bool
-sumSign s a t b = cond (beq s t) s (cond (nat_lt a b) t (s && nat_lt b a))
+abbrev pub sum_sign : Bool → ℕ → Bool → ℕ → Bool
+sum_sign s a t b = cond (beq s t) s (cond (nat_lt a b) t (s && nat_lt b a))
 
 -- j may be added to a in place of b / m: it is that fraction, or it sticks to it below the last digit that counts
 abbrev pub Addable : ℕ → ℕ → ℕ → ℕ → Type 0

@@ -8,26 +8,26 @@ use Rattle.std.specs.Float.{nan, inf, fin, binary64}
 use Rattle.std.specs.Float.Ieee.{up, down, size, round, le}
 
 -- the largest r with r * r ≤ n, for an n below 4 ^ k: twice the root of n / 4, and one more where that still is no more than the root
-unfoldable pub rootIn : ℕ → ℕ → ℕ
-rootIn zero n = 0
-rootIn (suc k) n = let r = 2 * rootIn k (n / 4) in cond (nat_le ((r + 1) * (r + 1)) n) (r + 1) r
+unfoldable pub root_in : ℕ → ℕ → ℕ
+root_in zero n = 0
+root_in (suc k) n = let r = 2 * root_in k (n / 4) in cond (nat_le ((r + 1) * (r + 1)) n) (r + 1) r
 
 -- the largest r with r * r ≤ n: n is below 2 ^ size n (S2.4)
 unfoldable pub isqrt : ℕ → ℕ
-unfolding rootIn size
-isqrt n = rootIn (size n) n
+unfolding root_in size
+isqrt n = root_in (size n) n
 
 -- the root of n * 4 ^ -1075, rounded (S2.4)
-unfoldable pub rootOf : ℕ → Float
+unfoldable pub root_of : ℕ → Float
 unfolding isqrt round
-rootOf n = let r = isqrt n in round binary64 false (2 * r + cond (r * r == n) 0 1) (2 ^ 1076)
+root_of n = let r = isqrt n in round binary64 false (2 * r + cond (r * r == n) 0 1) (2 ^ 1076)
 
 -- squareRoot: the root of a zero is that zero, of a number below zero and of a NaN it is a NaN (S2.4)
 unfoldable pub root : Float → Float
-unfolding rootOf
+unfolding root_of
 root nan = nan
 root (inf s) = cond s nan (inf false)
-root (fin s m e) = cond (m == 0) (fin s m e) (cond s nan (rootOf (m * up e * 2 ^ 2150 / down e)))
+root (fin s m e) = cond (m == 0) (fin s m e) (cond s nan (root_of (m * up e * 2 ^ 2150 / down e)))
 
 -- r is the root of n / d, rounded: a fraction that is no more than the root rounds to no more than r, and one that is no less, to no less
 pub record NearRoot (n d : ℕ) (r : Float) : Type 0 where

@@ -1,6 +1,6 @@
 // The case of IEEE 754's clause 4.3.1 that an f64 is in when it is narrowed, and what the case says.
 ghost use Rattle.std.specs.Prelude.{◌≡◌, ◌*◌, ◌^◌, ◌<◌, ◌≤◌, true};
-ghost use Rattle.ieee.specs.Cases.{Case, byHalf, number, narrowCase, act};
+ghost use Rattle.ieee.specs.Cases.{Case, by_half, number, narrow_case, act};
 ghost use Rattle.ieee.specs.Internal.{within, CutOff, Decided};
 
 use crate::rounding::{capped, is_finite, unpack};
@@ -14,7 +14,7 @@ pub(crate) fn is_within(x: f64) -> bool
 
 // By the discarded part r against a half d, and by the last digit of q.
 fn by_half(q: u64, r: u64, d: u64) -> u64
-    ensures { result ≡ number (byHalf q r d) }
+    ensures { result ≡ number (by_half q r d) }
 {
     if r < d {
         2
@@ -91,7 +91,7 @@ pub(crate) fn act_on(case: u64, cut: u64) -> u64
 
 // 1 overflow, 2 below half, 3 half and even, 4 half and odd, 5 above half; 0 for an infinity and for NaN, which are in no case.
 pub fn narrow_case(x: f64) -> u64
-    ensures { result ≡ narrowCase x }
+    ensures { result ≡ narrow_case x }
 {
     if is_within(x) {
         let d = decide(x);

@@ -1,6 +1,6 @@
 -- After every call, accepted or refused, the builder's level and rows are the ledger's. Assumes nothing.
 use mathlib.Core.Path.{◌≡◌, refl, sym, ap, ◌∙◌, subst}
-use Rattle.lists.proofs.Asking.{ask-yes}
+use Rattle.lists.proofs.Asking.{ask_yes}
 use mathlib.Core.Bool.{Bool, true, false, cond, and-eq-true_iff}
 use mathlib.Core.List.{List, [], ◌∷◌, map}
 use mathlib.Core.Logic.{◌⊎◌, inl, inr}
@@ -11,70 +11,70 @@ use lib.Seq.{length-take-le}
 use lib.Dec.{eqb, ltb, lit<}
 use lib.Ieee.{Float, fits, of_bits, to_bits}
 use borrow.Author.Tests.{eqb-true, ltb-true, le-leb}
-use Rattle.ieee.proofs.Pack.{le-or-lt}
+use Rattle.ieee.proofs.Pack.{le_or_lt}
 use Rattle.lists.specs.Questions.{ask, first}
 use Rattle.lists.specs.Lists.{put}
-use Rattle.mesh.specs.Levels.{per, vertexCount, verticesBelow}
-use Rattle.mesh.specs.Mesh.{Mesh, levelPart, meshLong, meshesKeep}
-use Rattle.mesh.proofs.Sizes.{per-mono}
+use Rattle.mesh.specs.Levels.{per, vertex_count, vertices_below}
+use Rattle.mesh.specs.Mesh.{Mesh, level_part, mesh_long, meshes_keep}
+use Rattle.mesh.proofs.Sizes.{per_mono}
 use Rattle.lists.proofs.Places.{place}
 use Rattle.lists.proofs.Written.{length-put}
-use Rattle.grid.specs.Settings.{in_range, levelsValid, countsValid, ownCount, slabsFit, question}
+use Rattle.grid.specs.Settings.{in_range, levels_valid, counts_valid, own_count, slabs_fit, question}
 use Rattle.grid.specs.declared.Grid.{Grid}
-use Rattle.grid.proofs.Laws.{top-le}
+use Rattle.grid.proofs.Laws.{top_le}
 use Rattle.rows.specs.declared.SlabResolution.TheVariants.{Mesh as OnMesh}
-use Rattle.rows.specs.Rows.{Rows, replaced, rowRoom, Row, scalar, repulsive, mesh}
-use Rattle.locator.proofs.Entries.{getD-put}
+use Rattle.rows.specs.Rows.{Rows, replaced, row_room, Row, scalar, repulsive, mesh}
+use Rattle.locator.proofs.Entries.{get_d_put}
 use Rattle.settling.specs.Gradient.{zero as nought}
-use Rattle.settling.specs.Settling.{verdictOf, verdicts, settledRows, settledSlice, drops}
-use Rattle.builder.specs.BuilderLists.{BuilderLists, slabs, slab, slice_at, listRoom, listsLong}
-use Rattle.builder.specs.Calls.{settledLists, filledSlabs, filled, slabSet, setBuilder, setOut, settleAccepted, settleOut}
-use Rattle.builder.specs.Refusals.{meshedRefusal, setQuestion, setRefusal, settleRefusal}
+use Rattle.settling.specs.Settling.{verdict_of, verdicts, settled_rows, settled_slice, drops}
+use Rattle.builder.specs.BuilderLists.{BuilderLists, slabs, slab, slice_at, list_room, lists_long}
+use Rattle.builder.specs.Calls.{settled_lists, filled_slabs, filled, slab_set, set_builder, set_out, settle_accepted, settle_out}
+use Rattle.builder.specs.Refusals.{meshed_refusal, set_question, set_refusal, settle_refusal}
 use Rattle.builder.specs.declared.Builder.{Builder}
 use Rattle.settling.specs.declared.Verdict.{Verdict}
 use Rattle.builder.proofs.Laws.{Roomy}
-use Rattle.writer.specs.Tailed.{TailLists, writeTailRefusal, writeTailOut}
+use Rattle.writer.specs.Tailed.{TailLists, write_tail_refusal, write_tail_out}
 use Rattle.table.proofs.OfRows.{Good}
-use Rattle.ledger.specs.Ledger.{Call, set-call, settle-call, write-call, State, called, run, Ledger, opened, ledgerSlice, ledgerQuestion, setEntered, settleEntered, entered, ledger}
+use Rattle.ledger.specs.Ledger.{Call, set_call, settle_call, write_call, State, called, run, Ledger, opened, ledger_slice, ledger_question, set_entered, settle_entered, entered, ledger}
 use Rattle.ledger.proofs.Store.{put-sets}
-use Rattle.ledger.proofs.Invariant.{Fit, rows_are, row-known, rows-known, room-held, slab-set-fit, filled-fit, settled-fit, verdict-fits}
+use Rattle.ledger.proofs.Invariant.{Fit, rows_are, row_known_lem, rows-known, room_held, slab-set_fit, filled_fit, settled_fit, verdict_fits}
 
 -- ---- what an accepted fresh leaves answered yes
 
 pub record Basis (g : Grid) (top : ℕ) (m : Mesh) : Type 0 where
   pub asked : question g top top ≡ 0
-  pub held : meshLong (verticesBelow (suc top)) m ≡ true
-  pub kept : meshesKeep top m ≡ true
+  pub held : mesh_long (vertices_below (suc top)) m ≡ true
+  pub kept : meshes_keep top m ≡ true
 
-abbrev pub builderAt : Grid → ℕ → ℕ → ℕ → Builder
-builderAt g top v p = record { grid = g; top = top; level = v; packed = p }
+abbrev pub builder_at : Grid → ℕ → ℕ → ℕ → Builder
+builder_at g top v p = record { grid = g; top = top; level = v; packed = p }
 
 -- 1 to 5, at a lower level
-lower-asked : (g : Grid) (top v : ℕ) → question g top top ≡ 0 → v ≤ top → question g top v ≡ 0
-unfolding question levelsValid ask
-lower-asked g top v e h =
-    let q1 = ask-yes {q = in_range g} (lit< tt) e in
-    let q2 = ask-yes {q = levelsValid top top} (lit< tt) q1.1 in
-    let q3 = ask-yes {q = countsValid g} (lit< tt) q2.1 in
-    let q4 = ask-yes {q = ownCount g.n_r g.dr g.rmin} (lit< tt) q3.1 in
-    let q5 = ask-yes {q = slabsFit g.n_r g.n_omega top} (lit< tt) q4.1 in
-    rw (q1.0, le-leb top 15 (top-le top top q2.0), le-leb v top h, q3.0, q4.0, q5.0)
+lower_asked : (g : Grid) (top v : ℕ) → question g top top ≡ 0 → v ≤ top → question g top v ≡ 0
+unfolding question levels_valid ask
+lower_asked g top v e h =
+    let q1 = ask_yes {q = in_range g} (lit< tt) e in
+    let q2 = ask_yes {q = levels_valid top top} (lit< tt) q1.1 in
+    let q3 = ask_yes {q = counts_valid g} (lit< tt) q2.1 in
+    let q4 = ask_yes {q = own_count g.n_r g.dr g.rmin} (lit< tt) q3.1 in
+    let q5 = ask_yes {q = slabs_fit g.n_r g.n_omega top} (lit< tt) q4.1 in
+    rw (q1.0, le-leb top 15 (top_le top top q2.0), le-leb v top h, q3.0, q4.0, q5.0)
 
 -- ---- bins that 8 let pass: their slab, or slice, is inside the rows
 
-pub in_rows : (g : Grid) (v ri oi : ℕ) (e : List Float) → setQuestion g v ri oi e ≡ 0 → slab g ri oi < slabs g
-unfolding setQuestion
+pub in_rows : (g : Grid) (v ri oi : ℕ) (e : List Float) → set_question g v ri oi e ≡ 0 → slab g ri oi < slabs g
+unfolding set_question
 in_rows g v ri oi e q =
-    let bins = (and-eq-true_iff (ltb ri g.n_r) (ltb oi g.n_omega)).0 (ask-yes (lit< tt) q).0 in
+    let bins = (and-eq-true_iff (ltb ri g.n_r) (ltb oi g.n_omega)).0 (ask_yes (lit< tt) q).0 in
     omega (arith, place ri g.n_r (oi + 1) g.n_omega (ltb-true ri g.n_r bins.0) (omega (arith, ltb-true oi g.n_omega bins.1)))
 
-pub slice_in : (g : Grid) (ri : ℕ) → ltb ri g.n_r ≡ true → slab g ri 0 + g.n_omega ≤ slabs g
-slice_in g ri d = omega (arith, place ri g.n_r g.n_omega g.n_omega (ltb-true ri g.n_r d) (omega arith))
+pub slice_in_lem : (g : Grid) (ri : ℕ) → ltb ri g.n_r ≡ true → slab g ri 0 + g.n_omega ≤ slabs g
+slice_in_lem g ri d = omega (arith, place ri g.n_r g.n_omega g.n_omega (ltb-true ri g.n_r d) (omega arith))
 
 -- ---- the calls
 
 pub record Agree (g : Grid) (top : ℕ) (st : State) (b : Ledger) : Type 0 where
-  pub same : st.builder ≡ builderAt g top b.level st.builder.packed
+  pub same : st.builder ≡ builder_at g top b.level st.builder.packed
   pub low : b.level ≤ top
   pub fit : Fit per (slabs g) top st.lists.store st.lists.rows b.rows
 
@@ -82,14 +82,14 @@ pub lowered : (v n : ℕ) (x : Bool) → v ≤ n → cond x (v - 1) v ≤ n
 lowered v n true h = omega arith
 lowered v n false h = h
 
-settled-many : (c : ℕ) (f : Row Float → Verdict) (rs : List (Row Float)) → length (settledRows c rs (map f rs)) ≡ length rs
-unfolding settledRows
+settled-many : (c : ℕ) (f : Row Float → Verdict) (rs : List (Row Float)) → length (settled_rows c rs (map f rs)) ≡ length rs
+unfolding settled_rows
 settled-many c f [] = refl
 settled-many c f (r ∷ rs) = ap suc (settled-many c f rs)
 
 module _ (g : Grid) (top : ℕ) (m : Mesh) (base : Basis g top m) (v p : ℕ) (low : v ≤ top) (store : List Float) (l : Rows) (rows : List (Row Float)) (a : Fit per (slabs g) top store l rows) where
   abbrev b : Builder
-  b = builderAt g top v p
+  b = builder_at g top v p
 
   abbrev ls : BuilderLists
   ls = record { store = store; rows = l }
@@ -104,101 +104,101 @@ module _ (g : Grid) (top : ℕ) (m : Mesh) (base : Basis g top m) (v p : ℕ) (l
   unchanged = record { same = refl; low = low; fit = a }
 
   abbrev asked : question g top v ≡ 0
-  asked = lower-asked g top v base.asked low
+  asked = lower_asked g top v base.asked low
 
-  roomy : listsLong b ls ≡ true
-  unfolding listRoom
-  roomy = room-held (slabs g) (per top) (length store) (length l.kinds) (length l.levels) (length l.values) a.room
+  roomy : lists_long b ls ≡ true
+  unfolding list_room
+  roomy = room_held (slabs g) (per top) (length store) (length l.kinds) (length l.levels) (length l.values) a.room
 
-  pub meshed-yes : meshedRefusal b m ls ≡ 0
-  unfolding meshedRefusal first ask
-  meshed-yes = rw (asked, roomy, base.held, base.kept)
+  pub meshed_yes : meshed_refusal b m ls ≡ 0
+  unfolding meshed_refusal first ask
+  meshed_yes = rw (asked, roomy, base.held, base.kept)
 
   -- set
 
   -- every row that the ledger has is known
-  set-number : (ri oi : ℕ) (e : List Float) (x : Bool) → eqb (setQuestion g v ri oi e) 0 ≡ x → setRefusal b ls ri oi e ≡ setQuestion g v ri oi e
-  unfolding setRefusal first ask
+  set-number : (ri oi : ℕ) (e : List Float) (x : Bool) → eqb (set_question g v ri oi e) 0 ≡ x → set_refusal b ls ri oi e ≡ set_question g v ri oi e
+  unfolding set_refusal first ask
   set-number ri oi e true d =
-      let q = eqb-true (setQuestion g v ri oi e) 0 d in
-      rw (asked, roomy, d, row-known per (slabs g) top store l rows a (slab g ri oi) (in_rows g v ri oi e q)) (sym q)
+      let q = eqb-true (set_question g v ri oi e) 0 d in
+      rw (asked, roomy, d, row_known_lem per (slabs g) top store l rows a (slab g ri oi) (in_rows g v ri oi e q)) (sym q)
   set-number ri oi e false d = rw (asked, roomy, d) refl
 
-  set-fit : (ri oi : ℕ) (e : List Float) → setQuestion g v ri oi e ≡ 0
+  set_fit : (ri oi : ℕ) (e : List Float) → set_question g v ri oi e ≡ 0
       → Fit per (slabs g) top (put store (slab g ri oi * per top) e) (replaced l (slab g ri oi) (OnMesh v true)) (set rows (slab g ri oi) (mesh v true e))
-  unfolding setQuestion
-  set-fit ri oi e p =
-      let q8 = ask-yes (lit< tt) p in
-      let q9 = ask-yes (lit< tt) q8.1 in
-      let q10 = ask-yes (lit< tt) q9.1 in
-      slab-set-fit per per-mono (slabs g) top v low store l rows a (slab g ri oi) (in_rows g v ri oi e p) e (eqb-true (length e) (per v) q9.0) q10.0
+  unfolding set_question
+  set_fit ri oi e p =
+      let q8 = ask_yes (lit< tt) p in
+      let q9 = ask_yes (lit< tt) q8.1 in
+      let q10 = ask_yes (lit< tt) q9.1 in
+      slab-set_fit per per_mono (slabs g) top v low store l rows a (slab g ri oi) (in_rows g v ri oi e p) e (eqb-true (length e) (per v) q9.0) q10.0
 
-  set-step : (ri oi : ℕ) (e : List Float) (x : Bool) → eqb (setQuestion g v ri oi e) 0 ≡ x → Agree g top (called m st (set-call ri oi e)) (entered g m bk (set-call ri oi e))
-  unfolding called entered setOut setBuilder slabSet setEntered
-  set-step ri oi e true d = rw (set-number ri oi e true d, d) (record { same = refl; low = low; fit = set-fit ri oi e (eqb-true _ _ d) })
-  set-step ri oi e false d = rw (set-number ri oi e false d, d) unchanged
+  set_step : (ri oi : ℕ) (e : List Float) (x : Bool) → eqb (set_question g v ri oi e) 0 ≡ x → Agree g top (called m st (set_call ri oi e)) (entered g m bk (set_call ri oi e))
+  unfolding called entered set_out set_builder slab_set set_entered
+  set_step ri oi e true d = rw (set-number ri oi e true d, d) (record { same = refl; low = low; fit = set_fit ri oi e (eqb-true _ _ d) })
+  set_step ri oi e false d = rw (set-number ri oi e false d, d) unchanged
 
   -- settle
 
-  slice_is : (ri : ℕ) → ltb ri g.n_r ≡ true → slice_at b ls ri ≡ ledgerSlice g bk ri
-  slice_is ri d = rows_are per (slabs g) top store l rows a g.n_omega (slab g ri 0) (slice_in g ri d)
+  slice_is : (ri : ℕ) → ltb ri g.n_r ≡ true → slice_at b ls ri ≡ ledger_slice g bk ri
+  slice_is ri d = rows_are per (slabs g) top store l rows a g.n_omega (slab g ri 0) (slice_in_lem g ri d)
 
-  settle-number : (ri : ℕ) (x : Bool) → ltb ri g.n_r ≡ x → settleRefusal b m ls ri ≡ ledgerQuestion g bk ri
-  unfolding settleRefusal ledgerQuestion first ask
-  settle-number ri true d = rw (meshed-yes, d, rows-known per (slabs g) top store l rows a g.n_omega (slab g ri 0) (slice_in g ri d), slice_is ri d)
-  settle-number ri false d = rw (meshed-yes, d)
+  settle_number : (ri : ℕ) (x : Bool) → ltb ri g.n_r ≡ x → settle_refusal b m ls ri ≡ ledger_question g bk ri
+  unfolding settle_refusal ledger_question first ask
+  settle_number ri true d = rw (meshed_yes, d, rows-known per (slabs g) top store l rows a g.n_omega (slab g ri 0) (slice_in_lem g ri d), slice_is ri d)
+  settle_number ri false d = rw (meshed_yes, d)
 
   abbrev seen : Row Float → Verdict
-  seen = verdictOf g.threshold g.beta (levelPart v m) (vertexCount v)
+  seen = verdict_of g.threshold g.beta (level_part v m) (vertex_count v)
 
-  settle-fit : (ri : ℕ) → ledgerQuestion g bk ri ≡ 0
-      → (let rs = ledgerSlice g bk ri in Fit per (slabs g) top store (settledLists v l (slab g ri 0) (map seen rs)) (put rows (slab g ri 0) (settledRows v rs (map seen rs))))
-  unfolding ledgerQuestion
-  settle-fit ri p =
-      let q8 = ask-yes (lit< tt) p in
-      let q11 = ask-yes (lit< tt) q8.1 in
+  settle_fit : (ri : ℕ) → ledger_question g bk ri ≡ 0
+      → (let rs = ledger_slice g bk ri in Fit per (slabs g) top store (settled_lists v l (slab g ri 0) (map seen rs)) (put rows (slab g ri 0) (settled_rows v rs (map seen rs))))
+  unfolding ledger_question
+  settle_fit ri p =
+      let q8 = ask_yes (lit< tt) p in
+      let q11 = ask_yes (lit< tt) q8.1 in
       let s = slab g ri 0 in
       let n = g.n_omega in
-      let rs = ledgerSlice g bk ri in
-      let i = slice_in g ri q8.0 in
+      let rs = ledger_slice g bk ri in
+      let i = slice_in_lem g ri q8.0 in
       let many : length rs ≡ n = length-take-le n (drop s rows) (omega (arith, length-drop s rows, a.many)) in
-      rw (put-sets rows s (settledRows v rs (map seen rs)) (omega (arith, settled-many v seen rs, a.many)))
-      (settled-fit per per-mono (slabs g) top v seen (λ x. refl) refl (verdict-fits g.threshold g.beta (levelPart v m) (vertexCount v)) n s store l rows a i q11.0)
+      rw (put-sets rows s (settled_rows v rs (map seen rs)) (omega (arith, settled-many v seen rs, a.many)))
+      (settled_fit per per_mono (slabs g) top v seen (λ x. refl) refl (verdict_fits g.threshold g.beta (level_part v m) (vertex_count v)) n s store l rows a i q11.0)
 
-  settle_step : (ri : ℕ) (x : Bool) → eqb (ledgerQuestion g bk ri) 0 ≡ x → Agree g top (called m st (settle-call ri)) (entered g m bk (settle-call ri))
-  unfolding called entered settleOut settleAccepted settleEntered settledSlice ledgerQuestion verdicts
+  settle_step : (ri : ℕ) (x : Bool) → eqb (ledger_question g bk ri) 0 ≡ x → Agree g top (called m st (settle_call ri)) (entered g m bk (settle_call ri))
+  unfolding called entered settle_out settle_accepted settle_entered settled_slice ledger_question verdicts
   settle_step ri true d =
-      let q8 = ask-yes (lit< tt) (eqb-true _ _ d) in
-      let rs = ledgerSlice g bk ri in
+      let q8 = ask_yes (lit< tt) (eqb-true _ _ d) in
+      let rs = ledger_slice g bk ri in
       let vs = map seen rs in
-      rw (settle-number ri _ refl, d, slice_is ri q8.0) (record { same = refl; low = lowered v top (drops g.threshold v vs (settledRows v rs vs)) low; fit = settle-fit ri (eqb-true _ _ d) })
-  settle_step ri false d = rw (settle-number ri _ refl, d) unchanged
+      rw (settle_number ri _ refl, d, slice_is ri q8.0) (record { same = refl; low = lowered v top (drops g.threshold v vs (settled_rows v rs vs)) low; fit = settle_fit ri (eqb-true _ _ d) })
+  settle_step ri false d = rw (settle_number ri _ refl, d) unchanged
 
   -- write
 
-  write_step : (t : TailLists) (out : List ℕ) (x : Bool) → eqb (writeTailRefusal b m ls t (length out)) 0 ≡ x → Agree g top (called m st (write-call t out)) (entered g m bk (write-call t out))
-  unfolding called entered writeTailOut
+  write_step : (t : TailLists) (out : List ℕ) (x : Bool) → eqb (write_tail_refusal b m ls t (length out)) 0 ≡ x → Agree g top (called m st (write_call t out)) (entered g m bk (write_call t out))
+  unfolding called entered write_tail_out
   write_step t out true d = rw d unchanged
   write_step t out false d = rw d unchanged
 
   step : (c : Call) → Agree g top (called m st c) (entered g m bk c)
-  step (set-call ri oi e) = set-step ri oi e _ refl
-  step (settle-call ri) = settle_step ri _ refl
-  step (write-call t out) = write_step t out _ refl
+  step (set_call ri oi e) = set_step ri oi e _ refl
+  step (settle_call ri) = settle_step ri _ refl
+  step (write_call t out) = write_step t out _ refl
 
-pub step-agrees : (g : Grid) (top : ℕ) (m : Mesh) → Basis g top m → (st : State) (b : Ledger) (c : Call) → Agree g top st b → Agree g top (called m st c) (entered g m b c)
-step-agrees g top m base st b c a =
+pub step_agrees : (g : Grid) (top : ℕ) (m : Mesh) → Basis g top m → (st : State) (b : Ledger) (c : Call) → Agree g top st b → Agree g top (called m st c) (entered g m b c)
+step_agrees g top m base st b c a =
     subst (λ (x : Builder). Agree g top (called m (record { builder = x; lists = st.lists }) c) (entered g m b c)) (sym a.same)
     (step g top m base b.level st.builder.packed a.low st.lists.store st.lists.rows b.rows a.fit c)
 
 pub follows : (g : Grid) (top : ℕ) (m : Mesh) → Basis g top m → (st : State) (b : Ledger) (cs : List Call) → Agree g top st b → Agree g top (run m st cs) (ledger g m b cs)
 unfolding run ledger
 follows g top m base st b [] a = a
-follows g top m base st b (c ∷ cs) a = follows g top m base (called m st c) (entered g m b c) cs (step-agrees g top m base st b c a)
+follows g top m base st b (c ∷ cs) a = follows g top m base (called m st c) (entered g m b c) cs (step_agrees g top m base st b c a)
 
 -- ---- fresh
 
 pub starts : (g : Grid) (top : ℕ) (l : BuilderLists) → Roomy (slabs g) (per top) (length l.store) (length l.rows.kinds) (length l.rows.levels) (length l.rows.values)
-    → Agree g top (record { builder = builderAt g top top 0; lists = filled (builderAt g top top 0) l }) (opened g top)
+    → Agree g top (record { builder = builder_at g top top 0; lists = filled (builder_at g top top 0) l }) (opened g top)
 unfolding opened
-starts g top l r = record { same = refl; low = omega arith; fit = filled-fit per (slabs g) top l r }
+starts g top l r = record { same = refl; low = omega arith; fit = filled_fit per (slabs g) top l r }

@@ -11,12 +11,12 @@ use borrow.Author.Tests.{eqb-true, eqb-false, eq-eqb, ne_eqb}
 use Rattle.lists.proofs.Counting.{and_no}
 use Rattle.mesh.specs.Mesh.{Mesh}
 use Rattle.writer.specs.Write.{WriteOut}
-use Rattle.writer.specs.Tailed.{writeTailOut}
-use Rattle.ledger.specs.Ledger.{Call, set-call, settle-call, write-call, State, called, run}
-use Rattle.ledger.specs.Promise.{History, ended, lastWrite, file}
+use Rattle.writer.specs.Tailed.{write_tail_out}
+use Rattle.ledger.specs.Ledger.{Call, set_call, settle_call, write_call, State, called, run}
+use Rattle.ledger.specs.Promise.{History, ended, last_write, file}
 use Rattle.ledger.specs.Replies.{Reply, number, replied, replies, begun}
-use Rattle.ledger.specs.Order.{Reordered, nothing, same, exchanged, then, moved, acceptedIn, once, withCalls, AnyOrder, Later}
-use Rattle.ledger.proofs.Sets.{taken, accepted-number, replied-after, called-again, called-comm}
+use Rattle.ledger.specs.Order.{Reordered, nothing, same, exchanged, then, moved, accepted_in, once, with_calls, AnyOrder, Later}
+use Rattle.ledger.proofs.Sets.{taken, accepted_number, replied-after, called_again, called_comm}
 
 -- ---- an answer for each call
 
@@ -44,23 +44,23 @@ eqb_comm a b = by (eqb a b) refl
     by true d = d ∙ sym (eq-eqb b a (sym (eqb-true a b d)))
     by false d = d ∙ sym (ne_eqb b a (λ q. eqb-false a b d (sym q)))
 
-or-exchanged : (a b c : Bool) → a || (b || c) ≡ b || (a || c)
-or-exchanged true true c = refl
-or-exchanged true false c = refl
-or-exchanged false b c = refl
+or_exchanged : (a b c : Bool) → a || (b || c) ≡ b || (a || c)
+or_exchanged true true c = refl
+or_exchanged true false c = refl
+or_exchanged false b c = refl
 
-accepted-moved : {cs ds : List Call} (p : Reordered cs ds) (ri oi : ℕ) (rs : List Reply) → length cs ≡ length rs → acceptedIn ri oi ds (moved p rs) ≡ acceptedIn ri oi cs rs
-unfolding moved acceptedIn
-accepted-moved nothing ri oi rs h = refl
-accepted-moved (same p) ri oi [] h = absurd (omega arith)
-accepted-moved (same {c = set-call rj oj e} p) ri oi (r ∷ rs) h = rw (accepted-moved p ri oi rs (omega arith)) refl
-accepted-moved (same {c = settle-call rj} p) ri oi (r ∷ rs) h = refl
-accepted-moved (same {c = write-call t out} p) ri oi (r ∷ rs) h = refl
-accepted-moved exchanged ri oi [] h = absurd (omega arith)
-accepted-moved exchanged ri oi (x ∷ []) h = absurd (omega arith)
-accepted-moved (exchanged {ri = rj} {oi = oj} {rj = rk} {oj = ok} {cs = cs}) ri oi (x ∷ y ∷ rs) h =
-    or-exchanged (eqb (number y) 0 && (eqb ri rk && eqb oi ok)) (eqb (number x) 0 && (eqb ri rj && eqb oi oj)) (acceptedIn ri oi cs rs)
-accepted-moved (then p q) ri oi rs h = accepted-moved q ri oi (moved p rs) (moved-many p rs h) ∙ accepted-moved p ri oi rs h
+accepted_moved : {cs ds : List Call} (p : Reordered cs ds) (ri oi : ℕ) (rs : List Reply) → length cs ≡ length rs → accepted_in ri oi ds (moved p rs) ≡ accepted_in ri oi cs rs
+unfolding moved accepted_in
+accepted_moved nothing ri oi rs h = refl
+accepted_moved (same p) ri oi [] h = absurd (omega arith)
+accepted_moved (same {c = set_call rj oj e} p) ri oi (r ∷ rs) h = rw (accepted_moved p ri oi rs (omega arith)) refl
+accepted_moved (same {c = settle_call rj} p) ri oi (r ∷ rs) h = refl
+accepted_moved (same {c = write_call t out} p) ri oi (r ∷ rs) h = refl
+accepted_moved exchanged ri oi [] h = absurd (omega arith)
+accepted_moved exchanged ri oi (x ∷ []) h = absurd (omega arith)
+accepted_moved (exchanged {ri = rj} {oi = oj} {rj = rk} {oj = ok} {cs = cs}) ri oi (x ∷ y ∷ rs) h =
+    or_exchanged (eqb (number y) 0 && (eqb ri rk && eqb oi ok)) (eqb (number x) 0 && (eqb ri rj && eqb oi oj)) (accepted_in ri oi cs rs)
+accepted_moved (then p q) ri oi rs h = accepted_moved q ri oi (moved p rs) (moved-many p rs h) ∙ accepted_moved p ri oi rs h
 
 -- of two sets: accepted or not, of one slab or not, accepted again later or not, and the rest
 once-exchanged : (a b e c d o : Bool) → not (b && ((a && e) || d)) && (not (a && c) && o) ≡ not (a && ((b && e) || c)) && (not (b && d) && o)
@@ -74,17 +74,17 @@ once-exchanged false true e c d o = refl
 once-exchanged false false e c d o = refl
 
 once-moved : {cs ds : List Call} (p : Reordered cs ds) (rs : List Reply) → length cs ≡ length rs → once ds (moved p rs) ≡ once cs rs
-unfolding moved once acceptedIn
+unfolding moved once accepted_in
 once-moved nothing rs h = refl
 once-moved (same p) [] h = absurd (omega arith)
-once-moved (same {c = set-call ri oi e} p) (r ∷ rs) h = rw (accepted-moved p ri oi rs (omega arith), once-moved p rs (omega arith)) refl
-once-moved (same {c = settle-call ri} p) (r ∷ rs) h = once-moved p rs (omega arith)
-once-moved (same {c = write-call t out} p) (r ∷ rs) h = once-moved p rs (omega arith)
+once-moved (same {c = set_call ri oi e} p) (r ∷ rs) h = rw (accepted_moved p ri oi rs (omega arith), once-moved p rs (omega arith)) refl
+once-moved (same {c = settle_call ri} p) (r ∷ rs) h = once-moved p rs (omega arith)
+once-moved (same {c = write_call t out} p) (r ∷ rs) h = once-moved p rs (omega arith)
 once-moved exchanged [] h = absurd (omega arith)
 once-moved exchanged (x ∷ []) h = absurd (omega arith)
 once-moved (exchanged {ri = ri} {oi = oi} {rj = rj} {oj = oj} {cs = cs}) (x ∷ y ∷ rs) h =
     rw (eqb_comm rj ri, eqb_comm oj oi)
-    (once-exchanged (eqb (number x) 0) (eqb (number y) 0) (eqb ri rj && eqb oi oj) (acceptedIn ri oi cs rs) (acceptedIn rj oj cs rs) (once cs rs))
+    (once-exchanged (eqb (number x) 0) (eqb (number y) 0) (eqb ri rj && eqb oi oj) (accepted_in ri oi cs rs) (accepted_in rj oj cs rs) (once cs rs))
 once-moved (then p q) rs h = once-moved q (moved p rs) (moved-many p rs h) ∙ once-moved p rs h
 
 -- ---- the calls
@@ -97,25 +97,25 @@ again true true c o h = absurd (true≢false (sym h))
 
 module _ (m : Mesh) where
   exchange : (st : State) (ri oi : ℕ) (e : List Float) (rj oj : ℕ) (f : List Float) (cs : List Call)
-      → (let bs = set-call ri oi e ∷ set-call rj oj f ∷ cs in let ds = set-call rj oj f ∷ set-call ri oi e ∷ cs in
+      → (let bs = set_call ri oi e ∷ set_call rj oj f ∷ cs in let ds = set_call rj oj f ∷ set_call ri oi e ∷ cs in
       once bs (replies m st bs) ≡ true → (replies m st ds ≡ moved {cs = bs} {ds = ds} exchanged (replies m st bs)) × (run m st ds ≡ run m st bs))
-  unfolding moved once acceptedIn replies run
+  unfolding moved once accepted_in replies run
   exchange st ri oi e rj oj f cs h =
-      let a = set-call ri oi e in
-      let b = set-call rj oj f in
+      let a = set_call ri oi e in
+      let b = set_call rj oj f in
       let rb = replied-after m st ri oi e rj oj f in
       let ra = replied-after m st rj oj f ri oi e in
       let both : eqb (number (replied m st a)) 0 && (eqb (number (replied m (called m st a) b)) 0 && (eqb ri rj && eqb oi oj)) ≡ false =
-      again (eqb (number (replied m st a)) 0) (eqb (number (replied m (called m st a) b)) 0 && (eqb ri rj && eqb oi oj)) (acceptedIn ri oi cs (replies m (called m (called m st a) b) cs)) _ h in
-      let z = rw (rb, accepted-number m st ri oi e, accepted-number m st rj oj f) at both in
-      let comm : called m (called m st b) a ≡ called m (called m st a) b = sym (called-comm m st ri oi e rj oj f z) in
+      again (eqb (number (replied m st a)) 0) (eqb (number (replied m (called m st a) b)) 0 && (eqb ri rj && eqb oi oj)) (accepted_in ri oi cs (replies m (called m (called m st a) b) cs)) _ h in
+      let z = rw (rb, accepted_number m st ri oi e, accepted_number m st rj oj f) at both in
+      let comm : called m (called m st b) a ≡ called m (called m st a) b = sym (called_comm m st ri oi e rj oj f z) in
       (rw (rb, ra, comm) refl, ap (λ (x : State). run m x cs) comm)
 
   once-rest : (c : Call) (cs : List Call) (r : Reply) (rs : List Reply) → once (c ∷ cs) (r ∷ rs) ≡ true → once cs rs ≡ true
   unfolding once
-  once-rest (set-call ri oi e) cs r rs h = ((and-eq-true_iff (not (eqb (number r) 0 && acceptedIn ri oi cs rs)) (once cs rs)).0 h).1
-  once-rest (settle-call ri) cs r rs h = h
-  once-rest (write-call t out) cs r rs h = h
+  once-rest (set_call ri oi e) cs r rs h = ((and-eq-true_iff (not (eqb (number r) 0 && accepted_in ri oi cs rs)) (once cs rs)).0 h).1
+  once-rest (settle_call ri) cs r rs h = h
+  once-rest (write_call t out) cs r rs h = h
 
   reorder : {cs ds : List Call} (p : Reordered cs ds) (st : State) → once cs (replies m st cs) ≡ true → (replies m st ds ≡ moved p (replies m st cs)) × (run m st ds ≡ run m st cs)
   unfolding moved once replies run
@@ -134,33 +134,33 @@ module _ (m : Mesh) where
   abbrev AsFrom : List Call → State → State → Type 0
   AsFrom cs s t = (replies m s cs ≡ replies m t cs) × (run m s cs ≡ run m t cs)
 
-  as-equal : (cs : List Call) (s t : State) → s ≡ t → AsFrom cs s t
-  as-equal cs s t e = (ap (λ (x : State). replies m x cs) e, ap (λ (x : State). run m x cs) e)
+  as_equal : (cs : List Call) (s t : State) → s ≡ t → AsFrom cs s t
+  as_equal cs s t e = (ap (λ (x : State). replies m x cs) e, ap (λ (x : State). run m x cs) e)
 
   -- the set behind it is the one of its slab, or it goes before it and the same is asked of the calls after it
-  later-step : (ri oi : ℕ) (e : List Float) (rj oj : ℕ) (f : List Float) (cs : List Call) (st : State) (x : Bool)
-      → eqb (number (replied m st (set-call rj oj f))) 0 && (eqb ri rj && eqb oi oj) ≡ x
-      → (let a = set-call ri oi e in let b = set-call rj oj f in
-      (acceptedIn ri oi cs (replies m (called m (called m st b) a) cs) ≡ true → AsFrom cs (called m (called m st b) a) (called m st b))
-      → x || acceptedIn ri oi cs (replies m (called m (called m st a) b) cs) ≡ true → AsFrom cs (called m (called m st a) b) (called m st b))
-  later-step ri oi e rj oj f cs st true d i h =
-      let q = (and-eq-true_iff (eqb (number (replied m st (set-call rj oj f))) 0) (eqb ri rj && eqb oi oj)).0 d in
-      as-equal cs _ _ (called-again m st ri oi e rj oj f (sym (accepted-number m st rj oj f) ∙ q.0) q.1)
-  later-step ri oi e rj oj f cs st false d i h =
-      let z = rw (accepted-number m st rj oj f) at d in
-      let comm = called-comm m st ri oi e rj oj f (and_no (taken st.builder st.lists ri oi e) _ z) in
-      subst (λ (x : State). AsFrom cs x (called m st (set-call rj oj f))) (sym comm) (i (subst (λ (x : State). acceptedIn ri oi cs (replies m x cs) ≡ true) comm h))
+  later_step : (ri oi : ℕ) (e : List Float) (rj oj : ℕ) (f : List Float) (cs : List Call) (st : State) (x : Bool)
+      → eqb (number (replied m st (set_call rj oj f))) 0 && (eqb ri rj && eqb oi oj) ≡ x
+      → (let a = set_call ri oi e in let b = set_call rj oj f in
+      (accepted_in ri oi cs (replies m (called m (called m st b) a) cs) ≡ true → AsFrom cs (called m (called m st b) a) (called m st b))
+      → x || accepted_in ri oi cs (replies m (called m (called m st a) b) cs) ≡ true → AsFrom cs (called m (called m st a) b) (called m st b))
+  later_step ri oi e rj oj f cs st true d i h =
+      let q = (and-eq-true_iff (eqb (number (replied m st (set_call rj oj f))) 0) (eqb ri rj && eqb oi oj)).0 d in
+      as_equal cs _ _ (called_again m st ri oi e rj oj f (sym (accepted_number m st rj oj f) ∙ q.0) q.1)
+  later_step ri oi e rj oj f cs st false d i h =
+      let z = rw (accepted_number m st rj oj f) at d in
+      let comm = called_comm m st ri oi e rj oj f (and_no (taken st.builder st.lists ri oi e) _ z) in
+      subst (λ (x : State). AsFrom cs x (called m st (set_call rj oj f))) (sym comm) (i (subst (λ (x : State). accepted_in ri oi cs (replies m x cs) ≡ true) comm h))
 
   -- a set before calls in whose run its slab is accepted
-  later-run : (ri oi : ℕ) (e : List Float) (cs : List Call) (st : State) → acceptedIn ri oi cs (replies m (called m st (set-call ri oi e)) cs) ≡ true → AsFrom cs (called m st (set-call ri oi e)) st
-  unfolding acceptedIn replies run
-  later-run ri oi e [] st h = absurd (true≢false (sym h))
-  later-run ri oi e (settle-call rj ∷ cs) st h = absurd (true≢false (sym h))
-  later-run ri oi e (write-call t out ∷ cs) st h = absurd (true≢false (sym h))
-  later-run ri oi e (set-call rj oj f ∷ cs) st h =
+  later_run : (ri oi : ℕ) (e : List Float) (cs : List Call) (st : State) → accepted_in ri oi cs (replies m (called m st (set_call ri oi e)) cs) ≡ true → AsFrom cs (called m st (set_call ri oi e)) st
+  unfolding accepted_in replies run
+  later_run ri oi e [] st h = absurd (true≢false (sym h))
+  later_run ri oi e (settle_call rj ∷ cs) st h = absurd (true≢false (sym h))
+  later_run ri oi e (write_call t out ∷ cs) st h = absurd (true≢false (sym h))
+  later_run ri oi e (set_call rj oj f ∷ cs) st h =
       let rb = replied-after m st ri oi e rj oj f in
-      let r = later-step ri oi e rj oj f cs st _ refl (later-run ri oi e cs (called m st (set-call rj oj f))) (rw rb at h) in
-      (rw rb (ap (λ (x : List Reply). replied m st (set-call rj oj f) ∷ x) r.0), r.1)
+      let r = later_step ri oi e rj oj f cs st _ refl (later_run ri oi e cs (called m st (set_call rj oj f))) (rw rb at h) in
+      (rw rb (ap (λ (x : List Reply). replied m st (set_call rj oj f) ∷ x) r.0), r.1)
 
 run-append : (m : Mesh) (st : State) (bs cs : List Call) → run m st (bs ++ cs) ≡ run m (run m st bs) cs
 unfolding run
@@ -169,11 +169,11 @@ run-append m st (b ∷ bs) cs = run-append m (called m st b) bs cs
 
 -- ---- histories
 
-writes : (h : History) (cs ds : List Call) → ended (withCalls h cs) ≡ ended (withCalls h ds)
-    → (lastWrite (withCalls h cs) ≡ lastWrite (withCalls h ds)) × (file (withCalls h cs) ≡ file (withCalls h ds))
+writes : (h : History) (cs ds : List Call) → ended (with_calls h cs) ≡ ended (with_calls h ds)
+    → (last_write (with_calls h cs) ≡ last_write (with_calls h ds)) × (file (with_calls h cs) ≡ file (with_calls h ds))
 unfolding file
 writes h cs ds e =
-    let w : lastWrite (withCalls h cs) ≡ lastWrite (withCalls h ds) = ap (λ (st : State). writeTailOut st.builder h.meshes st.lists h.tail h.output) e in
+    let w : last_write (with_calls h cs) ≡ last_write (with_calls h ds) = ap (λ (st : State). write_tail_out st.builder h.meshes st.lists h.tail h.output) e in
     (w, ap (λ (o : WriteOut). take o.answer.length o.output) w)
 
 pub any_order : AnyOrder
@@ -181,15 +181,15 @@ unfolding ended
 any_order h ds p o =
     let r = reorder h.meshes p (begun h) o in
     let w = writes h ds h.calls r.1 in
-    record { answers = r.0; state = r.1; last-write = w.0; bytes = w.1 }
+    record { answers = r.0; state = r.1; last_write = w.0; bytes = w.1 }
 
 pub later : Later
 unfolding ended run
 later h bs ri oi e cs o =
     let m = h.meshes in
-    let a = set-call ri oi e in
+    let a = set_call ri oi e in
     let before : run m (begun h) (bs ++ a ∷ []) ≡ called m (run m (begun h) bs) a = run-append m (begun h) bs (a ∷ []) in
-    let r = later-run m ri oi e cs (run m (begun h) bs) (subst (λ (st : State). acceptedIn ri oi cs (replies m st cs) ≡ true) before o) in
+    let r = later_run m ri oi e cs (run m (begun h) bs) (subst (λ (st : State). accepted_in ri oi cs (replies m st cs) ≡ true) before o) in
     let end : run m (begun h) (bs ++ a ∷ cs) ≡ run m (begun h) (bs ++ cs) = run-append m (begun h) bs (a ∷ cs) ∙ r.1 ∙ sym (run-append m (begun h) bs cs) in
     let w = writes h (bs ++ a ∷ cs) (bs ++ cs) end in
-    record { answers = ap (λ (st : State). replies m st cs) before ∙ r.0; state = end; last-write = w.0; bytes = w.1 }
+    record { answers = ap (λ (st : State). replies m st cs) before ∙ r.0; state = end; last_write = w.0; bytes = w.1 }

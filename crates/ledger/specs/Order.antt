@@ -1,8 +1,8 @@
 -- Document 02's paper 4, "Samples arriving out of order": set calls in any order within their run. Definitions only.
 use Rattle.std.specs.Prelude.{◌≡◌, Bool, true, false, not, ◌&&◌, ◌||◌, ◌↔◌, ℕ, eqb, Float}
 use mathlib.Core.List.{List, [], ◌∷◌, ◌++◌, Permᴰ}
-use Rattle.ledger.specs.Ledger.{Call, set-call, settle-call, write-call}
-use Rattle.ledger.specs.Promise.{History, ended, lastWrite, file}
+use Rattle.ledger.specs.Ledger.{Call, set_call, settle_call, write_call}
+use Rattle.ledger.specs.Promise.{History, ended, last_write, file}
 use Rattle.ledger.specs.Replies.{Reply, number, replies, begun}
 
 -- ---- "differ only in the order of the set calls within unbroken runs of them"
@@ -13,7 +13,7 @@ pub data Reordered : List Call → List Call → Type 0 where
   nothing : Reordered [] []
   same : {c : Call} {cs ds : List Call} → Reordered cs ds → Reordered (c ∷ cs) (c ∷ ds)
   exchanged : {ri oi rj oj : ℕ} {e f : List Float} {cs : List Call}
-      → Reordered (set-call ri oi e ∷ set-call rj oj f ∷ cs) (set-call rj oj f ∷ set-call ri oi e ∷ cs)
+      → Reordered (set_call ri oi e ∷ set_call rj oj f ∷ cs) (set_call rj oj f ∷ set_call ri oi e ∷ cs)
   then : {bs cs ds : List Call} → Reordered bs cs → Reordered cs ds → Reordered bs ds
 
 -- a list with an entry for each call of the first, in the order of the second: each entry at its call's partner, as the calls themselves, moved, are the second
@@ -27,16 +27,16 @@ moved exchanged (x ∷ y ∷ xs) = y ∷ x ∷ xs
 moved (then p q) xs = moved q (moved p xs)
 
 -- the same with the runs written out: a list is cut into unbroken runs of set calls, refused ones included, and the call between two runs
-unfoldable pub ontoFirst : Call → List (List Call) → List (List Call)
-ontoFirst c [] = (c ∷ []) ∷ []
-ontoFirst c (r ∷ rs) = (c ∷ r) ∷ rs
+unfoldable pub onto_first : Call → List (List Call) → List (List Call)
+onto_first c [] = (c ∷ []) ∷ []
+onto_first c (r ∷ rs) = (c ∷ r) ∷ rs
 
 -- every settle or write ends a run, a refused one too (S14.8)
 unfoldable pub runs : List Call → List (List Call)
 runs [] = [] ∷ []
-runs (set-call ri oi e ∷ cs) = ontoFirst (set-call ri oi e) (runs cs)
-runs (settle-call ri ∷ cs) = [] ∷ (settle-call ri ∷ []) ∷ runs cs
-runs (write-call t out ∷ cs) = [] ∷ (write-call t out ∷ []) ∷ runs cs
+runs (set_call ri oi e ∷ cs) = onto_first (set_call ri oi e) (runs cs)
+runs (settle_call ri ∷ cs) = [] ∷ (settle_call ri ∷ []) ∷ runs cs
+runs (write_call t out ∷ cs) = [] ∷ (write_call t out ∷ []) ∷ runs cs
 
 -- as many runs, each a permutation of its partner
 pub data Permuted : List (List Call) → List (List Call) → Type 0 where
@@ -50,55 +50,55 @@ WithinRuns = (cs ds : List Call) → Reordered cs ds ↔ Permuted (runs cs) (run
 -- ---- "where no slab is accepted twice in one run": worked out from the calls and their answers alone, so a host can
 
 -- slab (ri, oi) is accepted in the run that the list begins with; "A slab is one distance bin and one dihedral bin"
-unfoldable pub acceptedIn : ℕ → ℕ → List Call → List Reply → Bool
-acceptedIn ri oi [] rs = false
-acceptedIn ri oi (c ∷ cs) [] = false
-acceptedIn ri oi (set-call rj oj e ∷ cs) (r ∷ rs) = (eqb (number r) 0 && (eqb ri rj && eqb oi oj)) || acceptedIn ri oi cs rs
-acceptedIn ri oi (settle-call rj ∷ cs) (r ∷ rs) = false
-acceptedIn ri oi (write-call t out ∷ cs) (r ∷ rs) = false
+unfoldable pub accepted_in : ℕ → ℕ → List Call → List Reply → Bool
+accepted_in ri oi [] rs = false
+accepted_in ri oi (c ∷ cs) [] = false
+accepted_in ri oi (set_call rj oj e ∷ cs) (r ∷ rs) = (eqb (number r) 0 && (eqb ri rj && eqb oi oj)) || accepted_in ri oi cs rs
+accepted_in ri oi (settle_call rj ∷ cs) (r ∷ rs) = false
+accepted_in ri oi (write_call t out ∷ cs) (r ∷ rs) = false
 
 -- of no set that is accepted is the slab accepted again in its run
 unfoldable pub once : List Call → List Reply → Bool
 once [] rs = true
 once (c ∷ cs) [] = true
-once (set-call ri oi e ∷ cs) (r ∷ rs) = not (eqb (number r) 0 && acceptedIn ri oi cs rs) && once cs rs
-once (settle-call ri ∷ cs) (r ∷ rs) = once cs rs
-once (write-call t out ∷ cs) (r ∷ rs) = once cs rs
+once (set_call ri oi e ∷ cs) (r ∷ rs) = not (eqb (number r) 0 && accepted_in ri oi cs rs) && once cs rs
+once (settle_call ri ∷ cs) (r ∷ rs) = once cs rs
+once (write_call t out ∷ cs) (r ∷ rs) = once cs rs
 
 -- ---- the theorem
 
 -- "after the same fresh": the same settings, top level, meshes and lent lists, and other calls after them
-abbrev pub withCalls : History → List Call → History
-withCalls h cs = record { grid = h.grid; top = h.top; meshes = h.meshes; store = h.store; words = h.words; calls = cs; tail = h.tail; output = h.output }
+abbrev pub with_calls : History → List Call → History
+with_calls h cs = record { grid = h.grid; top = h.top; meshes = h.meshes; store = h.store; words = h.words; calls = cs; tail = h.tail; output = h.output }
 
-abbrev pub answersOf : History → List Reply
-answersOf h = replies h.meshes (begun h) h.calls
+abbrev pub answers_of : History → List Reply
+answers_of h = replies h.meshes (begun h) h.calls
 
 pub record Alike (h : History) (ds : List Call) (p : Reordered h.calls ds) : Type 0 where
   -- "must give each call the same answer": its number and what it returns; of a write in the list its output too, with the file
-  pub answers : answersOf (withCalls h ds) ≡ moved p (answersOf h)
+  pub answers : answers_of (with_calls h ds) ≡ moved p (answers_of h)
   -- builder, store and rows
-  pub state : ended (withCalls h ds) ≡ ended h
+  pub state : ended (with_calls h ds) ≡ ended h
   -- "and write equal files": the write after the calls
-  pub last-write : lastWrite (withCalls h ds) ≡ lastWrite h
-  pub bytes : file (withCalls h ds) ≡ file h
+  pub last_write : last_write (with_calls h ds) ≡ last_write h
+  pub bytes : file (with_calls h ds) ≡ file h
 
 -- "Two lists of calls after the same fresh that differ only in the order of the set calls within unbroken runs of them, where no slab is accepted twice in one
 -- run, must give each call the same answer and write equal files." Fresh may be refused, too. (S14.8)
 abbrev pub AnyOrder : Type 0
-AnyOrder = (h : History) (ds : List Call) (p : Reordered h.calls ds) → once h.calls (answersOf h) ≡ true → Alike h ds p
+AnyOrder = (h : History) (ds : List Call) (p : Reordered h.calls ds) → once h.calls (answers_of h) ≡ true → Alike h ds p
 
 -- ---- "A slab set twice is outside this: there the later energies stand."
 
 -- after the calls bs, a set of slab (ri, oi) and then the calls cs: it leaves no trace
 pub record Untraced (h : History) (bs : List Call) (ri oi : ℕ) (e : List Float) (cs : List Call) : Type 0 where
   -- the calls after it answer as without it
-  pub answers : replies h.meshes (ended (withCalls h (bs ++ set-call ri oi e ∷ []))) cs ≡ replies h.meshes (ended (withCalls h bs)) cs
-  pub state : ended (withCalls h (bs ++ set-call ri oi e ∷ cs)) ≡ ended (withCalls h (bs ++ cs))
-  pub last-write : lastWrite (withCalls h (bs ++ set-call ri oi e ∷ cs)) ≡ lastWrite (withCalls h (bs ++ cs))
-  pub bytes : file (withCalls h (bs ++ set-call ri oi e ∷ cs)) ≡ file (withCalls h (bs ++ cs))
+  pub answers : replies h.meshes (ended (with_calls h (bs ++ set_call ri oi e ∷ []))) cs ≡ replies h.meshes (ended (with_calls h bs)) cs
+  pub state : ended (with_calls h (bs ++ set_call ri oi e ∷ cs)) ≡ ended (with_calls h (bs ++ cs))
+  pub last_write : last_write (with_calls h (bs ++ set_call ri oi e ∷ cs)) ≡ last_write (with_calls h (bs ++ cs))
+  pub bytes : file (with_calls h (bs ++ set_call ri oi e ∷ cs)) ≡ file (with_calls h (bs ++ cs))
 
 -- .. where its slab is accepted again in its run (S14.9)
 abbrev pub Later : Type 0
 Later = (h : History) (bs : List Call) (ri oi : ℕ) (e : List Float) (cs : List Call) →
-    acceptedIn ri oi cs (replies h.meshes (ended (withCalls h (bs ++ set-call ri oi e ∷ []))) cs) ≡ true → Untraced h bs ri oi e cs
+    accepted_in ri oi cs (replies h.meshes (ended (with_calls h (bs ++ set_call ri oi e ∷ []))) cs) ≡ true → Untraced h bs ri oi e cs

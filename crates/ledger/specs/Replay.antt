@@ -4,17 +4,17 @@ use Rattle.std.specs.Prelude.{◌≡◌, Bool, true, false, not, cond, ◌&&◌,
 use mathlib.Core.List.{List, [], ◌∷◌, ◌++◌, Memᴰ}
 use Rattle.mesh.specs.Mesh.{Mesh}
 use Rattle.grid.specs.Settings.{counted}
-use Rattle.grid.specs.Atom.{atomCounted}
+use Rattle.grid.specs.Atom.{atom_counted}
 use Rattle.grid.specs.declared.Grid.{Grid}
 use Rattle.grid.specs.declared.AtomGrid.{AtomGrid}
 use Rattle.rows.specs.Rows.{Row}
-use Rattle.builder.specs.Refusals.{setQuestion}
-use Rattle.builder.specs.Atom.{atomSetQuestion}
-use Rattle.ledger.specs.Ledger.{Call, set-call, settle-call, write-call, Ledger, opened, ledgerQuestion, entered}
-use Rattle.ledger.specs.AtomLedger.{AtomCall, set-call as atom-set, settle-call as atom-settle, write-call as atom-write, atomOpened, atomLedgerQuestion, atomEntered}
+use Rattle.builder.specs.Refusals.{set_question}
+use Rattle.builder.specs.Atom.{atom_set_question}
+use Rattle.ledger.specs.Ledger.{Call, set_call, settle_call, write_call, Ledger, opened, ledger_question, entered}
+use Rattle.ledger.specs.AtomLedger.{AtomCall, set_call as atom-set, settle_call as atom-settle, write_call as atom-write, atom_opened, atom_ledger_question, atom_entered}
 use Rattle.ledger.specs.Promise.{History, Accepted, file}
-use Rattle.ledger.specs.AtomPromise.{AtomHistory, AtomAccepted, atomFile}
-use Rattle.ledger.specs.Order.{withCalls}
+use Rattle.ledger.specs.AtomPromise.{AtomHistory, AtomAccepted, atom_file}
+use Rattle.ledger.specs.Order.{with_calls}
 
 -- ---- either ledger
 
@@ -36,34 +36,34 @@ pub record Keeping : Type 1 where
   pub enter : Ledger → Calls → Ledger
 
 abbrev pub kind_of : Call → Kind
-kind_of (set-call ri oi e) = sets ri oi
-kind_of (settle-call ri) = settles ri
-kind_of (write-call t out) = writes
+kind_of (set_call ri oi e) = sets ri oi
+kind_of (settle_call ri) = settles ri
+kind_of (write_call t out) = writes
 
 -- "It puts 8 to 11 to these and to its own level and rows"
 abbrev pub number_of : Grid → Ledger → Call → ℕ
-number_of g b (set-call ri oi e) = setQuestion g b.level ri oi e
-number_of g b (settle-call ri) = ledgerQuestion g b ri
-number_of g b (write-call t out) = 0
+number_of g b (set_call ri oi e) = set_question g b.level ri oi e
+number_of g b (settle_call ri) = ledger_question g b ri
+number_of g b (write_call t out) = 0
 
 abbrev pub keeping : Grid → Mesh → ℕ → Keeping
 keeping g m top =
     record { Calls = Call; kind = kind_of; distances = g.n_r; dihedrals = g.n_omega; fresh = opened g top; number = number_of g; enter = entered g m }
 
 -- against an atom a slice is one slab: dihedral bin 0
-abbrev pub atomKindOf : AtomCall → Kind
-atomKindOf (atom-set ri e) = sets ri 0
-atomKindOf (atom-settle ri) = settles ri
-atomKindOf (atom-write out) = writes
+abbrev pub atom_kind_of : AtomCall → Kind
+atom_kind_of (atom-set ri e) = sets ri 0
+atom_kind_of (atom-settle ri) = settles ri
+atom_kind_of (atom-write out) = writes
 
-abbrev pub atomNumberOf : AtomGrid → Ledger → AtomCall → ℕ
-atomNumberOf g b (atom-set ri e) = atomSetQuestion g b.level ri e
-atomNumberOf g b (atom-settle ri) = atomLedgerQuestion g b ri
-atomNumberOf g b (atom-write out) = 0
+abbrev pub atom_number_of : AtomGrid → Ledger → AtomCall → ℕ
+atom_number_of g b (atom-set ri e) = atom_set_question g b.level ri e
+atom_number_of g b (atom-settle ri) = atom_ledger_question g b ri
+atom_number_of g b (atom-write out) = 0
 
-abbrev pub atomKeeping : AtomGrid → Mesh → ℕ → Keeping
-atomKeeping g m top =
-    record { Calls = AtomCall; kind = atomKindOf; distances = g.n_r; dihedrals = 1; fresh = atomOpened g top; number = atomNumberOf g; enter = atomEntered g m }
+abbrev pub atom_keeping : AtomGrid → Mesh → ℕ → Keeping
+atom_keeping g m top =
+    record { Calls = AtomCall; kind = atom_kind_of; distances = g.n_r; dihedrals = 1; fresh = atom_opened g top; number = atom_number_of g; enter = atom_entered g m }
 
 -- ---- the words of the laws
 
@@ -72,10 +72,10 @@ some p [] = false
 some p (x ∷ xs) = p x || some p xs
 
 -- a set of slab (ri, oi); a set of slice ri; a settle of slice ri
-abbrev pub ofSlab : ℕ → ℕ → Kind → Bool
-ofSlab ri oi (sets rj oj) = eqb ri rj && eqb oi oj
-ofSlab ri oi (settles rj) = false
-ofSlab ri oi writes = false
+abbrev pub of_slab : ℕ → ℕ → Kind → Bool
+of_slab ri oi (sets rj oj) = eqb ri rj && eqb oi oj
+of_slab ri oi (settles rj) = false
+of_slab ri oi writes = false
 
 abbrev pub of_slice : ℕ → Kind → Bool
 of_slice ri (sets rj oj) = eqb ri rj
@@ -101,50 +101,50 @@ module _ (k : Keeping) where
   slice_of b ri = take k.dihedrals (drop (ri * k.dihedrals) b.rows)
 
   -- there is a set of slab (ri, oi), a set of slice ri, a settle of slice ri
-  abbrev pub setsSlab : ℕ → ℕ → List k.Calls → Bool
-  setsSlab ri oi cs = some (λ c. ofSlab ri oi (k.kind c)) cs
+  abbrev pub sets_slab : ℕ → ℕ → List k.Calls → Bool
+  sets_slab ri oi cs = some (λ c. of_slab ri oi (k.kind c)) cs
 
-  abbrev pub setsSlice : ℕ → List k.Calls → Bool
-  setsSlice ri cs = some (λ c. of_slice ri (k.kind c)) cs
+  abbrev pub sets_slice : ℕ → List k.Calls → Bool
+  sets_slice ri cs = some (λ c. of_slice ri (k.kind c)) cs
 
-  abbrev pub settlesSlice : ℕ → List k.Calls → Bool
-  settlesSlice ri cs = some (λ c. settling ri (k.kind c)) cs
+  abbrev pub settles_slice : ℕ → List k.Calls → Bool
+  settles_slice ri cs = some (λ c. settling ri (k.kind c)) cs
 
   -- ---- what the laws ask of calls
 
   -- a call that was answered n, before the calls cs: a set is not answered 9, and if it is accepted its slab is not set again; after a settle, accepted or
   -- refused, its slice is not set again
-  abbrev pub cleanCall : Kind → ℕ → List k.Calls → Bool
-  cleanCall (sets ri oi) n cs = cond (eqb n 0) (not (setsSlab ri oi cs)) (not (eqb n 9))
-  cleanCall (settles ri) n cs = not (setsSlice ri cs)
-  cleanCall writes n cs = true
+  abbrev pub clean_call : Kind → ℕ → List k.Calls → Bool
+  clean_call (sets ri oi) n cs = cond (eqb n 0) (not (sets_slab ri oi cs)) (not (eqb n 9))
+  clean_call (settles ri) n cs = not (sets_slice ri cs)
+  clean_call writes n cs = true
 
-  unfoldable pub cleanFrom : Ledger → List k.Calls → Bool
-  cleanFrom b [] = true
-  cleanFrom b (c ∷ cs) = cleanCall (k.kind c) (k.number b c) cs && cleanFrom (k.enter b c) cs
+  unfoldable pub clean_from : Ledger → List k.Calls → Bool
+  clean_from b [] = true
+  clean_from b (c ∷ cs) = clean_call (k.kind c) (k.number b c) cs && clean_from (k.enter b c) cs
 
   abbrev pub clean : List k.Calls → Bool
-  clean cs = cleanFrom k.fresh cs
+  clean cs = clean_from k.fresh cs
 
   -- each set in w of a slice that cs settles is followed in w by a settle of it
-  abbrev pub closedCall : List k.Calls → Kind → List k.Calls → Bool
-  closedCall cs (sets ri oi) w = not (settlesSlice ri cs) || settlesSlice ri w
-  closedCall cs (settles ri) w = true
-  closedCall cs writes w = true
+  abbrev pub closed_call : List k.Calls → Kind → List k.Calls → Bool
+  closed_call cs (sets ri oi) w = not (settles_slice ri cs) || settles_slice ri w
+  closed_call cs (settles ri) w = true
+  closed_call cs writes w = true
 
   unfoldable pub closed : List k.Calls → List k.Calls → Bool
   closed cs [] = true
-  closed cs (c ∷ w) = closedCall cs (k.kind c) w && closed cs w
+  closed cs (c ∷ w) = closed_call cs (k.kind c) w && closed cs w
 
   -- of slab (ri, oi) a set is accepted before any settle of its slice
-  abbrev pub setFirstBy : ℕ → ℕ → Kind → ℕ → Bool → Bool
-  setFirstBy ri oi (sets rj oj) n rest = (eqb n 0 && (eqb ri rj && eqb oi oj)) || rest
-  setFirstBy ri oi (settles rj) n rest = not (eqb ri rj) && rest
-  setFirstBy ri oi writes n rest = rest
+  abbrev pub set_first_by : ℕ → ℕ → Kind → ℕ → Bool → Bool
+  set_first_by ri oi (sets rj oj) n rest = (eqb n 0 && (eqb ri rj && eqb oi oj)) || rest
+  set_first_by ri oi (settles rj) n rest = not (eqb ri rj) && rest
+  set_first_by ri oi writes n rest = rest
 
-  unfoldable pub setFirst : ℕ → ℕ → Ledger → List k.Calls → Bool
-  setFirst ri oi b [] = false
-  setFirst ri oi b (c ∷ cs) = setFirstBy ri oi (k.kind c) (k.number b c) (setFirst ri oi (k.enter b c) cs)
+  unfoldable pub set_first : ℕ → ℕ → Ledger → List k.Calls → Bool
+  set_first ri oi b [] = false
+  set_first ri oi b (c ∷ cs) = set_first_by ri oi (k.kind c) (k.number b c) (set_first ri oi (k.enter b c) cs)
 
 -- a walk along a list: the calls that it made so far, those behind it and those ahead of it. It starts before the first, plays the call ahead of it, or goes back
 -- to any earlier place
@@ -167,7 +167,7 @@ module _ (k : Keeping) where
 
   -- settled stays settled, whether the first settle was accepted or not (S26.1)
   abbrev pub SettledStays : Type 0
-  SettledStays = (bs : List k.Calls) (c : k.Calls) (ri : ℕ) (cs : List k.Calls) → k.kind c ≡ settles ri → setsSlice k ri cs ≡ false → Stays bs c ri cs
+  SettledStays = (bs : List k.Calls) (c : k.Calls) (ri : ℕ) (cs : List k.Calls) → k.kind c ≡ settles ri → sets_slice k ri cs ≡ false → Stays bs c ri cs
 
   -- a level that has gone: a set that is accepted at a level is answered 9 at every lower one, and changes nothing (S26.2)
   abbrev pub Gone : Type 0
@@ -184,13 +184,13 @@ module _ (k : Keeping) where
 
   -- a set leaves no trace where its slab is set again, accepted, before any settle of the slice (S26.5)
   abbrev pub SetOver : Type 0
-  SetOver = (bs : List k.Calls) (c : k.Calls) (ri oi : ℕ) (cs : List k.Calls) → k.kind c ≡ sets ri oi → setFirst k ri oi (after k (bs ++ c ∷ [])) cs ≡ true
+  SetOver = (bs : List k.Calls) (c : k.Calls) (ri oi : ℕ) (cs : List k.Calls) → k.kind c ≡ sets ri oi → set_first k ri oi (after k (bs ++ c ∷ [])) cs ≡ true
       → after k (bs ++ c ∷ cs) ≡ after k (bs ++ cs)
 
   -- a full pass forgets all but the level: two ledgers of one level, with a row for each slab (S26.6)
   abbrev pub FullPass : Type 0
   FullPass = (b d : Ledger) (cs : List k.Calls) → b.level ≡ d.level → length b.rows ≡ k.distances * k.dihedrals → length d.rows ≡ k.distances * k.dihedrals
-      → ((ri oi : ℕ) → ri < k.distances → oi < k.dihedrals → setFirst k ri oi b cs ≡ true) → onward k b cs ≡ onward k d cs
+      → ((ri oi : ℕ) → ri < k.distances → oi < k.dihedrals → set_first k ri oi b cs ≡ true) → onward k b cs ≡ onward k d cs
 
 -- all of them, of either ledger
 pub record PlayedAgain (k : Keeping) : Type 0 where
@@ -199,41 +199,41 @@ pub record PlayedAgain (k : Keeping) : Type 0 where
   pub replay : Replay k
   pub resume : Resume k
   pub set-over : SetOver k
-  pub full-pass : FullPass k
+  pub full_pass : FullPass k
 
 -- ---- files
 
-abbrev pub keepingOf : History → Keeping
-keepingOf h = keeping (counted h.grid) h.meshes h.top
+abbrev pub keeping_of : History → Keeping
+keeping_of h = keeping (counted h.grid) h.meshes h.top
 
-abbrev pub atomKeepingOf : AtomHistory → Keeping
-atomKeepingOf h = atomKeeping (atomCounted h.grid) h.meshes h.top
+abbrev pub atom_keeping_of : AtomHistory → Keeping
+atom_keeping_of h = atom_keeping (atom_counted h.grid) h.meshes h.top
 
-abbrev pub atomWithCalls : AtomHistory → List AtomCall → AtomHistory
-atomWithCalls h cs = record { grid = h.grid; top = h.top; meshes = h.meshes; lists = h.lists; calls = cs; output = h.output }
+abbrev pub atom_with_calls : AtomHistory → List AtomCall → AtomHistory
+atom_with_calls h cs = record { grid = h.grid; top = h.top; meshes = h.meshes; lists = h.lists; calls = cs; output = h.output }
 
 -- other calls after the same fresh, and both writes accepted: where the ledgers are equal the files are, byte for byte. So each law is about files, too
 -- (S26.7)
 abbrev pub EqualFiles : Type 0
-EqualFiles = (h : History) (ds : List Call) → Accepted h → Accepted (withCalls h ds) → after (keepingOf h) ds ≡ after (keepingOf h) h.calls → file (withCalls h ds) ≡ file h
+EqualFiles = (h : History) (ds : List Call) → Accepted h → Accepted (with_calls h ds) → after (keeping_of h) ds ≡ after (keeping_of h) h.calls → file (with_calls h ds) ≡ file h
 
 abbrev pub AtomEqualFiles : Type 0
-AtomEqualFiles = (h : AtomHistory) (ds : List AtomCall) → AtomAccepted h → AtomAccepted (atomWithCalls h ds) → after (atomKeepingOf h) ds ≡ after (atomKeepingOf h) h.calls
-    → atomFile (atomWithCalls h ds) ≡ atomFile h
+AtomEqualFiles = (h : AtomHistory) (ds : List AtomCall) → AtomAccepted h → AtomAccepted (atom_with_calls h ds) → after (atom_keeping_of h) ds ≡ after (atom_keeping_of h) h.calls
+    → atom_file (atom_with_calls h ds) ≡ atom_file h
 
 -- the file of clean calls with others of them played behind them (S26.3)
 abbrev pub ReplayedFile : Type 0
-ReplayedFile = (h : History) (w : List Call) → clean (keepingOf h) h.calls ≡ true → ((c : Call) → Memᴰ c w → Memᴰ c h.calls) → closed (keepingOf h) h.calls w ≡ true
-    → Accepted h → Accepted (withCalls h (h.calls ++ w)) → file (withCalls h (h.calls ++ w)) ≡ file h
+ReplayedFile = (h : History) (w : List Call) → clean (keeping_of h) h.calls ≡ true → ((c : Call) → Memᴰ c w → Memᴰ c h.calls) → closed (keeping_of h) h.calls w ≡ true
+    → Accepted h → Accepted (with_calls h (h.calls ++ w)) → file (with_calls h (h.calls ++ w)) ≡ file h
 
 abbrev pub AtomReplayedFile : Type 0
-AtomReplayedFile = (h : AtomHistory) (w : List AtomCall) → clean (atomKeepingOf h) h.calls ≡ true → ((c : AtomCall) → Memᴰ c w → Memᴰ c h.calls)
-    → closed (atomKeepingOf h) h.calls w ≡ true → AtomAccepted h → AtomAccepted (atomWithCalls h (h.calls ++ w)) → atomFile (atomWithCalls h (h.calls ++ w)) ≡ atomFile h
+AtomReplayedFile = (h : AtomHistory) (w : List AtomCall) → clean (atom_keeping_of h) h.calls ≡ true → ((c : AtomCall) → Memᴰ c w → Memᴰ c h.calls)
+    → closed (atom_keeping_of h) h.calls w ≡ true → AtomAccepted h → AtomAccepted (atom_with_calls h (h.calls ++ w)) → atom_file (atom_with_calls h (h.calls ++ w)) ≡ atom_file h
 
 -- the file of a walk along clean calls, to their end (S26.4)
 abbrev pub ResumedFile : Type 0
-ResumedFile = (h : History) (made : List Call) → clean (keepingOf h) h.calls ≡ true → Walk made h.calls [] → Accepted h → Accepted (withCalls h made) → file (withCalls h made) ≡ file h
+ResumedFile = (h : History) (made : List Call) → clean (keeping_of h) h.calls ≡ true → Walk made h.calls [] → Accepted h → Accepted (with_calls h made) → file (with_calls h made) ≡ file h
 
 abbrev pub AtomResumedFile : Type 0
-AtomResumedFile = (h : AtomHistory) (made : List AtomCall) → clean (atomKeepingOf h) h.calls ≡ true → Walk made h.calls [] → AtomAccepted h → AtomAccepted (atomWithCalls h made)
-    → atomFile (atomWithCalls h made) ≡ atomFile h
+AtomResumedFile = (h : AtomHistory) (made : List AtomCall) → clean (atom_keeping_of h) h.calls ≡ true → Walk made h.calls [] → AtomAccepted h → AtomAccepted (atom_with_calls h made)
+    → atom_file (atom_with_calls h made) ≡ atom_file h

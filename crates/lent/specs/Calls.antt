@@ -4,7 +4,7 @@ use Rattle.mesh.specs.Mesh.{Mesh}
 use Rattle.settling.specs.Gradient.{zero}
 use Rattle.builder.specs.BuilderLists.{BuilderLists}
 use Rattle.builder.specs.declared.Builder.{Builder}
-use Rattle.builder.specs.Calls.{BuiltOut, SettleOut, setOut, settleOut}
+use Rattle.builder.specs.Calls.{BuiltOut, SettleOut, set_out, settle_out}
 use Rattle.lent.specs.declared.LentSettled.{LentSettled}
 use Rattle.lent.specs.declared.LentSettled.TheVariants.{Accepted, Refused}
 
@@ -14,14 +14,14 @@ pub record LentValues : Type 0 where
   pub gradient : Float
   pub comparisons : ℕ
 
-abbrev pub lentValues : LentSettled → LentValues
-lentValues (Accepted x k) = record { number = 0; gradient = x; comparisons = k }
-lentValues (Refused n) = record { number = n; gradient = zero; comparisons = 0 }
+abbrev pub lent_values : LentSettled → LentValues
+lent_values (Accepted x k) = record { number = 0; gradient = x; comparisons = k }
+lent_values (Refused n) = record { number = n; gradient = zero; comparisons = 0 }
 
 -- a refusal has a number: 0 is acceptance alone
-abbrev pub lentNumbered : LentSettled → Bool
-lentNumbered (Accepted x k) = true
-lentNumbered (Refused n) = not (eqb n 0)
+abbrev pub lent_numbered : LentSettled → Bool
+lent_numbered (Accepted x k) = true
+lent_numbered (Refused n) = not (eqb n 0)
 
 -- what a call leaves: the answer, the builder that was lent and every list that is lent to be altered
 pub record LentOut (A : Type 0) : Type 0 where
@@ -30,15 +30,15 @@ pub record LentOut (A : Type 0) : Type 0 where
   pub lists : BuilderLists
 
 -- "set and settle also with the builder lent to be altered": the builder that the by-value call leaves is stored back; a refused call leaves it as it was
-abbrev pub setLeft : BuiltOut → LentOut ℕ
-setLeft o = record { answer = o.answer.number; builder = o.answer.builder; lists = o.lists }
+abbrev pub set_left : BuiltOut → LentOut ℕ
+set_left o = record { answer = o.answer.number; builder = o.answer.builder; lists = o.lists }
 
-abbrev pub settleLeft : SettleOut → LentOut LentValues
-settleLeft o =
+abbrev pub settle_left : SettleOut → LentOut LentValues
+settle_left o =
     record { answer = record { number = o.answer.number; gradient = o.answer.gradient; comparisons = o.answer.comparisons }; builder = o.answer.builder; lists = o.lists }
 
-unfoldable pub setLent : Builder → BuilderLists → ℕ → ℕ → List Float → LentOut ℕ
-setLent b l ri oi e = setLeft (setOut b l ri oi e)
+unfoldable pub set_lent : Builder → BuilderLists → ℕ → ℕ → List Float → LentOut ℕ
+set_lent b l ri oi e = set_left (set_out b l ri oi e)
 
-unfoldable pub settleLent : Builder → Mesh → BuilderLists → ℕ → LentOut LentValues
-settleLent b m l ri = settleLeft (settleOut b m l ri)
+unfoldable pub settle_lent : Builder → Mesh → BuilderLists → ℕ → LentOut LentValues
+settle_lent b m l ri = settle_left (settle_out b m l ri)

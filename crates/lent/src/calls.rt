@@ -1,9 +1,9 @@
 // Set and settle with the builder lent to be altered: the by-value call, and the builder that it leaves stored back.
 ghost use Rattle.std.specs.Prelude.{◌≡◌, true, ℕ};
-ghost use Rattle.mesh.specs.Mesh.{meshOf};
-ghost use Rattle.builder.specs.BuilderLists.{wordLists};
-ghost use Rattle.builder.specs.Calls.{builtValues, settledValues, settledNumbered};
-ghost use Rattle.lent.specs.Calls.{LentOut, LentValues, lentValues, lentNumbered, setLent, settleLent};
+ghost use Rattle.mesh.specs.Mesh.{mesh_of};
+ghost use Rattle.builder.specs.BuilderLists.{word_lists};
+ghost use Rattle.builder.specs.Calls.{built_values, settled_values, settled_numbered};
+ghost use Rattle.lent.specs.Calls.{LentOut, LentValues, lent_values, lent_numbered, set_lent, settle_lent};
 
 use crate::LentSettled;
 use builder::{Builder, Built, Settled};
@@ -22,7 +22,7 @@ struct SettleDone {
 }
 
 fn set_done(kept: Builder, a: Built) -> SetDone
-    ensures { (result.builder ≡ (builtValues kept a).builder) × (result.number ≡ (builtValues kept a).number) }
+    ensures { (result.builder ≡ (built_values kept a).builder) × (result.number ≡ (built_values kept a).number) }
 {
     match a {
         Built::Accepted(builder) => SetDone { builder, number: 0 },
@@ -34,7 +34,7 @@ fn set_done(kept: Builder, a: Built) -> SetDone
 }
 
 fn settle_done(kept: Builder, a: Settled) -> SettleDone
-    ensures { (lentNumbered result.answer ≡ settledNumbered a) × (result.builder ≡ (settledValues kept a).builder) × (lentValues result.answer ≡ record { number = (settledValues kept a).number; gradient = (settledValues kept a).gradient; comparisons = (settledValues kept a).comparisons }) }
+    ensures { (lent_numbered result.answer ≡ settled_numbered a) × (result.builder ≡ (settled_values kept a).builder) × (lent_values result.answer ≡ record { number = (settled_values kept a).number; gradient = (settled_values kept a).gradient; comparisons = (settled_values kept a).comparisons }) }
 {
     match a {
         Settled::Accepted(builder, gradient, comparisons) => SettleDone {
@@ -57,8 +57,8 @@ fn set_kept(
     energies: &[f64],
 ) -> SetDone
     ensures { ◌≡◌ {A = LentOut ℕ}
-        (record { answer = result.number; builder = result.builder; lists = wordLists store.new words.new })
-        (setLent b (wordLists store.old words.old) ri oi energies.now) }
+        (record { answer = result.number; builder = result.builder; lists = word_lists store.new words.new })
+        (set_lent b (word_lists store.old words.old) ri oi energies.now) }
 {
     let a = builder::set(b, store, words, ri, oi, energies);
     set_done(b, a)
@@ -74,10 +74,10 @@ fn settle_kept(
     angles: &[f64],
     ri: u64,
 ) -> SettleDone
-    ensures { (lentNumbered result.answer ≡ true) × ◌≡◌ {A = LentOut LentValues}
-        (record { answer = lentValues result.answer; builder = result.builder; lists = wordLists store.now words.new })
-        (settleLent b (meshOf vertices.now counts.now neighbours.now angles.now)
-        (wordLists store.now words.old) ri) }
+    ensures { (lent_numbered result.answer ≡ true) × ◌≡◌ {A = LentOut LentValues}
+        (record { answer = lent_values result.answer; builder = result.builder; lists = word_lists store.now words.new })
+        (settle_lent b (mesh_of vertices.now counts.now neighbours.now angles.now)
+        (word_lists store.now words.old) ri) }
 {
     let a = builder::settle(b, store, words, vertices, counts, neighbours, angles, ri);
     settle_done(b, a)
@@ -93,8 +93,8 @@ pub fn set_lent(
     energies: &[f64],
 ) -> u64
     ensures { ◌≡◌ {A = LentOut ℕ}
-        (record { answer = result; builder = b.new; lists = wordLists store.new words.new })
-        (setLent b.old (wordLists store.old words.old) ri oi energies.now) }
+        (record { answer = result; builder = b.new; lists = word_lists store.new words.new })
+        (set_lent b.old (word_lists store.old words.old) ri oi energies.now) }
 {
     let a = set_kept(*b, store, words, ri, oi, energies);
     *b = a.builder;
@@ -112,10 +112,10 @@ pub fn settle_lent(
     angles: &[f64],
     ri: u64,
 ) -> LentSettled
-    ensures { (lentNumbered result ≡ true) × ◌≡◌ {A = LentOut LentValues}
-        (record { answer = lentValues result; builder = b.new; lists = wordLists store.now words.new })
-        (settleLent b.old (meshOf vertices.now counts.now neighbours.now angles.now)
-        (wordLists store.now words.old) ri) }
+    ensures { (lent_numbered result ≡ true) × ◌≡◌ {A = LentOut LentValues}
+        (record { answer = lent_values result; builder = b.new; lists = word_lists store.now words.new })
+        (settle_lent b.old (mesh_of vertices.now counts.now neighbours.now angles.now)
+        (word_lists store.now words.old) ri) }
 {
     let a = settle_kept(*b, store, words, vertices, counts, neighbours, angles, ri);
     *b = a.builder;

@@ -1,15 +1,15 @@
 // Rows as a slice of records: read one, replace one, and the bridge to the words. A slab number is an index of the slice.
 ghost use Rattle.std.specs.Prelude.{◌≡◌, ◌<◌, ◌≤◌, ltb, length, get_or, set};
-ghost use Rattle.rows.specs.Rows.{resolutionOf};
-ghost use Rattle.rows.specs.Words.{wordKind, wordRows};
-ghost use Rattle.lent.specs.Records.{columns, recordAt, recordOf, wordIn, gatherNumber, spreadNumber, taken, gathered, SpreadOut, spreadOut};
+ghost use Rattle.rows.specs.Rows.{resolution_of};
+ghost use Rattle.rows.specs.Words.{word_kind, word_rows};
+ghost use Rattle.lent.specs.Records.{columns, record_at, record_of, word_in, gather_number, spread_number, taken, gathered, SpreadOut, spread_out};
 
 use crate::RowRecord;
 use rows::SlabResolution;
 
 // The record of a row, and the row of a record, its kind being a known one.
 pub fn record_of(x: SlabResolution) -> RowRecord
-    ensures { result ≡ recordOf x }
+    ensures { result ≡ record_of x }
 {
     RowRecord {
         kind: rows::kind_of(x),
@@ -19,14 +19,14 @@ pub fn record_of(x: SlabResolution) -> RowRecord
 }
 
 pub fn resolution_of(r: RowRecord) -> SlabResolution
-    ensures { result ≡ resolutionOf r.kind r.level r.value }
+    ensures { result ≡ resolution_of r.kind r.level r.value }
 {
     rows::resolution_of(r.kind, r.level, r.value)
 }
 
 // The record of slab s; zeros beyond the slice, as beyond a list of words.
 pub fn row_at(rows: &[RowRecord], s: usize) -> RowRecord
-    ensures { result ≡ recordAt (columns rows.now) s }
+    ensures { result ≡ record_at (columns rows.now) s }
 {
     if s < rows.len() {
         rows[s]
@@ -53,7 +53,7 @@ pub fn replace_row(rows: &mut [RowRecord], s: usize, r: RowRecord) -> bool
 
 // What refuses a bridge: 6 where there are fewer words than records, then 15 where a word that goes to a record has a rest.
 fn gather_question(n: usize, words: &[u64]) -> u64
-    ensures { result ≡ gatherNumber n words.now }
+    ensures { result ≡ gather_number n words.now }
 {
     if words.len() < n {
         return 6;
@@ -65,7 +65,7 @@ fn gather_question(n: usize, words: &[u64]) -> u64
 }
 
 fn spread_question(n: usize, words: usize) -> u64
-    ensures { result ≡ spreadNumber n words }
+    ensures { result ≡ spread_number n words }
 {
     if words < n {
         return 6;
@@ -85,8 +85,8 @@ fn taken(number: u64, n: usize) -> usize
 
 // The record of a word, and the word of a record.
 fn record_at(words: &[u64], s: usize) -> RowRecord
-    requires { (s < length words.now) × (wordKind (get_or words.now s 0) ≤ 255) }
-    ensures { result ≡ recordAt (wordRows words.now) s }
+    requires { (s < length words.now) × (word_kind (get_or words.now s 0) ≤ 255) }
+    ensures { result ≡ record_at (word_rows words.now) s }
 {
     let w = words[s];
     RowRecord {
@@ -97,14 +97,14 @@ fn record_at(words: &[u64], s: usize) -> RowRecord
 }
 
 fn word_in(r: RowRecord) -> u64
-    ensures { result ≡ wordIn r }
+    ensures { result ≡ word_in r }
 {
     rows::word_of(r.kind, r.level, r.value)
 }
 
 // The words into the records; the answer is document 01's number, 0 where it is done.
 pub fn gather(rows: &mut [RowRecord], words: &[u64]) -> u64
-    ensures { (result ≡ gatherNumber (length rows.old) words.now)
+    ensures { (result ≡ gather_number (length rows.old) words.now)
         × (rows.new ≡ gathered words.now rows.old) }
 {
     let m = rows.len();
@@ -123,7 +123,7 @@ pub fn gather(rows: &mut [RowRecord], words: &[u64]) -> u64
 pub fn spread(rows: &[RowRecord], words: &mut [u64]) -> u64
     ensures { ◌≡◌ {A = SpreadOut}
         (record { number = result; words = words.new })
-        (spreadOut rows.now words.old) }
+        (spread_out rows.now words.old) }
 {
     let m = rows.len();
     let no = spread_question(m, words.len());

@@ -18,40 +18,40 @@ pub sum_more : (f : ℕ → ℕ) (n : ℕ) → sum (n + 1) f ≡ sum n f + f n
 unfolding sum
 sum_more f n = rw add-one
 
-pub sum-le : (n : ℕ) (f g : ℕ → ℕ) → ((i : ℕ) → i < n → f i ≤ g i) → sum n f ≤ sum n g
+pub sum_le : (n : ℕ) (f g : ℕ → ℕ) → ((i : ℕ) → i < n → f i ≤ g i) → sum n f ≤ sum n g
 unfolding sum
-sum-le zero f g h = omega arith
-sum-le (suc n) f g h = omega (arith, sum-le n f g (λ i l. h i (omega arith)), h n (omega arith))
+sum_le zero f g h = omega arith
+sum_le (suc n) f g h = omega (arith, sum_le n f g (λ i l. h i (omega arith)), h n (omega arith))
 
-pub sum-eq : (n : ℕ) (f g : ℕ → ℕ) → ((i : ℕ) → i < n → f i ≡ g i) → sum n f ≡ sum n g
+pub sum_eq : (n : ℕ) (f g : ℕ → ℕ) → ((i : ℕ) → i < n → f i ≡ g i) → sum n f ≡ sum n g
 unfolding sum
-sum-eq zero f g h = refl
-sum-eq (suc n) f g h = omega (arith, sum-eq n f g (λ i l. h i (omega arith)), h n (omega arith))
+sum_eq zero f g h = refl
+sum_eq (suc n) f g h = omega (arith, sum_eq n f g (λ i l. h i (omega arith)), h n (omega arith))
 
 pub sum-add : (n : ℕ) (f g : ℕ → ℕ) → sum n f + sum n g ≡ sum n (λ i. f i + g i)
 unfolding sum
 sum-add zero f g = refl
 sum-add (suc n) f g = omega (arith, sum-add n f g)
 
-pub sum-const : (n k : ℕ) → sum n (λ i. k) ≡ n * k
+pub sum_const : (n k : ℕ) → sum n (λ i. k) ≡ n * k
 unfolding sum
-sum-const zero k = omega arith
-sum-const (suc n) k = omega (arith, sum-const n k)
+sum_const zero k = omega arith
+sum_const (suc n) k = omega (arith, sum_const n k)
 
-pub sum-swap : (m n : ℕ) (f : ℕ → ℕ → ℕ) → sum m (λ c. sum n (λ v. f c v)) ≡ sum n (λ v. sum m (λ c. f c v))
+pub sum_swap : (m n : ℕ) (f : ℕ → ℕ → ℕ) → sum m (λ c. sum n (λ v. f c v)) ≡ sum n (λ v. sum m (λ c. f c v))
 unfolding sum
-sum-swap zero n f = sym (sum-zero n)
+sum_swap zero n f = sym (sum-zero n)
   where
     sum-zero : (n : ℕ) → sum n (λ v. 0) ≡ 0
     sum-zero zero = refl
     sum-zero (suc n) = omega (arith, sum-zero n)
-sum-swap (suc m) n f = ap (λ (k : ℕ). k + sum n (λ v. f m v)) (sum-swap m n f) ∙ sum-add n (λ v. sum m (λ c. f c v)) (λ v. f m v)
+sum_swap (suc m) n f = ap (λ (k : ℕ). k + sum n (λ v. f m v)) (sum_swap m n f) ∙ sum-add n (λ v. sum m (λ c. f c v)) (λ v. f m v)
 
 -- the first k, and then b more
-sum-split : (k b : ℕ) (f : ℕ → ℕ) → sum (k + b) f ≡ sum k f + sum b (λ y. f (k + y))
+sum_split : (k b : ℕ) (f : ℕ → ℕ) → sum (k + b) f ≡ sum k f + sum b (λ y. f (k + y))
 unfolding sum
-sum-split k zero f = rw (add-zero k) (omega arith)
-sum-split k (suc b) f = rw (add-suc k b) (omega (arith, sum-split k b f))
+sum_split k zero f = rw (add-zero k) (omega arith)
+sum_split k (suc b) f = rw (add-suc k b) (omega (arith, sum_split k b f))
 
 -- place c of a rows of b places is in row c / b at c % b
 pub sum-grid : (a b : ℕ) (f : ℕ → ℕ → ℕ) → 0 < b → sum (a * b) (λ c. f (c / b) (c % b)) ≡ sum a (λ x. sum b (λ y. f x y))
@@ -59,9 +59,9 @@ unfolding sum
 sum-grid zero b f h = let e : 0 * b ≡ 0 = omega arith in rw e
 sum-grid (suc a) b f h =
     let e : suc a * b ≡ a * b + b = omega arith in
-    rw e (sum-split (a * b) b (λ c. f (c / b) (c % b))
+    rw e (sum_split (a * b) b (λ c. f (c / b) (c % b))
     ∙ ap (λ (k : ℕ). k + sum b (λ y. f ((a * b + y) / b) ((a * b + y) % b))) (sum-grid a b f h)
-    ∙ ap (λ (k : ℕ). sum a (λ x. sum b (λ y. f x y)) + k) (sum-eq b (λ y. f ((a * b + y) / b) ((a * b + y) % b)) (λ y. f a y) (λ y l. here y l)))
+    ∙ ap (λ (k : ℕ). sum a (λ x. sum b (λ y. f x y)) + k) (sum_eq b (λ y. f ((a * b + y) / b) ((a * b + y) % b)) (λ y. f a y) (λ y l. here y l)))
   where
     here : (y : ℕ) → y < b → f ((a * b + y) / b) ((a * b + y) % b) ≡ f a y
     here y l =

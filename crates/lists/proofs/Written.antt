@@ -10,25 +10,25 @@ use native.Mathlib.Omega.{arith}
 use lib.ListN.{length, take, drop, get_or, set, length-set, length-append, length-drop, take-append-drop}
 use lib.Seq.{drop-cons, set_at, take_at, drop-drop, drop-append-add, append_snoc, length-take-le, slice}
 use Rattle.lists.specs.Lists.{put, below, filter, joined, starts, sum}
-use Rattle.lists.proofs.Sums.{one, count, sum-eq, sum-le, sum-swap, sum-const}
+use Rattle.lists.proofs.Sums.{one, count, sum_eq, sum_le, sum_swap, sum_const}
 
 module _ {A : Type 0} where
-  head-length : (d : List A) (at : ℕ) (l : List A) → at ≤ length d → length (take at d ++ l) ≡ at + length l
-  head-length d at l h = length-append (take at d) l ∙ ap (λ (k : ℕ). k + length l) (length-take-le at d h)
+  head_length : (d : List A) (at : ℕ) (l : List A) → at ≤ length d → length (take at d ++ l) ≡ at + length l
+  head_length d at l h = length-append (take at d) l ∙ ap (λ (k : ℕ). k + length l) (length-take-le at d h)
 
-  pub put-nil : (d : List A) (at : ℕ) → put d at [] ≡ d
+  pub put_nil : (d : List A) (at : ℕ) → put d at [] ≡ d
   unfolding put
-  put-nil d at = ap (λ (k : ℕ). take at d ++ [] ++ drop k d) (add-zero at) ∙ ap (λ (r : List A). r ++ drop at d) (append-nil (take at d)) ∙ take-append-drop at d
+  put_nil d at = ap (λ (k : ℕ). take at d ++ [] ++ drop k d) (add-zero at) ∙ ap (λ (r : List A). r ++ drop at d) (append-nil (take at d)) ∙ take-append-drop at d
 
-  pub put-push : (d : List A) (at : ℕ) (l : List A) (x : A) → at + length l < length d
+  pub put_push : (d : List A) (at : ℕ) (l : List A) (x : A) → at + length l < length d
       → set (put d at l) (at + length l) x ≡ put d at (l ++ (x ∷ []))
   unfolding put
-  put-push d at l x h =
+  put_push d at l x h =
       let p : List A = take at d ++ l in
       let k : ℕ = at + length l in
       let e : suc k ≡ at + length (l ++ (x ∷ [])) = simp length-append (omega arith) in
       ap (λ (r : List A). set (p ++ r) k x) (drop-cons d k x h)
-      ∙ set_at p (get_or d k x) (drop (suc k) d) x k (head-length d at l (omega arith))
+      ∙ set_at p (get_or d k x) (drop (suc k) d) x k (head_length d at l (omega arith))
       ∙ sym (append_snoc p x (drop (suc k) d))
       ∙ ap (λ (r : List A). r ++ drop (suc k) d) (append_assoc (take at d) l (x ∷ []))
       ∙ ap (λ (j : ℕ). take at d ++ (l ++ (x ∷ [])) ++ drop j d) e
@@ -37,7 +37,7 @@ module _ {A : Type 0} where
   unfolding put
   length-put d at l h =
       length-append (take at d ++ l) (drop (at + length l) d)
-      ∙ omega (arith, head-length d at l (omega arith), length-drop (at + length l) d)
+      ∙ omega (arith, head_length d at l (omega arith), length-drop (at + length l) d)
 
   pub put-put : (d : List A) (at : ℕ) (l m : List A) → at + length l ≤ length d
       → put (put d at l) (at + length l) m ≡ put d at (l ++ m)
@@ -46,7 +46,7 @@ module _ {A : Type 0} where
       let p : List A = take at d ++ l in
       let k : ℕ = at + length l in
       let q : List A = drop k d in
-      let hp : length p ≡ k = head-length d at l (omega arith) in
+      let hp : length p ≡ k = head_length d at l (omega arith) in
       let dropped : drop (k + length m) (p ++ q) ≡ drop (at + length (l ++ m)) d =
       ap (λ (j : ℕ). drop (j + length m) (p ++ q)) (sym hp) ∙ drop-append-add p q (length m) ∙ drop-drop (length m) k d
       ∙ ap (λ (j : ℕ). drop j d) (let z : k + length m ≡ at + length (l ++ m) = simp length-append (omega arith) in z) in
@@ -69,11 +69,11 @@ pub filter_more : (p : ℕ → Bool) (n : ℕ) → filter p (below (n + 1)) ≡ 
 unfolding below filter
 filter_more p n = rw add-one (filter-append p (below n) (n ∷ []))
 
-pub filter-yes : (p : ℕ → Bool) (n : ℕ) → p n ≡ true → filter p (below (n + 1)) ≡ filter p (below n) ++ (n ∷ [])
-filter-yes p n e = filter_more p n ∙ rw e
+pub filter_yes : (p : ℕ → Bool) (n : ℕ) → p n ≡ true → filter p (below (n + 1)) ≡ filter p (below n) ++ (n ∷ [])
+filter_yes p n e = filter_more p n ∙ rw e
 
-pub filter-no : (p : ℕ → Bool) (n : ℕ) → p n ≡ false → filter p (below (n + 1)) ≡ filter p (below n)
-filter-no p n e = filter_more p n ∙ rw e (append-nil _)
+pub filter_no : (p : ℕ → Bool) (n : ℕ) → p n ≡ false → filter p (below (n + 1)) ≡ filter p (below n)
+filter_no p n e = filter_more p n ∙ rw e (append-nil _)
 
 -- ---- lengths
 
@@ -107,36 +107,36 @@ length-starts zero f = refl
 length-starts (suc n) f = length-append (starts n f) _ ∙ omega (arith, length-starts n f)
 
 -- what is joined so far is no longer than all of it
-pub joined-le : {A : Type 0} (k n : ℕ) (f : ℕ → List A) → k ≤ n → length (joined k f) ≤ length (joined n f)
+pub joined_le : {A : Type 0} (k n : ℕ) (f : ℕ → List A) → k ≤ n → length (joined k f) ≤ length (joined n f)
 unfolding joined
-joined-le k zero f h = let e : k ≡ zero = omega arith in rw e (omega arith)
-joined-le k (suc n) f h =
-    ⊎_elim (λ e. rw e (omega arith)) (λ l. omega (arith, joined-le k n f (le_of_suc-le-suc l), length-append (joined n f) (f n))) (eq-or-lt_of_le h)
+joined_le k zero f h = let e : k ≡ zero = omega arith in rw e (omega arith)
+joined_le k (suc n) f h =
+    ⊎_elim (λ e. rw e (omega arith)) (λ l. omega (arith, joined_le k n f (le_of_suc-le-suc l), length-append (joined n f) (f n))) (eq-or-lt_of_le h)
 
 pub next_fits : {A : Type 0} (k n : ℕ) (f : ℕ → List A) → k < n → length (joined k f) + length (f k) ≤ length (joined n f)
-next_fits k n f l = omega (arith, joined-le (k + 1) n f (omega arith), ap length (joined-more k f), length-append (joined k f) (f k))
+next_fits k n f l = omega (arith, joined_le (k + 1) n f (omega arith), ap length (joined-more k f), length-append (joined k f) (f k))
 
-pub filter-le : (p : ℕ → Bool) (k n : ℕ) → k ≤ n → length (filter p (below k)) ≤ length (filter p (below n))
+pub filter_le : (p : ℕ → Bool) (k n : ℕ) → k ≤ n → length (filter p (below k)) ≤ length (filter p (below n))
 unfolding sum
-filter-le p k n h = omega (arith, length-filter p k, length-filter p n, count-le k n h)
+filter_le p k n h = omega (arith, length-filter p k, length-filter p n, count_le k n h)
   where
-    count-le : (k n : ℕ) → k ≤ n → count k p ≤ count n p
-    count-le k zero h = let e : k ≡ zero = omega arith in rw e (omega arith)
-    count-le k (suc n) h = ⊎_elim (λ e. rw e (omega arith)) (λ l. omega (arith, count-le k n (le_of_suc-le-suc l))) (eq-or-lt_of_le h)
+    count_le : (k n : ℕ) → k ≤ n → count k p ≤ count n p
+    count_le k zero h = let e : k ≡ zero = omega arith in rw e (omega arith)
+    count_le k (suc n) h = ⊎_elim (λ e. rw e (omega arith)) (λ l. omega (arith, count_le k n (le_of_suc-le-suc l))) (eq-or-lt_of_le h)
 
 -- every pair (c, v) counted by c and by v
 pub joined-filter-length : (m n : ℕ) (p : ℕ → ℕ → Bool)
     → length (joined m (λ c. filter (p c) (below n))) ≡ sum n (λ v. count m (λ c. p c v))
 joined-filter-length m n p =
     length-joined m (λ c. filter (p c) (below n))
-    ∙ sum-eq m (λ c. length (filter (p c) (below n))) (λ c. count n (p c)) (λ c l. length-filter (p c) n)
-    ∙ sum-swap m n (λ c v. one (p c v))
+    ∙ sum_eq m (λ c. length (filter (p c) (below n))) (λ c. count n (p c)) (λ c l. length-filter (p c) n)
+    ∙ sum_swap m n (λ c v. one (p c v))
 
 -- where each v is in at most k lists, the lists have at most n * k entries
-pub joined-filter-le : (m n k : ℕ) (p : ℕ → ℕ → Bool) → ((v : ℕ) → v < n → count m (λ c. p c v) ≤ k)
+pub joined-filter_le : (m n k : ℕ) (p : ℕ → ℕ → Bool) → ((v : ℕ) → v < n → count m (λ c. p c v) ≤ k)
     → length (joined m (λ c. filter (p c) (below n))) ≤ n * k
-joined-filter-le m n k p h =
-    omega (arith, joined-filter-length m n p, sum-le n (λ v. count m (λ c. p c v)) (λ v. k) h, sum-const n k)
+joined-filter_le m n k p h =
+    omega (arith, joined-filter-length m n p, sum_le n (λ v. count m (λ c. p c v)) (λ v. k) h, sum_const n k)
 
 -- a part of a list, as the code cuts it out and as `slice` says it
 pub part : {A : Type 0} (f t : ℕ) (l : List A) → take (t - f) (drop f l) ≡ slice f t l
@@ -150,8 +150,8 @@ part (suc f) (suc t) [] = empty (suc t - suc f)
 part (suc f) (suc t) (x ∷ l) = let e : suc t - suc f ≡ t - f = omega arith in rw e (part f t l)
 
 -- a part that ends where it starts
-pub slice-none : {A : Type 0} (f : ℕ) (l : List A) → slice f f l ≡ []
-slice-none f l = sym (part f f l) ∙ (let e : f - f ≡ 0 = omega arith in rw e)
+pub slice_none : {A : Type 0} (f : ℕ) (l : List A) → slice f f l ≡ []
+slice_none f l = sym (part f f l) ∙ (let e : f - f ≡ 0 = omega arith in rw e)
 
 -- ---- what is written
 
@@ -164,14 +164,14 @@ pub record Written {A : Type 0} (d : List A) (at : ℕ) (w out : List A) (to : �
 
 module _ {A : Type 0} {d : List A} {at : ℕ} where
   pub nothing : at ≤ length d → Written d at [] d at
-  nothing h = record { size = refl; next = omega arith; room = h; is = sym (put-nil d at) }
+  nothing h = record { size = refl; next = omega arith; room = h; is = sym (put_nil d at) }
 
   pub pushed : {w out : List A} {to : ℕ} (x : A) → Written d at w out to → to < length d → Written d at (w ++ (x ∷ [])) (set out to x) (to + 1)
   pushed {w} {out} {to} x h l = record {
     size = simp length-set h.size;
     next = simp length-append (omega (arith, h.next));
     room = omega arith;
-    is = rw (h.is, h.next) (put-push d at w x (omega (arith, h.next)));
+    is = rw (h.is, h.next) (put_push d at w x (omega (arith, h.next)));
   }
 
   pub chunk : {w out : List A} {to : ℕ} (l out' : List A) (r : ℕ) → Written d at w out to → to + length l ≤ length d → r ≡ to + length l → out' ≡ put out to l
@@ -185,10 +185,10 @@ module _ {A : Type 0} {d : List A} {at : ℕ} where
 module _ {d : List ℕ} {at : ℕ} (p : ℕ → Bool) (v : ℕ) {out : List ℕ} {to : ℕ}
     (h : Written d at (filter p (below v)) out to) where
   pub found : (n : ℕ) → p v ≡ true → v < n → at + length (filter p (below n)) ≤ length d → to < length d
-  found n e l room = omega (arith, h.next, filter-le p (v + 1) n (omega arith), ap length (filter-yes p v e), length-append (filter p (below v)) (v ∷ []))
+  found n e l room = omega (arith, h.next, filter_le p (v + 1) n (omega arith), ap length (filter_yes p v e), length-append (filter p (below v)) (v ∷ []))
 
   pub kept : p v ≡ true → to < length d → Written d at (filter p (below (v + 1))) (set out to v) (to + 1)
-  kept e l = rw (filter-yes p v e) (pushed v h l)
+  kept e l = rw (filter_yes p v e) (pushed v h l)
 
   pub passed : p v ≡ false → Written d at (filter p (below (v + 1))) out to
-  passed e = rw (filter-no p v e) h
+  passed e = rw (filter_no p v e) h

@@ -2,18 +2,18 @@
 use Rattle.std.specs.Prelude.{Bool, true, false, cond, ◌&&◌, ◌||◌, List, [], ◌∷◌, ◌++◌, ℕ, zero, suc, ◌+◌, length, take, drop}
 
 -- p holds of every number below n; of some number below n
-unfoldable pub allUpTo : ℕ → (ℕ → Bool) → Bool
-allUpTo zero p = true
-allUpTo (suc n) p = allUpTo n p && p n
+unfoldable pub all_up_to : ℕ → (ℕ → Bool) → Bool
+all_up_to zero p = true
+all_up_to (suc n) p = all_up_to n p && p n
 
-unfoldable pub anyUpTo : ℕ → (ℕ → Bool) → Bool
-anyUpTo zero p = false
-anyUpTo (suc n) p = anyUpTo n p || p n
+unfoldable pub any_up_to : ℕ → (ℕ → Bool) → Bool
+any_up_to zero p = false
+any_up_to (suc n) p = any_up_to n p || p n
 
 -- what a loop over 0 .. n - 1, ascending, makes of a state
-unfoldable pub forEach : {S : Type 0} → ℕ → (ℕ → S → S) → S → S
-forEach zero f s = s
-forEach (suc n) f s = f n (forEach n f s)
+unfoldable pub for_each : {S : Type 0} → ℕ → (ℕ → S → S) → S → S
+for_each zero f s = s
+for_each (suc n) f s = f n (for_each n f s)
 
 -- f 0 + f 1 + .. + f (n - 1)
 unfoldable pub sum : ℕ → (ℕ → ℕ) → ℕ

@@ -11,29 +11,29 @@ use lib.Dec.{ltb, eqb}
 use borrow.Author.Tests.{le-ltb, ltb-true, ne_eqb}
 use Rattle.lists.specs.Lists.{put, joined, filter}
 use Rattle.mesh.specs.Mesh.{Mesh, degree, neighbour, within, lists}
-use Rattle.mesh.specs.Faces.{face, isFace, facesFrom, extractFaces, has}
+use Rattle.mesh.specs.Faces.{face, is_face, faces_from, extract_faces, has}
 use Rattle.mesh.specs.declared.Face.{Face}
-use Rattle.lists.proofs.Counting.{any_none, or-none, and_no}
+use Rattle.lists.proofs.Counting.{any_none, or_none, and_no}
 use Rattle.lists.proofs.Written.{filter-append, joined-more, Written, nothing, pushed, chunk}
-use Rattle.search.specs.Cells.{facesOf, flat}
+use Rattle.search.specs.Cells.{faces_of, flat}
 use Rattle.locator.specs.Internal.{only, wanted, touches, thirds, block}
 
 module _ {A : Type 0} where
   -- lists that are equal one by one
-  pub joined-eq : (n : ℕ) (f g : ℕ → List A) → ((i : ℕ) → i < n → f i ≡ g i) → joined n f ≡ joined n g
+  pub joined_eq : (n : ℕ) (f g : ℕ → List A) → ((i : ℕ) → i < n → f i ≡ g i) → joined n f ≡ joined n g
   unfolding joined
-  joined-eq zero f g h = refl
-  joined-eq (suc n) f g h = rw (joined-eq n f g (λ i l. h i (omega arith)), h n (omega arith))
+  joined_eq zero f g h = refl
+  joined_eq (suc n) f g h = rw (joined_eq n f g (λ i l. h i (omega arith)), h n (omega arith))
 
   pub joined-none : (n : ℕ) (f : ℕ → List A) → ((i : ℕ) → i < n → f i ≡ []) → joined n f ≡ []
   unfolding joined
   joined-none zero f h = refl
   joined-none (suc n) f h = rw (joined-none n f (λ i l. h i (omega arith)), h n (omega arith))
 
-  pub joined-split : (k b : ℕ) (f : ℕ → List A) → joined (k + b) f ≡ joined k f ++ joined b (λ y. f (k + y))
+  pub joined_split : (k b : ℕ) (f : ℕ → List A) → joined (k + b) f ≡ joined k f ++ joined b (λ y. f (k + y))
   unfolding joined
-  joined-split k zero f = rw (add-zero k) (sym (append-nil _))
-  joined-split k (suc b) f = rw (add-suc k b, joined-split k b f) (append_assoc (joined k f) (joined b (λ y. f (k + y))) (f (k + b)))
+  joined_split k zero f = rw (add-zero k) (sym (append-nil _))
+  joined_split k (suc b) f = rw (add-suc k b, joined_split k b f) (append_assoc (joined k f) (joined b (λ y. f (k + y))) (f (k + b)))
 
   -- rows of b lists each, one after another
   pub joined-grid : (a b : ℕ) (f : ℕ → ℕ → List A) → 0 < b → joined a (λ x. joined b (λ y. f x y)) ≡ joined (a * b) (λ q. f (q / b) (q % b))
@@ -41,8 +41,8 @@ module _ {A : Type 0} where
   joined-grid zero b f h = let e : 0 * b ≡ 0 = omega arith in rw e
   joined-grid (suc a) b f h =
       let e : suc a * b ≡ a * b + b = omega arith in
-      rw (e, joined-split (a * b) b (λ q. f (q / b) (q % b)), ← joined-grid a b f h)
-      (ap (λ (l : List A). joined a (λ x. joined b (λ y. f x y)) ++ l) (joined-eq b (λ y. f a y) (λ y. f ((a * b + y) / b) ((a * b + y) % b)) (λ y l. here y l)))
+      rw (e, joined_split (a * b) b (λ q. f (q / b) (q % b)), ← joined-grid a b f h)
+      (ap (λ (l : List A). joined a (λ x. joined b (λ y. f x y)) ++ l) (joined_eq b (λ y. f a y) (λ y. f ((a * b + y) / b) ((a * b + y) % b)) (λ y l. here y l)))
     where
       here : (y : ℕ) → y < b → f a y ≡ f ((a * b + y) / b) ((a * b + y) % b)
       here y l =
@@ -76,35 +76,35 @@ block_row l v i d x = thirds l v i d (neighbour l i x)
 
 -- the faces of v whose least vertex is i, by i's neighbours: filter's joined twice over
 pub block-rows : (l : Mesh) (v i d : ℕ) → d ≡ degree l i → block l v i ≡ joined d (block_row l v i d)
-unfolding block facesFrom wanted thirds
+unfolding block faces_from wanted thirds
 block-rows l v i d e =
     rw e
-    (filter-joined (has v) (degree l i) (λ x. joined (degree l i) (λ y. only (isFace l i (neighbour l i x) (neighbour l i y)) (face i (neighbour l i x) (neighbour l i y))))
-    ∙ joined-eq (degree l i) _ (block_row l v i (degree l i))
-    (λ x lx. filter-joined (has v) (degree l i) (λ y. only (isFace l i (neighbour l i x) (neighbour l i y)) (face i (neighbour l i x) (neighbour l i y)))
-    ∙ joined-eq (degree l i) _ (λ y. only (wanted l i (neighbour l i x) (neighbour l i y) v) (face i (neighbour l i x) (neighbour l i y)))
-    (λ y ly. filter-only (has v) (isFace l i (neighbour l i x) (neighbour l i y)) (face i (neighbour l i x) (neighbour l i y)))))
+    (filter-joined (has v) (degree l i) (λ x. joined (degree l i) (λ y. only (is_face l i (neighbour l i x) (neighbour l i y)) (face i (neighbour l i x) (neighbour l i y))))
+    ∙ joined_eq (degree l i) _ (block_row l v i (degree l i))
+    (λ x lx. filter-joined (has v) (degree l i) (λ y. only (is_face l i (neighbour l i x) (neighbour l i y)) (face i (neighbour l i x) (neighbour l i y)))
+    ∙ joined_eq (degree l i) _ (λ y. only (wanted l i (neighbour l i x) (neighbour l i y) v) (face i (neighbour l i x) (neighbour l i y)))
+    (λ y ly. filter-only (has v) (is_face l i (neighbour l i x) (neighbour l i y)) (face i (neighbour l i x) (neighbour l i y)))))
 
 -- one of them, or none
 abbrev pub third : Mesh → ℕ → ℕ → ℕ → ℕ → List Face
 third l v i j y = only (wanted l i j (neighbour l i y) v) (face i j (neighbour l i y))
 
-pub thirds-are : (l : Mesh) (v i d j : ℕ) → thirds l v i d j ≡ joined d (third l v i j)
+pub thirds_are : (l : Mesh) (v i d j : ℕ) → thirds l v i d j ≡ joined d (third l v i j)
 unfolding thirds
-thirds-are l v i d j = refl
+thirds_are l v i d j = refl
 
-pub no-thirds : (l : Mesh) (v i d j : ℕ) → ((k : ℕ) → wanted l i j k v ≡ false) → thirds l v i d j ≡ []
+pub no_thirds : (l : Mesh) (v i d j : ℕ) → ((k : ℕ) → wanted l i j k v ≡ false) → thirds l v i d j ≡ []
 unfolding thirds
-no-thirds l v i d j h = joined-none d _ (λ y ly. rw (h (neighbour l i y)))
+no_thirds l v i d j h = joined-none d _ (λ y ly. rw (h (neighbour l i y)))
 
 -- no face has its second vertex at or below its first
-pub not-above : (l : Mesh) (i j k v : ℕ) → j ≤ i → wanted l i j k v ≡ false
-unfolding wanted isFace
-not-above l i j k v h = rw (le-ltb i j h)
+pub not_above : (l : Mesh) (i j k v : ℕ) → j ≤ i → wanted l i j k v ≡ false
+unfolding wanted is_face
+not_above l i j k v h = rw (le-ltb i j h)
 
 -- v is none of the three
 pub unwanted : (l : Mesh) (i j k v : ℕ) → (i ≡ v → ⊥) → (i < j → j ≡ v → ⊥) → (i < j → j < k → k ≡ v → ⊥) → wanted l i j k v ≡ false
-unfolding wanted isFace has
+unfolding wanted is_face has
 unwanted l i j k v a b c = by (ltb i j) (ltb j k) refl refl
   where
     by : (s t : Bool) → ltb i j ≡ s → ltb j k ≡ t → (s && (t && lists l j k)) && (eqb i v || (eqb j v || eqb k v)) ≡ false
@@ -117,9 +117,9 @@ abbrev pub piece : Mesh → ℕ → ℕ → ℕ → List Face
 piece l v i q =
     only (wanted l i (neighbour l i (q / degree l i)) (neighbour l i (q % degree l i)) v) (face i (neighbour l i (q / degree l i)) (neighbour l i (q % degree l i)))
 
-pub block-is : (l : Mesh) (v i : ℕ) → block l v i ≡ joined (degree l i * degree l i) (piece l v i)
+pub block_is : (l : Mesh) (v i : ℕ) → block l v i ≡ joined (degree l i * degree l i) (piece l v i)
 unfolding thirds joined
-block-is l v i = block-rows l v i (degree l i) refl ∙ by (degree l i)
+block_is l v i = block-rows l v i (degree l i) refl ∙ by (degree l i)
   where
     f : ℕ → ℕ → List Face
     f x y = only (wanted l i (neighbour l i x) (neighbour l i y) v) (face i (neighbour l i x) (neighbour l i y))
@@ -137,15 +137,15 @@ pair (suc d) q h = (omega arith, (div-lt_iff_lt-mul {k = suc d} {x = q} {y = suc
 pub untouched : (l : Mesh) (v i : ℕ) → touches l i v ≡ false → block l v i ≡ []
 unfolding touches lists within wanted has
 untouched l v i e =
-    block-is l v i ∙ joined-none (degree l i * degree l i) (piece l v i) (λ q lq. none q lq)
+    block_is l v i ∙ joined-none (degree l i * degree l i) (piece l v i) (λ q lq. none q lq)
   where
     none : (q : ℕ) → q < degree l i * degree l i → piece l v i q ≡ []
     none q lq =
-        let h = or-none (eqb i v) (lists l i v) e in
+        let h = or_none (eqb i v) (lists l i v) e in
         let p = pair (degree l i) q lq in
         let x : eqb (neighbour l i (q / degree l i)) v ≡ false = any_none (λ j. eqb (neighbour l i j) v) (q / degree l i) (degree l i) p.1 h.1 in
         let y : eqb (neighbour l i (q % degree l i)) v ≡ false = any_none (λ j. eqb (neighbour l i j) v) (q % degree l i) (degree l i) p.2 h.1 in
-        rw (h.0, x, y) (by (isFace l i (neighbour l i (q / degree l i)) (neighbour l i (q % degree l i))))
+        rw (h.0, x, y) (by (is_face l i (neighbour l i (q / degree l i)) (neighbour l i (q % degree l i))))
       where
         by : (b : Bool) → cond (b && false) (face i (neighbour l i (q / degree l i)) (neighbour l i (q % degree l i)) ∷ []) [] ≡ []
         by true = refl
@@ -154,7 +154,7 @@ untouched l v i e =
 -- nor has one whose least vertex is above v
 pub block-above : (l : Mesh) (v i : ℕ) → v < i → block l v i ≡ []
 block-above l v i h =
-    block-is l v i
+    block_is l v i
     ∙ joined-none (degree l i * degree l i) (piece l v i)
     (λ q lq. rw (unwanted l i (neighbour l i (q / degree l i)) (neighbour l i (q % degree l i)) v (λ e. absurd (omega arith)) (λ p e. absurd (omega arith)) (λ p r e. absurd (omega arith))))
 
@@ -176,13 +176,13 @@ more-flat at to f q out' r h fits er eo =
 pub come : {d out : List ℕ} (at to : ℕ) (w : List Face) → Written d (3 * at) (flat w) out (3 * to) → to ≡ at + length w
 come at to w h = omega (arith, h.next, length-flat w)
 
-pub faces-of-is : (l : Mesh) (n v : ℕ) → facesOf l n v ≡ joined n (block l v)
-unfolding facesOf extractFaces block
-faces-of-is l n v = filter-joined (has v) n (facesFrom l)
+pub faces_of_is : (l : Mesh) (n v : ℕ) → faces_of l n v ≡ joined n (block l v)
+unfolding faces_of extract_faces block
+faces_of_is l n v = filter-joined (has v) n (faces_from l)
 
 -- blocks that are empty
-pub joined-skip : {A : Type 0} (f : ℕ → List A) (a b : ℕ) → a ≤ b → ((i : ℕ) → a ≤ i → i < b → f i ≡ []) → joined b f ≡ joined a f
+pub joined_skip : {A : Type 0} (f : ℕ → List A) (a b : ℕ) → a ≤ b → ((i : ℕ) → a ≤ i → i < b → f i ≡ []) → joined b f ≡ joined a f
 unfolding joined
-joined-skip f a zero h e = let z : a ≡ 0 = omega arith in rw z
-joined-skip f a (suc b) h e =
-    ⊎_elim (λ q. rw q) (λ k. rw (e b (le_of_suc-le-suc k) (omega arith)) (append-nil _ ∙ joined-skip f a b (le_of_suc-le-suc k) (λ i p l. e i p (omega arith)))) (eq-or-lt_of_le h)
+joined_skip f a zero h e = let z : a ≡ 0 = omega arith in rw z
+joined_skip f a (suc b) h e =
+    ⊎_elim (λ q. rw q) (λ k. rw (e b (le_of_suc-le-suc k) (omega arith)) (append-nil _ ∙ joined_skip f a b (le_of_suc-le-suc k) (λ i p l. e i p (omega arith)))) (eq-or-lt_of_le h)

@@ -9,15 +9,15 @@ use native.Mathlib.Omega.{arith}
 use lib.ListN.{length}
 use lib.Dec.{ltb, eqb}
 use borrow.Author.Tests.{eq-eqb, ne_eqb, lt-ltb, le-ltb, eqb-true, ltb-true}
-use Rattle.lists.specs.Lists.{joined, anyUpTo, sum}
+use Rattle.lists.specs.Lists.{joined, any_up_to, sum}
 use Rattle.mesh.specs.Mesh.{Mesh, degree, neighbour, within, lists}
-use Rattle.mesh.specs.Faces.{face, isFace, has}
+use Rattle.mesh.specs.Faces.{face, is_face, has}
 use Rattle.mesh.specs.declared.Face.{Face}
-use Rattle.lists.proofs.Sums.{one, count, sum-eq, sum-le, sum-add, sum-const, sum-grid, sum-mul, sum-none}
+use Rattle.lists.proofs.Sums.{one, count, sum_eq, sum_le, sum-add, sum_const, sum-grid, sum-mul, sum-none}
 use Rattle.lists.proofs.Written.{length-joined}
-use Rattle.search.specs.Cells.{facesOf}
+use Rattle.search.specs.Cells.{faces_of}
 use Rattle.locator.specs.Internal.{wanted, touches, block}
-use Rattle.locator.proofs.Blocks.{piece, block-is, faces-of-is}
+use Rattle.locator.proofs.Blocks.{piece, block_is, faces_of_is}
 
 -- what the mesh rule says of the lists
 pub record Rule (n : ℕ) (l : Mesh) : Type 0 where
@@ -29,10 +29,10 @@ pub record Rule (n : ℕ) (l : Mesh) : Type 0 where
 -- ---- sums
 
 -- of all w, only a counts
-sum-pick : (n a : ℕ) (f : ℕ → ℕ) → a < n → sum n (λ w. one (eqb a w) * f w) ≡ f a
+sum_pick : (n a : ℕ) (f : ℕ → ℕ) → a < n → sum n (λ w. one (eqb a w) * f w) ≡ f a
 unfolding sum
-sum-pick zero a f h = absurd (not-suc-le-zero h)
-sum-pick (suc n) a f h = ⊎_elim here (λ k. there (sum-pick n a f k) k) (eq-or-lt_of_le (le_of_suc-le-suc h))
+sum_pick zero a f h = absurd (not-suc-le-zero h)
+sum_pick (suc n) a f h = ⊎_elim here (λ k. there (sum_pick n a f k) k) (eq-or-lt_of_le (le_of_suc-le-suc h))
   where
     none : (k : ℕ) → k ≤ a → sum k (λ w. one (eqb a w) * f w) ≡ 0
     none zero l = refl
@@ -44,43 +44,43 @@ sum-pick (suc n) a f h = ⊎_elim here (λ k. there (sum-pick n a f k) k) (eq-or
     there : sum n (λ w. one (eqb a w) * f w) ≡ f a → a < n → sum n (λ w. one (eqb a w) * f w) + one (eqb a n) * f n ≡ f a
     there p k = let e : eqb a n ≡ false = ne_eqb a n (λ q. absurd (omega arith)) in rw e (omega arith)
 
-any_false : (d : ℕ) (p : ℕ → Bool) → ((x : ℕ) → x < d → p x ≡ false) → anyUpTo d p ≡ false
-unfolding anyUpTo
+any_false : (d : ℕ) (p : ℕ → Bool) → ((x : ℕ) → x < d → p x ≡ false) → any_up_to d p ≡ false
+unfolding any_up_to
 any_false zero p h = refl
 any_false (suc d) p h = rw (any_false d p (λ x l. h x (omega arith)), h d (omega arith))
 
-pub any_where : (d : ℕ) (p : ℕ → Bool) → anyUpTo d p ≡ true → (x : ℕ) × (x < d) × (p x ≡ true)
-unfolding anyUpTo
+pub any_where : (d : ℕ) (p : ℕ → Bool) → any_up_to d p ≡ true → (x : ℕ) × (x < d) × (p x ≡ true)
+unfolding any_up_to
 any_where zero p e = absurd (let z : ◌≡◌ {A = ℕ} 0 1 = ap (λ (t : Bool). cond t 1 0) e in omega arith)
-any_where (suc d) p e = by (anyUpTo d p) refl e (λ q. any_where d p q)
+any_where (suc d) p e = by (any_up_to d p) refl e (λ q. any_where d p q)
   where
-    by : (t : Bool) → anyUpTo d p ≡ t → t || p d ≡ true → (anyUpTo d p ≡ true → (x : ℕ) × (x < d) × (p x ≡ true)) → (x : ℕ) × (x < suc d) × (p x ≡ true)
+    by : (t : Bool) → any_up_to d p ≡ t → t || p d ≡ true → (any_up_to d p ≡ true → (x : ℕ) × (x < d) × (p x ≡ true)) → (x : ℕ) × (x < suc d) × (p x ≡ true)
     by true q h r = let w = r q in (w.0, omega (arith, w.1), w.2)
     by false q h r = (d, omega arith, h)
 
 -- a sum over the places of a list of distinct numbers is one over the numbers
 spread : (n d : ℕ) (e f : ℕ → ℕ) → ((x : ℕ) → x < d → e x < n) → ((j k : ℕ) → j < k → k < d → e j ≡ e k → ⊥)
-    → sum d (λ x. f (e x)) ≡ sum n (λ w. one (anyUpTo d (λ x. eqb (e x) w)) * f w)
-unfolding sum anyUpTo
+    → sum d (λ x. f (e x)) ≡ sum n (λ w. one (any_up_to d (λ x. eqb (e x) w)) * f w)
+unfolding sum any_up_to
 spread n zero e f h u = sym (sum-none n (λ w. 0 * f w) (λ w. omega arith))
 spread n (suc d) e f h u =
     omega (
       arith,
       spread n d e f (λ x l. h x (omega arith)) (λ j k l m. u j k l (omega arith)),
-      sum-pick n (e d) f (h d (omega arith)),
-      sum-add n (λ w. one (anyUpTo d (λ x. eqb (e x) w)) * f w) (λ w. one (eqb (e d) w) * f w),
-      sum-eq n (λ w. one (anyUpTo d (λ x. eqb (e x) w)) * f w + one (eqb (e d) w) * f w) (λ w. one (anyUpTo d (λ x. eqb (e x) w) || eqb (e d) w) * f w) (λ w l. split w),
+      sum_pick n (e d) f (h d (omega arith)),
+      sum-add n (λ w. one (any_up_to d (λ x. eqb (e x) w)) * f w) (λ w. one (eqb (e d) w) * f w),
+      sum_eq n (λ w. one (any_up_to d (λ x. eqb (e x) w)) * f w + one (eqb (e d) w) * f w) (λ w. one (any_up_to d (λ x. eqb (e x) w) || eqb (e d) w) * f w) (λ w l. split w),
     )
   where
-    split : (w : ℕ) → one (anyUpTo d (λ x. eqb (e x) w)) * f w + one (eqb (e d) w) * f w ≡ one (anyUpTo d (λ x. eqb (e x) w) || eqb (e d) w) * f w
-    split w = by (eqb (e d) w) (anyUpTo d (λ x. eqb (e x) w)) refl refl
+    split : (w : ℕ) → one (any_up_to d (λ x. eqb (e x) w)) * f w + one (eqb (e d) w) * f w ≡ one (any_up_to d (λ x. eqb (e x) w) || eqb (e d) w) * f w
+    split w = by (eqb (e d) w) (any_up_to d (λ x. eqb (e x) w)) refl refl
       where
-        by : (t s : Bool) → eqb (e d) w ≡ t → anyUpTo d (λ x. eqb (e x) w) ≡ s → one s * f w + one t * f w ≡ one (s || t) * f w
+        by : (t s : Bool) → eqb (e d) w ≡ t → any_up_to d (λ x. eqb (e x) w) ≡ s → one s * f w + one t * f w ≡ one (s || t) * f w
         by false true p q = omega arith
         by false false p q = omega arith
         by true false p q = omega arith
         by true true p q =
-            let no : anyUpTo d (λ x. eqb (e x) w) ≡ false = any_false d (λ x. eqb (e x) w) (λ x l. ne_eqb (e x) w (λ z. u x d l (omega arith) (z ∙ sym (eqb-true (e d) w p)))) in
+            let no : any_up_to d (λ x. eqb (e x) w) ≡ false = any_false d (λ x. eqb (e x) w) (λ x l. ne_eqb (e x) w (λ z. u x d l (omega arith) (z ∙ sym (eqb-true (e d) w p)))) in
             absurd (let z : ◌≡◌ {A = ℕ} 0 1 = ap (λ (t : Bool). cond t 1 0) (sym no ∙ q) in omega arith)
 
 -- pairs a < b of numbers that β holds of: c (c - 1) / 2
@@ -92,7 +92,7 @@ pairs (suc n) β =
       arith,
       pairs n β,
       sum-add n (λ a. sum n (λ b. one (ltb a b && (β a && β b)))) (λ a. one (ltb a n && (β a && β n))),
-      sum-eq n (λ a. one (ltb a n && (β a && β n))) (λ a. one (β a) * one (β n)) (λ a l. below a l),
+      sum_eq n (λ a. one (ltb a n && (β a && β n))) (λ a. one (β a) * one (β n)) (λ a l. below a l),
       sum-mul n (one (β n)) (λ a. one (β a)),
       above n (omega arith),
       last,
@@ -120,10 +120,10 @@ pairs (suc n) β =
         by true = omega arith
         by false = omega arith
 
-sum-scale : (n k : ℕ) (f : ℕ → ℕ) → sum n (λ i. k * f i) ≡ k * sum n f
+sum_scale : (n k : ℕ) (f : ℕ → ℕ) → sum n (λ i. k * f i) ≡ k * sum n f
 unfolding sum
-sum-scale zero k f = omega arith
-sum-scale (suc n) k f = let h : k * (sum n f + f n) ≡ k * sum n f + k * f n = omega arith in omega (arith, sum-scale n k f, h)
+sum_scale zero k f = omega arith
+sum_scale (suc n) k f = let h : k * (sum n f + f n) ≡ k * sum n f + k * f n = omega arith in omega (arith, sum_scale n k f, h)
 
 -- a sum over triples in which v is one of the three
 module _ (n v : ℕ) (hv : v < n) (a : ℕ → ℕ → ℕ) (b : ℕ → ℕ → ℕ → ℕ) (q1 q2 q3 : ℕ → ℕ → ℕ)
@@ -132,34 +132,34 @@ module _ (n v : ℕ) (hv : v < n) (a : ℕ → ℕ → ℕ) (b : ℕ → ℕ →
   inner i j li lj =
       omega (
         arith,
-        sum-scale n (a i j) (b i j),
-        sum-le n (λ k. a i j * b i j k) (λ k. one (eqb v i) * q1 j k + one (eqb v j) * q2 i k + one (eqb v k) * q3 i j) (λ k lk. h i j k li lj lk),
+        sum_scale n (a i j) (b i j),
+        sum_le n (λ k. a i j * b i j k) (λ k. one (eqb v i) * q1 j k + one (eqb v j) * q2 i k + one (eqb v k) * q3 i j) (λ k lk. h i j k li lj lk),
         sum-add n (λ k. one (eqb v i) * q1 j k + one (eqb v j) * q2 i k) (λ k. one (eqb v k) * q3 i j),
         sum-add n (λ k. one (eqb v i) * q1 j k) (λ k. one (eqb v j) * q2 i k),
-        sum-scale n (one (eqb v i)) (q1 j),
-        sum-scale n (one (eqb v j)) (q2 i),
-        sum-pick n v (λ k. q3 i j) hv,
+        sum_scale n (one (eqb v i)) (q1 j),
+        sum_scale n (one (eqb v j)) (q2 i),
+        sum_pick n v (λ k. q3 i j) hv,
       )
 
   middle : (i : ℕ) → i < n → sum n (λ j. a i j * sum n (b i j)) ≤ one (eqb v i) * sum n (λ j. sum n (q1 j)) + sum n (q2 i) + sum n (q3 i)
   middle i li =
       omega (
         arith,
-        sum-le n (λ j. a i j * sum n (b i j)) (λ j. one (eqb v i) * sum n (q1 j) + one (eqb v j) * sum n (q2 i) + q3 i j) (λ j lj. inner i j li lj),
+        sum_le n (λ j. a i j * sum n (b i j)) (λ j. one (eqb v i) * sum n (q1 j) + one (eqb v j) * sum n (q2 i) + q3 i j) (λ j lj. inner i j li lj),
         sum-add n (λ j. one (eqb v i) * sum n (q1 j) + one (eqb v j) * sum n (q2 i)) (λ j. q3 i j),
         sum-add n (λ j. one (eqb v i) * sum n (q1 j)) (λ j. one (eqb v j) * sum n (q2 i)),
-        sum-scale n (one (eqb v i)) (λ j. sum n (q1 j)),
-        sum-pick n v (λ j. sum n (q2 i)) hv,
+        sum_scale n (one (eqb v i)) (λ j. sum n (q1 j)),
+        sum_pick n v (λ j. sum n (q2 i)) hv,
       )
 
   triples : sum n (λ i. sum n (λ j. a i j * sum n (b i j))) ≤ sum n (λ j. sum n (q1 j)) + sum n (λ i. sum n (q2 i)) + sum n (λ i. sum n (q3 i))
   triples =
       omega (
         arith,
-        sum-le n (λ i. sum n (λ j. a i j * sum n (b i j))) (λ i. one (eqb v i) * sum n (λ j. sum n (q1 j)) + sum n (q2 i) + sum n (q3 i)) (λ i li. middle i li),
+        sum_le n (λ i. sum n (λ j. a i j * sum n (b i j))) (λ i. one (eqb v i) * sum n (λ j. sum n (q1 j)) + sum n (q2 i) + sum n (q3 i)) (λ i li. middle i li),
         sum-add n (λ i. one (eqb v i) * sum n (λ j. sum n (q1 j)) + sum n (q2 i)) (λ i. sum n (q3 i)),
         sum-add n (λ i. one (eqb v i) * sum n (λ j. sum n (q1 j))) (λ i. sum n (q2 i)),
-        sum-pick n v (λ i. sum n (λ j. sum n (q1 j))) hv,
+        sum_pick n v (λ i. sum n (λ j. sum n (q1 j))) hv,
       )
 
 -- ---- faces
@@ -183,8 +183,8 @@ module _ {n : ℕ} {l : Mesh} (r : Rule n l) where
         arith,
         r.six v h,
         around v (λ w. 1) h,
-        sum-const (degree l v) 1,
-        sum-eq n (λ w. one (lists l v w) * 1) (λ w. one (lists l v w)) (λ w lw. omega arith),
+        sum_const (degree l v) 1,
+        sum_eq n (λ w. one (lists l v w) * 1) (λ w. one (lists l v w)) (λ w lw. omega arith),
       )
 
   -- pairs of v's neighbours
@@ -194,20 +194,20 @@ module _ {n : ℕ} {l : Mesh} (r : Rule n l) where
       omega (arith, pairs n (lists l v), few v h, mul-le-mul_right {m = c} {n = 6} c (few v h))
 
   -- a pair of v's neighbours, and where it lies to v
-  pairB : ℕ → ℕ → ℕ → Bool
-  pairB v a b = ltb a b && (lists l v a && lists l v b)
+  pair_b : ℕ → ℕ → ℕ → Bool
+  pair_b v a b = ltb a b && (lists l v a && lists l v b)
 
   q1 : ℕ → ℕ → ℕ → ℕ
-  q1 v a b = one (ltb v a && pairB v a b)
+  q1 v a b = one (ltb v a && pair_b v a b)
 
   q2 : ℕ → ℕ → ℕ → ℕ
-  q2 v a b = one (ltb a v && ltb v b && pairB v a b)
+  q2 v a b = one (ltb a v && ltb v b && pair_b v a b)
 
   q3 : ℕ → ℕ → ℕ → ℕ
-  q3 v a b = one (ltb b v && pairB v a b)
+  q3 v a b = one (ltb b v && pair_b v a b)
 
-  apart : (v a b : ℕ) → q1 v a b + q2 v a b + q3 v a b ≤ one (pairB v a b)
-  unfolding q1 q2 q3 pairB
+  apart : (v a b : ℕ) → q1 v a b + q2 v a b + q3 v a b ≤ one (pair_b v a b)
+  unfolding q1 q2 q3 pair_b
   apart v a b = by (ltb v a) (ltb a v) (ltb v b) (ltb b v) (ltb a b) (lists l v a && lists l v b) refl refl refl refl refl
     where
       by : (s t x y z p : Bool) → ltb v a ≡ s → ltb a v ≡ t → ltb v b ≡ x → ltb b v ≡ y → ltb a b ≡ z
@@ -239,7 +239,7 @@ module _ {n : ℕ} {l : Mesh} (r : Rule n l) where
   -- a face with v in it is a pair of v's neighbours
   claim : (v i j k : ℕ) → i < n → j < n → k < n
       → one (lists l i j) * (one (lists l i k) * one (wanted l i j k v)) ≤ one (eqb v i) * q1 v j k + one (eqb v j) * q2 v i k + one (eqb v k) * q3 v i j
-  unfolding wanted isFace has q1 q2 q3 pairB
+  unfolding wanted is_face has q1 q2 q3 pair_b
   claim v i j k hi hj hk = by (lists l i j) (lists l i k) (wanted l i j k v) refl refl refl
     where
       goal : ℕ → Type 0
@@ -273,7 +273,7 @@ module _ {n : ℕ} {l : Mesh} (r : Rule n l) where
       by true false w p q u = omega arith
       by true true false p q u = omega arith
       by true true true p q u =
-          let a = (and-eq-true_iff (isFace l i j k) (has v (face i j k))).0 u in
+          let a = (and-eq-true_iff (is_face l i j k) (has v (face i j k))).0 u in
           let b = (and-eq-true_iff (ltb i j) (ltb j k && lists l j k)).0 a.0 in
           let d = (and-eq-true_iff (ltb j k) (lists l j k)).0 b.1 in
           one' p q b.0 d.0 d.1 (eqb i v) (eqb j v) (eqb k v) refl refl refl a.1
@@ -281,8 +281,8 @@ module _ {n : ℕ} {l : Mesh} (r : Rule n l) where
   length-block : (v i : ℕ) → length (block l v i) ≡ sum (degree l i) (λ x. sum (degree l i) (λ y. one (wanted l i (neighbour l i x) (neighbour l i y) v)))
   unfolding sum
   length-block v i =
-      ap length (block-is l v i) ∙ length-joined (degree l i * degree l i) (piece l v i)
-      ∙ sum-eq (degree l i * degree l i) (λ q. length (piece l v i q)) (λ q. one (wanted l i (neighbour l i (q / degree l i)) (neighbour l i (q % degree l i)) v))
+      ap length (block_is l v i) ∙ length-joined (degree l i * degree l i) (piece l v i)
+      ∙ sum_eq (degree l i * degree l i) (λ q. length (piece l v i q)) (λ q. one (wanted l i (neighbour l i (q / degree l i)) (neighbour l i (q % degree l i)) v))
       (λ q lq. single (wanted l i (neighbour l i (q / degree l i)) (neighbour l i (q % degree l i)) v) _)
       ∙ grid (degree l i)
     where
@@ -294,19 +294,19 @@ module _ {n : ℕ} {l : Mesh} (r : Rule n l) where
       grid zero = refl
       grid (suc d) = sum-grid (suc d) (suc d) (λ x y. one (wanted l i (neighbour l i x) (neighbour l i y) v)) (omega arith)
 
-  length-faces : (v : ℕ) → length (facesOf l n v)
+  length-faces : (v : ℕ) → length (faces_of l n v)
       ≡ sum n (λ i. sum n (λ j. one (lists l i j) * sum n (λ k. one (lists l i k) * one (wanted l i j k v))))
   length-faces v =
-      ap length (faces-of-is l n v) ∙ length-joined n (block l v)
-      ∙ sum-eq n (λ i. length (block l v i)) (λ i. sum n (λ j. one (lists l i j) * sum n (λ k. one (lists l i k) * one (wanted l i j k v))))
+      ap length (faces_of_is l n v) ∙ length-joined n (block l v)
+      ∙ sum_eq n (λ i. length (block l v i)) (λ i. sum n (λ j. one (lists l i j) * sum n (λ k. one (lists l i k) * one (wanted l i j k v))))
       (λ i li. length-block v i
-      ∙ sum-eq (degree l i) (λ x. sum (degree l i) (λ y. one (wanted l i (neighbour l i x) (neighbour l i y) v)))
+      ∙ sum_eq (degree l i) (λ x. sum (degree l i) (λ y. one (wanted l i (neighbour l i x) (neighbour l i y) v)))
       (λ x. sum n (λ k. one (lists l i k) * one (wanted l i (neighbour l i x) k v)))
       (λ x lx. around i (λ k. one (wanted l i (neighbour l i x) k v)) li)
       ∙ around i (λ j. sum n (λ k. one (lists l i k) * one (wanted l i j k v))) li)
 
-  pub fifteen : (v : ℕ) → v < n → length (facesOf l n v) ≤ 15
-  unfolding pairB
+  pub fifteen : (v : ℕ) → v < n → length (faces_of l n v) ≤ 15
+  unfolding pair_b
   fifteen v h =
       omega (
         arith,
@@ -315,18 +315,18 @@ module _ {n : ℕ} {l : Mesh} (r : Rule n l) where
         triples n v h (λ i j. one (lists l i j)) (λ i j k. one (lists l i k) * one (wanted l i j k v)) (q1 v) (q2 v) (q3 v) (λ i j k hi hj hk. claim v i j k hi hj hk),
         sum-add n (λ a. sum n (q1 v a)) (λ a. sum n (q2 v a)),
         sum-add n (λ a. sum n (q1 v a) + sum n (q2 v a)) (λ a. sum n (q3 v a)),
-        sum-le n (λ a. sum n (q1 v a) + sum n (q2 v a) + sum n (q3 v a)) (λ a. sum n (λ b. one (pairB v a b)))
+        sum_le n (λ a. sum n (q1 v a) + sum n (q2 v a) + sum n (q3 v a)) (λ a. sum n (λ b. one (pair_b v a b)))
             (λ a la. omega (
               arith,
               sum-add n (q1 v a) (q2 v a),
               sum-add n (λ b. q1 v a b + q2 v a b) (q3 v a),
-              sum-le n (λ b. q1 v a b + q2 v a b + q3 v a b) (λ b. one (pairB v a b)) (λ b lb. apart v a b),
+              sum_le n (λ b. q1 v a b + q2 v a b + q3 v a b) (λ b. one (pair_b v a b)) (λ b lb. apart v a b),
             )),
       )
 
   -- so the faces of n vertices fill at most 45 n places
-  pub room : 3 * length (joined n (facesOf l n)) ≤ 45 * n
-  room = omega (arith, length-joined n (facesOf l n), sum-le n (λ v. length (facesOf l n v)) (λ v. 15) (λ v h. fifteen v h), sum-const n 15)
+  pub room : 3 * length (joined n (faces_of l n)) ≤ 45 * n
+  room = omega (arith, length-joined n (faces_of l n), sum_le n (λ v. length (faces_of l n v)) (λ v. 15) (λ v h. fifteen v h), sum_const n 15)
 
 -- a vertex that none of v's neighbours is, and that is not v, does not touch v
 pub untouching : (l : Mesh) (n v i : ℕ) → ((v w : ℕ) → v < n → lists l v w ≡ true → lists l w v ≡ true) → i < n → (i ≡ v → ⊥)

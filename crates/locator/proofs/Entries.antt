@@ -10,20 +10,20 @@ use lib.ListN.{length, drop, get_or, get_or-append}
 use lib.Seq.{take_at, drop_at, get_or_at, slice}
 use Rattle.lists.specs.Lists.{put, below, every, filter, joined, starts}
 use Rattle.lists.proofs.Written.{joined-more, length-starts}
-use Rattle.locator.proofs.Blocks.{joined-split}
+use Rattle.locator.proofs.Blocks.{joined_split}
 
 -- what is written from the first place on is read there
-pub getD-put : (d s : List ℕ) (i : ℕ) → i < length s → get_or (put d 0 s) i 0 ≡ get_or s i 0
+pub get_d_put : (d s : List ℕ) (i : ℕ) → i < length s → get_or (put d 0 s) i 0 ≡ get_or s i 0
 unfolding put
-getD-put d s i h = get_or-append s (drop (0 + length s) d) 0 i h
+get_d_put d s i h = get_or-append s (drop (0 + length s) d) 0 i h
 
-pub getD-starts : {A : Type 0} (n : ℕ) (f : ℕ → List A) (i : ℕ) → i < n → get_or (starts n f) i 0 ≡ length (joined i f)
+pub get_d_starts : {A : Type 0} (n : ℕ) (f : ℕ → List A) (i : ℕ) → i < n → get_or (starts n f) i 0 ≡ length (joined i f)
 unfolding starts
-getD-starts zero f i h = absurd (not-suc-le-zero h)
-getD-starts (suc n) f i h =
+get_d_starts zero f i h = absurd (not-suc-le-zero h)
+get_d_starts (suc n) f i h =
     ⊎_elim
     (λ e. get_or_at (starts n f) (length (joined n f)) [] 0 i (length-starts n f ∙ sym e) ∙ rw e)
-    (λ l. get_or-append (starts n f) (length (joined n f) ∷ []) 0 i (rw (length-starts n f) l) ∙ getD-starts n f i l)
+    (λ l. get_or-append (starts n f) (length (joined n f) ∷ []) 0 i (rw (length-starts n f) l) ∙ get_d_starts n f i l)
     (eq-or-lt_of_le (le_of_suc-le-suc h))
 
 -- list i among lists that were written from the first place on
@@ -34,7 +34,7 @@ part_of K f e i h =
     let rest = joined (K - (i + 1)) (λ y. f (i + 1 + y)) in
     let tail = drop (0 + length (joined K f)) e in
     let s : K ≡ i + 1 + (K - (i + 1)) = omega arith in
-    let j : joined K f ≡ (a ++ f i) ++ rest = ap (λ (n : ℕ). joined n f) s ∙ joined-split (i + 1) (K - (i + 1)) f ∙ ap (λ (l : List ℕ). l ++ rest) (joined-more i f) in
+    let j : joined K f ≡ (a ++ f i) ++ rest = ap (λ (n : ℕ). joined n f) s ∙ joined_split (i + 1) (K - (i + 1)) f ∙ ap (λ (l : List ℕ). l ++ rest) (joined-more i f) in
     let b : length (joined (i + 1) f) ≡ length (a ++ f i) = ap length (joined-more i f) in
     ap (λ (l : List ℕ). slice (length a) (length (joined (i + 1) f)) (l ++ tail)) j
     ∙ ap (λ (n : ℕ). slice (length a) n (((a ++ f i) ++ rest) ++ tail)) b

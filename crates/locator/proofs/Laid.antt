@@ -10,22 +10,22 @@ use lib.ListN.{length, drop, take-append-drop}
 use lib.Seq.{slice, length-slice, drop-append_seam, drop-drop}
 use lib.Dec.{leb}
 use borrow.Author.Tests.{le-leb, eq-eqb}
-use Rattle.ieee.proofs.Pack.{le-or-lt}
+use Rattle.ieee.proofs.Pack.{le_or_lt}
 use Rattle.lists.specs.Lists.{joined, sum}
-use Rattle.mesh.specs.Levels.{vertexCount, gridSize, cellCount, verticesBelow, cellOffsetsBelow}
-use Rattle.mesh.specs.Mesh.{Mesh, keepsRule, levelPart, meshRoom, meshLong, meshesKeep}
-use Rattle.mesh.proofs.Laws.{below_more, below-le}
-use Rattle.lists.proofs.Counting.{all-at}
+use Rattle.mesh.specs.Levels.{vertex_count, grid_size, cell_count, vertices_below, cell_offsets_below}
+use Rattle.mesh.specs.Mesh.{Mesh, keeps_rule, level_part, mesh_room, mesh_long, meshes_keep}
+use Rattle.mesh.proofs.Laws.{below_more, below_le}
+use Rattle.lists.proofs.Counting.{all_at}
 use Rattle.mesh.proofs.Kept.{held as heldBy}
-use Rattle.lists.proofs.Sums.{sum-eq}
+use Rattle.lists.proofs.Sums.{sum_eq}
 use Rattle.lists.proofs.Written.{length-joined, part}
 use Rattle.search.specs.declared.Vector3.{Vector3}
-use Rattle.search.specs.Search.{Locator, locatorFrom, verticesFrom, nearestIn, nearestOf, locateIn, locate, locatorOf}
-use Rattle.locator.specs.Locator.{locatorRoom, locatorLong, locatorRefusal, locatorLists, LocatorOut, locatorOut}
+use Rattle.search.specs.Search.{Locator, locator_from, vertices_from, nearest_in, nearest_of, locate_in, locate, locator_of}
+use Rattle.locator.specs.Locator.{locator_room, locator_long, locator_refusal, locator_lists, LocatorOut, locator_out}
 use Rattle.locator.specs.Internal.{refusal}
-use Rattle.locator.proofs.Accepted.{Accepted, accepted, not-refused}
-use Rattle.locator.proofs.Answers.{ahead, kept-sizes, nearest_in, locate-in}
-use Rattle.locator.specs.Several.{locatorPart, madeAt, locators, Roomy}
+use Rattle.locator.proofs.Accepted.{Accepted, accepted, not_refused}
+use Rattle.locator.proofs.Answers.{ahead, kept-sizes, nearest_in_lem, locate_in_lem}
+use Rattle.locator.specs.Several.{locator_part, made_at, locators, Roomy}
 
 -- ---- lists one after another
 
@@ -45,10 +45,10 @@ module _ {A : Type 0} (f : ℕ → List A) where
   -- from where list v begins: list v, and what is behind it
   pub from_block : (k v : ℕ) (r : List A) → v < k → drop (length (joined v f)) (joined k f ++ r) ≡ f v ++ drop (length (joined (suc v) f)) (joined k f ++ r)
   from_block zero v r h = absurd (omega arith)
-  from_block (suc k) v r h = step k v r h (from_block k v (f k ++ r)) (le-or-lt k v)
+  from_block (suc k) v r h = step k v r h (from_block k v (f k ++ r)) (le_or_lt k v)
 
   pub begins : (v : ℕ) (size : ℕ → ℕ) → ((i : ℕ) → i < v → length (f i) ≡ size i) → length (joined v f) ≡ sum v size
-  begins v size h = length-joined v f ∙ sum-eq v (λ i. length (f i)) size h
+  begins v size h = length-joined v f ∙ sum_eq v (λ i. length (f i)) size h
 
   -- the same by sizes
   pub from_place : (k v : ℕ) (r : List A) (size : ℕ → ℕ) → v < k → ((i : ℕ) → i < k → length (f i) ≡ size i)
@@ -56,10 +56,10 @@ module _ {A : Type 0} (f : ℕ → List A) where
   from_place k v r size h e =
       rw (← begins v size (λ i l. e i (omega arith)), ← begins (suc v) size (λ i l. e i (omega arith))) (from_block k v r h)
 
-sum-up : (f : ℕ → ℕ) (m n : ℕ) → m ≤ n → sum m f ≤ sum n f
+sum_up : (f : ℕ → ℕ) (m n : ℕ) → m ≤ n → sum m f ≤ sum n f
 unfolding sum
-sum-up f m zero h = let e : m ≡ 0 = omega arith in rw e (omega arith)
-sum-up f m (suc n) h = by (le-or-lt (suc n) m) (sum-up f m n)
+sum_up f m zero h = let e : m ≡ 0 = omega arith in rw e (omega arith)
+sum_up f m (suc n) h = by (le_or_lt (suc n) m) (sum_up f m n)
   where
     by : (suc n ≤ m) ⊎ (m < suc n) → (m ≤ n → sum m f ≤ sum n f) → sum m f ≤ sum (suc n) f
     by (inl k) r = let e : m ≡ suc n = omega arith in rw e (omega arith)
@@ -76,7 +76,7 @@ sum_ones f zero = refl
 sum_ones f (suc n) = omega (arith, sum_ones f n)
 
 four : {a b c d a' b' c' d' : List ℕ} → a ≡ a' → b ≡ b' → c ≡ c' → d ≡ d'
-    → ◌≡◌ {A = Locator} (locatorOf a b c d) (locatorOf a' b' c' d')
+    → ◌≡◌ {A = Locator} (locator_of a b c d) (locator_of a' b' c' d')
 four p q r s = rw (p, q, r, s) refl
 
 -- a list from a place on: a part, and what is behind it
@@ -90,104 +90,104 @@ cut_at {A} a b l h k =
 -- ---- each level's call is accepted
 
 -- the room of a part of n entries, k places each
-cut-room : {A : Type 0} (a b n k : ℕ) (l : List A) → b ≡ a + k * n → b ≤ length l → leb (k * n) (length (slice a b l)) ≡ true
-cut-room a b n k l e h = le-leb (k * n) (length (slice a b l)) (omega (arith, length-slice a b l h))
+cut_room : {A : Type 0} (a b n k : ℕ) (l : List A) → b ≡ a + k * n → b ≤ length l → leb (k * n) (length (slice a b l)) ≡ true
+cut_room a b n k l e h = le-leb (k * n) (length (slice a b l)) (omega (arith, length-slice a b l h))
 
-module _ (top : ℕ) (ms : Mesh) (l : Locator) (low : top ≤ 15) (held : meshLong (verticesBelow (suc top)) ms ≡ true) (kept : meshesKeep top ms ≡ true) (roomy : Roomy top l) where
-  part_held : (m : ℕ) → m ≤ top → meshLong (vertexCount m) (levelPart m ms) ≡ true
-  unfolding meshRoom levelPart
+module _ (top : ℕ) (ms : Mesh) (l : Locator) (low : top ≤ 15) (held : mesh_long (vertices_below (suc top)) ms ≡ true) (kept : meshes_keep top ms ≡ true) (roomy : Roomy top l) where
+  part_held : (m : ℕ) → m ≤ top → mesh_long (vertex_count m) (level_part m ms) ≡ true
+  unfolding mesh_room level_part
   part_held m h =
-      let n = vertexCount m in
-      let a = verticesBelow m in
+      let n = vertex_count m in
+      let a = vertices_below m in
       let s = below_more m in
-      let up = below-le (suc m) (suc top) (omega arith) in
-      let r = heldBy (verticesBelow (suc top)) ms held in
+      let up = below_le (suc m) (suc top) (omega arith) in
+      let r = heldBy (vertices_below (suc top)) ms held in
       rw (
-        cut-room (3 * a) (3 * verticesBelow (suc m)) n 3 ms.vertices (omega arith) (omega (arith, r.vertices)),
-        le-leb n (length (slice a (verticesBelow (suc m)) ms.counts)) (omega (arith, length-slice a (verticesBelow (suc m)) ms.counts (omega (arith, r.counts)))),
-        cut-room (6 * a) (6 * verticesBelow (suc m)) n 6 ms.neighbours (omega arith) (omega (arith, r.neighbours)),
-        cut-room (6 * a) (6 * verticesBelow (suc m)) n 6 ms.angles (omega arith) (omega (arith, r.angles)),
+        cut_room (3 * a) (3 * vertices_below (suc m)) n 3 ms.vertices (omega arith) (omega (arith, r.vertices)),
+        le-leb n (length (slice a (vertices_below (suc m)) ms.counts)) (omega (arith, length-slice a (vertices_below (suc m)) ms.counts (omega (arith, r.counts)))),
+        cut_room (6 * a) (6 * vertices_below (suc m)) n 6 ms.neighbours (omega arith) (omega (arith, r.neighbours)),
+        cut_room (6 * a) (6 * vertices_below (suc m)) n 6 ms.angles (omega arith) (omega (arith, r.angles)),
       ) refl
 
-  more-offsets : (m : ℕ) → cellOffsetsBelow (suc m) ≡ cellOffsetsBelow m + (cellCount (gridSize (vertexCount m)) + 1)
-  unfolding cellOffsetsBelow sum
-  more-offsets m = refl
+  more_offsets : (m : ℕ) → cell_offsets_below (suc m) ≡ cell_offsets_below m + (cell_count (grid_size (vertex_count m)) + 1)
+  unfolding cell_offsets_below sum
+  more_offsets m = refl
 
-  offsets-up : (m : ℕ) → m ≤ top → cellOffsetsBelow (suc m) ≤ cellOffsetsBelow (suc top)
-  unfolding cellOffsetsBelow
-  offsets-up m h = sum-up (λ k. cellCount (gridSize (vertexCount k)) + 1) (suc m) (suc top) (omega arith)
+  offsets_up : (m : ℕ) → m ≤ top → cell_offsets_below (suc m) ≤ cell_offsets_below (suc top)
+  unfolding cell_offsets_below
+  offsets_up m h = sum_up (λ k. cell_count (grid_size (vertex_count k)) + 1) (suc m) (suc top) (omega arith)
 
   -- how long the parts are
   pub record Sizes (m : ℕ) (p : Locator) : Type 0 where
-    pub cellOffsets : length p.cellOffsets ≡ cellCount (gridSize (vertexCount m)) + 1
-    pub cellVertices : length p.cellVertices ≡ 27 * vertexCount m
-    pub faceOffsets : length p.faceOffsets ≡ vertexCount m + 1
-    pub faces : length p.faces ≡ 45 * vertexCount m
+    pub cell_offsets : length p.cell_offsets ≡ cell_count (grid_size (vertex_count m)) + 1
+    pub cell_vertices : length p.cell_vertices ≡ 27 * vertex_count m
+    pub face_offsets : length p.face_offsets ≡ vertex_count m + 1
+    pub faces : length p.faces ≡ 45 * vertex_count m
 
-  part-sizes : (m : ℕ) → m ≤ top → Sizes m (locatorPart m l)
-  unfolding locatorPart
-  part-sizes m h =
-      let a = verticesBelow m in
-      let b = verticesBelow (suc m) in
+  part_sizes : (m : ℕ) → m ≤ top → Sizes m (locator_part m l)
+  unfolding locator_part
+  part_sizes m h =
+      let a = vertices_below m in
+      let b = vertices_below (suc m) in
       let s = below_more m in
-      let up = below-le (suc m) (suc top) (omega arith) in
-      let o = cellOffsetsBelow m in
-      let q = cellOffsetsBelow (suc m) in
+      let up = below_le (suc m) (suc top) (omega arith) in
+      let o = cell_offsets_below m in
+      let q = cell_offsets_below (suc m) in
       record {
-        cellOffsets = omega (arith, more-offsets m, length-slice o q l.cellOffsets (omega (arith, offsets-up m h, roomy.cellOffsets)));
-        cellVertices = omega (arith, length-slice (27 * a) (27 * b) l.cellVertices (omega (arith, roomy.cellVertices)));
-        faceOffsets = omega (arith, length-slice (a + m) (b + suc m) l.faceOffsets (omega (arith, roomy.faceOffsets)));
+        cell_offsets = omega (arith, more_offsets m, length-slice o q l.cell_offsets (omega (arith, offsets_up m h, roomy.cell_offsets)));
+        cell_vertices = omega (arith, length-slice (27 * a) (27 * b) l.cell_vertices (omega (arith, roomy.cell_vertices)));
+        face_offsets = omega (arith, length-slice (a + m) (b + suc m) l.face_offsets (omega (arith, roomy.face_offsets)));
         faces = omega (arith, length-slice (45 * a) (45 * b) l.faces (omega (arith, roomy.faces)));
       }
 
-  room : (m : ℕ) → m ≤ top → locatorLong (vertexCount m) (gridSize (vertexCount m)) (locatorPart m l) ≡ true
-  unfolding locatorRoom
+  room : (m : ℕ) → m ≤ top → locator_long (vertex_count m) (grid_size (vertex_count m)) (locator_part m l) ≡ true
+  unfolding locator_room
   room m h =
-      let s = part-sizes m h in
-      let p = locatorPart m l in
-      let n = vertexCount m in
+      let s = part_sizes m h in
+      let p = locator_part m l in
+      let n = vertex_count m in
       rw (
-        le-leb (cellCount (gridSize n) + 1) (length p.cellOffsets) (omega (arith, s.cellOffsets)),
-        le-leb (27 * n) (length p.cellVertices) (omega (arith, s.cellVertices)),
-        le-leb (n + 1) (length p.faceOffsets) (omega (arith, s.faceOffsets)),
+        le-leb (cell_count (grid_size n) + 1) (length p.cell_offsets) (omega (arith, s.cell_offsets)),
+        le-leb (27 * n) (length p.cell_vertices) (omega (arith, s.cell_vertices)),
+        le-leb (n + 1) (length p.face_offsets) (omega (arith, s.face_offsets)),
         le-leb (45 * n) (length p.faces) (omega (arith, s.faces)),
       ) refl
 
-  rule : (m : ℕ) → m ≤ top → keepsRule (vertexCount m) (levelPart m ms) ≡ true
-  unfolding meshesKeep
-  rule m h = all-at (λ k. keepsRule (vertexCount k) (levelPart k ms)) m (suc top) (omega arith) kept
+  rule : (m : ℕ) → m ≤ top → keeps_rule (vertex_count m) (level_part m ms) ≡ true
+  unfolding meshes_keep
+  rule m h = all_at (λ k. keeps_rule (vertex_count k) (level_part k ms)) m (suc top) (omega arith) kept
 
-  answered-yes : (m : ℕ) → m ≤ top → locatorRefusal m (levelPart m ms) (locatorPart m l) ≡ 0
-  answered-yes m h = not-refused m (levelPart m ms) (locatorPart m l) (omega (arith, low)) (part_held m h) (room m h) (rule m h)
+  answered_yes : (m : ℕ) → m ≤ top → locator_refusal m (level_part m ms) (locator_part m l) ≡ 0
+  answered_yes m h = not_refused m (level_part m ms) (locator_part m l) (omega (arith, low)) (part_held m h) (room m h) (rule m h)
 
   -- the call is accepted, and leaves what the level's locator is
-  pub call-accepted : (m : ℕ) → m ≤ top → let p = locatorPart m l in
-      Accepted (vertexCount m) (gridSize (vertexCount m)) (levelPart m ms) (length p.cellOffsets) (length p.cellVertices) (length p.faceOffsets) (length p.faces)
-  unfolding refusal locatorRefusal
-  call-accepted m h = let p = locatorPart m l in accepted m (levelPart m ms) (length p.cellOffsets) (length p.cellVertices) (length p.faceOffsets) (length p.faces) (answered-yes m h)
+  pub call_accepted : (m : ℕ) → m ≤ top → let p = locator_part m l in
+      Accepted (vertex_count m) (grid_size (vertex_count m)) (level_part m ms) (length p.cell_offsets) (length p.cell_vertices) (length p.face_offsets) (length p.faces)
+  unfolding refusal locator_refusal
+  call_accepted m h = let p = locator_part m l in accepted m (level_part m ms) (length p.cell_offsets) (length p.cell_vertices) (length p.face_offsets) (length p.faces) (answered_yes m h)
 
-  accepted-out : (m : ℕ) → m ≤ top → locatorOut m (levelPart m ms) (locatorPart m l) ≡ record { number = 0; lists = locatorLists (vertexCount m) (gridSize (vertexCount m)) (levelPart m ms) (locatorPart m l) }
-  unfolding locatorOut
-  accepted-out m h =
-      ap (λ (t : Bool). cond t (record { number = 0; lists = locatorLists (vertexCount m) (gridSize (vertexCount m)) (levelPart m ms) (locatorPart m l) })
-      (record { number = locatorRefusal m (levelPart m ms) (locatorPart m l); lists = locatorPart m l }))
-      (eq-eqb (locatorRefusal m (levelPart m ms) (locatorPart m l)) 0 (answered-yes m h))
+  accepted_out : (m : ℕ) → m ≤ top → locator_out m (level_part m ms) (locator_part m l) ≡ record { number = 0; lists = locator_lists (vertex_count m) (grid_size (vertex_count m)) (level_part m ms) (locator_part m l) }
+  unfolding locator_out
+  accepted_out m h =
+      ap (λ (t : Bool). cond t (record { number = 0; lists = locator_lists (vertex_count m) (grid_size (vertex_count m)) (level_part m ms) (locator_part m l) })
+      (record { number = locator_refusal m (level_part m ms) (locator_part m l); lists = locator_part m l }))
+      (eq-eqb (locator_refusal m (level_part m ms) (locator_part m l)) 0 (answered_yes m h))
 
-  pub lists-made : (m : ℕ) → m ≤ top → madeAt ms l m ≡ locatorLists (vertexCount m) (gridSize (vertexCount m)) (levelPart m ms) (locatorPart m l)
-  lists-made m h = ap (λ (o : LocatorOut). o.lists) (accepted-out m h)
+  pub lists-made : (m : ℕ) → m ≤ top → made_at ms l m ≡ locator_lists (vertex_count m) (grid_size (vertex_count m)) (level_part m ms) (locator_part m l)
+  lists-made m h = ap (λ (o : LocatorOut). o.lists) (accepted_out m h)
 
-  pub made-yes : (m : ℕ) → m ≤ top → (locatorOut m (levelPart m ms) (locatorPart m l)).number ≡ 0
-  made-yes m h = ap (λ (o : LocatorOut). o.number) (accepted-out m h)
+  pub made_yes : (m : ℕ) → m ≤ top → (locator_out m (level_part m ms) (locator_part m l)).number ≡ 0
+  made_yes m h = ap (λ (o : LocatorOut). o.number) (accepted_out m h)
 
   -- the call leaves each list as long as it was
-  made-sizes : (m : ℕ) → m ≤ top → Sizes m (madeAt ms l m)
-  unfolding locatorLists
+  made-sizes : (m : ℕ) → m ≤ top → Sizes m (made_at ms l m)
+  unfolding locator_lists
   made-sizes m h =
-      let n = vertexCount m in
-      let p = locatorPart m l in
-      let s = part-sizes m h in
-      let k = kept-sizes n (gridSize n) (levelPart m ms) p (call-accepted m h) [] p in
-      rw (lists-made m h) (record { cellOffsets = k.0 ∙ s.cellOffsets; cellVertices = k.1 ∙ s.cellVertices; faceOffsets = k.2 ∙ s.faceOffsets; faces = k.3 ∙ s.faces })
+      let n = vertex_count m in
+      let p = locator_part m l in
+      let s = part_sizes m h in
+      let k = kept-sizes n (grid_size n) (level_part m ms) p (call_accepted m h) [] p in
+      rw (lists-made m h) (record { cell_offsets = k.0 ∙ s.cell_offsets; cell_vertices = k.1 ∙ s.cell_vertices; face_offsets = k.2 ∙ s.face_offsets; faces = k.3 ∙ s.faces })
 
   -- ---- from a level's first entries on
 
@@ -195,54 +195,54 @@ module _ (top : ℕ) (ms : Mesh) (l : Locator) (low : top ≤ 15) (held : meshLo
   behind v =
       let r = locators top ms l in
       record {
-        cellOffsets = drop (cellOffsetsBelow (suc v)) r.cellOffsets;
-        cellVertices = drop (27 * verticesBelow (suc v)) r.cellVertices;
-        faceOffsets = drop (verticesBelow (suc v) + suc v) r.faceOffsets;
-        faces = drop (45 * verticesBelow (suc v)) r.faces;
+        cell_offsets = drop (cell_offsets_below (suc v)) r.cell_offsets;
+        cell_vertices = drop (27 * vertices_below (suc v)) r.cell_vertices;
+        face_offsets = drop (vertices_below (suc v) + suc v) r.face_offsets;
+        faces = drop (45 * vertices_below (suc v)) r.faces;
       }
 
   -- one of the four lists, its sizes and its places given
-  one_list : (f : Locator → List ℕ) (v : ℕ) (size : ℕ → ℕ) (rest : List ℕ) (from to : ℕ) → v ≤ top → ((i : ℕ) → i ≤ top → length (f (madeAt ms l i)) ≡ size i)
+  one_list : (f : Locator → List ℕ) (v : ℕ) (size : ℕ → ℕ) (rest : List ℕ) (from to : ℕ) → v ≤ top → ((i : ℕ) → i ≤ top → length (f (made_at ms l i)) ≡ size i)
       → sum v size ≡ from → sum (suc v) size ≡ to
-      → drop from (joined (suc top) (λ m. f (madeAt ms l m)) ++ rest)
-      ≡ f (locatorLists (vertexCount v) (gridSize (vertexCount v)) (levelPart v ms) (locatorPart v l)) ++ drop to (joined (suc top) (λ m. f (madeAt ms l m)) ++ rest)
+      → drop from (joined (suc top) (λ m. f (made_at ms l m)) ++ rest)
+      ≡ f (locator_lists (vertex_count v) (grid_size (vertex_count v)) (level_part v ms) (locator_part v l)) ++ drop to (joined (suc top) (λ m. f (made_at ms l m)) ++ rest)
   one_list f v size rest from to h e p q =
       rw (← p, ← q)
-      (from_place (λ m. f (madeAt ms l m)) (suc top) v rest size (omega arith) (λ i k. e i (omega arith))
-      ∙ ap (λ (z : Locator). f z ++ drop (sum (suc v) size) (joined (suc top) (λ m. f (madeAt ms l m)) ++ rest)) (lists-made v h))
+      (from_place (λ m. f (made_at ms l m)) (suc top) v rest size (omega arith) (λ i k. e i (omega arith))
+      ∙ ap (λ (z : Locator). f z ++ drop (sum (suc v) size) (joined (suc top) (λ m. f (made_at ms l m)) ++ rest)) (lists-made v h))
 
-  pub at_level : (v : ℕ) → v ≤ top → locatorFrom v (locators top ms l) ≡ ahead (locatorLists (vertexCount v) (gridSize (vertexCount v)) (levelPart v ms) (locatorPart v l)) (behind v)
-  unfolding locatorFrom locators ahead behind cellOffsetsBelow verticesBelow
+  pub at_level : (v : ℕ) → v ≤ top → locator_from v (locators top ms l) ≡ ahead (locator_lists (vertex_count v) (grid_size (vertex_count v)) (level_part v ms) (locator_part v l)) (behind v)
+  unfolding locator_from locators ahead behind cell_offsets_below vertices_below
   at_level v h =
       let k = suc top in
       four
-      (one_list (λ r. r.cellOffsets) v (λ i. cellCount (gridSize (vertexCount i)) + 1) (drop (cellOffsetsBelow k) l.cellOffsets) (cellOffsetsBelow v) (cellOffsetsBelow (suc v)) h
-      (λ i q. (made-sizes i q).cellOffsets) refl refl)
-      (one_list (λ r. r.cellVertices) v (λ i. 27 * vertexCount i) (drop (27 * verticesBelow k) l.cellVertices) (27 * verticesBelow v) (27 * verticesBelow (suc v)) h
-      (λ i q. (made-sizes i q).cellVertices) (sum-times 27 vertexCount v) (sum-times 27 vertexCount (suc v)))
-      (one_list (λ r. r.faceOffsets) v (λ i. vertexCount i + 1) (drop (verticesBelow k + k) l.faceOffsets) (verticesBelow v + v) (verticesBelow (suc v) + suc v) h
-      (λ i q. (made-sizes i q).faceOffsets) (sum_ones vertexCount v) (sum_ones vertexCount (suc v)))
-      (one_list (λ r. r.faces) v (λ i. 45 * vertexCount i) (drop (45 * verticesBelow k) l.faces) (45 * verticesBelow v) (45 * verticesBelow (suc v)) h
-      (λ i q. (made-sizes i q).faces) (sum-times 45 vertexCount v) (sum-times 45 vertexCount (suc v)))
+      (one_list (λ r. r.cell_offsets) v (λ i. cell_count (grid_size (vertex_count i)) + 1) (drop (cell_offsets_below k) l.cell_offsets) (cell_offsets_below v) (cell_offsets_below (suc v)) h
+      (λ i q. (made-sizes i q).cell_offsets) refl refl)
+      (one_list (λ r. r.cell_vertices) v (λ i. 27 * vertex_count i) (drop (27 * vertices_below k) l.cell_vertices) (27 * vertices_below v) (27 * vertices_below (suc v)) h
+      (λ i q. (made-sizes i q).cell_vertices) (sum-times 27 vertex_count v) (sum-times 27 vertex_count (suc v)))
+      (one_list (λ r. r.face_offsets) v (λ i. vertex_count i + 1) (drop (vertices_below k + k) l.face_offsets) (vertices_below v + v) (vertices_below (suc v) + suc v) h
+      (λ i q. (made-sizes i q).face_offsets) (sum_ones vertex_count v) (sum_ones vertex_count (suc v)))
+      (one_list (λ r. r.faces) v (λ i. 45 * vertex_count i) (drop (45 * vertices_below k) l.faces) (45 * vertices_below v) (45 * vertices_below (suc v)) h
+      (λ i q. (made-sizes i q).faces) (sum-times 45 vertex_count v) (sum-times 45 vertex_count (suc v)))
 
   -- the vertices from the level's first on are the level's, and others behind them
-  vertices-at : (v : ℕ) → v ≤ top → verticesFrom v ms.vertices ≡ (levelPart v ms).vertices ++ drop (3 * verticesBelow (suc v)) ms.vertices
-  unfolding verticesFrom levelPart
-  vertices-at v h =
-      cut_at (3 * verticesBelow v) (3 * verticesBelow (suc v)) ms.vertices (omega (arith, below_more v))
-      (omega (arith, below-le (suc v) (suc top) (omega arith), (heldBy (verticesBelow (suc top)) ms held).vertices))
+  vertices_at : (v : ℕ) → v ≤ top → vertices_from v ms.vertices ≡ (level_part v ms).vertices ++ drop (3 * vertices_below (suc v)) ms.vertices
+  unfolding vertices_from level_part
+  vertices_at v h =
+      cut_at (3 * vertices_below v) (3 * vertices_below (suc v)) ms.vertices (omega (arith, below_more v))
+      (omega (arith, below_le (suc v) (suc top) (omega arith), (heldBy (vertices_below (suc top)) ms held).vertices))
 
   -- the search at level v inside lists of several levels is the search over that level's mesh
-  pub nearest-at : (v : ℕ) → v ≤ top → (p : Vector3)
-      → nearestIn (locatorFrom v (locators top ms l)) (verticesFrom v ms.vertices) (vertexCount v) (gridSize (vertexCount v)) p
-      ≡ nearestOf (levelPart v ms) (vertexCount v) (gridSize (vertexCount v)) p
-  nearest-at v h p =
-      rw (at_level v h, vertices-at v h)
-      (nearest_in (vertexCount v) (gridSize (vertexCount v)) (levelPart v ms) (locatorPart v l) (call-accepted v h) (drop (3 * verticesBelow (suc v)) ms.vertices) (behind v) p)
+  pub nearest_at : (v : ℕ) → v ≤ top → (p : Vector3)
+      → nearest_in (locator_from v (locators top ms l)) (vertices_from v ms.vertices) (vertex_count v) (grid_size (vertex_count v)) p
+      ≡ nearest_of (level_part v ms) (vertex_count v) (grid_size (vertex_count v)) p
+  nearest_at v h p =
+      rw (at_level v h, vertices_at v h)
+      (nearest_in_lem (vertex_count v) (grid_size (vertex_count v)) (level_part v ms) (locator_part v l) (call_accepted v h) (drop (3 * vertices_below (suc v)) ms.vertices) (behind v) p)
 
-  pub locate-at : (v : ℕ) → v ≤ top → (p : Vector3)
-      → locateIn (locatorFrom v (locators top ms l)) (verticesFrom v ms.vertices) (vertexCount v) (gridSize (vertexCount v)) p
-      ≡ locate (levelPart v ms) (vertexCount v) (gridSize (vertexCount v)) p
-  locate-at v h p =
-      rw (at_level v h, vertices-at v h)
-      (locate-in (vertexCount v) (gridSize (vertexCount v)) (levelPart v ms) (locatorPart v l) (call-accepted v h) (drop (3 * verticesBelow (suc v)) ms.vertices) (behind v) p)
+  pub locate_at : (v : ℕ) → v ≤ top → (p : Vector3)
+      → locate_in (locator_from v (locators top ms l)) (vertices_from v ms.vertices) (vertex_count v) (grid_size (vertex_count v)) p
+      ≡ locate (level_part v ms) (vertex_count v) (grid_size (vertex_count v)) p
+  locate_at v h p =
+      rw (at_level v h, vertices_at v h)
+      (locate_in_lem (vertex_count v) (grid_size (vertex_count v)) (level_part v ms) (locator_part v l) (call_accepted v h) (drop (3 * vertices_below (suc v)) ms.vertices) (behind v) p)

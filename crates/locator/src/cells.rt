@@ -2,8 +2,8 @@
 // vertex are kept in a list that something else is written to later. A row of a face's cells is one scan of that list, and each cell a scan of its row.
 ghost use Rattle.std.specs.Prelude.{◌≡◌, ◌+◌, ◌*◌, ◌<◌, ◌≤◌, ◌/◌, ◌%◌, length, take, drop, true, ltb};
 ghost use Rattle.lists.specs.Lists.{every, put, joined};
-ghost use Rattle.search.specs.Cells.{cellNumber, cell};
-ghost use Rattle.locator.specs.Internal.{kept, nearKept, key_of, vertexKey, Keyed, keyRow, inColumn, CellsOut, cellsOut};
+ghost use Rattle.search.specs.Cells.{cell_number, cell};
+ghost use Rattle.locator.specs.Internal.{kept, near_kept, key_of, vertex_key, Keyed, key_row, in_column, CellsOut, cells_out};
 
 use search::Vector3;
 
@@ -23,7 +23,7 @@ fn kept(c: i64) -> u64
 
 // The cell number of a coordinate that a face sees at u, d in front of it.
 fn cell_number(g: usize, u: f64, d: f64) -> u64
-    ensures { result ≡ kept (cellNumber g u d) }
+    ensures { result ≡ kept (cell_number g u d) }
 {
     kept(float::to_i64(search::in_cells(g as u64, u / d)))
 }
@@ -41,7 +41,7 @@ fn key(g: usize, u: f64, w: f64, d: f64) -> u32
 
 fn vertex_key(vertices: &[f64], g: usize, face: usize, v: usize) -> u32
     requires { 3 * v + 3 ≤ length vertices.now }
-    ensures { result ≡ vertexKey vertices.now g face v }
+    ensures { result ≡ vertex_key vertices.now g face v }
 {
     let at = 3 * v;
     let x = vertices[at];
@@ -57,7 +57,7 @@ fn vertex_key(vertices: &[f64], g: usize, face: usize, v: usize) -> u32
 // A cell number that is kept so is i, or next to it: k - i is 1, 2 or 3, by one comparison, since two of them become two jumps.
 fn near_kept(k: u32, i: u32) -> bool
     requires { (k < 65536) × (i < 65500) }
-    ensures { result ≡ nearKept k i }
+    ensures { result ≡ near_kept k i }
 {
     (k + 65535 - i) % 65536 <= 2
 }
@@ -83,8 +83,8 @@ fn fresh_keys(vertices: &[f64], n: usize, g: usize, c: usize, keys: &mut [u32])
 // The vertices near the row of cell c, of which `held` stand in the list already where c is not the first of its row; how many.
 fn fresh_row(keys: &[u32], n: usize, g: usize, c: usize, held: usize, row: &mut [u16]) -> usize
     requires { (n ≤ length keys.now) × (n ≤ length row.old) × (n ≤ 65536) × (0 < g) × (g < 65500) × (held ≤ length row.old)
-        × (0 < c % (g * g) % g → take held row.old ≡ keyRow keys.now n (c % (g * g) / g)) }
-    ensures { (result ≤ length row.new) × (take result row.new ≡ keyRow keys.now n (c % (g * g) / g)) }
+        × (0 < c % (g * g) % g → take held row.old ≡ key_row keys.now n (c % (g * g) / g)) }
+    ensures { (result ≤ length row.new) × (take result row.new ≡ key_row keys.now n (c % (g * g) / g)) }
 {
     let a = g * g;
     let k = c % a;
@@ -107,9 +107,9 @@ fn fresh_row(keys: &[u32], n: usize, g: usize, c: usize, held: usize, row: &mut 
 // Those of a row that are near column j.
 fn put_cell(keys: &[u32], row: &[u16], held: usize, j: u32, out: &mut [u16], at: usize) -> usize
     requires { (held ≤ length row.now) × (every (λ v. ltb v (length keys.now)) (take held row.now) ≡ true) × (j < 65500)
-        × (at + length (inColumn keys.now j (take held row.now)) ≤ length out.old) }
-    ensures { (result ≡ at + length (inColumn keys.now j (take held row.now)))
-        × (out.new ≡ put out.old at (inColumn keys.now j (take held row.now))) }
+        × (at + length (in_column keys.now j (take held row.now)) ≤ length out.old) }
+    ensures { (result ≡ at + length (in_column keys.now j (take held row.now)))
+        × (out.new ≡ put out.old at (in_column keys.now j (take held row.now))) }
 {
     let mut to = at;
     let mut k: usize = 0;
@@ -139,7 +139,7 @@ fn fill_cells(
         × (length (joined m (cell vertices.now n g)) ≤ length out.old) × (length (joined m (cell vertices.now n g)) ≤ 4294967295) }
     ensures { (◌≡◌ {A = CellsOut}
         (record { offsets = offsets.exit.now; entries = out.new })
-        (cellsOut vertices.now n g m offsets.entry.now out.old)) × (drop n keys.new ≡ drop n keys.old) }
+        (cells_out vertices.now n g m offsets.entry.now out.old)) × (drop n keys.new ≡ drop n keys.old) }
 {
     let a = g * g;
     let mut held: usize = 0;
@@ -169,7 +169,7 @@ pub(crate) fn put_cells(
         × (length (joined m (cell vertices.now n g)) ≤ length out.old) × (length (joined m (cell vertices.now n g)) ≤ 4294967295) }
     ensures { (◌≡◌ {A = CellsOut}
         (record { offsets = offsets.exit.now; entries = out.new })
-        (cellsOut vertices.now n g m offsets.entry.now out.old)) × (drop n keys.new ≡ drop n keys.old) }
+        (cells_out vertices.now n g m offsets.entry.now out.old)) × (drop n keys.new ≡ drop n keys.old) }
 {
     let mut row: [u16; 2562] = [0; 2562];
     fill_cells(vertices, n, g, m, keys, &mut row, offsets, out);

@@ -5,8 +5,8 @@ ghost use Rattle.lists.specs.Lists.{put, joined};
 ghost use Rattle.mesh.specs.Mesh.{neighbour};
 ghost use Rattle.mesh.specs.Faces.{face};
 ghost use Rattle.mesh.specs.Internal.{links};
-ghost use Rattle.search.specs.Cells.{facesOf, flat};
-ghost use Rattle.locator.specs.Internal.{Graph, only, wanted, touches, thirds, block, Next, FacesOut, facesOut};
+ghost use Rattle.search.specs.Cells.{faces_of, flat};
+ghost use Rattle.locator.specs.Internal.{Graph, only, wanted, touches, thirds, block, Next, FacesOut, faces_out};
 
 // i, j, k is a face, and v is a vertex of it.
 fn wanted(counts: &[u8], neighbours: &[u16], i: u32, j: u32, k: u32, v: u32) -> bool
@@ -163,9 +163,9 @@ fn put_faces_of(
     at: usize,
 ) -> usize
     requires { Graph n (links counts.now neighbours.now) × (v < n)
-        × (3 * (at + length (facesOf (links counts.now neighbours.now) n v)) ≤ length out.old) }
-    ensures { (result ≡ at + length (facesOf (links counts.now neighbours.now) n v))
-        × (out.new ≡ put out.old (3 * at) (flat (facesOf (links counts.now neighbours.now) n v))) }
+        × (3 * (at + length (faces_of (links counts.now neighbours.now) n v)) ≤ length out.old) }
+    ensures { (result ≡ at + length (faces_of (links counts.now neighbours.now) n v))
+        × (out.new ≡ put out.old (3 * at) (flat (faces_of (links counts.now neighbours.now) n v))) }
 {
     let mut to = at;
     let mut i = next(counts, neighbours, n, v, 0);
@@ -185,11 +185,11 @@ pub(crate) fn put_faces(
     out: &mut [u16],
 )
     requires { Graph n (links counts.now neighbours.now) × (n < length offsets.old)
-        × (3 * length (joined n (facesOf (links counts.now neighbours.now) n)) ≤ length out.old)
-        × (length (joined n (facesOf (links counts.now neighbours.now) n)) ≤ 4294967295) }
+        × (3 * length (joined n (faces_of (links counts.now neighbours.now) n)) ≤ length out.old)
+        × (length (joined n (faces_of (links counts.now neighbours.now) n)) ≤ 4294967295) }
     ensures { ◌≡◌ {A = FacesOut}
         (record { offsets = offsets.exit.now; entries = out.new })
-        (facesOut (links counts.now neighbours.now) n offsets.entry.now out.old) }
+        (faces_out (links counts.now neighbours.now) n offsets.entry.now out.old) }
 {
     let end = n as usize;
     let mut to: usize = 0;

@@ -1,8 +1,8 @@
 // The locator call: the cells of a level's grid and the faces of each vertex, from the level's mesh.
 ghost use Rattle.std.specs.Prelude.{◌≡◌, ◌≤◌};
-ghost use Rattle.mesh.specs.Mesh.{meshOf};
-ghost use Rattle.search.specs.Search.{locatorOf};
-ghost use Rattle.locator.specs.Locator.{locatorRoom, LocatorOut, locatorOut};
+ghost use Rattle.mesh.specs.Mesh.{mesh_of};
+ghost use Rattle.search.specs.Search.{locator_of};
+ghost use Rattle.locator.specs.Locator.{locator_room, LocatorOut, locator_out};
 ghost use Rattle.locator.specs.Internal.{refusal};
 
 mod cells;
@@ -18,7 +18,7 @@ fn locator_room(
     faces: usize,
 ) -> bool
     requires { (n ≤ 65535) × (g ≤ 400) }
-    ensures { result ≡ locatorRoom n g cell_offsets cell_vertices face_offsets faces }
+    ensures { result ≡ locator_room n g cell_offsets cell_vertices face_offsets faces }
 {
     let n = n as usize;
     let g = g as usize;
@@ -38,7 +38,7 @@ fn refusal(
     face_offsets: usize,
     faces: usize,
 ) -> u64
-    ensures { result ≡ refusal level (meshOf vertices.now counts.now neighbours.now angles.now)
+    ensures { result ≡ refusal level (mesh_of vertices.now counts.now neighbours.now angles.now)
         cell_offsets cell_vertices face_offsets faces }
 {
     if 15 < level {
@@ -84,9 +84,9 @@ pub fn locator(
     faces: &mut [u16],
 ) -> u64
     ensures { ◌≡◌ {A = LocatorOut}
-        (record { number = result; lists = locatorOf cell_offsets.new cell_vertices.new face_offsets.new faces.new })
-        (locatorOut level (meshOf vertices.now counts.now neighbours.now angles.now)
-        (locatorOf cell_offsets.old cell_vertices.old face_offsets.old faces.old)) }
+        (record { number = result; lists = locator_of cell_offsets.new cell_vertices.new face_offsets.new faces.new })
+        (locator_out level (mesh_of vertices.now counts.now neighbours.now angles.now)
+        (locator_of cell_offsets.old cell_vertices.old face_offsets.old faces.old)) }
 {
     let number = refusal(
         level,

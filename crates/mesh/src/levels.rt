@@ -1,9 +1,9 @@
 // Sizes of a level, and how many vertices and cell offsets the levels below it have.
 ghost use Rattle.std.specs.Prelude.{◌≡◌};
-ghost use Rattle.mesh.specs.Levels.{vertexCount, per, gridSize, verticesBelow, cellOffsetsBelow};
+ghost use Rattle.mesh.specs.Levels.{vertex_count, per, grid_size, vertices_below, cell_offsets_below};
 
 pub fn vertex_count(level: u8) -> u64
-    ensures { result ≡ vertexCount level }
+    ensures { result ≡ vertex_count level }
 {
     let k = level as u64 + 1;
     10 * (k * k) + 2
@@ -19,14 +19,14 @@ pub fn per_level(level: u8) -> u64
 // g of a level. Document 01 has it by floats; over whole numbers it is the same at each of the 256 levels, and small enough
 // to be compiled in place.
 pub fn grid_size(level: u8) -> u64
-    ensures { result ≡ gridSize (vertexCount level) }
+    ensures { result ≡ grid_size (vertex_count level) }
 {
     (12691 * level as u64 + 20900) / 8192
 }
 
 // A sum of squares.
 pub fn vertices_below(level: u8) -> u64
-    ensures { result ≡ verticesBelow level }
+    ensures { result ≡ vertices_below level }
 {
     let m = level as u64;
     5 * (m * (m + 1) * (2 * m + 1)) / 3 + 2 * m
@@ -34,7 +34,7 @@ pub fn vertices_below(level: u8) -> u64
 
 // Level by level, for the levels above those of the table below.
 fn cell_offsets_counted(level: u8) -> u64
-    ensures { result ≡ cellOffsetsBelow level }
+    ensures { result ≡ cell_offsets_below level }
 {
     let mut sum: u64 = 0;
     let mut m: u8 = 0;
@@ -47,7 +47,7 @@ fn cell_offsets_counted(level: u8) -> u64
 }
 
 pub fn cell_offsets_below(level: u8) -> u64
-    ensures { result ≡ cellOffsetsBelow level }
+    ensures { result ≡ cell_offsets_below level }
 {
     match level {
         0 => 0,

@@ -1,9 +1,9 @@
 // The mesh rule. The entries are read by functions that have an answer at every place, so that no list has to be questioned before another.
 ghost use Rattle.std.specs.Prelude.{◌≡◌, ◌&&◌, [], ◌+◌, ◌*◌, ◌≤◌, length, get_or, eqb};
 ghost use Rattle.std.specs.Float.{nan};
-ghost use Rattle.lists.specs.Lists.{anyUpTo};
-ghost use Rattle.mesh.specs.Levels.{vertexCount};
-ghost use Rattle.mesh.specs.Mesh.{within, lists, angleKept, neighbourLinked, vertexLinked, linksKept, anglesOf, anglesKept, verticesFinite, keepsRule, meshRoom, meshLong, meshOf};
+ghost use Rattle.lists.specs.Lists.{any_up_to};
+ghost use Rattle.mesh.specs.Levels.{vertex_count};
+ghost use Rattle.mesh.specs.Mesh.{within, lists, angle_kept, neighbour_linked, vertex_linked, links_kept, angles_of, angles_kept, vertices_finite, keeps_rule, mesh_room, mesh_long, mesh_of};
 ghost use Rattle.mesh.specs.Internal.{links};
 
 use crate::levels::vertex_count;
@@ -43,7 +43,7 @@ pub fn entry(list: &[f64], i: usize) -> f64
 // w is among the k entries from a place on, all of which are there.
 fn among(neighbours: &[u16], at: usize, k: u32, w: u32) -> bool
     requires { at + k ≤ length neighbours.now }
-    ensures { result ≡ anyUpTo k (λ j. eqb (get_or neighbours.now (at + j) 0) w) }
+    ensures { result ≡ any_up_to k (λ j. eqb (get_or neighbours.now (at + j) 0) w) }
 {
     let mut j: u32 = 0;
     while j < k {
@@ -83,7 +83,7 @@ pub fn lists(counts: &[u8], neighbours: &[u16], v: u32, w: u32) -> bool
 
 // The neighbour at place k of v keeps the rule, but for its angle.
 fn neighbour_linked(n: u32, counts: &[u8], neighbours: &[u16], v: u32, k: u32) -> bool
-    ensures { result ≡ neighbourLinked n (links counts.now neighbours.now) v k }
+    ensures { result ≡ neighbour_linked n (links counts.now neighbours.now) v k }
 {
     let w = neighbour(neighbours, v, k);
     if n <= w {
@@ -99,7 +99,7 @@ fn neighbour_linked(n: u32, counts: &[u8], neighbours: &[u16], v: u32, k: u32) -
 }
 
 fn vertex_linked(n: u32, counts: &[u8], neighbours: &[u16], v: u32) -> bool
-    ensures { result ≡ vertexLinked n (links counts.now neighbours.now) v }
+    ensures { result ≡ vertex_linked n (links counts.now neighbours.now) v }
 {
     let d = degree(counts, v);
     if d < 5 {
@@ -120,7 +120,7 @@ fn vertex_linked(n: u32, counts: &[u8], neighbours: &[u16], v: u32) -> bool
 
 // The part of the mesh rule that neighbour counts and neighbours decide.
 pub fn links_kept(n: u32, counts: &[u8], neighbours: &[u16]) -> bool
-    ensures { result ≡ linksKept n (links counts.now neighbours.now) }
+    ensures { result ≡ links_kept n (links counts.now neighbours.now) }
 {
     let mut v: u32 = 0;
     while v < n {
@@ -133,14 +133,14 @@ pub fn links_kept(n: u32, counts: &[u8], neighbours: &[u16]) -> bool
 }
 
 fn angle_kept(x: f64) -> bool
-    ensures { result ≡ angleKept x }
+    ensures { result ≡ angle_kept x }
 {
     ieee::is_finite(x) & !(x < 0.0)
 }
 
 // An angle that is not lent is a NaN, and keeps no rule.
 fn angles_of(counts: &[u8], angles: &[f64], v: u32) -> bool
-    ensures { result ≡ anglesOf (meshOf [] counts.now [] angles.now) v }
+    ensures { result ≡ angles_of (mesh_of [] counts.now [] angles.now) v }
 {
     let d = degree(counts, v);
     let at = 6 * v as usize;
@@ -158,7 +158,7 @@ fn angles_of(counts: &[u8], angles: &[f64], v: u32) -> bool
 }
 
 fn angles_kept(n: u32, counts: &[u8], angles: &[f64]) -> bool
-    ensures { result ≡ anglesKept n (meshOf [] counts.now [] angles.now) }
+    ensures { result ≡ angles_kept n (mesh_of [] counts.now [] angles.now) }
 {
     let mut v: u32 = 0;
     while v < n {
@@ -171,7 +171,7 @@ fn angles_kept(n: u32, counts: &[u8], angles: &[f64]) -> bool
 }
 
 pub fn vertices_finite(n: u32, vertices: &[f64]) -> bool
-    ensures { result ≡ verticesFinite n vertices.now }
+    ensures { result ≡ vertices_finite n vertices.now }
 {
     let end = 3 * n as usize;
     if vertices.len() < end {
@@ -194,7 +194,7 @@ pub(crate) fn keeps_rule(
     neighbours: &[u16],
     angles: &[f64],
 ) -> bool
-    ensures { result ≡ keepsRule n (meshOf vertices.now counts.now neighbours.now angles.now) }
+    ensures { result ≡ keeps_rule n (mesh_of vertices.now counts.now neighbours.now angles.now) }
 {
     if !vertices_finite(n, vertices) {
         return false;
@@ -207,7 +207,7 @@ pub(crate) fn keeps_rule(
 
 // The lengths that n vertices need.
 pub fn mesh_room(n: u32, vertices: usize, counts: usize, neighbours: usize, angles: usize) -> bool
-    ensures { result ≡ meshRoom n vertices counts neighbours angles }
+    ensures { result ≡ mesh_room n vertices counts neighbours angles }
 {
     let m = n as usize;
     (3 * m <= vertices) & ((m <= counts) & ((6 * m <= neighbours) & (6 * m <= angles)))
@@ -221,8 +221,8 @@ pub fn mesh_keeps(
     neighbours: &[u16],
     angles: &[f64],
 ) -> bool
-    ensures { result ≡ meshLong (vertexCount level) (meshOf vertices.now counts.now neighbours.now angles.now)
-        && keepsRule (vertexCount level) (meshOf vertices.now counts.now neighbours.now angles.now) }
+    ensures { result ≡ mesh_long (vertex_count level) (mesh_of vertices.now counts.now neighbours.now angles.now)
+        && keeps_rule (vertex_count level) (mesh_of vertices.now counts.now neighbours.now angles.now) }
 {
     let n = vertex_count(level) as u32;
     if !mesh_room(

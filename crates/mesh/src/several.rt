@@ -1,7 +1,7 @@
 // The mesh rule over meshes of several levels, which are lent one after another.
 ghost use Rattle.std.specs.Prelude.{◌≡◌, ◌&&◌, true, [], suc, ◌+◌, ◌*◌, ◌≤◌, length};
-ghost use Rattle.mesh.specs.Levels.{vertexCount, verticesBelow};
-ghost use Rattle.mesh.specs.Mesh.{keepsRule, levelPart, meshRoom, meshLong, meshesKeep, meshOf, neighbourTotal, linksKept, linksRoom, meshesLinked};
+ghost use Rattle.mesh.specs.Levels.{vertex_count, vertices_below};
+ghost use Rattle.mesh.specs.Mesh.{keeps_rule, level_part, mesh_room, mesh_long, meshes_keep, mesh_of, neighbour_total, links_kept, links_room, meshes_linked};
 
 use crate::levels::{vertex_count, vertices_below};
 use crate::rule::{degree, keeps_rule, links_kept, mesh_room};
@@ -14,9 +14,9 @@ fn level_keeps(
     neighbours: &[u16],
     angles: &[f64],
 ) -> bool
-    requires { (3 * verticesBelow (suc level) ≤ length vertices.now) × (verticesBelow (suc level) ≤ length counts.now)
-        × (6 * verticesBelow (suc level) ≤ length neighbours.now) × (6 * verticesBelow (suc level) ≤ length angles.now) }
-    ensures { result ≡ keepsRule (vertexCount level) (levelPart level (meshOf vertices.now counts.now neighbours.now angles.now)) }
+    requires { (3 * vertices_below (suc level) ≤ length vertices.now) × (vertices_below (suc level) ≤ length counts.now)
+        × (6 * vertices_below (suc level) ≤ length neighbours.now) × (6 * vertices_below (suc level) ≤ length angles.now) }
+    ensures { result ≡ keeps_rule (vertex_count level) (level_part level (mesh_of vertices.now counts.now neighbours.now angles.now)) }
 {
     let n = vertex_count(level);
     let a = vertices_below(level) as usize;
@@ -42,7 +42,7 @@ pub fn meshes_room(
     neighbours: usize,
     angles: usize,
 ) -> bool
-    ensures { result ≡ meshRoom (verticesBelow (suc top)) vertices counts neighbours angles }
+    ensures { result ≡ mesh_room (vertices_below (suc top)) vertices counts neighbours angles }
 {
     let n = vertices_below(top) + vertex_count(top);
     mesh_room(n as u32, vertices, counts, neighbours, angles)
@@ -56,8 +56,8 @@ pub fn meshes_keep(
     neighbours: &[u16],
     angles: &[f64],
 ) -> bool
-    ensures { result ≡ meshLong (verticesBelow (suc top)) (meshOf vertices.now counts.now neighbours.now angles.now)
-        && meshesKeep top (meshOf vertices.now counts.now neighbours.now angles.now) }
+    ensures { result ≡ mesh_long (vertices_below (suc top)) (mesh_of vertices.now counts.now neighbours.now angles.now)
+        && meshes_keep top (mesh_of vertices.now counts.now neighbours.now angles.now) }
 {
     if !meshes_room(
         top,
@@ -81,7 +81,7 @@ pub fn meshes_keep(
 
 // The neighbour counts of a level's vertices, added up; where no count was lent there is none.
 pub fn neighbour_total(level: u8, counts: &[u8]) -> u64
-    ensures { result ≡ neighbourTotal counts.now level }
+    ensures { result ≡ neighbour_total counts.now level }
 {
     let a = vertices_below(level) as u32;
     let n = vertex_count(level) as u32;
@@ -96,8 +96,8 @@ pub fn neighbour_total(level: u8, counts: &[u8]) -> u64
 
 // The links of one level's part. The lists hold the levels up to it.
 fn level_linked(level: u8, counts: &[u8], neighbours: &[u16]) -> bool
-    requires { (verticesBelow (suc level) ≤ length counts.now) × (6 * verticesBelow (suc level) ≤ length neighbours.now) }
-    ensures { result ≡ linksKept (vertexCount level) (levelPart level (meshOf [] counts.now neighbours.now [])) }
+    requires { (vertices_below (suc level) ≤ length counts.now) × (6 * vertices_below (suc level) ≤ length neighbours.now) }
+    ensures { result ≡ links_kept (vertex_count level) (level_part level (mesh_of [] counts.now neighbours.now [])) }
 {
     let n = vertex_count(level);
     let a = vertices_below(level) as usize;
@@ -109,7 +109,7 @@ fn level_linked(level: u8, counts: &[u8], neighbours: &[u16]) -> bool
 
 // The lengths of neighbour counts and neighbours that the levels from 0 to the top need.
 pub fn links_room(top: u8, counts: usize, neighbours: usize) -> bool
-    ensures { result ≡ linksRoom (verticesBelow (suc top)) counts neighbours }
+    ensures { result ≡ links_room (vertices_below (suc top)) counts neighbours }
 {
     let n = (vertices_below(top) + vertex_count(top)) as usize;
     (n <= counts) & (6 * n <= neighbours)
@@ -117,8 +117,8 @@ pub fn links_room(top: u8, counts: usize, neighbours: usize) -> bool
 
 // Neighbour counts and neighbours of the levels from 0 to the top are as long as they need to be, and keep their part of the rule.
 pub fn meshes_linked(top: u8, counts: &[u8], neighbours: &[u16]) -> bool
-    ensures { result ≡ linksRoom (verticesBelow (suc top)) (length counts.now) (length neighbours.now)
-        && meshesLinked top (meshOf [] counts.now neighbours.now []) }
+    ensures { result ≡ links_room (vertices_below (suc top)) (length counts.now) (length neighbours.now)
+        && meshes_linked top (mesh_of [] counts.now neighbours.now []) }
 {
     if !links_room(top, counts.len(), neighbours.len()) {
         return false;

@@ -7,26 +7,26 @@ use lib.Dec.{leb, ltb}
 use borrow.Author.Tests.{lt-ltb, leb-false}
 use Rattle.lists.proofs.Counting.{and_no}
 use Rattle.mesh.specs.Mesh.{Mesh, lists}
-use Rattle.mesh.specs.Faces.{face, isFace, has}
+use Rattle.mesh.specs.Faces.{face, is_face, has}
 use Rattle.locator.specs.Internal.{wanted}
 
 module _ (m : Mesh) (i j k v : ℕ) where
-  pub not-ascending : (ltb i j && ltb j k) ≡ false → wanted m i j k v ≡ false
-  unfolding wanted isFace
-  not-ascending e = by (ltb i j) (ltb j k) e
+  pub not_ascending : (ltb i j && ltb j k) ≡ false → wanted m i j k v ≡ false
+  unfolding wanted is_face
+  not_ascending e = by (ltb i j) (ltb j k) e
     where
       by : (s t : Bool) → (s && t) ≡ false → (s && (t && lists m j k)) && has v (face i j k) ≡ false
       by true true e = absurd (true≢false e)
       by true false e = refl
       by false t e = refl
 
-  pub not-of : has v (face i j k) ≡ false → wanted m i j k v ≡ false
+  pub not_of : has v (face i j k) ≡ false → wanted m i j k v ≡ false
   unfolding wanted
-  not-of e = and_no (isFace m i j k) (has v (face i j k)) e
+  not_of e = and_no (is_face m i j k) (has v (face i j k)) e
 
-  pub by-list : (ltb i j && ltb j k) ≡ true → has v (face i j k) ≡ true → wanted m i j k v ≡ lists m j k
-  unfolding wanted isFace
-  by-list e h = by (ltb i j) (ltb j k) e
+  pub by_list : (ltb i j && ltb j k) ≡ true → has v (face i j k) ≡ true → wanted m i j k v ≡ lists m j k
+  unfolding wanted is_face
+  by_list e h = by (ltb i j) (ltb j k) e
     where
       by : (s t : Bool) → (s && t) ≡ true → (s && (t && lists m j k)) && has v (face i j k) ≡ lists m j k
       by true true e = rw h (and-true (lists m j k))
@@ -34,7 +34,7 @@ module _ (m : Mesh) (i j k v : ℕ) where
       by false t e = absurd (true≢false (sym e))
 
 -- behind the end of the loop over least vertices
-pub behind-end : (i n v k : ℕ) → (ltb i n && leb i v) ≡ false → i ≤ k → k < n → v < k
-behind-end i n v k e p q =
+pub behind_end : (i n v k : ℕ) → (ltb i n && leb i v) ≡ false → i ≤ k → k < n → v < k
+behind_end i n v k e p q =
     let h = rw (lt-ltb i n (omega arith)) at e in
     omega (arith, leb-false i v h)

@@ -3,8 +3,8 @@
 ghost use Rattle.std.specs.Prelude.{◌≡◌};
 ghost use Rattle.mesh.specs.Faces.{face};
 ghost use Rattle.mesh.specs.Internal.{links};
-ghost use Rattle.search.specs.Cells.{facesOf};
-ghost use Rattle.search.specs.Search.{noFit, better, fitFrom};
+ghost use Rattle.search.specs.Cells.{faces_of};
+ghost use Rattle.search.specs.Search.{no_fit, better, fit_from};
 ghost use Rattle.locator.specs.Internal.{only, wanted, touches, thirds, block};
 
 use crate::vertices::vertex_at;
@@ -12,7 +12,7 @@ use mesh::Face;
 use search::{Fit, Vector3, Weights};
 
 fn no_fit() -> Fit
-    ensures { result ≡ noFit }
+    ensures { result ≡ no_fit }
 {
     Fit {
         face: Face { a: 0, b: 0, c: 0 },
@@ -77,7 +77,7 @@ fn with_face(
     k: u32,
     best: Fit,
 ) -> Fit
-    ensures { result ≡ fitFrom vertices.now p best (only (wanted (links counts.now neighbours.now) i j k v) (face i j k)) }
+    ensures { result ≡ fit_from vertices.now p best (only (wanted (links counts.now neighbours.now) i j k v) (face i j k)) }
 {
     if !wanted(counts, neighbours, i, j, k, v) {
         return best;
@@ -97,7 +97,7 @@ fn with_thirds(
     c: u32,
     before: Fit,
 ) -> Fit
-    ensures { result ≡ fitFrom vertices.now p before (thirds (links counts.now neighbours.now) v i c j) }
+    ensures { result ≡ fit_from vertices.now p before (thirds (links counts.now neighbours.now) v i c j) }
 {
     let mut best = before;
     let mut y: u32 = 0;
@@ -129,7 +129,7 @@ fn with_block(
     i: u32,
     before: Fit,
 ) -> Fit
-    ensures { result ≡ fitFrom vertices.now p before (block (links counts.now neighbours.now) v i) }
+    ensures { result ≡ fit_from vertices.now p before (block (links counts.now neighbours.now) v i) }
 {
     if !touches(counts, neighbours, i, v) {
         return before;
@@ -154,7 +154,7 @@ pub(crate) fn best_face(
     p: Vector3,
     v: u32,
 ) -> Fit
-    ensures { result ≡ fitFrom vertices.now p noFit (facesOf (links counts.now neighbours.now) n v) }
+    ensures { result ≡ fit_from vertices.now p no_fit (faces_of (links counts.now neighbours.now) n v) }
 {
     let mut best = no_fit();
     let mut i: u32 = 0;

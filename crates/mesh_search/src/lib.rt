@@ -1,9 +1,9 @@
 // The search of a direction over a mesh, with no locator: for a caller who searches too seldom for one to pay. Vertices are tested in index order for the
 // direction's cell, and the faces of the nearest are found from neighbour lists, so nothing is kept but what fits best so far.
 ghost use Rattle.std.specs.Prelude.{◌≡◌, []};
-ghost use Rattle.mesh.specs.Mesh.{meshOf};
-ghost use Rattle.search.specs.Search.{notLocated};
-ghost use Rattle.mesh_search.specs.MeshSearch.{searchRoom, searchRefusal, searchOut};
+ghost use Rattle.mesh.specs.Mesh.{mesh_of};
+ghost use Rattle.search.specs.Search.{not_located};
+ghost use Rattle.mesh_search.specs.MeshSearch.{search_room, search_refusal, search_out};
 
 use mesh::Face;
 use search::{Located, Vector3, Weights};
@@ -13,7 +13,7 @@ mod vertices;
 
 // Question 6, of the three lists.
 fn search_room(n: u32, vertices: usize, counts: usize, neighbours: usize) -> bool
-    ensures { result ≡ searchRoom n vertices counts neighbours }
+    ensures { result ≡ search_room n vertices counts neighbours }
 {
     let m = n as usize;
     (3 * m <= vertices) & ((m <= counts) & (6 * m <= neighbours))
@@ -21,7 +21,7 @@ fn search_room(n: u32, vertices: usize, counts: usize, neighbours: usize) -> boo
 
 // Questions 2, 6, 7 without the angles, and 18: the number of the first one that is answered no, or 0.
 fn refusal(level: u64, vertices: &[f64], counts: &[u8], neighbours: &[u16], d: Vector3) -> u64
-    ensures { result ≡ searchRefusal level (meshOf vertices.now counts.now neighbours.now []) d }
+    ensures { result ≡ search_refusal level (mesh_of vertices.now counts.now neighbours.now []) d }
 {
     if 15 < level {
         return 2;
@@ -43,7 +43,7 @@ fn refusal(level: u64, vertices: &[f64], counts: &[u8], neighbours: &[u16], d: V
 }
 
 fn not_located(number: u64) -> Located
-    ensures { result ≡ notLocated number }
+    ensures { result ≡ not_located number }
 {
     Located {
         number,
@@ -66,7 +66,7 @@ pub fn search_mesh(
     neighbours: &[u16],
     d: Vector3,
 ) -> Located
-    ensures { result ≡ searchOut level (meshOf vertices.now counts.now neighbours.now []) d }
+    ensures { result ≡ search_out level (mesh_of vertices.now counts.now neighbours.now []) d }
 {
     let refused = refusal(level, vertices, counts, neighbours, d);
     if refused != 0 {

@@ -1,14 +1,14 @@
 // The nearest vertex: every vertex is tested for the direction's cell, in index order.
 ghost use Rattle.std.specs.Prelude.{◌≡◌, cond, ◌<◌, ◌≤◌};
-ghost use Rattle.search.specs.Geometry.{vertexAt, cubeFaceProject};
-ghost use Rattle.search.specs.Cells.{near, cellNumber, nearCell, cell};
-ghost use Rattle.search.specs.Search.{notNearest, nearer, nearestAmong};
+ghost use Rattle.search.specs.Geometry.{vertex_at, cube_face_project};
+ghost use Rattle.search.specs.Cells.{near, cell_number, near_cell, cell};
+ghost use Rattle.search.specs.Search.{not_nearest, nearer, nearest_among};
 
 use search::{Nearest, Vector3};
 
 // A coordinate that is not lent is a NaN.
 pub(crate) fn vertex_at(vertices: &[f64], v: u32) -> Vector3
-    ensures { result ≡ vertexAt vertices.now v }
+    ensures { result ≡ vertex_at vertices.now v }
 {
     let at = 3 * v as usize;
     Vector3 {
@@ -35,14 +35,14 @@ fn near(c: i64, i: u32) -> bool
 
 // The cell number of a coordinate that a face sees at u, d in front of it, is i, or next to it.
 fn in_row(g: u64, u: f64, d: f64, i: u32) -> bool
-    ensures { result ≡ near (cellNumber g u d) i }
+    ensures { result ≡ near (cell_number g u d) i }
 {
     near(float::to_i64(search::in_cells(g, u / d)), i)
 }
 
 // A point is in cell i, j of a face, or beside it.
 fn near_cell(g: u64, face: u64, i: u32, j: u32, v: Vector3) -> bool
-    ensures { result ≡ nearCell g i j (cubeFaceProject face v) }
+    ensures { result ≡ near_cell g i j (cube_face_project face v) }
 {
     let s = search::cube_face_project(face, v);
     let u = s.u;
@@ -55,7 +55,7 @@ fn near_cell(g: u64, face: u64, i: u32, j: u32, v: Vector3) -> bool
 }
 
 fn not_nearest(number: u64) -> Nearest
-    ensures { result ≡ notNearest number }
+    ensures { result ≡ not_nearest number }
 {
     Nearest {
         number,
@@ -93,7 +93,7 @@ fn tested(
     best: Nearest,
     v: u32,
 ) -> Nearest
-    ensures { result ≡ cond (nearCell g i j (cubeFaceProject face (vertexAt vertices.now v))) (nearer vertices.now p best v) best }
+    ensures { result ≡ cond (near_cell g i j (cube_face_project face (vertex_at vertices.now v))) (nearer vertices.now p best v) best }
 {
     if !near_cell(g, face, i, j, vertex_at(vertices, v)) {
         return best;
@@ -104,7 +104,7 @@ fn tested(
 // The nearest of the n vertices that cell c has; 20 where it has none.
 pub(crate) fn nearest(vertices: &[f64], n: u32, g: u64, c: u64, p: Vector3) -> Nearest
     requires { (0 < g) × (g ≤ 400) }
-    ensures { (result ≡ nearestAmong vertices.now p (cell vertices.now n g c)) × (result.vertex ≤ n) }
+    ensures { (result ≡ nearest_among vertices.now p (cell vertices.now n g c)) × (result.vertex ≤ n) }
 {
     let a = g * g;
     let face = c / a;

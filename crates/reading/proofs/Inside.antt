@@ -11,10 +11,10 @@ use lib.Dec.{leb, ltb, eqb}
 use lib.Ieee.{Float, inf, binary32, binary64, of_bits, lt}
 use lib.Ieee.Scale.{finite}
 use borrow.Author.Tests.{lt-ltb, le-ltb, le-leb, lt-leb, leb-true, eqb-true, eqb-false, ne_eqb}
-use Rattle.ieee.proofs.Pack.{le-or-lt}
+use Rattle.ieee.proofs.Pack.{le_or_lt}
 use Rattle.lists.specs.Lists.{every}
-use Rattle.lists.proofs.Counting.{or-none, chosen}
-use Rattle.rows.specs.Rows.{resolutionOf}
+use Rattle.lists.proofs.Counting.{or_none, chosen}
+use Rattle.rows.specs.Rows.{resolution_of}
 use Rattle.rows.specs.declared.SlabResolution.{SlabResolution}
 use Rattle.rows.specs.declared.SlabResolution.TheVariants.{Scalar, Mesh, Repulsive}
 use Rattle.search.specs.Search.{Locator}
@@ -23,13 +23,13 @@ use Rattle.search.specs.declared.Nearest.{Nearest}
 use Rattle.search.specs.declared.Located.{Located}
 use Rattle.table.specs.Bytes.{number_at}
 use Rattle.table.specs.File.{Entry, entry_of}
-use Rattle.table.proofs.Items.{entry_at as row_at, entry-at}
+use Rattle.table.proofs.Items.{entry_at as row_at, entry_at_lem}
 use Rattle.grid.specs.Settings.{above}
 use Rattle.grid.specs.declared.Grid.{Grid}
 use Rattle.table.specs.declared.Table.{Table}
-use Rattle.reading.specs.Resolve.{readingValues, readingNumbered, plain, Query, Way, wayValid, Resolved, unresolved, beyond, slabAt, queryValid, outside, resolve, Picks, unpicked, picked, Combination, joint, nearestPick, facePick, widened, combined, boltzmann}
-use Rattle.reading.specs.Reading.{rowInside, energyInside, energyAt, entry_at, picksBy, entryBy, slabBy, read_entry, readSlab, readingBy, searchIn, readPicks}
-use Rattle.reading.specs.Internal.{itemsInside, slabOf, rowsTable, way_of, toward, readResolution}
+use Rattle.reading.specs.Resolve.{reading_values, reading_numbered, plain, Query, Way, way_valid, Resolved, unresolved, beyond, slab_at, query_valid, outside, resolve, Picks, unpicked, picked, Combination, joint, nearest_pick, face_pick, widened, combined, boltzmann}
+use Rattle.reading.specs.Reading.{row_inside, energy_inside, energy_at, entry_at, picks_by, entry_by, slab_by, read_entry, read_slab, reading_by, search_in, read_picks}
+use Rattle.reading.specs.Internal.{items_inside, slab_of, rows_table, way_of, toward, read_resolution}
 use Rattle.reading.specs.declared.Reading.{Reading}
 use Rattle.reading.specs.declared.Reading.TheVariants.{Refused}
 
@@ -44,224 +44,224 @@ module _ (start w count n : ℕ) (W : 1 ≤ w) where
       ⊎_elim
       (λ l. let f : (k + 1) * w ≤ n - start = omega arith in let m : k + 1 ≤ (n - start) / w = (le-div_iff_mul-le W).1 f in absurd (omega arith))
       (λ l. l)
-      (le-or-lt (start + k * w + w) n)
+      (le_or_lt (start + k * w + w) n)
 
   -- below the count, with its bytes inside: below the number of those that are
-  pub items-inside : (k : ℕ) → (ltb k count && leb (start + k * w + w) n) ≡ ltb k (itemsInside start w count n)
-  unfolding itemsInside
-  items-inside k =
+  pub items_inside_lem : (k : ℕ) → (ltb k count && leb (start + k * w + w) n) ≡ ltb k (items_inside start w count n)
+  unfolding items_inside
+  items_inside_lem k =
       ⊎_elim
       (λ h. rw (le-ltb k count h, le-ltb k (min count ((n - start) / w)) (omega arith)))
       (λ h. ⊎_elim
       (λ g. rw (lt-ltb k count h, lt-leb (start + k * w + w) n (past k g), le-ltb k (min count ((n - start) / w)) (omega arith)))
       (λ g. rw (lt-ltb k count h, le-leb (start + k * w + w) n (reaches k g), lt-ltb k (min count ((n - start) / w)) (omega arith)))
-      (le-or-lt ((n - start) / w) k))
-      (le-or-lt count k)
+      (le_or_lt ((n - start) / w) k))
+      (le_or_lt count k)
 
   -- the bytes of one that is held
-  pub held_fits : (k held : ℕ) → held ≡ itemsInside start w count n → k < held → start + k * w + w ≤ n
-  held_fits k held h l = leb-true _ _ ((and-eq-true_iff (ltb k count) (leb (start + k * w + w) n)).0 (items-inside k ∙ rw (← h) (lt-ltb k held l))).1
+  pub held_fits : (k held : ℕ) → held ≡ items_inside start w count n → k < held → start + k * w + w ≤ n
+  held_fits k held h l = leb-true _ _ ((and-eq-true_iff (ltb k count) (leb (start + k * w + w) n)).0 (items_inside_lem k ∙ rw (← h) (lt-ltb k held l))).1
 
 -- a product that the limit is far above
-pub not-past : (ri n oi limit : ℕ) → 1 ≤ n → oi < limit → ri ≤ (limit - oi - 1) / n → ri * n + oi < limit
-not-past ri n oi limit N h l = let m : ri * n ≤ limit - oi - 1 = (le-div_iff_mul-le N).0 l in omega arith
+pub not_past : (ri n oi limit : ℕ) → 1 ≤ n → oi < limit → ri ≤ (limit - oi - 1) / n → ri * n + oi < limit
+not_past ri n oi limit N h l = let m : ri * n ≤ limit - oi - 1 = (le-div_iff_mul-le N).0 l in omega arith
 
-pub quite-past : (ri n oi limit : ℕ) → 1 ≤ n → oi < limit → (limit - oi - 1) / n < ri → limit ≤ ri * n + oi
-quite-past ri n oi limit N h l =
+pub quite_past : (ri n oi limit : ℕ) → 1 ≤ n → oi < limit → (limit - oi - 1) / n < ri → limit ≤ ri * n + oi
+quite_past ri n oi limit N h l =
     ⊎_elim
     (λ g. g)
     (λ g. let f : ri * n ≤ limit - oi - 1 = omega arith in let m : ri ≤ (limit - oi - 1) / n = (le-div_iff_mul-le N).1 f in absurd (omega arith))
-    (le-or-lt limit (ri * n + oi))
+    (le_or_lt limit (ri * n + oi))
 
 -- ---- rows
 
 module _ (file : List ℕ) (t : Table) where
-  places-below : (s held : ℕ) → held ≡ itemsInside t.rows_start 10 t.rows (length file) → rowInside file t s ≡ ltb s held
-  unfolding rowInside
-  places-below s held h = rw h (items-inside t.rows_start 10 t.rows (length file) (omega arith) s)
+  places-below : (s held : ℕ) → held ≡ items_inside t.rows_start 10 t.rows (length file) → row_inside file t s ≡ ltb s held
+  unfolding row_inside
+  places-below s held h = rw h (items_inside_lem t.rows_start 10 t.rows (length file) (omega arith) s)
 
   -- the bytes of a row that was placed
-  pub row_fits : (r held : ℕ) → held ≡ itemsInside t.rows_start 10 t.rows (length file) → r < held → t.rows_start + r * 10 + 10 ≤ length file
+  pub row_fits : (r held : ℕ) → held ≡ items_inside t.rows_start 10 t.rows (length file) → r < held → t.rows_start + r * 10 + 10 ≤ length file
   row_fits r held h l = held_fits t.rows_start 10 t.rows (length file) (omega arith) r held h l
 
 -- a search that picks nothing says why, by a number that is not 0
-pub picksNumbered : Picks → Bool
-picksNumbered (unpicked n) = not (eqb n 0)
-picksNumbered (picked ks u v x y) = true
+pub picks_numbered : Picks → Bool
+picks_numbered (unpicked n) = not (eqb n 0)
+picks_numbered (picked ks u v x y) = true
 
-pub found-numbered : (t : Bool) (n : ℕ) (ks : List ℕ) (u v : Weights) (x y : Float) → eqb n 0 ≡ t → picksNumbered (cond t (picked ks u v x y) (unpicked n)) ≡ true
-unfolding picksNumbered
+pub found-numbered : (t : Bool) (n : ℕ) (ks : List ℕ) (u v : Weights) (x y : Float) → eqb n 0 ≡ t → picks_numbered (cond t (picked ks u v x y) (unpicked n)) ≡ true
+unfolding picks_numbered
 found-numbered true n ks u v x y e = refl
 found-numbered false n ks u v x y e = rw e
 
-vertices-numbered : (n : ℕ) (a b : Nearest) → picksNumbered (nearestPick n a b) ≡ true
-unfolding nearestPick
+vertices-numbered : (n : ℕ) (a b : Nearest) → picks_numbered (nearest_pick n a b) ≡ true
+unfolding nearest_pick
 vertices-numbered n a b = let r = joint a.number b.number in found-numbered (eqb r 0) r _ _ _ _ _ refl
 
-faces-numbered : (n : ℕ) (a b : Located) → picksNumbered (facePick n a b) ≡ true
-unfolding facePick
+faces-numbered : (n : ℕ) (a b : Located) → picks_numbered (face_pick n a b) ≡ true
+unfolding face_pick
 faces-numbered n a b = let r = joint a.number b.number in found-numbered (eqb r 0) r _ _ _ _ _ refl
 
 -- no refusal is numbered 0
 abbrev pub Numbered : Reading → Type 0
-Numbered z = readingNumbered z ≡ true
+Numbered z = reading_numbered z ≡ true
 
-pub resolvedNumbered : Resolved → Bool
-resolvedNumbered (unresolved n) = not (eqb n 0)
-resolvedNumbered beyond = true
-resolvedNumbered (slabAt s) = true
+pub resolved_numbered : Resolved → Bool
+resolved_numbered (unresolved n) = not (eqb n 0)
+resolved_numbered beyond = true
+resolved_numbered (slab_at s) = true
 
 -- the first stage, by the answers of its questions
-pub stage-numbered : (a v b c : Bool) (s : ℕ) → resolvedNumbered (cond a (cond v (cond b beyond (cond c (slabAt s) (unresolved 19))) (unresolved 21)) (unresolved 18)) ≡ true
-unfolding resolvedNumbered
-stage-numbered true true true c s = refl
-stage-numbered true true false true s = refl
-stage-numbered true true false false s = refl
-stage-numbered true false b c s = refl
-stage-numbered false v b c s = refl
+pub stage_numbered : (a v b c : Bool) (s : ℕ) → resolved_numbered (cond a (cond v (cond b beyond (cond c (slab_at s) (unresolved 19))) (unresolved 21)) (unresolved 18)) ≡ true
+unfolding resolved_numbered
+stage_numbered true true true c s = refl
+stage_numbered true true false true s = refl
+stage_numbered true true false false s = refl
+stage_numbered true false b c s = refl
+stage_numbered false v b c s = refl
 
 -- by what reads a row
 module _ (file : List ℕ) (t : Table) (read : Entry → Reading) where
   -- the row of slab s, where r is s or the number of rows held
-  module _ (s r held : ℕ) (h : held ≡ itemsInside t.rows_start 10 t.rows (length file)) (e : r ≡ min s held) where
-    pub no_row : held ≤ r → Refused 19 ≡ slabBy file t read (slabAt s)
+  module _ (s r held : ℕ) (h : held ≡ items_inside t.rows_start 10 t.rows (length file)) (e : r ≡ min s held) where
+    pub no_row : held ≤ r → Refused 19 ≡ slab_by file t read (slab_at s)
     no_row k = rw (places-below file t s held h, le-ltb s held (omega arith))
 
-    pub row-at : r < held → read (entry_of (take 10 (drop (t.rows_start + r * 10) file))) ≡ slabBy file t read (slabAt s)
+    pub row_at_lem : r < held → read (entry_of (take 10 (drop (t.rows_start + r * 10) file))) ≡ slab_by file t read (slab_at s)
     unfolding entry_at
-    row-at k = let z : r ≡ s = omega arith in rw (places-below file t s held h, lt-ltb s held (omega arith), z)
+    row_at_lem k = let z : r ≡ s = omega arith in rw (places-below file t s held h, lt-ltb s held (omega arith), z)
 
   -- an answer of what is resolved
   module _ (N : (e : Entry) → Numbered (read e)) where
-    slab-numbered : (x : Resolved) → resolvedNumbered x ≡ true → Numbered (slabBy file t read x)
-    unfolding resolvedNumbered
+    slab-numbered : (x : Resolved) → resolved_numbered x ≡ true → Numbered (slab_by file t read x)
+    unfolding resolved_numbered
     slab-numbered (unresolved n) e = e
     slab-numbered beyond e = refl
-    slab-numbered (slabAt s) e = chosen Numbered (rowInside file t s) _ _ (λ h. N (entry_at file t s)) refl
+    slab-numbered (slab_at s) e = chosen Numbered (row_inside file t s) _ _ (λ h. N (entry_at file t s)) refl
 
-    pub answered-by : (x : Resolved) (z : Reading) → resolvedNumbered x ≡ true → z ≡ slabBy file t read x → Numbered z × readingValues z ≡ readingValues (slabBy file t read x)
-    answered-by x z n e = (ap readingNumbered e ∙ slab-numbered x n, ap readingValues e)
+    pub answered_by : (x : Resolved) (z : Reading) → resolved_numbered x ≡ true → z ≡ slab_by file t read x → Numbered z × reading_values z ≡ reading_values (slab_by file t read x)
+    answered_by x z n e = (ap reading_numbered e ∙ slab-numbered x n, ap reading_values e)
 
 -- by a search of a level and what makes one energy of those that it picks
 module _ (file : List ℕ) (t : Table) (f : Bool → Combination) (find : ℕ → Bool → Picks) where
-  picks-numbered : (i : Bool) (o : ℕ) (p : Picks) → picksNumbered p ≡ true → Numbered (picksBy file t (f i) o p)
-  unfolding picksNumbered
-  picks-numbered i o (unpicked n) e = e
-  picks-numbered i o (picked ks u v x y) e = chosen Numbered (every (λ k. energyInside file t (o + k)) ks) _ _ (λ h. refl) refl
+  picks_numbered_lem : (i : Bool) (o : ℕ) (p : Picks) → picks_numbered p ≡ true → Numbered (picks_by file t (f i) o p)
+  unfolding picks_numbered
+  picks_numbered_lem i o (unpicked n) e = e
+  picks_numbered_lem i o (picked ks u v x y) e = chosen Numbered (every (λ k. energy_inside file t (o + k)) ks) _ _ (λ h. refl) refl
 
-  pub entry-numbered : ((v : ℕ) (i : Bool) → picksNumbered (find v i) ≡ true) → (e : Entry) → Numbered (entryBy file t f find e)
+  pub entry-numbered : ((v : ℕ) (i : Bool) → picks_numbered (find v i) ≡ true) → (e : Entry) → Numbered (entry_by file t f find e)
   entry-numbered n e =
       chosen Numbered (eqb e.kind 0) _ _ (λ h. refl)
       (chosen Numbered (eqb e.kind 1) _ _ (λ h. refl)
-      (chosen Numbered (leb e.kind 3 && ltb e.level t.levels) _ _ (λ h. picks-numbered (eqb e.kind 3) e.offset _ (n e.level (eqb e.kind 3))) refl))
+      (chosen Numbered (leb e.kind 3 && ltb e.level t.levels) _ _ (λ h. picks_numbered_lem (eqb e.kind 3) e.offset _ (n e.level (eqb e.kind 3))) refl))
 
   -- a Scalar row's short answer
-  pub scalar-entry : (e : Entry) → e.kind ≡ 0 → plain (widened e.scalar) ≡ entryBy file t f find e
+  pub scalar-entry : (e : Entry) → e.kind ≡ 0 → plain (widened e.scalar) ≡ entry_by file t f find e
   scalar-entry e h = rw h
 
   -- picks, and so a row, ask a table for three numbers alone
-  picks_table : (i : Bool) (o : ℕ) (p : Picks) → picksBy file (rowsTable t.levels t.energies_start t.energies) (f i) o p ≡ picksBy file t (f i) o p
-  unfolding energyInside energyAt
+  picks_table : (i : Bool) (o : ℕ) (p : Picks) → picks_by file (rows_table t.levels t.energies_start t.energies) (f i) o p ≡ picks_by file t (f i) o p
+  unfolding energy_inside energy_at
   picks_table i o (unpicked n) = refl
   picks_table i o (picked ks u v x y) = refl
 
-  pub entry-table : (e : Entry) → entryBy file (rowsTable t.levels t.energies_start t.energies) f find e ≡ entryBy file t f find e
+  pub entry-table : (e : Entry) → entry_by file (rows_table t.levels t.energies_start t.energies) f find e ≡ entry_by file t f find e
   entry-table e = rw (picks_table (eqb e.kind 3) e.offset (find e.level (eqb e.kind 3)))
 
 module _ (file : List ℕ) (t : Table) (vs : List Float) (l : Locator) (way : Way) (q : Query) where
-  search-numbered : (v : ℕ) (i : Bool) → picksNumbered (searchIn vs l q v i) ≡ true
-  unfolding searchIn
+  search-numbered : (v : ℕ) (i : Bool) → picks_numbered (search_in vs l q v i) ≡ true
+  unfolding search_in
   search-numbered v true = faces-numbered _ _ _
   search-numbered v false = vertices-numbered _ _ _
 
-  pub answered : (x : Resolved) (z : Reading) → x ≡ resolve (wayValid way) t.grid q → z ≡ readSlab file t vs l way q x → Numbered z × readingValues z ≡ readingBy file t vs l way q
-  unfolding readingBy read_entry resolve
+  pub answered : (x : Resolved) (z : Reading) → x ≡ resolve (way_valid way) t.grid q → z ≡ read_slab file t vs l way q x → Numbered z × reading_values z ≡ reading_by file t vs l way q
+  unfolding reading_by read_entry resolve
   answered x z e a =
-      answered-by file t (read_entry file t vs l way q) (entry-numbered file t (combined way) (searchIn vs l q) search-numbered) (resolve (wayValid way) t.grid q) z
-      (stage-numbered (queryValid q) (wayValid way) (outside t.grid q.r) (ltb 0 t.grid.n_r && ltb 0 t.grid.n_omega) _)
-      (a ∙ ap (λ (x : Resolved). readSlab file t vs l way q x) e)
+      answered_by file t (read_entry file t vs l way q) (entry-numbered file t (combined way) (search_in vs l q) search-numbered) (resolve (way_valid way) t.grid q) z
+      (stage_numbered (query_valid q) (way_valid way) (outside t.grid q.r) (ltb 0 t.grid.n_r && ltb 0 t.grid.n_omega) _)
+      (a ∙ ap (λ (x : Resolved). read_slab file t vs l way q x) e)
 
-  pub row-none : (s r held : ℕ) → held ≡ itemsInside t.rows_start 10 t.rows (length file) → r ≡ min s held → held ≤ r → Refused 19 ≡ readSlab file t vs l way q (slabAt s)
-  row-none s r held h e k = no_row file t (read_entry file t vs l way q) s r held h e k
+  pub row_none : (s r held : ℕ) → held ≡ items_inside t.rows_start 10 t.rows (length file) → r ≡ min s held → held ≤ r → Refused 19 ≡ read_slab file t vs l way q (slab_at s)
+  row_none s r held h e k = no_row file t (read_entry file t vs l way q) s r held h e k
 
   scalar_read : (e : Entry) → e.kind ≡ 0 → plain (widened e.scalar) ≡ read_entry file t vs l way q e
   unfolding read_entry
-  scalar_read e h = scalar-entry file t (combined way) (searchIn vs l q) e h
+  scalar_read e h = scalar-entry file t (combined way) (search_in vs l q) e h
 
   -- the answers of a row that is inside: a Scalar row's at once, and by the three numbers of the table and the two directions
-  module _ (s r held : ℕ) (h : held ≡ itemsInside t.rows_start 10 t.rows (length file)) (e : r ≡ min s held) (k : r < held) where
-    pub scalar-row : get_or file (t.rows_start + r * 10) 0 ≡ 0 → plain (widened (number_at 4 file (t.rows_start + r * 10 + 6))) ≡ readSlab file t vs l way q (slabAt s)
-    scalar-row z =
+  module _ (s r held : ℕ) (h : held ≡ items_inside t.rows_start 10 t.rows (length file)) (e : r ≡ min s held) (k : r < held) where
+    pub scalar_row : get_or file (t.rows_start + r * 10) 0 ≡ 0 → plain (widened (number_at 4 file (t.rows_start + r * 10 + 6))) ≡ read_slab file t vs l way q (slab_at s)
+    scalar_row z =
         scalar_read (row_at file (t.rows_start + r * 10)) z
-        ∙ rw (← entry-at file (t.rows_start + r * 10)) (row-at file t (read_entry file t vs l way q) s r held h e k)
+        ∙ rw (← entry_at_lem file (t.rows_start + r * 10)) (row_at_lem file t (read_entry file t vs l way q) s r held h e k)
 
-    pub entry_row : read_entry file (rowsTable t.levels t.energies_start t.energies) vs l way (toward q.a q.b) (entry_of (take 10 (drop (t.rows_start + r * 10) file))) ≡ readSlab file t vs l way q (slabAt s)
-    unfolding read_entry searchIn
+    pub entry_row : read_entry file (rows_table t.levels t.energies_start t.energies) vs l way (toward q.a q.b) (entry_of (take 10 (drop (t.rows_start + r * 10) file))) ≡ read_slab file t vs l way q (slab_at s)
+    unfolding read_entry search_in
     entry_row =
-        entry-table file t (combined way) (searchIn vs l q) (entry_of (take 10 (drop (t.rows_start + r * 10) file)))
-        ∙ row-at file t (read_entry file t vs l way q) s r held h e k
+        entry-table file t (combined way) (search_in vs l q) (entry_of (take 10 (drop (t.rows_start + r * 10) file)))
+        ∙ row_at_lem file t (read_entry file t vs l way q) s r held h e k
 
   -- the answer by the row as the enum
-  pub entry-by : (e : Entry) → readResolution file t vs l way q e.kind e.offset (resolutionOf e.kind e.level e.scalar) ≡ read_entry file t vs l way q e
-  unfolding read_entry resolutionOf
-  entry-by e = by (eqb e.kind 0) (eqb e.kind 1)
+  pub entry_by_lem : (e : Entry) → read_resolution file t vs l way q e.kind e.offset (resolution_of e.kind e.level e.scalar) ≡ read_entry file t vs l way q e
+  unfolding read_entry resolution_of
+  entry_by_lem e = by (eqb e.kind 0) (eqb e.kind 1)
     where
       by : (a b : Bool)
-          → readResolution file t vs l way q e.kind e.offset (cond a (Scalar (of_bits binary32 e.scalar)) (cond b Repulsive (Mesh e.level (eqb e.kind 3))))
+          → read_resolution file t vs l way q e.kind e.offset (cond a (Scalar (of_bits binary32 e.scalar)) (cond b Repulsive (Mesh e.level (eqb e.kind 3))))
           ≡ cond a (plain (widened e.scalar))
           (cond b (plain (inf false))
-          (cond (leb e.kind 3 && ltb e.level t.levels) (readPicks file t way (eqb e.kind 3) e.offset (searchIn vs l q e.level (eqb e.kind 3))) (Refused 19)))
+          (cond (leb e.kind 3 && ltb e.level t.levels) (read_picks file t way (eqb e.kind 3) e.offset (search_in vs l q e.level (eqb e.kind 3))) (Refused 19)))
       by true b = refl
       by false true = refl
       by false false = refl
 
 -- ---- the first stage, question by question
 
-pub row-place-le : (v n : ℕ) → v < 655362 → n ≤ 655362 → v * n ≤ 429499351044
-row-place-le v n h k = let l : v ≤ 655362 = omega arith in mul-le-mul l k
+pub row_place_le : (v n : ℕ) → v < 655362 → n ≤ 655362 → v * n ≤ 429499351044
+row_place_le v n h k = let l : v ≤ 655362 = omega arith in mul-le-mul l k
 
-pub bins-some : (a b : ℕ) → (eqb a 0 || eqb b 0) ≡ false → (1 ≤ a) × (1 ≤ b)
-bins-some a b h = let k = or-none (eqb a 0) (eqb b 0) h in (some a (eqb-false a 0 k.0), some b (eqb-false b 0 k.1))
+pub bins_some : (a b : ℕ) → (eqb a 0 || eqb b 0) ≡ false → (1 ≤ a) × (1 ≤ b)
+bins_some a b h = let k = or_none (eqb a 0) (eqb b 0) h in (some a (eqb-false a 0 k.0), some b (eqb-false b 0 k.1))
   where
     some : (n : ℕ) → (n ≡ 0 → ⊥) → 1 ≤ n
-    some n h = ⊎_elim (λ l. absurd (h (omega arith))) (λ l. l) (le-or-lt n 0)
+    some n h = ⊎_elim (λ l. absurd (h (omega arith))) (λ l. l) (le_or_lt n 0)
 
-bins-none : (a b : ℕ) → (eqb a 0 || eqb b 0) ≡ true → (ltb 0 a && ltb 0 b) ≡ false
-bins-none a b h =
+bins_none : (a b : ℕ) → (eqb a 0 || eqb b 0) ≡ true → (ltb 0 a && ltb 0 b) ≡ false
+bins_none a b h =
     ⊎_elim
     (λ l. rw (le-ltb 0 a l))
     (λ l. let n : (a ≡ 0 → ⊥) = λ z. omega arith in
     let e : eqb b 0 ≡ true = sym (ap (λ (t : Bool). t || eqb b 0) (ne_eqb a 0 n)) ∙ h in
     let z : b ≡ 0 = eqb-true b 0 e in
     rw (lt-ltb 0 a l, z))
-    (le-or-lt a 0)
+    (le_or_lt a 0)
 
 -- a beta that is finite and above 0 stands for itself
-pub own-way : (beta : Float) → wayValid (boltzmann beta) ≡ true → way_of beta ≡ boltzmann beta
-unfolding wayValid above
-own-way beta h = rw ((and-eq-true_iff (finite beta) (lt (of_bits binary64 0) beta)).0 h).1
+pub own_way : (beta : Float) → way_valid (boltzmann beta) ≡ true → way_of beta ≡ boltzmann beta
+unfolding way_valid above
+own_way beta h = rw ((and-eq-true_iff (finite beta) (lt (of_bits binary64 0) beta)).0 h).1
 
 module _ (valid : Bool) (g : Grid) (q : Query) where
-  pub refused-18 : queryValid q ≡ false → unresolved 18 ≡ resolve valid g q
+  pub refused_18 : query_valid q ≡ false → unresolved 18 ≡ resolve valid g q
   unfolding resolve
-  refused-18 h = rw h
+  refused_18 h = rw h
 
-  pub refused-21 : queryValid q ≡ true → valid ≡ false → unresolved 21 ≡ resolve valid g q
+  pub refused_21 : query_valid q ≡ true → valid ≡ false → unresolved 21 ≡ resolve valid g q
   unfolding resolve
-  refused-21 h k = rw (h, k)
+  refused_21 h k = rw (h, k)
 
-  module _ (h : queryValid q ≡ true) (v : valid ≡ true) where
-    pub beyond-out : outside g q.r ≡ true → beyond ≡ resolve valid g q
+  module _ (h : query_valid q ≡ true) (v : valid ≡ true) where
+    pub beyond_out : outside g q.r ≡ true → beyond ≡ resolve valid g q
     unfolding resolve
-    beyond-out k = rw (h, v, k)
+    beyond_out k = rw (h, v, k)
 
-    pub no-bins : outside g q.r ≡ false → (eqb g.n_r 0 || eqb g.n_omega 0) ≡ true → unresolved 19 ≡ resolve valid g q
+    pub no_bins : outside g q.r ≡ false → (eqb g.n_r 0 || eqb g.n_omega 0) ≡ true → unresolved 19 ≡ resolve valid g q
     unfolding resolve
-    no-bins k e = rw (h, v, k, bins-none g.n_r g.n_omega e)
+    no_bins k e = rw (h, v, k, bins_none g.n_r g.n_omega e)
 
-    pub some-bins : outside g q.r ≡ false → (eqb g.n_r 0 || eqb g.n_omega 0) ≡ false → slabAt (slabOf g q.r q.omega) ≡ resolve valid g q
+    pub some_bins : outside g q.r ≡ false → (eqb g.n_r 0 || eqb g.n_omega 0) ≡ false → slab_at (slab_of g q.r q.omega) ≡ resolve valid g q
     unfolding resolve
-    some-bins k e = let b = bins-some g.n_r g.n_omega e in rw (h, v, k, lt-ltb 0 g.n_r b.0, lt-ltb 0 g.n_omega b.1)
+    some_bins k e = let b = bins_some g.n_r g.n_omega e in rw (h, v, k, lt-ltb 0 g.n_r b.0, lt-ltb 0 g.n_omega b.1)
 
 -- ---- the row as the enum
 
@@ -272,19 +272,19 @@ kept k v n =
     (λ h. ⊎_elim
     (λ g. rw (le-leb k 3 h, le-ltb 3 k h, le-ltb v n g, le-leb n v g))
     (λ g. rw (le-leb k 3 h, le-ltb 3 k h, lt-ltb v n g, lt-leb n v g))
-    (le-or-lt n v))
+    (le_or_lt n v))
     (λ h. rw (lt-leb k 3 h, lt-ltb 3 k h))
-    (le-or-lt k 3)
+    (le_or_lt k 3)
 
 module _ (file : List ℕ) (t : Table) (vs : List Float) (l : Locator) (way : Way) (q : Query) (kind o : ℕ) (row : SlabResolution) where
-  pub row-scalar : (x : Float) → row ≡ Scalar x → plain x ≡ readResolution file t vs l way q kind o row
-  row-scalar x e = rw e
+  pub row_scalar : (x : Float) → row ≡ Scalar x → plain x ≡ read_resolution file t vs l way q kind o row
+  row_scalar x e = rw e
 
-  pub row-repulsive : row ≡ Repulsive → plain (inf false) ≡ readResolution file t vs l way q kind o row
-  row-repulsive e = rw e
+  pub row_repulsive : row ≡ Repulsive → plain (inf false) ≡ read_resolution file t vs l way q kind o row
+  row_repulsive e = rw e
 
-  pub row-unknown : (v : ℕ) (b : Bool) → row ≡ Mesh v b → (ltb 3 kind || leb t.levels v) ≡ true → Refused 19 ≡ readResolution file t vs l way q kind o row
-  row-unknown v b e h = rw (e, kept kind v t.levels, h)
+  pub row_unknown : (v : ℕ) (b : Bool) → row ≡ Mesh v b → (ltb 3 kind || leb t.levels v) ≡ true → Refused 19 ≡ read_resolution file t vs l way q kind o row
+  row_unknown v b e h = rw (e, kept kind v t.levels, h)
 
-  pub row-mesh : (v : ℕ) (b i : Bool) → row ≡ Mesh v b → b ≡ i → (ltb 3 kind || leb t.levels v) ≡ false → readPicks file t way i o (searchIn vs l q v i) ≡ readResolution file t vs l way q kind o row
-  row-mesh v b i e z h = rw (e, z, kept kind v t.levels, h)
+  pub row_mesh : (v : ℕ) (b i : Bool) → row ≡ Mesh v b → b ≡ i → (ltb 3 kind || leb t.levels v) ≡ false → read_picks file t way i o (search_in vs l q v i) ≡ read_resolution file t vs l way q kind o row
+  row_mesh v b i e z h = rw (e, z, kept kind v t.levels, h)

@@ -9,18 +9,18 @@ use lib.ListN.{length}
 use lib.Dec.{leb, ltb, eqb}
 use lib.Ieee.{Float}
 use borrow.Author.Tests.{lt-ltb, le-ltb, ltb-true, eqb-true, eqb-false, ne_eqb}
-use Rattle.lists.specs.Lists.{every, forEach}
+use Rattle.lists.specs.Lists.{every, for_each}
 use Rattle.mesh.specs.declared.Face.{Face}
 use Rattle.search.specs.declared.Weights.{Weights}
 use Rattle.search.specs.declared.Nearest.{Nearest}
 use Rattle.search.specs.declared.Located.{Located}
 use Rattle.table.specs.Bytes.{number_at}
 use Rattle.table.specs.declared.Table.{Table}
-use Rattle.reading.specs.Resolve.{plain, Way, linear, boltzmann, Picks, unpicked, picked, joint, nearestPick, facePick, combined, nineTerms, overCorners, boltzmannAverage, widened}
-use Rattle.reading.specs.Reading.{energyInside, energyAt, readPicks}
-use Rattle.reading.specs.Internal.{Small, itemsInside, placesBelow, facePlacesBelow, PlaceInside, RowInside, rowTerms, faceTerms, rowCorners, faceCorners, faceAverage}
+use Rattle.reading.specs.Resolve.{plain, Way, linear, boltzmann, Picks, unpicked, picked, joint, nearest_pick, face_pick, combined, nine_terms, over_corners, boltzmann_average, widened}
+use Rattle.reading.specs.Reading.{energy_inside, energy_at, read_picks}
+use Rattle.reading.specs.Internal.{Small, items_inside, places_below, face_places_below, PlaceInside, RowInside, row_terms, face_terms, row_corners, face_corners, face_average}
 use Rattle.reading.specs.declared.Reading.TheVariants.{Energy, Refused}
-use Rattle.reading.proofs.Inside.{items-inside, held_fits}
+use Rattle.reading.proofs.Inside.{items_inside_lem, held_fits}
 
 -- both searches answered
 pub both_found : (a b : ℕ) → joint a b ≡ 0 → (a ≡ 0) × (b ≡ 0)
@@ -33,44 +33,44 @@ both_found a b = by (eqb a 19 || eqb b 19) (eqb a 0) refl
     by false false h e = absurd (eqb-false a 0 h e)
 
 -- the place of a pair of vertices below n, and a face's vertices
-pub pair-le : (i j n : ℕ) → i < n → j < n → n ≤ 655362 → i * n + j ≤ 429499351044
-pair-le i j n h k l = let a : i + 1 ≤ 655362 = omega arith in let m : (i + 1) * n ≤ 655362 * 655362 = mul-le-mul a l in omega arith
+pub pair_le : (i j n : ℕ) → i < n → j < n → n ≤ 655362 → i * n + j ≤ 429499351044
+pair_le i j n h k l = let a : i + 1 ≤ 655362 = omega arith in let m : (i + 1) * n ≤ 655362 * 655362 = mul-le-mul a l in omega arith
 
 pub small : (n : ℕ) (f : Face) → n ≤ 655362 → (f.a < n) × (f.b < n) × (f.c < n) → Small f
 small n f l h = (omega (arith, h.0), omega (arith, h.1), omega (arith, h.2))
 
-module _ (file : List ℕ) (t : Table) (held : ℕ) (H : held ≡ itemsInside t.energies_start 4 t.energies (length file)) where
-  pub energy-held : (k : ℕ) → energyInside file t k ≡ ltb k held
-  unfolding energyInside
-  energy-held k = rw H (items-inside t.energies_start 4 t.energies (length file) (omega arith) k)
+module _ (file : List ℕ) (t : Table) (held : ℕ) (H : held ≡ items_inside t.energies_start 4 t.energies (length file)) where
+  pub energy-held : (k : ℕ) → energy_inside file t k ≡ ltb k held
+  unfolding energy_inside
+  energy-held k = rw H (items_inside_lem t.energies_start 4 t.energies (length file) (omega arith) k)
 
-  pub energy-fits : (k : ℕ) → k < held → PlaceInside file t.energies_start k
-  energy-fits k l = held_fits t.energies_start 4 t.energies (length file) (omega arith) k held H l
+  pub energy_fits : (k : ℕ) → k < held → PlaceInside file t.energies_start k
+  energy_fits k l = held_fits t.energies_start 4 t.energies (length file) (omega arith) k held H l
 
-  pub row_fits : (o k : ℕ) (f : Face) → placesBelow held o k f ≡ true → RowInside file t.energies_start o k f
+  pub row_fits : (o k : ℕ) (f : Face) → places_below held o k f ≡ true → RowInside file t.energies_start o k f
   row_fits o k f h =
       let x = (and-eq-true_iff (ltb (o + (k + f.a)) held) (ltb (o + (k + f.b)) held && ltb (o + (k + f.c)) held)).0 h in
       let y = (and-eq-true_iff (ltb (o + (k + f.b)) held) (ltb (o + (k + f.c)) held)).0 x.1 in
-      (energy-fits _ (ltb-true _ _ x.0), energy-fits _ (ltb-true _ _ y.0), energy-fits _ (ltb-true _ _ y.1))
+      (energy_fits _ (ltb-true _ _ x.0), energy_fits _ (ltb-true _ _ y.0), energy_fits _ (ltb-true _ _ y.1))
 
-  pub face-fits : (o n : ℕ) (f g : Face) → facePlacesBelow held o n f g ≡ true
+  pub face_fits : (o n : ℕ) (f g : Face) → face_places_below held o n f g ≡ true
       → RowInside file t.energies_start o (f.a * n) g × RowInside file t.energies_start o (f.b * n) g × RowInside file t.energies_start o (f.c * n) g
-  face-fits o n f g h =
-      let x = (and-eq-true_iff (placesBelow held o (f.a * n) g) (placesBelow held o (f.b * n) g && placesBelow held o (f.c * n) g)).0 h in
-      let y = (and-eq-true_iff (placesBelow held o (f.b * n) g) (placesBelow held o (f.c * n) g)).0 x.1 in
+  face_fits o n f g h =
+      let x = (and-eq-true_iff (places_below held o (f.a * n) g) (places_below held o (f.b * n) g && places_below held o (f.c * n) g)).0 h in
+      let y = (and-eq-true_iff (places_below held o (f.b * n) g) (places_below held o (f.c * n) g)).0 x.1 in
       (row_fits o (f.a * n) g x.0, row_fits o (f.b * n) g y.0, row_fits o (f.c * n) g y.1)
 
   -- ---- nearest
 
   module _ (o n : ℕ) (x y : Nearest) (e : joint x.number y.number ≡ 0) where
-    pub nearest-out : held ≤ o + (x.vertex * n + y.vertex) → Refused 19 ≡ readPicks file t linear false o (nearestPick n x y)
-    unfolding nearestPick every
-    nearest-out h = rw (e, energy-held (o + (x.vertex * n + y.vertex)), le-ltb (o + (x.vertex * n + y.vertex)) held h)
+    pub nearest_out : held ≤ o + (x.vertex * n + y.vertex) → Refused 19 ≡ read_picks file t linear false o (nearest_pick n x y)
+    unfolding nearest_pick every
+    nearest_out h = rw (e, energy-held (o + (x.vertex * n + y.vertex)), le-ltb (o + (x.vertex * n + y.vertex)) held h)
 
-    pub nearest_in : o + (x.vertex * n + y.vertex) < held
-        → Energy x.distance (widened (number_at 4 file (t.energies_start + (o + (x.vertex * n + y.vertex)) * 4))) y.distance ≡ readPicks file t linear false o (nearestPick n x y)
-    unfolding nearestPick every combined energyAt
-    nearest_in h = rw (e, energy-held (o + (x.vertex * n + y.vertex)), lt-ltb (o + (x.vertex * n + y.vertex)) held h)
+    pub nearest_in_lem : o + (x.vertex * n + y.vertex) < held
+        → Energy x.distance (widened (number_at 4 file (t.energies_start + (o + (x.vertex * n + y.vertex)) * 4))) y.distance ≡ read_picks file t linear false o (nearest_pick n x y)
+    unfolding nearest_pick every combined energy_at
+    nearest_in_lem h = rw (e, energy-held (o + (x.vertex * n + y.vertex)), lt-ltb (o + (x.vertex * n + y.vertex)) held h)
 
   -- ---- interpolated
 
@@ -95,50 +95,50 @@ module _ (file : List ℕ) (t : Table) (held : ℕ) (H : held ≡ itemsInside t.
     abbrev low : ℕ → ℕ → Bool
     low i j = ltb (o + place i j) held
 
-    nine-held : every (λ k. energyInside file t (o + k)) places ≡ facePlacesBelow held o n f g
+    nine_held : every (λ k. energy_inside file t (o + k)) places ≡ face_places_below held o n f g
     unfolding every
-    nine-held =
-        every-same (λ k. energyInside file t (o + k)) (λ k. ltb (o + k) held) (λ k. energy-held (o + k)) places
+    nine_held =
+        every-same (λ k. energy_inside file t (o + k)) (λ k. ltb (o + k) held) (λ k. energy-held (o + k)) places
         ∙ three (low f.a g.a) (low f.a g.b) (low f.a g.c) _
-        ∙ ap (λ (z : Bool). placesBelow held o (f.a * n) g && z)
+        ∙ ap (λ (z : Bool). places_below held o (f.a * n) g && z)
         (three (low f.b g.a) (low f.b g.b) (low f.b g.c) _
-        ∙ ap (λ (z : Bool). placesBelow held o (f.b * n) g && z) (three (low f.c g.a) (low f.c g.b) (low f.c g.c) true ∙ and-true (placesBelow held o (f.c * n) g)))
+        ∙ ap (λ (z : Bool). places_below held o (f.b * n) g && z) (three (low f.c g.a) (low f.c g.b) (low f.c g.c) true ∙ and-true (places_below held o (f.c * n) g)))
 
-    nine-sum : (p q : Weights) → combined linear true p q (map (λ k. energyAt file t (o + k)) places) ≡ faceTerms file t.energies_start o n f g p q
-    unfolding combined nineTerms forEach energyAt faceTerms rowTerms
-    nine-sum p q = refl
+    nine_sum : (p q : Weights) → combined linear true p q (map (λ k. energy_at file t (o + k)) places) ≡ face_terms file t.energies_start o n f g p q
+    unfolding combined nine_terms for_each energy_at face_terms row_terms
+    nine_sum p q = refl
 
-    nine-average : (beta : Float) (p q : Weights) → combined (boltzmann beta) true p q (map (λ k. energyAt file t (o + k)) places) ≡ faceAverage file t.energies_start o n f g p q beta
-    unfolding combined boltzmannAverage overCorners forEach energyAt faceAverage faceCorners rowCorners
-    nine-average beta p q = refl
+    nine_average : (beta : Float) (p q : Weights) → combined (boltzmann beta) true p q (map (λ k. energy_at file t (o + k)) places) ≡ face_average file t.energies_start o n f g p q beta
+    unfolding combined boltzmann_average over_corners for_each energy_at face_average face_corners row_corners
+    nine_average beta p q = refl
 
   module _ (o n : ℕ) (x y : Located) (e : joint x.number y.number ≡ 0) where
-    pub face-out : (way : Way) → facePlacesBelow held o n x.face y.face ≡ false → Refused 19 ≡ readPicks file t way true o (facePick n x y)
-    unfolding facePick
-    face-out way h = rw (e, nine-held o n x.face y.face, h)
+    pub face_out : (way : Way) → face_places_below held o n x.face y.face ≡ false → Refused 19 ≡ read_picks file t way true o (face_pick n x y)
+    unfolding face_pick
+    face_out way h = rw (e, nine_held o n x.face y.face, h)
 
-    pub face-in : facePlacesBelow held o n x.face y.face ≡ true
-        → plain (faceTerms file t.energies_start o n x.face y.face x.weights y.weights) ≡ readPicks file t linear true o (facePick n x y)
-    unfolding facePick
-    face-in h = rw (e, nine-held o n x.face y.face, h, nine-sum o n x.face y.face x.weights y.weights)
+    pub face_in : face_places_below held o n x.face y.face ≡ true
+        → plain (face_terms file t.energies_start o n x.face y.face x.weights y.weights) ≡ read_picks file t linear true o (face_pick n x y)
+    unfolding face_pick
+    face_in h = rw (e, nine_held o n x.face y.face, h, nine_sum o n x.face y.face x.weights y.weights)
 
-    pub face-weighted : (beta : Float) → facePlacesBelow held o n x.face y.face ≡ true
-        → plain (faceAverage file t.energies_start o n x.face y.face x.weights y.weights beta) ≡ readPicks file t (boltzmann beta) true o (facePick n x y)
-    unfolding facePick
-    face-weighted beta h = rw (e, nine-held o n x.face y.face, h, nine-average o n x.face y.face beta x.weights y.weights)
+    pub face-weighted : (beta : Float) → face_places_below held o n x.face y.face ≡ true
+        → plain (face_average file t.energies_start o n x.face y.face x.weights y.weights beta) ≡ read_picks file t (boltzmann beta) true o (face_pick n x y)
+    unfolding face_pick
+    face-weighted beta h = rw (e, nine_held o n x.face y.face, h, nine_average o n x.face y.face beta x.weights y.weights)
 
 -- a search that did not answer
-pub nearest-none : (file : List ℕ) (t : Table) (o n : ℕ) (x y : Nearest) (k : ℕ) → k ≡ joint x.number y.number → (k ≡ 0 → ⊥) → Refused k ≡ readPicks file t linear false o (nearestPick n x y)
-unfolding nearestPick
-nearest-none file t o n x y k e h = rw (← e, ne_eqb k 0 h)
+pub nearest_none : (file : List ℕ) (t : Table) (o n : ℕ) (x y : Nearest) (k : ℕ) → k ≡ joint x.number y.number → (k ≡ 0 → ⊥) → Refused k ≡ read_picks file t linear false o (nearest_pick n x y)
+unfolding nearest_pick
+nearest_none file t o n x y k e h = rw (← e, ne_eqb k 0 h)
 
-pub face-none : (file : List ℕ) (t : Table) (way : Way) (o n : ℕ) (x y : Located) (k : ℕ) → k ≡ joint x.number y.number → (k ≡ 0 → ⊥) → Refused k ≡ readPicks file t way true o (facePick n x y)
-unfolding facePick
+pub face-none : (file : List ℕ) (t : Table) (way : Way) (o n : ℕ) (x y : Located) (k : ℕ) → k ≡ joint x.number y.number → (k ≡ 0 → ⊥) → Refused k ≡ read_picks file t way true o (face_pick n x y)
+unfolding face_pick
 face-none file t way o n x y k e h = rw (← e, ne_eqb k 0 h)
 
 -- a nearest reading is the same by every way
-pub nearest-way : (file : List ℕ) (t : Table) (way : Way) (o : ℕ) (p : Picks) → readPicks file t linear false o p ≡ readPicks file t way false o p
+pub nearest_way : (file : List ℕ) (t : Table) (way : Way) (o : ℕ) (p : Picks) → read_picks file t linear false o p ≡ read_picks file t way false o p
 unfolding combined
-nearest-way file t linear o p = refl
-nearest-way file t (boltzmann beta) o (unpicked n) = refl
-nearest-way file t (boltzmann beta) o (picked ks a b x y) = refl
+nearest_way file t linear o p = refl
+nearest_way file t (boltzmann beta) o (unpicked n) = refl
+nearest_way file t (boltzmann beta) o (picked ks a b x y) = refl

@@ -11,41 +11,41 @@ use lib.Ieee.{Float}
 use Rattle.mesh.specs.declared.Face.{Face}
 use Rattle.search.specs.declared.Weights.{Weights}
 use Rattle.table.specs.Bytes.{number_at}
-use Rattle.reading.specs.Resolve.{ReadingValues, readingValues, plain, widened}
-use Rattle.reading.specs.Internal.{PlaceInside, RowInside, faceTerms, stagedWith, finished, StagedInside, Ready}
+use Rattle.reading.specs.Resolve.{ReadingValues, reading_values, plain, widened}
+use Rattle.reading.specs.Internal.{PlaceInside, RowInside, face_terms, staged_with, finished, StagedInside, Ready}
 use Rattle.reading.specs.declared.Reading.{Reading}
 use Rattle.reading.specs.declared.Reading.TheVariants.{Energy}
 use Rattle.reading.specs.declared.Staged.{Staged}
 
 module _ (file : List ℕ) (start : ℕ) (a : Reading) where
-  pub ready-answer : (z : Staged) (n : ℕ) (e x y : Float) → z ≡ stagedWith 0 n e x y
-      → ◌≡◌ {A = ReadingValues} (record { number = n; energy = e; distanceA = x; distanceB = y }) (readingValues a) → Ready file start z a
+  pub ready_answer : (z : Staged) (n : ℕ) (e x y : Float) → z ≡ staged_with 0 n e x y
+      → ◌≡◌ {A = ReadingValues} (record { number = n; energy = e; distance_a = x; distance_b = y }) (reading_values a) → Ready file start z a
   unfolding finished
-  ready-answer z n e x y h v = rw h (record { inside = record { one = λ k. absurd (omega (arith, k)); nine = λ k l. absurd (k refl) }; is = v })
+  ready_answer z n e x y h v = rw h (record { inside = record { one = λ k. absurd (omega (arith, k)); nine = λ k l. absurd (k refl) }; is = v })
 
-  pub ready-one : (z : Staged) (k : ℕ) (e x y : Float) → z ≡ stagedWith 1 k e x y → PlaceInside file start k
+  pub ready_one : (z : Staged) (k : ℕ) (e x y : Float) → z ≡ staged_with 1 k e x y → PlaceInside file start k
       → Energy x (widened (number_at 4 file (start + k * 4))) y ≡ a → Ready file start z a
   unfolding finished
-  ready-one z k e x y h l v = rw (h, ← v) (record { inside = record { one = λ m. l; nine = λ m n. absurd (n refl) }; is = refl })
+  ready_one z k e x y h l v = rw (h, ← v) (record { inside = record { one = λ m. l; nine = λ m n. absurd (n refl) }; is = refl })
 
-  pub ready-nine : (o n : ℕ) (f g : Face) (p q : Weights) → RowInside file start o (f.a * n) g × RowInside file start o (f.b * n) g × RowInside file start o (f.c * n) g
-      → plain (faceTerms file start o n f g p q) ≡ a → Ready file start (record { kind = 2; place = o; n = n; f = f; g = g; p = p; q = q }) a
+  pub ready_nine : (o n : ℕ) (f g : Face) (p q : Weights) → RowInside file start o (f.a * n) g × RowInside file start o (f.b * n) g × RowInside file start o (f.c * n) g
+      → plain (face_terms file start o n f g p q) ≡ a → Ready file start (record { kind = 2; place = o; n = n; f = f; g = g; p = p; q = q }) a
   unfolding finished
-  ready-nine o n f g p q l v = rw (← v) (record { inside = record { one = λ k. absurd (omega (arith, k)); nine = λ k m. l }; is = refl })
+  ready_nine o n f g p q l v = rw (← v) (record { inside = record { one = λ k. absurd (omega (arith, k)); nine = λ k m. l }; is = refl })
 
-pub ready-same : {file : List ℕ} {start : ℕ} {z : Staged} {a b : Reading} → Ready file start z a → a ≡ b → Ready file start z b
-ready-same r e = rw e at r
+pub ready_same : {file : List ℕ} {start : ℕ} {z : Staged} {a b : Reading} → Ready file start z a → a ≡ b → Ready file start z b
+ready_same r e = rw e at r
 
 -- a block of poses: what was kept of each is ready for its answer
 module _ (file : List ℕ) (start : ℕ) (answer : ℕ → Reading) where
   abbrev pub AllReady : List Staged → ℕ → Type 0
   AllReady kept i = (k : ℕ) (d : Staged) → k < i → Ready file start (get_or kept k d) (answer k)
 
-  pub ready-none : (kept : List Staged) → AllReady kept 0
-  ready-none kept k d h = absurd (omega (arith, h))
+  pub ready_none : (kept : List Staged) → AllReady kept 0
+  ready_none kept k d h = absurd (omega (arith, h))
 
-  pub ready-more : (kept : List Staged) (i : ℕ) (z : Staged) → i < length kept → AllReady kept i → Ready file start z (answer i) → AllReady (set kept i z) (i + 1)
-  ready-more kept i z l h r k d m =
+  pub ready_more : (kept : List Staged) (i : ℕ) (z : Staged) → i < length kept → AllReady kept i → Ready file start z (answer i) → AllReady (set kept i z) (i + 1)
+  ready_more kept i z l h r k d m =
       let n : k ≤ i = omega (arith, m) in
       ⊎_elim
       (λ e.

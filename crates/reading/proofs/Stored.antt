@@ -7,10 +7,10 @@ use native.Mathlib.Omega.{arith}
 use lib.ListN.{length, set}
 use lib.Ieee.{Float}
 use Rattle.lists.specs.Lists.{put, joined}
-use Rattle.lists.proofs.Sums.{sum-const}
+use Rattle.lists.proofs.Sums.{sum_const}
 use Rattle.lists.proofs.Written.{Written, nothing, pushed, chunk, joined-more, length-joined}
 use Rattle.reading.specs.Resolve.{ReadingValues}
-use Rattle.reading.specs.Poses.{posesHeld, shown, ReadingsOut, answered}
+use Rattle.reading.specs.Poses.{poses_held, shown, ReadingsOut, answered}
 
 module _ {A : Type 0} (d : List A) (k : ℕ) (x : A) where
   pub set-put : k < length d → set d k x ≡ put d k (x ∷ [])
@@ -45,14 +45,14 @@ module _ {A : Type 0} where
       rw (joined-append i m f) (chunk l out' ((i + m) * w) h (omega (arith, n)) n eo)
 
   -- one list more, behind those from place `at` on
-  joined-turn : {d out : List A} {at : ℕ} (f : ℕ → List A) (j to to' : ℕ) (out' : List A) → to' ≡ to + length (f j) → to' ≤ length d
+  joined_turn : {d out : List A} {at : ℕ} (f : ℕ → List A) (j to to' : ℕ) (out' : List A) → to' ≡ to + length (f j) → to' ≤ length d
       → Written d at (joined j f) out to → out' ≡ put out to (f j) → Written d at (joined (j + 1) f) out' to'
-  joined-turn f j to to' out' e room h eo = rw (joined-more j f) (chunk (f j) out' to' h (omega (arith, e)) e eo)
+  joined_turn f j to to' out' e room h eo = rw (joined-more j f) (chunk (f j) out' to' h (omega (arith, e)) e eo)
 
 -- ---- how many poses are read fits every list
 
-pub held : (n p m a : ℕ) → n ≡ posesHeld p m a → (n * 8 ≤ p) × (n ≤ m) × (n * 3 ≤ a)
-unfolding posesHeld
+pub held : (n p m a : ℕ) → n ≡ poses_held p m a → (n * 8 ≤ p) × (n ≤ m) × (n * 3 ≤ a)
+unfolding poses_held
 held n p m a e = (omega (arith, e), omega (arith, e), omega (arith, e))
 
 module _ (value : ℕ → ReadingValues) (numbers₀ : List ℕ) (answers₀ : List Float) where
@@ -73,12 +73,12 @@ module _ (value : ℕ → ReadingValues) (numbers₀ : List ℕ) (answers₀ : L
       let f : (from + 0) * 3 ≡ from * 3 = omega arith in
       record { numbered = rw e (nothing hn); showing = rw f (nothing ha) }
 
-  pub block-turn : {numbers : List ℕ} {answers : List Float} (from j : ℕ) (v : ReadingValues) (numbers' : List ℕ) (answers' : List Float) → Block from j numbers answers
+  pub block_turn : {numbers : List ℕ} {answers : List Float} (from j : ℕ) (v : ReadingValues) (numbers' : List ℕ) (answers' : List Float) → Block from j numbers answers
       → from + j < length numbers₀ → (from + j) * 3 + 3 ≤ length answers₀ → v ≡ value j → numbers' ≡ put numbers (from + j) (v.number ∷ []) → answers' ≡ put answers ((from + j) * 3) (shown v)
       → Block from (j + 1) numbers' answers'
-  block-turn from j v numbers' answers' h hn ha e en ea = record {
-    numbered = joined-turn (λ k. (value k).number ∷ []) j (from + j) (from + (j + 1)) numbers' (omega arith) (omega arith) h.numbered (rw (← e) en);
-    showing = joined-turn (λ k. shown (value k)) j ((from + j) * 3) ((from + (j + 1)) * 3) answers' (omega arith) (omega arith) h.showing (rw (← e) ea);
+  block_turn from j v numbers' answers' h hn ha e en ea = record {
+    numbered = joined_turn (λ k. (value k).number ∷ []) j (from + j) (from + (j + 1)) numbers' (omega arith) (omega arith) h.numbered (rw (← e) en);
+    showing = joined_turn (λ k. shown (value k)) j ((from + j) * 3) ((from + (j + 1)) * 3) answers' (omega arith) (omega arith) h.showing (rw (← e) ea);
   }
 
   pub block-all : {numbers : List ℕ} {answers : List Float} (from count j : ℕ) (same : ℕ → ReadingValues) → Block from j numbers answers → j ≡ count → ((k : ℕ) → k < count → value k ≡ same k)
@@ -97,8 +97,8 @@ module _ (value : ℕ → ReadingValues) (numbers₀ : List ℕ) (answers₀ : L
       → numbers' ≡ put numbers i (joined m (λ k. (value (i + k)).number ∷ [])) → answers' ≡ put answers (i * 3) (joined m (λ k. shown (value (i + k)))) → Answered (i + m) numbers' answers'
   answered-block i m numbers' answers' h hn ha en ea =
       let one : i * 1 ≡ i = omega arith in record {
-        numbered = joined-block (λ k. (value k).number ∷ []) 1 i m numbers' (length-joined m (λ k. (value (i + k)).number ∷ []) ∙ sum-const m 1) (omega arith) h.numbered (rw one en);
-        showing = joined-block (λ k. shown (value k)) 3 i m answers' (length-joined m (λ k. shown (value (i + k))) ∙ sum-const m 3) ha h.showing ea;
+        numbered = joined-block (λ k. (value k).number ∷ []) 1 i m numbers' (length-joined m (λ k. (value (i + k)).number ∷ []) ∙ sum_const m 1) (omega arith) h.numbered (rw one en);
+        showing = joined-block (λ k. shown (value k)) 3 i m answers' (length-joined m (λ k. shown (value (i + k))) ∙ sum_const m 3) ha h.showing ea;
       }
 
   pub answered-all : {numbers : List ℕ} {answers : List Float} (n i : ℕ) (same : ℕ → ReadingValues) → Answered i numbers answers → i ≡ n → ((k : ℕ) → value k ≡ same k)

@@ -5,11 +5,11 @@ use Rattle.lists.specs.Lists.{put, joined}
 use Rattle.search.specs.Search.{Locator}
 use Rattle.table.specs.declared.Table.{Table}
 use Rattle.reading.specs.Resolve.{ReadingValues, Query, Way, linear, boltzmann}
-use Rattle.reading.specs.Reading.{readingBy}
+use Rattle.reading.specs.Reading.{reading_by}
 
 -- eight numbers a pose: the distance, the dihedral angle, and x, y, z of both directions
-unfoldable pub poseAt : List Float → ℕ → Query
-poseAt poses i =
+unfoldable pub pose_at : List Float → ℕ → Query
+pose_at poses i =
     let k = i * 8 in
     record {
       r = get_or poses k nan;
@@ -19,17 +19,17 @@ poseAt poses i =
     }
 
 -- no beta: the plain sum; otherwise the first entry counts, for every pose
-unfoldable pub wayBy : List Float → Way
-wayBy [] = linear
-wayBy (beta ∷ _) = boltzmann beta
+unfoldable pub way_by : List Float → Way
+way_by [] = linear
+way_by (beta ∷ _) = boltzmann beta
 
 -- as many poses as the shortest list has room for: eight numbers, one number and three numbers each
-unfoldable pub posesHeld : ℕ → ℕ → ℕ → ℕ
-posesHeld poses numbers answers = min (poses / 8) (min numbers (answers / 3))
+unfoldable pub poses_held : ℕ → ℕ → ℕ → ℕ
+poses_held poses numbers answers = min (poses / 8) (min numbers (answers / 3))
 
 -- the answers, three a pose
 abbrev pub shown : ReadingValues → List Float
-shown v = v.energy ∷ v.distanceA ∷ v.distanceB ∷ []
+shown v = v.energy ∷ v.distance_a ∷ v.distance_b ∷ []
 
 -- what the call leaves: how many poses it answered, and both lists
 pub record ReadingsOut : Type 0 where
@@ -47,6 +47,6 @@ answered n value numbers answers =
     }
 
 -- each pose by the single reading's own definition
-unfoldable pub readingsOut : List ℕ → Table → List Float → Locator → Way → List Float → List ℕ → List Float → ReadingsOut
-readingsOut file t vertices l way poses numbers answers =
-    answered (posesHeld (length poses) (length numbers) (length answers)) (λ i. readingBy file t vertices l way (poseAt poses i)) numbers answers
+unfoldable pub readings_out : List ℕ → Table → List Float → Locator → Way → List Float → List ℕ → List Float → ReadingsOut
+readings_out file t vertices l way poses numbers answers =
+    answered (poses_held (length poses) (length numbers) (length answers)) (λ i. reading_by file t vertices l way (pose_at poses i)) numbers answers

@@ -6,9 +6,9 @@ use Rattle.std.specs.Float.Ieee.Scale.{finite}
 use Rattle.float.specs.Order.{smaller}
 use Rattle.float.specs.Exp.{exponential}
 use Rattle.float.specs.Log.{logarithm}
-use Rattle.lists.specs.Lists.{forEach}
+use Rattle.lists.specs.Lists.{for_each}
 use Rattle.mesh.specs.declared.Face.{Face}
-use Rattle.grid.specs.Bins.{tableRmax, distanceBin, dihedralBin}
+use Rattle.grid.specs.Bins.{table_rmax, distance_bin, dihedral_bin}
 use Rattle.grid.specs.Settings.{above}
 use Rattle.grid.specs.declared.Grid.{Grid}
 use Rattle.search.specs.Geometry.{norm}
@@ -25,24 +25,24 @@ use Rattle.reading.specs.declared.Reading.TheVariants.{Energy, Refused}
 pub record ReadingValues : Type 0 where
   pub number : ℕ
   pub energy : Float
-  pub distanceA : Float
-  pub distanceB : Float
+  pub distance_a : Float
+  pub distance_b : Float
 
-abbrev pub noDistance : Float
-noDistance = of_bits binary64 0
+abbrev pub no_distance : Float
+no_distance = of_bits binary64 0
 
-abbrev pub readingValues : Reading → ReadingValues
-readingValues (Energy a x b) = record { number = 0; energy = x; distanceA = a; distanceB = b }
-readingValues (Refused n) = record { number = n; energy = of_bits binary64 0; distanceA = noDistance; distanceB = noDistance }
+abbrev pub reading_values : Reading → ReadingValues
+reading_values (Energy a x b) = record { number = 0; energy = x; distance_a = a; distance_b = b }
+reading_values (Refused n) = record { number = n; energy = of_bits binary64 0; distance_a = no_distance; distance_b = no_distance }
 
 -- an energy without distances
 abbrev pub plain : Float → Reading
-plain x = Energy noDistance x noDistance
+plain x = Energy no_distance x no_distance
 
 -- a refusal has a number: 0 is acceptance alone
-abbrev pub readingNumbered : Reading → Bool
-readingNumbered (Energy a x b) = true
-readingNumbered (Refused n) = not (eqb n 0)
+abbrev pub reading_numbered : Reading → Bool
+reading_numbered (Energy a x b) = true
+reading_numbered (Refused n) = not (eqb n 0)
 
 -- what is asked for: a distance, a dihedral angle and two directions
 pub record Query : Type 0 where
@@ -52,8 +52,8 @@ pub record Query : Type 0 where
   pub b : Vector3
 
 -- 18: "is r not a NaN, omega finite, and the length of each direction finite and above 0?" (S5.18)
-unfoldable pub queryValid : Query → Bool
-queryValid q = not (is_nan q.r) && (finite q.omega && (above (norm q.a) && above (norm q.b)))
+unfoldable pub query_valid : Query → Bool
+query_valid q = not (is_nan q.r) && (finite q.omega && (above (norm q.a) && above (norm q.b)))
 
 -- how one energy is made of a face's nine: by the plain sum, or weighted with a beta of the reading's own ("Temperature-weighted readings")
 pub data Way : Type 0 where
@@ -61,27 +61,27 @@ pub data Way : Type 0 where
   boltzmann : Float → Way
 
 -- 21: refused "where the reading's beta is not finite and above 0"
-unfoldable pub wayValid : Way → Bool
-wayValid linear = true
-wayValid (boltzmann beta) = above beta
+unfoldable pub way_valid : Way → Bool
+way_valid linear = true
+way_valid (boltzmann beta) = above beta
 
 -- "A distance below rmin or above rmax"; "a reading's rmax is this one, not the settings'" (S12.2)
 unfoldable pub outside : Grid → Float → Bool
-outside g r = lt r g.rmin || lt (tableRmax g.n_r g.dr g.rmin) r
+outside g r = lt r g.rmin || lt (table_rmax g.n_r g.dr g.rmin) r
 
 pub data Resolved : Type 0 where
   unresolved : ℕ → Resolved
   beyond : Resolved
-  slabAt : ℕ → Resolved
+  slab_at : ℕ → Resolved
 
 -- `resolve_slab_idx`, after 18 and 21, whose answer is handed in: "after 18 and before the 0.0 of a distance outside"; of 19: "Are bin counts above 0" (S12.2)
 unfoldable pub resolve : Bool → Grid → Query → Resolved
 resolve valid g q =
-    cond (queryValid q)
+    cond (query_valid q)
     (cond valid
     (cond (outside g q.r) beyond
     (cond (ltb 0 g.n_r && ltb 0 g.n_omega)
-    (slabAt (distanceBin q.r g.rmin g.dr g.n_r * g.n_omega + dihedralBin q.omega g.omega_step g.n_omega))
+    (slab_at (distance_bin q.r g.rmin g.dr g.n_r * g.n_omega + dihedral_bin q.omega g.omega_step g.n_omega))
     (unresolved 19)))
     (unresolved 21))
     (unresolved 18)
@@ -97,30 +97,30 @@ pub data Picks : Type 0 where
 unfoldable pub joint : ℕ → ℕ → ℕ
 joint a b = cond (eqb a 19 || eqb b 19) 19 (cond (eqb a 0) b a)
 
-abbrev unusedWeights : Weights
-unusedWeights = record { a = nan; b = nan; c = nan }
+abbrev unused_weights : Weights
+unused_weights = record { a = nan; b = nan; c = nan }
 
 -- the place of a pair of vertices in a slab: `va * n_v + vb`
-abbrev pub pairPlace : ℕ → ℕ → ℕ → ℕ
-pairPlace n va vb = va * n + vb
+abbrev pub pair_place : ℕ → ℕ → ℕ → ℕ
+pair_place n va vb = va * n + vb
 
 -- the distances as the search worked them out (S12.13)
-unfoldable pub nearestPick : ℕ → Nearest → Nearest → Picks
-nearestPick n a b =
+unfoldable pub nearest_pick : ℕ → Nearest → Nearest → Picks
+nearest_pick n a b =
     let r = joint a.number b.number in
-    cond (eqb r 0) (picked (pairPlace n a.vertex b.vertex ∷ []) unusedWeights unusedWeights a.distance b.distance) (unpicked r)
+    cond (eqb r 0) (picked (pair_place n a.vertex b.vertex ∷ []) unused_weights unused_weights a.distance b.distance) (unpicked r)
 
 -- nine places: `face_a[i]` against `face_b[j]`
-abbrev rowPlaces : ℕ → ℕ → Face → List ℕ
-rowPlaces n i f = pairPlace n i f.a ∷ pairPlace n i f.b ∷ pairPlace n i f.c ∷ []
+abbrev row_places : ℕ → ℕ → Face → List ℕ
+row_places n i f = pair_place n i f.a ∷ pair_place n i f.b ∷ pair_place n i f.c ∷ []
 
-unfoldable pub facePick : ℕ → Located → Located → Picks
-facePick n a b =
+unfoldable pub face_pick : ℕ → Located → Located → Picks
+face_pick n a b =
     let r = joint a.number b.number in
     let f = a.face in
     let g = b.face in
     cond (eqb r 0)
-    (picked (rowPlaces n f.a g ++ (rowPlaces n f.b g ++ rowPlaces n f.c g)) a.weights b.weights noDistance noDistance)
+    (picked (row_places n f.a g ++ (row_places n f.b g ++ row_places n f.c g)) a.weights b.weights no_distance no_distance)
     (unpicked r)
 
 -- ---- the energies, by their bits
@@ -129,30 +129,30 @@ facePick n a b =
 abbrev pub widened : ℕ → Float
 widened x = of_bits binary32 x
 
-weightAt : Weights → ℕ → Float
-weightAt w i = cond (eqb i 0) w.a (cond (eqb i 1) w.b w.c)
+weight_at : Weights → ℕ → Float
+weight_at w i = cond (eqb i 0) w.a (cond (eqb i 1) w.b w.c)
 
 -- "nine-term sum as `lookup` has them": bary_a[i] * vals[i * 3 + j] * bary_b[j], from +0.0 (S2.15)
-unfoldable pub nineTerms : Weights → Weights → List ℕ → Float
-unfolding weightAt
-nineTerms a b es =
-    forEach 3 (λ i. forEach 3 (λ j x. add binary64 x (mul binary64 (mul binary64 (weightAt a i) (widened (get_or es (i * 3 + j) 0))) (weightAt b j)))) (of_bits binary64 0)
+unfoldable pub nine_terms : Weights → Weights → List ℕ → Float
+unfolding weight_at
+nine_terms a b es =
+    for_each 3 (λ i. for_each 3 (λ j x. add binary64 x (mul binary64 (mul binary64 (weight_at a i) (widened (get_or es (i * 3 + j) 0))) (weight_at b j)))) (of_bits binary64 0)
 
 -- f at each of the nine corners, in index order, by its weight and its energy: "A weight not above 0 drops its corner." The weight is bary_a[k / 3] * bary_b[k % 3]
-unfoldable pub overCorners : Weights → Weights → List ℕ → (Float → Float → Float → Float) → Float → Float
-unfolding weightAt
-overCorners a b es f =
-    forEach 9 (λ k x. let w = mul binary64 (weightAt a (k / 3)) (weightAt b (k % 3)) in cond (lt (of_bits binary64 0) w) (f w (widened (get_or es k 0)) x) x)
+unfoldable pub over_corners : Weights → Weights → List ℕ → (Float → Float → Float → Float) → Float → Float
+unfolding weight_at
+over_corners a b es f =
+    for_each 9 (λ k x. let w = mul binary64 (weight_at a (k / 3)) (weight_at b (k % 3)) in cond (lt (of_bits binary64 0) w) (f w (widened (get_or es k 0)) x) x)
 
 -- neither finite nor a NaN
 abbrev pub infinite : Float → Bool
 infinite u = not (finite u) && not (is_nan u)
 
 -- `boltzmann_average`: u is the least energy, from infinity on by `min`; the sum is of w * E(-beta * (e - u)); the result is u - ln(sum) / beta
-unfoldable pub boltzmannAverage : Float → Weights → Weights → List ℕ → Float
-boltzmannAverage beta a b es =
-    let u = overCorners a b es (λ w e x. smaller x e) (inf false) in
-    let sum = overCorners a b es (λ w e x. add binary64 x (mul binary64 w (exponential (mul binary64 (neg beta) (sub binary64 e u))))) (of_bits binary64 0) in
+unfoldable pub boltzmann_average : Float → Weights → Weights → List ℕ → Float
+boltzmann_average beta a b es =
+    let u = over_corners a b es (λ w e x. smaller x e) (inf false) in
+    let sum = over_corners a b es (λ w e x. add binary64 x (mul binary64 w (exponential (mul binary64 (neg beta) (sub binary64 e u))))) (of_bits binary64 0) in
     cond (infinite u) (inf false)
     (cond (le sum (of_bits binary64 0)) (inf false) (sub binary64 u (div binary64 (logarithm sum) beta)))
 
@@ -162,7 +162,7 @@ Combination = Weights → Weights → List ℕ → Float
 
 -- nearest: the one energy; interpolated: the sum, or the weighted average
 unfoldable pub combined : Way → Bool → Weights → Weights → List ℕ → Float
-combined linear true a b es = nineTerms a b es
-combined (boltzmann beta) true a b es = boltzmannAverage beta a b es
+combined linear true a b es = nine_terms a b es
+combined (boltzmann beta) true a b es = boltzmann_average beta a b es
 combined linear false a b es = widened (get_or es 0 0)
 combined (boltzmann beta) false a b es = widened (get_or es 0 0)

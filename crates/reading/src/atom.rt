@@ -1,11 +1,11 @@
 // A reading of a table against an atom: a distance and one direction.
 ghost use Rattle.std.specs.Prelude.{◌≡◌, true, ◌+◌, ◌≤◌, ◌<◌, length, take, drop};
-ghost use Rattle.search.specs.Search.{locatorOf};
+ghost use Rattle.search.specs.Search.{locator_of};
 ghost use Rattle.table.specs.File.{entry_of};
-ghost use Rattle.reading.specs.Resolve.{linear, boltzmann, readingValues, readingNumbered, outside};
-ghost use Rattle.reading.specs.Reading.{entryBy};
-ghost use Rattle.reading.specs.Atom.{atomQueryValid, asGrid, atomCombined, atomSearchIn, atomReadingBy};
-ghost use Rattle.reading.specs.Internal.{way_of, rowsTable, atomRowPlace};
+ghost use Rattle.reading.specs.Resolve.{linear, boltzmann, reading_values, reading_numbered, outside};
+ghost use Rattle.reading.specs.Reading.{entry_by};
+ghost use Rattle.reading.specs.Atom.{atom_query_valid, as_grid, atom_combined, atom_search_in, atom_reading_by};
+ghost use Rattle.reading.specs.Internal.{way_of, rows_table, atom_row_place};
 
 use crate::Reading;
 use crate::atom_combine::{read_atom_interpolated, read_atom_nearest};
@@ -17,13 +17,13 @@ use table::AtomTable;
 
 // Question 18.
 fn atom_query_valid(r: f64, d: Vector3) -> bool
-    ensures { result ≡ atomQueryValid (record { r = r; d = d }) }
+    ensures { result ≡ atom_query_valid (record { r = r; d = d }) }
 {
     !(r != r) & search::length_valid(d)
 }
 
 fn atom_outside(g: AtomGrid, r: f64) -> bool
-    ensures { result ≡ outside (asGrid g) r }
+    ensures { result ≡ outside (as_grid g) r }
 {
     let rmin = g.rmin;
     let dr = g.dr;
@@ -33,7 +33,7 @@ fn atom_outside(g: AtomGrid, r: f64) -> bool
 
 // Where the row of a distance starts in a file of so many bytes, or its end where it has no such row.
 fn atom_row_place(t: AtomTable, length: u64, r: f64) -> u64
-    ensures { result ≡ atomRowPlace t length r }
+    ensures { result ≡ atom_row_place t length r }
 {
     let g = t.grid;
     let start = t.rows_start;
@@ -68,9 +68,9 @@ fn read_atom_row(
     at: u64,
 ) -> Reading
     requires { at + 10 ≤ length file.now }
-    ensures { result ≡ entryBy file.now (rowsTable levels start count) (atomCombined (way_of beta))
-        (atomSearchIn vertices.now
-        (locatorOf cell_offsets.now cell_vertices.now face_offsets.now faces.now)
+    ensures { result ≡ entry_by file.now (rows_table levels start count) (atom_combined (way_of beta))
+        (atom_search_in vertices.now
+        (locator_of cell_offsets.now cell_vertices.now face_offsets.now faces.now)
         (record { x = x; y = y; z = z })) (entry_of (take 10 (drop at file.now))) }
 {
     let d = Vector3 { x, y, z };
@@ -131,8 +131,8 @@ pub fn atom_lookup(
     r: f64,
     d: Vector3,
 ) -> Reading
-    ensures { (readingNumbered result ≡ true) × readingValues result ≡ atomReadingBy file.now t vertices.now
-        (locatorOf cell_offsets.now cell_vertices.now face_offsets.now faces.now)
+    ensures { (reading_numbered result ≡ true) × reading_values result ≡ atom_reading_by file.now t vertices.now
+        (locator_of cell_offsets.now cell_vertices.now face_offsets.now faces.now)
         linear (record { r = r; d = d }) }
 {
     let g = t.grid;
@@ -180,8 +180,8 @@ pub fn atom_lookup_boltzmann(
     d: Vector3,
     beta: f64,
 ) -> Reading
-    ensures { (readingNumbered result ≡ true) × readingValues result ≡ atomReadingBy file.now t vertices.now
-        (locatorOf cell_offsets.now cell_vertices.now face_offsets.now faces.now)
+    ensures { (reading_numbered result ≡ true) × reading_values result ≡ atom_reading_by file.now t vertices.now
+        (locator_of cell_offsets.now cell_vertices.now face_offsets.now faces.now)
         (boltzmann beta) (record { r = r; d = d }) }
 {
     let g = t.grid;

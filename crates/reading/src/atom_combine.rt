@@ -1,11 +1,11 @@
 // The energies that a search of one direction picked, and what they make together.
 ghost use Rattle.std.specs.Prelude.{◌≡◌, true, false, ◌*◌, ◌<◌, drop};
-ghost use Rattle.mesh.specs.Levels.{vertexCount, gridSize, verticesBelow, cellOffsetsBelow};
+ghost use Rattle.mesh.specs.Levels.{vertex_count, grid_size, vertices_below, cell_offsets_below};
 ghost use Rattle.search.specs.Geometry.{unit};
-ghost use Rattle.search.specs.Search.{nearestInCells, verticesFrom, locatorOf};
+ghost use Rattle.search.specs.Search.{nearest_in_cells, vertices_from, locator_of};
 ghost use Rattle.reading.specs.Resolve.{linear};
-ghost use Rattle.reading.specs.Reading.{picksBy};
-ghost use Rattle.reading.specs.Atom.{threeTerms, atomAverage, atomCombined, atomNearestPick, atomFacePick, atomSearchIn};
+ghost use Rattle.reading.specs.Reading.{picks_by};
+ghost use Rattle.reading.specs.Atom.{three_terms, atom_average, atom_combined, atom_nearest_pick, atom_face_pick, atom_search_in};
 ghost use Rattle.reading.specs.Internal.{way_of, NearestBelow, LocatedBelow};
 
 use crate::Reading;
@@ -18,7 +18,7 @@ use table::Table;
 // The energy of a vertex.
 fn atom_nearest(t: Table, file: &[u8], offset: u64, x: Nearest) -> Reading
     requires { (offset < 4294967296) × NearestBelow 655362 x }
-    ensures { result ≡ picksBy file.now t (atomCombined linear false) offset (atomNearestPick x) }
+    ensures { result ≡ picks_by file.now t (atom_combined linear false) offset (atom_nearest_pick x) }
 {
     let start = t.energies_start;
     let count = t.energies;
@@ -36,14 +36,14 @@ fn atom_nearest(t: Table, file: &[u8], offset: u64, x: Nearest) -> Reading
 
 // The sum over a face, which begins at its first term.
 fn three_terms(w: Weights, x: f64, y: f64, z: f64) -> f64
-    ensures { result ≡ threeTerms w x y z }
+    ensures { result ≡ three_terms w x y z }
 {
     w.a * x + w.b * y + w.c * z
 }
 
 // The average over a face, weighted by temperature; a corner of no weight stays in.
 fn three_average(beta: f64, w: Weights, x: f64, y: f64, z: f64) -> f64
-    ensures { result ≡ atomAverage beta w x y z }
+    ensures { result ≡ atom_average beta w x y z }
 {
     let u = float::min(float::min(x, y), z);
     if !ieee::is_finite(u) & !(u != u) {
@@ -62,7 +62,7 @@ fn three_average(beta: f64, w: Weights, x: f64, y: f64, z: f64) -> f64
 // The sum over a face, or the weighted average with a beta above 0.
 fn atom_interpolated(t: Table, file: &[u8], offset: u64, x: Located, beta: f64) -> Reading
     requires { (offset < 4294967296) × LocatedBelow 655362 x }
-    ensures { result ≡ picksBy file.now t (atomCombined (way_of beta) true) offset (atomFacePick x) }
+    ensures { result ≡ picks_by file.now t (atom_combined (way_of beta) true) offset (atom_face_pick x) }
 {
     let start = t.energies_start;
     let count = t.energies;
@@ -96,9 +96,9 @@ pub(crate) fn read_atom_nearest(
     vertices: &[f64],
     d: Vector3,
 ) -> Reading
-    requires { (offset < 4294967296) × (cells ≡ cellOffsetsBelow level) }
-    ensures { result ≡ picksBy file.now t (atomCombined linear false) offset (atomNearestPick
-        (nearestInCells (drop (cellOffsetsBelow level) cell_offsets.now) (drop (27 * verticesBelow level) cell_vertices.now) (verticesFrom level vertices.now) (vertexCount level) (gridSize (vertexCount level)) (unit d))) }
+    requires { (offset < 4294967296) × (cells ≡ cell_offsets_below level) }
+    ensures { result ≡ picks_by file.now t (atom_combined linear false) offset (atom_nearest_pick
+        (nearest_in_cells (drop (cell_offsets_below level) cell_offsets.now) (drop (27 * vertices_below level) cell_vertices.now) (vertices_from level vertices.now) (vertex_count level) (grid_size (vertex_count level)) (unit d))) }
 {
     let below = mesh::vertices_below(level);
     let i = part_from(cell_offsets.len(), cells);
@@ -129,9 +129,9 @@ pub(crate) fn read_atom_interpolated(
     d: Vector3,
     beta: f64,
 ) -> Reading
-    requires { (offset < 4294967296) × (cells ≡ cellOffsetsBelow level) }
-    ensures { result ≡ picksBy file.now t (atomCombined (way_of beta) true) offset
-        (atomSearchIn vertices.now (locatorOf cell_offsets.now cell_vertices.now face_offsets.now faces.now) d level true) }
+    requires { (offset < 4294967296) × (cells ≡ cell_offsets_below level) }
+    ensures { result ≡ picks_by file.now t (atom_combined (way_of beta) true) offset
+        (atom_search_in vertices.now (locator_of cell_offsets.now cell_vertices.now face_offsets.now faces.now) d level true) }
 {
     let below = mesh::vertices_below(level);
     let i = part_from(cell_offsets.len(), cells);

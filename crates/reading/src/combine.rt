@@ -3,9 +3,9 @@ ghost use Rattle.std.specs.Prelude.{◌≡◌, true, false, ◌+◌, ◌*◌, �
 ghost use Rattle.table.specs.Bytes.{number_at};
 ghost use Rattle.std.specs.Float.{inf, binary64};
 ghost use Rattle.std.specs.Float.Ieee.{of_bits};
-ghost use Rattle.reading.specs.Resolve.{linear, joint, nearestPick, facePick, widened};
-ghost use Rattle.reading.specs.Reading.{readPicks};
-ghost use Rattle.reading.specs.Internal.{way_of, NearestBelow, LocatedBelow, Small, RowInside, placesBelow, facePlacesBelow, rowTerms, faceTerms, lesser, weighed, rowCorners, faceCorners, faceAverage};
+ghost use Rattle.reading.specs.Resolve.{linear, joint, nearest_pick, face_pick, widened};
+ghost use Rattle.reading.specs.Reading.{read_picks};
+ghost use Rattle.reading.specs.Internal.{way_of, NearestBelow, LocatedBelow, Small, RowInside, places_below, face_places_below, row_terms, face_terms, lesser, weighed, row_corners, face_corners, face_average};
 
 use crate::Reading;
 use crate::places::{items_inside, u32_inside};
@@ -34,7 +34,7 @@ pub(crate) fn energy(file: &[u8], start: u64, k: u64) -> f64
 // The energy of a pair of vertices, and how far they lie.
 pub(crate) fn nearest(t: Table, file: &[u8], offset: u64, n: u64, x: Nearest, y: Nearest) -> Reading
     requires { (offset < 4294967296) × (n ≤ 655362) × NearestBelow n x × NearestBelow n y }
-    ensures { result ≡ readPicks file.now t linear false offset (nearestPick n x y) }
+    ensures { result ≡ read_picks file.now t linear false offset (nearest_pick n x y) }
 {
     let start = t.energies_start;
     let count = t.energies;
@@ -59,7 +59,7 @@ pub(crate) fn nearest(t: Table, file: &[u8], offset: u64, n: u64, x: Nearest, y:
 // The energies of a vertex, whose places begin at k, against those of a face are among the first ones held.
 pub(crate) fn places_below(held: u64, offset: u64, k: u64, f: Face) -> bool
     requires { (offset < 4294967296) × (k ≤ 429499351044) × Small f }
-    ensures { result ≡ placesBelow held offset k f }
+    ensures { result ≡ places_below held offset k f }
 {
     let a = f.a;
     let b = f.b;
@@ -69,7 +69,7 @@ pub(crate) fn places_below(held: u64, offset: u64, k: u64, f: Face) -> bool
 
 pub(crate) fn face_places_below(held: u64, offset: u64, n: u64, f: Face, g: Face) -> bool
     requires { (offset < 4294967296) × (n ≤ 655362) × Small f × Small g }
-    ensures { result ≡ facePlacesBelow held offset n f g }
+    ensures { result ≡ face_places_below held offset n f g }
 {
     let a = f.a;
     let b = f.b;
@@ -90,7 +90,7 @@ pub(crate) fn row_terms(
     x: f64,
 ) -> f64
     requires { RowInside file.now start offset k f }
-    ensures { result ≡ rowTerms file.now start offset k f w q x }
+    ensures { result ≡ row_terms file.now start offset k f w q x }
 {
     let a = f.a;
     let b = f.b;
@@ -111,7 +111,7 @@ fn face_terms(
     q: Weights,
 ) -> f64
     requires { RowInside file.now start offset (f.a * n) g × RowInside file.now start offset (f.b * n) g × RowInside file.now start offset (f.c * n) g }
-    ensures { result ≡ faceTerms file.now start offset n f g p q }
+    ensures { result ≡ face_terms file.now start offset n f g p q }
 {
     let a = f.a;
     let b = f.b;
@@ -150,7 +150,7 @@ fn row_least(
     x: f64,
 ) -> f64
     requires { RowInside file.now start offset k f }
-    ensures { result ≡ rowCorners file.now start lesser offset k f w q x }
+    ensures { result ≡ row_corners file.now start lesser offset k f w q x }
 {
     let a = f.a;
     let b = f.b;
@@ -171,7 +171,7 @@ fn face_least(
     q: Weights,
 ) -> f64
     requires { RowInside file.now start offset (f.a * n) g × RowInside file.now start offset (f.b * n) g × RowInside file.now start offset (f.c * n) g }
-    ensures { result ≡ faceCorners file.now start lesser offset n f g p q (inf false) }
+    ensures { result ≡ face_corners file.now start lesser offset n f g p q (inf false) }
 {
     let a = f.a;
     let b = f.b;
@@ -195,7 +195,7 @@ fn row_weighed(
     x: f64,
 ) -> f64
     requires { RowInside file.now start offset k f }
-    ensures { result ≡ rowCorners file.now start (weighed beta u) offset k f w q x }
+    ensures { result ≡ row_corners file.now start (weighed beta u) offset k f w q x }
 {
     let a = f.a;
     let b = f.b;
@@ -218,7 +218,7 @@ fn face_weighed(
     u: f64,
 ) -> f64
     requires { RowInside file.now start offset (f.a * n) g × RowInside file.now start offset (f.b * n) g × RowInside file.now start offset (f.c * n) g }
-    ensures { result ≡ faceCorners file.now start (weighed beta u) offset n f g p q (of_bits binary64 0) }
+    ensures { result ≡ face_corners file.now start (weighed beta u) offset n f g p q (of_bits binary64 0) }
 {
     let a = f.a;
     let b = f.b;
@@ -241,7 +241,7 @@ fn face_average(
     beta: f64,
 ) -> f64
     requires { RowInside file.now start offset (f.a * n) g × RowInside file.now start offset (f.b * n) g × RowInside file.now start offset (f.c * n) g }
-    ensures { result ≡ faceAverage file.now start offset n f g p q beta }
+    ensures { result ≡ face_average file.now start offset n f g p q beta }
 {
     let u = face_least(file, start, offset, n, f, g, p, q);
     let sum = face_weighed(file, start, offset, n, f, g, p, q, beta, u);
@@ -265,7 +265,7 @@ pub(crate) fn interpolated(
     beta: f64,
 ) -> Reading
     requires { (offset < 4294967296) × (n ≤ 655362) × LocatedBelow n x × LocatedBelow n y }
-    ensures { result ≡ readPicks file.now t (way_of beta) true offset (facePick n x y) }
+    ensures { result ≡ read_picks file.now t (way_of beta) true offset (face_pick n x y) }
 {
     let start = t.energies_start;
     let count = t.energies;

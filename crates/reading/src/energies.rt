@@ -1,9 +1,9 @@
 // A reading in two stages, so that many at a time wait for memory together: the first finds where the energies are, and the
 // second loads them and makes one of them.
 ghost use Rattle.std.specs.Prelude.{◌≡◌, true, false, ◌*◌, ◌≤◌, ◌<◌};
-ghost use Rattle.reading.specs.Resolve.{linear, nearestPick, facePick, readingValues};
-ghost use Rattle.reading.specs.Reading.{readPicks};
-ghost use Rattle.reading.specs.Internal.{NearestBelow, LocatedBelow, RowInside, faceTerms, stagedWith, finished, StagedInside, Ready, valueIn};
+ghost use Rattle.reading.specs.Resolve.{linear, nearest_pick, face_pick, reading_values};
+ghost use Rattle.reading.specs.Reading.{read_picks};
+ghost use Rattle.reading.specs.Internal.{NearestBelow, LocatedBelow, RowInside, face_terms, staged_with, finished, StagedInside, Ready, value_in};
 
 use crate::combine::{energy, face_places_below, joint, row_terms};
 use crate::places::items_inside;
@@ -14,7 +14,7 @@ use table::Table;
 
 // What is known already, or the place of one energy.
 pub(crate) fn staged(kind: u64, place: u64, energy: f64, distance_a: f64, distance_b: f64) -> Staged
-    ensures { result ≡ stagedWith kind place energy distance_a distance_b }
+    ensures { result ≡ staged_with kind place energy distance_a distance_b }
 {
     Staged {
         kind,
@@ -37,7 +37,7 @@ pub(crate) fn staged(kind: u64, place: u64, energy: f64, distance_a: f64, distan
 
 // An answer that is there.
 pub(crate) fn staged_answer(a: Reading) -> Staged
-    ensures { result ≡ stagedWith 0 (readingValues a).number (readingValues a).energy (readingValues a).distanceA (readingValues a).distanceB }
+    ensures { result ≡ staged_with 0 (reading_values a).number (reading_values a).energy (reading_values a).distance_a (reading_values a).distance_b }
 {
     match a {
         Reading::Energy(distance_a, energy, distance_b) => {
@@ -57,7 +57,7 @@ pub(crate) fn stage_pair(
     y: Nearest,
 ) -> Staged
     requires { (offset < 4294967296) × (n ≤ 655362) × NearestBelow n x × NearestBelow n y }
-    ensures { Ready file.now t.energies_start result (readPicks file.now t linear false offset (nearestPick n x y)) }
+    ensures { Ready file.now t.energies_start result (read_picks file.now t linear false offset (nearest_pick n x y)) }
 {
     let start = t.energies_start;
     let count = t.energies;
@@ -89,7 +89,7 @@ pub(crate) fn stage_faces(
     y: Located,
 ) -> Staged
     requires { (offset < 4294967296) × (n ≤ 655362) × LocatedBelow n x × LocatedBelow n y }
-    ensures { Ready file.now t.energies_start result (readPicks file.now t linear true offset (facePick n x y)) }
+    ensures { Ready file.now t.energies_start result (read_picks file.now t linear true offset (face_pick n x y)) }
 {
     let start = t.energies_start;
     let count = t.energies;
@@ -130,7 +130,7 @@ fn nine_terms(
     q: Weights,
 ) -> f64
     requires { RowInside file.now start offset (f.a * n) g × RowInside file.now start offset (f.b * n) g × RowInside file.now start offset (f.c * n) g }
-    ensures { result ≡ faceTerms file.now start offset n f g p q }
+    ensures { result ≡ face_terms file.now start offset n f g p q }
 {
     let a = f.a;
     let b = f.b;
@@ -143,7 +143,7 @@ fn nine_terms(
 // The second stage.
 pub(crate) fn finish(file: &[u8], start: u64, z: Staged) -> Value
     requires { StagedInside file.now start z }
-    ensures { valueIn result ≡ finished file.now start z }
+    ensures { value_in result ≡ finished file.now start z }
 {
     let kind = z.kind;
     let place = z.place;

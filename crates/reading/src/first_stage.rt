@@ -2,13 +2,13 @@
 // places of the energies. It is code of its own: with another caller theirs would no longer be compiled into the single
 // reading, which then takes longer.
 ghost use Rattle.std.specs.Prelude.{◌≡◌, true, false, ◌+◌, ◌*◌, ◌≤◌, ◌<◌, length, take, drop};
-ghost use Rattle.mesh.specs.Levels.{vertexCount, gridSize, verticesBelow, cellOffsetsBelow};
+ghost use Rattle.mesh.specs.Levels.{vertex_count, grid_size, vertices_below, cell_offsets_below};
 ghost use Rattle.search.specs.Geometry.{unit};
-ghost use Rattle.search.specs.Search.{nearestInCells, locateIn, verticesFrom, locatorOf};
+ghost use Rattle.search.specs.Search.{nearest_in_cells, locate_in, vertices_from, locator_of};
 ghost use Rattle.table.specs.File.{entry_of};
-ghost use Rattle.reading.specs.Resolve.{linear, nearestPick, facePick, resolve};
-ghost use Rattle.reading.specs.Reading.{readPicks, searchIn, read_entry, readSlab};
-ghost use Rattle.reading.specs.Internal.{way_of, toward, readResolution, rowsTable, Ready};
+ghost use Rattle.reading.specs.Resolve.{linear, nearest_pick, face_pick, resolve};
+ghost use Rattle.reading.specs.Reading.{read_picks, search_in, read_entry, read_slab};
+ghost use Rattle.reading.specs.Internal.{way_of, toward, read_resolution, rows_table, Ready};
 
 use crate::energies::{stage_faces, stage_pair, staged, staged_answer};
 use crate::gather::part_from;
@@ -33,9 +33,9 @@ fn stage_nearest_in(
     b: Vector3,
 ) -> Staged
     requires { offset < 4294967296 }
-    ensures { Ready file.now t.energies_start result (readPicks file.now t linear false offset (nearestPick (vertexCount level)
-        (nearestInCells cell_offsets.now cell_vertices.now vertices.now (vertexCount level) (gridSize (vertexCount level)) (unit a))
-        (nearestInCells cell_offsets.now cell_vertices.now vertices.now (vertexCount level) (gridSize (vertexCount level)) (unit b)))) }
+    ensures { Ready file.now t.energies_start result (read_picks file.now t linear false offset (nearest_pick (vertex_count level)
+        (nearest_in_cells cell_offsets.now cell_vertices.now vertices.now (vertex_count level) (grid_size (vertex_count level)) (unit a))
+        (nearest_in_cells cell_offsets.now cell_vertices.now vertices.now (vertex_count level) (grid_size (vertex_count level)) (unit b)))) }
 {
     let n = mesh::vertex_count(level);
     let p = search::unit(a);
@@ -59,9 +59,9 @@ fn stage_interpolated_in(
     b: Vector3,
 ) -> Staged
     requires { offset < 4294967296 }
-    ensures { Ready file.now t.energies_start result (readPicks file.now t linear true offset (facePick (vertexCount level)
-        (locateIn (locatorOf cell_offsets.now cell_vertices.now face_offsets.now faces.now) vertices.now (vertexCount level) (gridSize (vertexCount level)) (unit a))
-        (locateIn (locatorOf cell_offsets.now cell_vertices.now face_offsets.now faces.now) vertices.now (vertexCount level) (gridSize (vertexCount level)) (unit b)))) }
+    ensures { Ready file.now t.energies_start result (read_picks file.now t linear true offset (face_pick (vertex_count level)
+        (locate_in (locator_of cell_offsets.now cell_vertices.now face_offsets.now faces.now) vertices.now (vertex_count level) (grid_size (vertex_count level)) (unit a))
+        (locate_in (locator_of cell_offsets.now cell_vertices.now face_offsets.now faces.now) vertices.now (vertex_count level) (grid_size (vertex_count level)) (unit b)))) }
 {
     let n = mesh::vertex_count(level);
     let p = search::unit(a);
@@ -99,10 +99,10 @@ fn stage_nearest(
     a: Vector3,
     b: Vector3,
 ) -> Staged
-    requires { (offset < 4294967296) × (cells ≡ cellOffsetsBelow level) }
-    ensures { Ready file.now t.energies_start result (readPicks file.now t linear false offset (nearestPick (vertexCount level)
-        (nearestInCells (drop (cellOffsetsBelow level) cell_offsets.now) (drop (27 * verticesBelow level) cell_vertices.now) (verticesFrom level vertices.now) (vertexCount level) (gridSize (vertexCount level)) (unit a))
-        (nearestInCells (drop (cellOffsetsBelow level) cell_offsets.now) (drop (27 * verticesBelow level) cell_vertices.now) (verticesFrom level vertices.now) (vertexCount level) (gridSize (vertexCount level)) (unit b)))) }
+    requires { (offset < 4294967296) × (cells ≡ cell_offsets_below level) }
+    ensures { Ready file.now t.energies_start result (read_picks file.now t linear false offset (nearest_pick (vertex_count level)
+        (nearest_in_cells (drop (cell_offsets_below level) cell_offsets.now) (drop (27 * vertices_below level) cell_vertices.now) (vertices_from level vertices.now) (vertex_count level) (grid_size (vertex_count level)) (unit a))
+        (nearest_in_cells (drop (cell_offsets_below level) cell_offsets.now) (drop (27 * vertices_below level) cell_vertices.now) (vertices_from level vertices.now) (vertex_count level) (grid_size (vertex_count level)) (unit b)))) }
 {
     let below = mesh::vertices_below(level);
     let i = part_from(cell_offsets.len(), cells);
@@ -135,9 +135,9 @@ fn stage_interpolated(
     a: Vector3,
     b: Vector3,
 ) -> Staged
-    requires { (offset < 4294967296) × (cells ≡ cellOffsetsBelow level) }
-    ensures { Ready file.now t.energies_start result (readPicks file.now t linear true offset
-        (searchIn vertices.now (locatorOf cell_offsets.now cell_vertices.now face_offsets.now faces.now) (toward a b) level true)) }
+    requires { (offset < 4294967296) × (cells ≡ cell_offsets_below level) }
+    ensures { Ready file.now t.energies_start result (read_picks file.now t linear true offset
+        (search_in vertices.now (locator_of cell_offsets.now cell_vertices.now face_offsets.now faces.now) (toward a b) level true)) }
 {
     let below = mesh::vertices_below(level);
     let i = part_from(cell_offsets.len(), cells);
@@ -176,8 +176,8 @@ fn stage_resolution(
     row: SlabResolution,
 ) -> Staged
     requires { offset < 4294967296 }
-    ensures { Ready file.now t.energies_start result (readResolution file.now t vertices.now
-        (locatorOf cell_offsets.now cell_vertices.now face_offsets.now faces.now)
+    ensures { Ready file.now t.energies_start result (read_resolution file.now t vertices.now
+        (locator_of cell_offsets.now cell_vertices.now face_offsets.now faces.now)
         linear (toward a b) kind offset row) }
 {
     let levels = t.levels;
@@ -237,8 +237,8 @@ fn stage_row(
     at: u64,
 ) -> Staged
     requires { at + 10 ≤ length file.now }
-    ensures { Ready file.now start result (read_entry file.now (rowsTable levels start count) vertices.now
-        (locatorOf cell_offsets.now cell_vertices.now face_offsets.now faces.now)
+    ensures { Ready file.now start result (read_entry file.now (rows_table levels start count) vertices.now
+        (locator_of cell_offsets.now cell_vertices.now face_offsets.now faces.now)
         linear (toward a b) (entry_of (take 10 (drop at file.now)))) }
 {
     let i = at as usize;
@@ -281,8 +281,8 @@ pub(crate) fn stage(
     beta: f64,
     valid: bool,
 ) -> Staged
-    ensures { Ready file.now t.energies_start result (readSlab file.now t vertices.now
-        (locatorOf cell_offsets.now cell_vertices.now face_offsets.now faces.now)
+    ensures { Ready file.now t.energies_start result (read_slab file.now t vertices.now
+        (locator_of cell_offsets.now cell_vertices.now face_offsets.now faces.now)
         (way_of beta) (record { r = r; omega = omega; a = a; b = b }) (resolve valid t.grid (record { r = r; omega = omega; a = a; b = b }))) }
 {
     let g = t.grid;

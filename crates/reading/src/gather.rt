@@ -1,11 +1,11 @@
 // The middle stage: the search of both directions at a level.
 ghost use Rattle.std.specs.Prelude.{◌≡◌, true, false, ◌*◌, ◌≤◌, ◌<◌, drop};
-ghost use Rattle.mesh.specs.Levels.{vertexCount, gridSize, verticesBelow, cellOffsetsBelow};
+ghost use Rattle.mesh.specs.Levels.{vertex_count, grid_size, vertices_below, cell_offsets_below};
 ghost use Rattle.search.specs.Geometry.{unit};
-ghost use Rattle.search.specs.Search.{nearestInCells, locateIn, verticesFrom, locatorOf};
-ghost use Rattle.reading.specs.Resolve.{linear, nearestPick, facePick};
-ghost use Rattle.reading.specs.Reading.{readPicks, searchIn};
-ghost use Rattle.reading.specs.Internal.{way_of, toward, partFrom};
+ghost use Rattle.search.specs.Search.{nearest_in_cells, locate_in, vertices_from, locator_of};
+ghost use Rattle.reading.specs.Resolve.{linear, nearest_pick, face_pick};
+ghost use Rattle.reading.specs.Reading.{read_picks, search_in};
+ghost use Rattle.reading.specs.Internal.{way_of, toward, part_from};
 
 use crate::Reading;
 use crate::combine::{interpolated, nearest};
@@ -25,9 +25,9 @@ fn nearest_in(
     b: Vector3,
 ) -> Reading
     requires { offset < 4294967296 }
-    ensures { result ≡ readPicks file.now t linear false offset (nearestPick (vertexCount level)
-        (nearestInCells cell_offsets.now cell_vertices.now vertices.now (vertexCount level) (gridSize (vertexCount level)) (unit a))
-        (nearestInCells cell_offsets.now cell_vertices.now vertices.now (vertexCount level) (gridSize (vertexCount level)) (unit b))) }
+    ensures { result ≡ read_picks file.now t linear false offset (nearest_pick (vertex_count level)
+        (nearest_in_cells cell_offsets.now cell_vertices.now vertices.now (vertex_count level) (grid_size (vertex_count level)) (unit a))
+        (nearest_in_cells cell_offsets.now cell_vertices.now vertices.now (vertex_count level) (grid_size (vertex_count level)) (unit b))) }
 {
     let n = mesh::vertex_count(level);
     let p = search::unit(a);
@@ -52,9 +52,9 @@ fn interpolated_in(
     beta: f64,
 ) -> Reading
     requires { offset < 4294967296 }
-    ensures { result ≡ readPicks file.now t (way_of beta) true offset (facePick (vertexCount level)
-        (locateIn (locatorOf cell_offsets.now cell_vertices.now face_offsets.now faces.now) vertices.now (vertexCount level) (gridSize (vertexCount level)) (unit a))
-        (locateIn (locatorOf cell_offsets.now cell_vertices.now face_offsets.now faces.now) vertices.now (vertexCount level) (gridSize (vertexCount level)) (unit b))) }
+    ensures { result ≡ read_picks file.now t (way_of beta) true offset (face_pick (vertex_count level)
+        (locate_in (locator_of cell_offsets.now cell_vertices.now face_offsets.now faces.now) vertices.now (vertex_count level) (grid_size (vertex_count level)) (unit a))
+        (locate_in (locator_of cell_offsets.now cell_vertices.now face_offsets.now faces.now) vertices.now (vertex_count level) (grid_size (vertex_count level)) (unit b))) }
 {
     let n = mesh::vertex_count(level);
     let p = search::unit(a);
@@ -82,7 +82,7 @@ fn interpolated_in(
 
 // Where a level's part of a list begins: at its end, where the list is shorter.
 pub(crate) fn part_from(length: usize, at: u64) -> usize
-    ensures { (result ≡ partFrom at length) × (result ≤ length) }
+    ensures { (result ≡ part_from at length) × (result ≤ length) }
 {
     if at < length as u64 {
         return at as usize;
@@ -102,10 +102,10 @@ pub(crate) fn read_nearest(
     a: Vector3,
     b: Vector3,
 ) -> Reading
-    requires { (offset < 4294967296) × (cells ≡ cellOffsetsBelow level) }
-    ensures { result ≡ readPicks file.now t linear false offset (nearestPick (vertexCount level)
-        (nearestInCells (drop (cellOffsetsBelow level) cell_offsets.now) (drop (27 * verticesBelow level) cell_vertices.now) (verticesFrom level vertices.now) (vertexCount level) (gridSize (vertexCount level)) (unit a))
-        (nearestInCells (drop (cellOffsetsBelow level) cell_offsets.now) (drop (27 * verticesBelow level) cell_vertices.now) (verticesFrom level vertices.now) (vertexCount level) (gridSize (vertexCount level)) (unit b))) }
+    requires { (offset < 4294967296) × (cells ≡ cell_offsets_below level) }
+    ensures { result ≡ read_picks file.now t linear false offset (nearest_pick (vertex_count level)
+        (nearest_in_cells (drop (cell_offsets_below level) cell_offsets.now) (drop (27 * vertices_below level) cell_vertices.now) (vertices_from level vertices.now) (vertex_count level) (grid_size (vertex_count level)) (unit a))
+        (nearest_in_cells (drop (cell_offsets_below level) cell_offsets.now) (drop (27 * vertices_below level) cell_vertices.now) (vertices_from level vertices.now) (vertex_count level) (grid_size (vertex_count level)) (unit b))) }
 {
     let below = mesh::vertices_below(level);
     let i = part_from(cell_offsets.len(), cells);
@@ -139,9 +139,9 @@ pub(crate) fn read_interpolated(
     b: Vector3,
     beta: f64,
 ) -> Reading
-    requires { (offset < 4294967296) × (cells ≡ cellOffsetsBelow level) }
-    ensures { result ≡ readPicks file.now t (way_of beta) true offset
-        (searchIn vertices.now (locatorOf cell_offsets.now cell_vertices.now face_offsets.now faces.now) (toward a b) level true) }
+    requires { (offset < 4294967296) × (cells ≡ cell_offsets_below level) }
+    ensures { result ≡ read_picks file.now t (way_of beta) true offset
+        (search_in vertices.now (locator_of cell_offsets.now cell_vertices.now face_offsets.now faces.now) (toward a b) level true) }
 {
     let below = mesh::vertices_below(level);
     let i = part_from(cell_offsets.len(), cells);

@@ -1,10 +1,10 @@
 // Many readings in one call, in two stages of some poses each, so that they wait for memory together.
 ghost use Rattle.std.specs.Prelude.{◌≡◌, true, [], ◌∷◌, ◌+◌, ◌*◌, ◌≤◌, ◌<◌, min, length};
 ghost use Rattle.lists.specs.Lists.{put, joined};
-ghost use Rattle.search.specs.Search.{locatorOf};
-ghost use Rattle.reading.specs.Resolve.{readingValues, wayValid};
-ghost use Rattle.reading.specs.Internal.{way_of, Ready, poseReading};
-ghost use Rattle.reading.specs.Poses.{wayBy, posesHeld, shown, ReadingsOut, readingsOut};
+ghost use Rattle.search.specs.Search.{locator_of};
+ghost use Rattle.reading.specs.Resolve.{reading_values, way_valid};
+ghost use Rattle.reading.specs.Internal.{way_of, Ready, pose_reading};
+ghost use Rattle.reading.specs.Poses.{way_by, poses_held, shown, ReadingsOut, readings_out};
 
 use crate::energies::{finish, staged};
 use crate::first_stage::stage;
@@ -20,7 +20,7 @@ fn least(a: usize, b: usize) -> usize
 
 // How many poses three lists of these lengths have room for.
 fn poses_held(poses: usize, numbers: usize, answers: usize) -> usize
-    ensures { result ≡ posesHeld poses numbers answers }
+    ensures { result ≡ poses_held poses numbers answers }
 {
     let m = least(numbers, answers / 3);
     least(poses / 8, m)
@@ -28,7 +28,7 @@ fn poses_held(poses: usize, numbers: usize, answers: usize) -> usize
 
 // Question 21, put once for all poses.
 fn weighting(beta: &[f64]) -> Weighting
-    ensures { (result.valid ≡ wayValid (wayBy beta.now)) × (result.valid ≡ true → way_of result.beta ≡ wayBy beta.now) }
+    ensures { (result.valid ≡ way_valid (way_by beta.now)) × (result.valid ≡ true → way_of result.beta ≡ way_by beta.now) }
 {
     if beta.len() == 0 {
         return Weighting {
@@ -85,8 +85,8 @@ fn stage_pose(
     i: usize,
 ) -> Staged
     requires { i * 8 + 8 ≤ length poses.now }
-    ensures { Ready file.now t.energies_start result (poseReading file.now t vertices.now
-        (locatorOf cell_offsets.now cell_vertices.now face_offsets.now faces.now)
+    ensures { Ready file.now t.energies_start result (pose_reading file.now t vertices.now
+        (locator_of cell_offsets.now cell_vertices.now face_offsets.now faces.now)
         beta valid poses.now i) }
 {
     let k = i * 8;
@@ -137,10 +137,10 @@ fn read_block(
     answers: &mut [f64],
 )
     requires { (count ≤ 32) × ((from + count) * 8 ≤ length poses.now) × (from + count ≤ length numbers.old) × ((from + count) * 3 ≤ length answers.old) }
-    ensures { (numbers.new ≡ put numbers.old from (joined count (λ k. (readingValues (poseReading file.now t vertices.now
-        (locatorOf cell_offsets.now cell_vertices.now face_offsets.now faces.now) beta valid poses.now (from + k))).number ∷ [])))
-        × (answers.new ≡ put answers.old (from * 3) (joined count (λ k. shown (readingValues (poseReading file.now t vertices.now
-        (locatorOf cell_offsets.now cell_vertices.now face_offsets.now faces.now) beta valid poses.now (from + k)))))) }
+    ensures { (numbers.new ≡ put numbers.old from (joined count (λ k. (reading_values (pose_reading file.now t vertices.now
+        (locator_of cell_offsets.now cell_vertices.now face_offsets.now faces.now) beta valid poses.now (from + k))).number ∷ [])))
+        × (answers.new ≡ put answers.old (from * 3) (joined count (λ k. shown (reading_values (pose_reading file.now t vertices.now
+        (locator_of cell_offsets.now cell_vertices.now face_offsets.now faces.now) beta valid poses.now (from + k)))))) }
 {
     let start = t.energies_start;
     let none = staged(0, 0, 0.0, 0.0, 0.0);
@@ -196,9 +196,9 @@ pub fn lookup_all(
 ) -> u64
     ensures { ◌≡◌ {A = ReadingsOut}
         (record { count = result; numbers = numbers.new; answers = answers.new })
-        (readingsOut file.now t vertices.now
-        (locatorOf cell_offsets.now cell_vertices.now face_offsets.now faces.now)
-        (wayBy beta.now) poses.now numbers.old answers.old) }
+        (readings_out file.now t vertices.now
+        (locator_of cell_offsets.now cell_vertices.now face_offsets.now faces.now)
+        (way_by beta.now) poses.now numbers.old answers.old) }
 {
     let n = poses_held(poses.len(), numbers.len(), answers.len());
     let w = weighting(beta);

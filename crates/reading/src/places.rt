@@ -1,12 +1,12 @@
 // Places of rows and energies in a file. Counts and starts are any numbers that a host hands in, so nothing is added up before it is known to fit.
 ghost use Rattle.std.specs.Prelude.{◌≡◌, ◌+◌, ◌*◌, ◌≤◌, min, length};
 ghost use Rattle.table.specs.Bytes.{number_at};
-ghost use Rattle.reading.specs.Internal.{itemsInside};
+ghost use Rattle.reading.specs.Internal.{items_inside};
 
 // How many of `count` items, w bytes each from byte `start` on, are inside a file of `length` bytes.
 pub(crate) fn items_inside(start: u64, w: u64, count: u64, length: u64) -> u64
     requires { 1 ≤ w }
-    ensures { result ≡ itemsInside start w count length }
+    ensures { result ≡ items_inside start w count length }
 {
     if length <= start {
         return 0;

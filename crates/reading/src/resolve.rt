@@ -1,13 +1,13 @@
 // What a reading asks first: question 18, and whether the distance is outside.
 ghost use Rattle.std.specs.Prelude.{◌≡◌};
-ghost use Rattle.reading.specs.Resolve.{queryValid, outside};
+ghost use Rattle.reading.specs.Resolve.{query_valid, outside};
 
 use search::Vector3;
 use table::Table;
 
 // Question 18.
 pub(crate) fn query_valid(r: f64, omega: f64, a: Vector3, b: Vector3) -> bool
-    ensures { result ≡ queryValid (record { r = r; omega = omega; a = a; b = b }) }
+    ensures { result ≡ query_valid (record { r = r; omega = omega; a = a; b = b }) }
 {
     !(r != r) & (ieee::is_finite(omega) & (search::length_valid(a) & search::length_valid(b)))
 }

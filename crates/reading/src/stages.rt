@@ -1,10 +1,10 @@
 // A reading: the stages in their order.
 ghost use Rattle.std.specs.Prelude.{◌≡◌, true, ◌+◌, ◌≤◌, ◌<◌, length, take, drop};
-ghost use Rattle.search.specs.Search.{locatorOf};
+ghost use Rattle.search.specs.Search.{locator_of};
 ghost use Rattle.table.specs.File.{entry_of};
-ghost use Rattle.reading.specs.Resolve.{boltzmann, readingValues, readingNumbered};
-ghost use Rattle.reading.specs.Reading.{read_entry, readingBy, readingOut};
-ghost use Rattle.reading.specs.Internal.{way_of, toward, readResolution, rowsTable};
+ghost use Rattle.reading.specs.Resolve.{boltzmann, reading_values, reading_numbered};
+ghost use Rattle.reading.specs.Reading.{read_entry, reading_by, reading_out};
+ghost use Rattle.reading.specs.Internal.{way_of, toward, read_resolution, rows_table};
 
 use crate::Reading;
 use crate::gather::{read_interpolated, read_nearest};
@@ -32,8 +32,8 @@ fn read_resolution(
     row: SlabResolution,
 ) -> Reading
     requires { offset < 4294967296 }
-    ensures { result ≡ readResolution file.now t vertices.now
-        (locatorOf cell_offsets.now cell_vertices.now face_offsets.now faces.now)
+    ensures { result ≡ read_resolution file.now t vertices.now
+        (locator_of cell_offsets.now cell_vertices.now face_offsets.now faces.now)
         (way_of beta) (toward a b) kind offset row }
 {
     let levels = t.levels;
@@ -81,7 +81,7 @@ fn read_resolution(
 
 // A table of which a row's answer asks no more than these three numbers.
 pub(crate) fn rows_table(levels: u64, start: u64, count: u64) -> Table
-    ensures { result ≡ rowsTable levels start count }
+    ensures { result ≡ rows_table levels start count }
 {
     Table {
         grid: Grid {
@@ -129,8 +129,8 @@ pub(crate) fn read_row(
     at: u64,
 ) -> Reading
     requires { at + 10 ≤ length file.now }
-    ensures { result ≡ read_entry file.now (rowsTable levels start count) vertices.now
-        (locatorOf cell_offsets.now cell_vertices.now face_offsets.now faces.now)
+    ensures { result ≡ read_entry file.now (rows_table levels start count) vertices.now
+        (locator_of cell_offsets.now cell_vertices.now face_offsets.now faces.now)
         (way_of beta) (toward (record { x = ax; y = ay; z = az }) (record { x = bx; y = by; z = bz })) (entry_of (take 10 (drop at file.now))) }
 {
     let a = Vector3 {
@@ -183,8 +183,8 @@ pub fn lookup(
     a: Vector3,
     b: Vector3,
 ) -> Reading
-    ensures { (readingNumbered result ≡ true) × readingValues result ≡ readingOut file.now t vertices.now
-        (locatorOf cell_offsets.now cell_vertices.now face_offsets.now faces.now)
+    ensures { (reading_numbered result ≡ true) × reading_values result ≡ reading_out file.now t vertices.now
+        (locator_of cell_offsets.now cell_vertices.now face_offsets.now faces.now)
         (record { r = r; omega = omega; a = a; b = b }) }
 {
     let g = t.grid;
@@ -246,8 +246,8 @@ pub fn lookup_boltzmann(
     b: Vector3,
     beta: f64,
 ) -> Reading
-    ensures { (readingNumbered result ≡ true) × readingValues result ≡ readingBy file.now t vertices.now
-        (locatorOf cell_offsets.now cell_vertices.now face_offsets.now faces.now)
+    ensures { (reading_numbered result ≡ true) × reading_values result ≡ reading_by file.now t vertices.now
+        (locator_of cell_offsets.now cell_vertices.now face_offsets.now faces.now)
         (boltzmann beta) (record { r = r; omega = omega; a = a; b = b }) }
 {
     let g = t.grid;

@@ -3,8 +3,8 @@ use Rattle.std.specs.Prelude.{◌≡◌, true, List, ℕ, ◌+◌, ◌*◌, ◌�
 use Rattle.lists.specs.Lists.{every}
 use Rattle.table.specs.Bytes.{items}
 use Rattle.table.specs.File.{Entry, entry_of}
-use Rattle.table.specs.Read.{rowItems}
-use Rattle.table.specs.Internal.{endsBelow}
+use Rattle.table.specs.Read.{row_items}
+use Rattle.table.specs.Internal.{ends_below}
 use Rattle.table.specs.declared.Table.{Table}
 use Rattle.repack.specs.Repack.{total}
 
@@ -16,5 +16,5 @@ rows_at file at n = items entry_of 10 file at n
 pub record Loose (file : List ℕ) (y n z k : ℕ) : Type 0 where
   pub rows : z ≡ y + n * 10 + 4
   pub energies : z + k * 4 ≤ length file
-  pub inside : every (endsBelow k) (rows_at file y n) ≡ true
+  pub inside : every (ends_below k) (rows_at file y n) ≡ true
   pub few : total (rows_at file y n) ≤ 4294967295

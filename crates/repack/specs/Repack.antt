@@ -5,8 +5,8 @@ use Rattle.lists.specs.Lists.{put}
 use Rattle.mesh.specs.Levels.{per}
 use Rattle.table.specs.Bytes.{bytes_of}
 use Rattle.table.specs.File.{Entry, entry_of}
-use Rattle.table.specs.Read.{layout, tableOf, rowItems}
-use Rattle.table.specs.Loose.{looseRefusal}
+use Rattle.table.specs.Read.{layout, table_of, row_items}
+use Rattle.table.specs.Loose.{loose_refusal}
 use Rattle.table.specs.declared.Table.{Table}
 use Rattle.repack.specs.declared.Repacked.{Repacked}
 use Rattle.repack.specs.declared.Repacked.TheVariants.{Accepted as Packs, Refused as NotPacked}
@@ -17,14 +17,14 @@ pub record RepackedValues : Type 0 where
   pub length : ℕ
   pub moved : ℕ
 
-abbrev pub repackedValues : Repacked → RepackedValues
-repackedValues (Packs n k) = record { number = 0; length = n; moved = k }
-repackedValues (NotPacked n) = record { number = n; length = 0; moved = 0 }
+abbrev pub repacked_values : Repacked → RepackedValues
+repacked_values (Packs n k) = record { number = 0; length = n; moved = k }
+repacked_values (NotPacked n) = record { number = n; length = 0; moved = 0 }
 
 -- a refusal has a number: 0 is acceptance alone
-abbrev pub repackedNumbered : Repacked → Bool
-repackedNumbered (Packs n k) = true
-repackedNumbered (NotPacked n) = not (eqb n 0)
+abbrev pub repacked_numbered : Repacked → Bool
+repacked_numbered (Packs n k) = true
+repacked_numbered (NotPacked n) = not (eqb n 0)
 
 -- ---- the packed places
 
@@ -46,10 +46,10 @@ placed o [] = []
 placed o (r ∷ rs) = moved_to o r ∷ placed (o + held r) rs
 
 -- "the number of rows whose offset is now another" (S23.5)
-unfoldable pub otherOffsets : List Entry → List Entry → ℕ
-otherOffsets [] ss = 0
-otherOffsets (r ∷ rs) [] = 0
-otherOffsets (r ∷ rs) (s ∷ ss) = cond (eqb r.offset s.offset) 0 1 + otherOffsets rs ss
+unfoldable pub other_offsets : List Entry → List Entry → ℕ
+other_offsets [] ss = 0
+other_offsets (r ∷ rs) [] = 0
+other_offsets (r ∷ rs) (s ∷ ss) = cond (eqb r.offset s.offset) 0 1 + other_offsets rs ss
 
 -- ---- the bytes
 
@@ -61,9 +61,9 @@ new_row file at o =
     (take 2 (drop at file) ++ (bytes_of 4 o ++ take 4 (drop (at + 6) file)))
 
 -- n rows from a byte on
-unfoldable pub newRows : List ℕ → ℕ → ℕ → ℕ → List ℕ
-newRows file at zero o = []
-newRows file at (suc n) o = new_row file at o ++ newRows file (at + 10) n (o + held (entry_of (take 10 (drop at file))))
+unfoldable pub new_rows : List ℕ → ℕ → ℕ → ℕ → List ℕ
+new_rows file at zero o = []
+new_rows file at (suc n) o = new_row file at o ++ new_rows file (at + 10) n (o + held (entry_of (take 10 (drop at file))))
 
 -- "copy each Mesh row's energies to its packed place": section 5 starting at byte z
 unfoldable pub parts : List ℕ → ℕ → List Entry → List ℕ
@@ -73,9 +73,9 @@ parts file z (r ∷ rs) = take (held r * 4) (drop (z + r.offset * 4) file) ++ pa
 -- "with all outside section 5, its count and these rows' offsets unchanged": up to the rows, the rows, the count and the energies, and what follows section 5 (S23.4)
 unfoldable pub repacked : List ℕ → Table → List ℕ
 repacked file t =
-    let rs = rowItems file t in
+    let rs = row_items file t in
     take t.rows_start file
-    ++ (newRows file t.rows_start t.rows 0
+    ++ (new_rows file t.rows_start t.rows 0
     ++ (bytes_of 4 (total rs)
     ++ (parts file t.energies_start rs
     ++ drop (t.energies_start + t.energies * 4) file)))
@@ -83,8 +83,8 @@ repacked file t =
 -- ---- the whole
 
 -- 13, 14, 15, "25, in the place of 16", 17, 23; "Question 12 is put to the output last" (S23.2)
-unfoldable pub repackRefusal : List ℕ → Table → ℕ → ℕ
-repackRefusal file t room = first (looseRefusal file (layout file) t) (ask (leb (length (repacked file t)) room) 12 0)
+unfoldable pub repack_refusal : List ℕ → Table → ℕ → ℕ
+repack_refusal file t room = first (loose_refusal file (layout file) t) (ask (leb (length (repacked file t)) room) 12 0)
 
 -- what repack leaves: the file, which it does not alter, and the output
 pub record RepackOut : Type 0 where
@@ -92,12 +92,12 @@ pub record RepackOut : Type 0 where
   pub output : List ℕ
 
 -- bytes of the output beyond the new file stay
-unfoldable pub repackOut : List ℕ → List ℕ → RepackOut
-repackOut file out =
-    let t = tableOf file (layout file) in
+unfoldable pub repack_out : List ℕ → List ℕ → RepackOut
+repack_out file out =
+    let t = table_of file (layout file) in
     let g = repacked file t in
-    let rs = rowItems file t in
-    let r = repackRefusal file t (length out) in
+    let rs = row_items file t in
+    let r = repack_refusal file t (length out) in
     cond (eqb r 0)
-    (record { answer = repackedValues (Packs (length g) (otherOffsets rs (placed 0 rs))); output = put out 0 g })
-    (record { answer = repackedValues (NotPacked r); output = out })
+    (record { answer = repacked_values (Packs (length g) (other_offsets rs (placed 0 rs))); output = put out 0 g })
+    (record { answer = repacked_values (NotPacked r); output = out })

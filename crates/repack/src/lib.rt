@@ -1,8 +1,8 @@
 // A loosely packed table file made a packed one: each Mesh row's energies are copied to its packed place in a second buffer.
 ghost use Rattle.std.specs.Prelude.{◌≡◌, true};
-ghost use Rattle.table.specs.Read.{layout, tableOf};
-ghost use Rattle.table.specs.Loose.{looseRefusal};
-ghost use Rattle.repack.specs.Repack.{RepackOut, repackedValues, repackedNumbered, repackOut};
+ghost use Rattle.table.specs.Read.{layout, table_of};
+ghost use Rattle.table.specs.Loose.{loose_refusal};
+ghost use Rattle.repack.specs.Repack.{RepackOut, repacked_values, repacked_numbered, repack_out};
 
 use table::{ReadAnswer, Table};
 
@@ -20,9 +20,9 @@ pub enum Repacked {
 
 // Question 12, then the packed file of a file whose other questions were answered yes.
 fn repack_table(file: &[u8], t: Table, output: &mut [u8]) -> Repacked
-    requires { (t ≡ tableOf file.now (layout file.now)) × (looseRefusal file.now (layout file.now) t ≡ 0) }
-    ensures { (repackedNumbered result ≡ true) × ◌≡◌ {A = RepackOut}
-        (record { answer = repackedValues result; output = output.new }) (repackOut file.now output.old) }
+    requires { (t ≡ table_of file.now (layout file.now)) × (loose_refusal file.now (layout file.now) t ≡ 0) }
+    ensures { (repacked_numbered result ≡ true) × ◌≡◌ {A = RepackOut}
+        (record { answer = repacked_values result; output = output.new }) (repack_out file.now output.old) }
 {
     let start = t.rows_start;
     let rows = t.rows;
@@ -41,8 +41,8 @@ fn repack_table(file: &[u8], t: Table, output: &mut [u8]) -> Repacked
 
 // Repacks a file: the questions 13, 14, 15, 25, 17, 23, then 12.
 pub fn repack(file: &[u8], output: &mut [u8]) -> Repacked
-    ensures { (repackedNumbered result ≡ true) × ◌≡◌ {A = RepackOut}
-        (record { answer = repackedValues result; output = output.new }) (repackOut file.now output.old) }
+    ensures { (repacked_numbered result ≡ true) × ◌≡◌ {A = RepackOut}
+        (record { answer = repacked_values result; output = output.new }) (repack_out file.now output.old) }
 {
     match table::read_loose(file) {
         ReadAnswer::Accepted(t) => repack_table(file, t, output),

@@ -3,8 +3,8 @@ ghost use Rattle.std.specs.Prelude.{◌≡◌, true, cond, ◌||◌, ◌++◌, �
 ghost use Rattle.lists.specs.Lists.{put, every};
 ghost use Rattle.mesh.specs.Levels.{per};
 ghost use Rattle.table.specs.Bytes.{bytes_of};
-ghost use Rattle.table.specs.Internal.{endsBelow};
-ghost use Rattle.repack.specs.Repack.{total, placed, otherOffsets, new_row, newRows, parts};
+ghost use Rattle.table.specs.Internal.{ends_below};
+ghost use Rattle.repack.specs.Repack.{total, placed, other_offsets, new_row, new_rows, parts};
 ghost use Rattle.repack.specs.Internal.{rows_at, Loose};
 
 use crate::bytes::{copy, put_u32, u32_inside};
@@ -49,7 +49,7 @@ fn row_moved(kind: u8, offset: u32, o: u64) -> u64
 // How many of n rows have another offset once they are packed.
 pub(crate) fn rows_moved(file: &[u8], start: u64, n: u64) -> u64
     requires { (start + n * 10 ≤ length file.now) × (total (rows_at file.now start n) ≤ 4294967295) }
-    ensures { result ≡ otherOffsets (rows_at file.now start n) (placed 0 (rows_at file.now start n)) }
+    ensures { result ≡ other_offsets (rows_at file.now start n) (placed 0 (rows_at file.now start n)) }
 {
     let mut at = start;
     let mut left = n;
@@ -86,7 +86,7 @@ fn put_row(file: &[u8], at: u64, o: u32, out: &mut [u8], to: u64)
 // n rows with their packed places, where they stand in the file.
 fn put_rows(file: &[u8], start: u64, n: u64, out: &mut [u8])
     requires { (start + n * 10 ≤ length file.now) × (start + n * 10 ≤ length out.old) × (total (rows_at file.now start n) ≤ 4294967295) }
-    ensures { out.new ≡ put out.old start (newRows file.now start n 0) }
+    ensures { out.new ≡ put out.old start (new_rows file.now start n 0) }
 {
     let mut at = start;
     let mut left = n;
@@ -115,7 +115,7 @@ fn put_part(file: &[u8], from: u64, offset: u32, e: u64, out: &mut [u8], to: u64
 
 // The energies of n rows, one row's after another's; those of the file, k in all, start at byte `from`.
 fn put_parts(file: &[u8], start: u64, n: u64, from: u64, k: u64, out: &mut [u8], to: u64)
-    requires { (start + n * 10 ≤ length file.now) × (from + k * 4 ≤ length file.now) × (every (endsBelow k) (rows_at file.now start n) ≡ true)
+    requires { (start + n * 10 ≤ length file.now) × (from + k * 4 ≤ length file.now) × (every (ends_below k) (rows_at file.now start n) ≡ true)
         × (to + total (rows_at file.now start n) * 4 ≤ length out.old) }
     ensures { out.new ≡ put out.old to (parts file.now from (rows_at file.now start n)) }
 {
@@ -138,7 +138,7 @@ fn put_parts(file: &[u8], start: u64, n: u64, from: u64, k: u64, out: &mut [u8],
 // What stands before section 5: all but the Mesh rows' offsets is the file's.
 fn put_before(file: &[u8], start: u64, n: u64, out: &mut [u8])
     requires { (start + n * 10 ≤ length file.now) × (start + n * 10 ≤ length out.old) × (total (rows_at file.now start n) ≤ 4294967295) }
-    ensures { out.new ≡ put out.old 0 (take start file.now ++ newRows file.now start n 0) }
+    ensures { out.new ≡ put out.old 0 (take start file.now ++ new_rows file.now start n 0) }
 {
     copy(file, 0, start, out, 0);
     put_rows(file, start, n, out);
@@ -159,7 +159,7 @@ fn put_after(file: &[u8], start: u64, n: u64, from: u64, k: u64, e: u64, out: &m
 // The packed file, of e energies.
 pub(crate) fn put_packed(file: &[u8], start: u64, n: u64, from: u64, k: u64, e: u64, out: &mut [u8])
     requires { Loose file.now start n from k × (e ≡ total (rows_at file.now start n)) × (from + e * 4 + (length file.now - (from + k * 4)) ≤ length out.old) }
-    ensures { out.new ≡ put out.old 0 (take start file.now ++ (newRows file.now start n 0
+    ensures { out.new ≡ put out.old 0 (take start file.now ++ (new_rows file.now start n 0
         ++ (bytes_of 4 e ++ (parts file.now from (rows_at file.now start n) ++ drop (from + k * 4) file.now)))) }
 {
     put_before(file, start, n, out);

@@ -23,10 +23,10 @@ kind_of (Scalar x) = 0
 kind_of (Mesh v b) = cond b 3 2
 kind_of Repulsive = 1
 
-abbrev pub levelOf : SlabResolution → ℕ
-levelOf (Scalar x) = 0
-levelOf (Mesh v b) = v
-levelOf Repulsive = 0
+abbrev pub level_of : SlabResolution → ℕ
+level_of (Scalar x) = 0
+level_of (Mesh v b) = v
+level_of Repulsive = 0
 
 -- the scalar's bits, those of a NaN being 7FC00000
 abbrev pub value_of : SlabResolution → ℕ
@@ -35,26 +35,26 @@ value_of (Mesh v b) = 0
 value_of Repulsive = 0
 
 -- the row that three numbers are, the kind being a known one
-unfoldable pub resolutionOf : ℕ → ℕ → ℕ → SlabResolution
-resolutionOf k v x = cond (eqb k 0) (Scalar (of_bits binary32 x)) (cond (eqb k 1) Repulsive (Mesh v (eqb k 3)))
+unfoldable pub resolution_of : ℕ → ℕ → ℕ → SlabResolution
+resolution_of k v x = cond (eqb k 0) (Scalar (of_bits binary32 x)) (cond (eqb k 1) Repulsive (Mesh v (eqb k 3)))
 
-unfoldable pub resolutionAt : Rows → ℕ → SlabResolution
-resolutionAt r s = resolutionOf (get_or r.kinds s 0) (get_or r.levels s 0) (get_or r.values s 0)
+unfoldable pub resolution_at : Rows → ℕ → SlabResolution
+resolution_at r s = resolution_of (get_or r.kinds s 0) (get_or r.levels s 0) (get_or r.values s 0)
 
 -- row s replaced: all three of its numbers
 unfoldable pub replaced : Rows → ℕ → SlabResolution → Rows
-replaced r s x = record { kinds = set r.kinds s (kind_of x); levels = set r.levels s (levelOf x); values = set r.values s (value_of x) }
+replaced r s x = record { kinds = set r.kinds s (kind_of x); levels = set r.levels s (level_of x); values = set r.values s (value_of x) }
 
 -- the kind and level part of 15: "Has each row a known kind, a held level if it is Mesh", levels being held up to the top
 unfoldable pub known : ℕ → ℕ → ℕ → Bool
 known top k v = leb k 1 || (leb k 3 && leb v top)
 
-abbrev pub rowKnown : ℕ → Rows → ℕ → Bool
-rowKnown top r s = known top (get_or r.kinds s 0) (get_or r.levels s 0)
+abbrev pub row_known : ℕ → Rows → ℕ → Bool
+row_known top r s = known top (get_or r.kinds s 0) (get_or r.levels s 0)
 
 -- 6, of the three lists (S5.6)
-unfoldable pub rowRoom : ℕ → ℕ → ℕ → ℕ → Bool
-rowRoom n kinds levels values = leb n kinds && (leb n levels && leb n values)
+unfoldable pub row_room : ℕ → ℕ → ℕ → ℕ → Bool
+row_room n kinds levels values = leb n kinds && (leb n levels && leb n values)
 
 -- ---- with its energies
 
@@ -64,17 +64,17 @@ pub data Row (A : Type 0) : Type 0 where
   repulsive : Row A
   mesh : ℕ → Bool → List A → Row A
 
-abbrev pub rowWith : SlabResolution → List Float → Row Float
-rowWith (Scalar x) e = scalar x
-rowWith (Mesh v b) e = mesh v b e
-rowWith Repulsive e = repulsive
+abbrev pub row_with : SlabResolution → List Float → Row Float
+row_with (Scalar x) e = scalar x
+row_with (Mesh v b) e = mesh v b e
+row_with Repulsive e = repulsive
 
 -- "each energy's bits after narrowing to f32"
-abbrev pub narrowBits : Float → ℕ
-narrowBits e = to_bits binary32 (narrowed e)
+abbrev pub narrow_bits : Float → ℕ
+narrow_bits e = to_bits binary32 (narrowed e)
 
 -- "Rows compare by kind, level, flag, scalar bits and each energy's bits after narrowing to f32": what is compared (S4.15)
 abbrev pub compared : Row Float → Row ℕ
 compared (scalar x) = scalar (to_bits binary32 x)
 compared repulsive = repulsive
-compared (mesh v b e) = mesh v b (map narrowBits e)
+compared (mesh v b e) = mesh v b (map narrow_bits e)

@@ -6,20 +6,20 @@ use Rattle.rows.specs.Rows.{Rows, rows_of}
 unfoldable pub word_of : ℕ → ℕ → ℕ → ℕ
 word_of kind level value = value + level * 4294967296 + kind * 1099511627776
 
-unfoldable pub wordValue : ℕ → ℕ
-wordValue w = w % 4294967296
+unfoldable pub word_value : ℕ → ℕ
+word_value w = w % 4294967296
 
-unfoldable pub wordLevel : ℕ → ℕ
-wordLevel w = w / 4294967296 % 256
+unfoldable pub word_level : ℕ → ℕ
+word_level w = w / 4294967296 % 256
 
 -- all above the level: "A word whose rest is not 0 counts as an unknown kind", since no kind from 256 on is known (S25.2)
-unfoldable pub wordKind : ℕ → ℕ
-wordKind w = w / 1099511627776
+unfoldable pub word_kind : ℕ → ℕ
+word_kind w = w / 1099511627776
 
 -- "In the place of document 01's three": the lists of numbers that a list of words stands for (S25.3)
-unfoldable pub wordRows : List ℕ → Rows
-wordRows words = rows_of (map wordKind words) (map wordLevel words) (map wordValue words)
+unfoldable pub word_rows : List ℕ → Rows
+word_rows words = rows_of (map word_kind words) (map word_level words) (map word_value words)
 
 -- rows in either form: as words, or in three lists
 unfoldable pub rows_by : Bool → List ℕ → List ℕ → List ℕ → List ℕ → Rows
-rows_by worded words kinds levels values = cond worded (wordRows words) (rows_of kinds levels values)
+rows_by worded words kinds levels values = cond worded (word_rows words) (rows_of kinds levels values)

@@ -1,6 +1,6 @@
 // A slab's row: an enum, three numbers in lent lists, or a word in one.
 ghost use Rattle.std.specs.Prelude.{◌≡◌, get_or, set};
-ghost use Rattle.rows.specs.Rows.{Rows, kind_of, levelOf, value_of, resolutionOf, resolutionAt, replaced, known, rows_of};
+ghost use Rattle.rows.specs.Rows.{Rows, kind_of, level_of, value_of, resolution_of, resolution_at, replaced, known, rows_of};
 
 mod words;
 
@@ -29,7 +29,7 @@ pub fn kind_of(x: SlabResolution) -> u8
 }
 
 pub fn level_of(x: SlabResolution) -> u8
-    ensures { result ≡ levelOf x }
+    ensures { result ≡ level_of x }
 {
     match x {
         SlabResolution::Scalar(_) => 0,
@@ -50,7 +50,7 @@ pub fn value_of(x: SlabResolution) -> u32
 
 // The row that three numbers are, the kind being a known one.
 pub fn resolution_of(kind: u8, level: u8, value: u32) -> SlabResolution
-    ensures { result ≡ resolutionOf kind level value }
+    ensures { result ≡ resolution_of kind level value }
 {
     if kind == 0 {
         return SlabResolution::Scalar(bits::float32(value));
@@ -91,7 +91,7 @@ fn word_at(list: &[u32], s: u64) -> u32
 
 // The row of slab s; beyond the lists their entries count as 0.
 pub fn resolution_at(kinds: &[u8], levels: &[u8], values: &[u32], s: u64) -> SlabResolution
-    ensures { result ≡ resolutionAt (rows_of kinds.now levels.now values.now) s }
+    ensures { result ≡ resolution_at (rows_of kinds.now levels.now values.now) s }
 {
     resolution_of(byte_at(kinds, s), byte_at(levels, s), word_at(values, s))
 }

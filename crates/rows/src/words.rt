@@ -1,7 +1,7 @@
 // A slab's row as one number in a lent list: its value, its level, and its kind with whatever stands above it.
 ghost use Rattle.std.specs.Prelude.{◌≡◌, get_or, set};
-ghost use Rattle.rows.specs.Rows.{Rows, resolutionOf, resolutionAt, replaced, known, rowKnown};
-ghost use Rattle.rows.specs.Words.{word_of, wordValue, wordLevel, wordKind, wordRows, rows_by};
+ghost use Rattle.rows.specs.Rows.{Rows, resolution_of, resolution_at, replaced, known, row_known};
+ghost use Rattle.rows.specs.Words.{word_of, word_value, word_level, word_kind, word_rows, rows_by};
 
 use crate::SlabResolution;
 
@@ -13,20 +13,20 @@ pub fn word_of(kind: u8, level: u8, value: u32) -> u64
 }
 
 pub fn word_value(w: u64) -> u32
-    ensures { result ≡ wordValue w }
+    ensures { result ≡ word_value w }
 {
     (w % 4294967296) as u32
 }
 
 pub fn word_level(w: u64) -> u8
-    ensures { result ≡ wordLevel w }
+    ensures { result ≡ word_level w }
 {
     (w / 4294967296 % 256) as u8
 }
 
 // All above the level: with a rest it is no known kind.
 pub fn word_kind(w: u64) -> u64
-    ensures { result ≡ wordKind w }
+    ensures { result ≡ word_kind w }
 {
     w / 1099511627776
 }
@@ -53,7 +53,7 @@ fn put_long(list: &mut [u64], s: u64, x: u64)
 
 // The row that a word is, its kind being a known one.
 fn word_resolution(w: u64) -> SlabResolution
-    ensures { result ≡ resolutionOf (wordKind w) (wordLevel w) (wordValue w) }
+    ensures { result ≡ resolution_of (word_kind w) (word_level w) (word_value w) }
 {
     let kind = word_kind(w);
     if kind == 0 {
@@ -67,14 +67,14 @@ fn word_resolution(w: u64) -> SlabResolution
 
 // The row of slab s; beyond the list its words count as 0.
 pub fn resolution_in(words: &[u64], s: u64) -> SlabResolution
-    ensures { result ≡ resolutionAt (wordRows words.now) s }
+    ensures { result ≡ resolution_at (word_rows words.now) s }
 {
     word_resolution(long_at(words, s))
 }
 
 // Replaces the row of slab s; nothing is written beyond the list.
 pub fn replace_in(words: &mut [u64], s: u64, x: SlabResolution)
-    ensures { ◌≡◌ {A = Rows} (wordRows words.new) (replaced (wordRows words.old) s x) }
+    ensures { ◌≡◌ {A = Rows} (word_rows words.new) (replaced (word_rows words.old) s x) }
 {
     put_long(
         words,
@@ -85,7 +85,7 @@ pub fn replace_in(words: &mut [u64], s: u64, x: SlabResolution)
 
 // The kind and level part of question 15, of a word.
 fn word_known(top: u64, w: u64) -> bool
-    ensures { result ≡ known top (wordKind w) (wordLevel w) }
+    ensures { result ≡ known top (word_kind w) (word_level w) }
 {
     let kind = word_kind(w);
     (kind <= 1) | ((kind <= 3) & (word_level(w) as u64 <= top))
@@ -93,7 +93,7 @@ fn word_known(top: u64, w: u64) -> bool
 
 // The kind and level part of question 15, of slab s.
 pub fn known_in(top: u64, words: &[u64], s: u64) -> bool
-    ensures { result ≡ rowKnown top (wordRows words.now) s }
+    ensures { result ≡ row_known top (word_rows words.now) s }
 {
     word_known(top, long_at(words, s))
 }
@@ -107,7 +107,7 @@ pub fn resolution_by(
     values: &[u32],
     s: u64,
 ) -> SlabResolution
-    ensures { result ≡ resolutionAt (rows_by worded words.now kinds.now levels.now values.now) s }
+    ensures { result ≡ resolution_at (rows_by worded words.now kinds.now levels.now values.now) s }
 {
     if worded {
         return resolution_in(words, s);
@@ -124,7 +124,7 @@ pub fn known_by(
     values: &[u32],
     s: u64,
 ) -> bool
-    ensures { result ≡ rowKnown top (rows_by worded words.now kinds.now levels.now values.now) s }
+    ensures { result ≡ row_known top (rows_by worded words.now kinds.now levels.now values.now) s }
 {
     if worded {
         return known_in(top, words, s);

@@ -16,10 +16,10 @@ use borrow.Author.Tests.{le-ltb, ltb-false}
 use Rattle.ieee.specs.Fused.{fused}
 use Rattle.float.specs.Order.{magnitude}
 use Rattle.float.specs.Whole.{integral}
-use Rattle.mesh.specs.Levels.{cellCount}
+use Rattle.mesh.specs.Levels.{cell_count}
 use Rattle.search.specs.Geometry as geometry
-use Rattle.search.specs.Geometry.{minus, one, cubeFace, cubeProject, inCells, clamp, cellCoordinate, cellIndex}
-use Rattle.search.specs.Cells.{cellNumber}
+use Rattle.search.specs.Geometry.{minus, one, cube_face, cube_project, in_cells, clamp, cell_coordinate, cell_index}
+use Rattle.search.specs.Cells.{cell_number}
 use Rattle.search.specs.declared.Vector3.{Vector3}
 
 -- ---- a number that is not negative and at most b
@@ -39,31 +39,31 @@ unfolding odd
 odd-plain d zero k l = refl
 odd-plain d (suc q) k l = refl
 
-units-plain : (q k : ℕ) → Plain (units binary64 false q k)
+units_plain : (q k : ℕ) → Plain (units binary64 false q k)
 unfolding units
-units-plain q k = either (ltb (q * 2 ^ k) (2 ^ 2098))
+units_plain q k = either (ltb (q * 2 ^ k) (2 ^ 2098))
   where
     either : (t : Bool) → Plain (cond t (odd 54 false q k 1074) (inf false))
     either true = odd-plain 54 q k 1074
     either false = refl
 
-round-plain : (a c : ℕ) → Plain (round binary64 false a c)
+round_plain : (a c : ℕ) → Plain (round binary64 false a c)
 unfolding round
-round-plain a c =
+round_plain a c =
     let n = a * 2 ^ 1074 in
     let k = size (n / c) - 53 in
     let u = c * 2 ^ k in
-    units-plain (nearest (n / u) (compare (n % u * 2) u)) k
+    units_plain (nearest (n / u) (compare (n % u * 2) u)) k
 
 whole_le : (m b : ℕ) (e : ℤ) → m * up e ≤ b * down e → m * up e / down e ≤ b
 whole_le m b e h = div-le_of_le-mul (down e) (le_trans h (le_of_eq (mul_comm b (down e))))
 
-cast-le : (x : Float) (b : ℕ) → Under x b → to_unsigned 64 x ≤ b
+cast_le : (x : Float) (b : ℕ) → Under x b → to_unsigned 64 x ≤ b
 unfolding to_unsigned
-cast-le nan b u = absurd u
-cast-le (inf s) b u = absurd u
-cast-le (fin true m e) b u = absurd (true≢false u.0)
-cast-le (fin false m e) b u = omega (arith, whole_le m b e u.1)
+cast_le nan b u = absurd u
+cast_le (inf s) b u = absurd u
+cast_le (fin true m e) b u = absurd (true≢false u.0)
+cast_le (fin false m e) b u = omega (arith, whole_le m b e u.1)
 
 -- ---- a cell number
 
@@ -81,56 +81,56 @@ less_one (fin true m e) k v = absurd (true≢false v.0)
 less_one (fin false m e) k v = one_less k (m * up e * 1) (1 * down e) (down e * 1) (down e) (down_pos e) v.1 (one-mul (down e)) (mul-one (down e))
 
 -- the last cell of an edge, in floats
-last-cell : (g : ℕ) → 1 ≤ g → g ≤ 2 ^ 53 → minus (of_int binary64 (pos g)) one ≡ of_int binary64 (pos (g - 1))
+last_cell : (g : ℕ) → 1 ≤ g → g ≤ 2 ^ 53 → minus (of_int binary64 (pos g)) one ≡ of_int binary64 (pos (g - 1))
 unfolding of_int of_bits sub neg
-last-cell g l h =
+last_cell g l h =
     let e : g - 1 + 1 ≡ g = omega arith in
     less_one (round binary64 false g 1) (g - 1) (rw e (round_whole binary64 false g h))
 
-cast-mono : (h x : Float) → Plain h → lt h x ≡ false → to_unsigned 64 x ≤ to_unsigned 64 h
+cast_mono : (h x : Float) → Plain h → lt h x ≡ false → to_unsigned 64 x ≤ to_unsigned 64 h
 unfolding lt to_unsigned
-cast-mono h nan p l = zero-le
-cast-mono h (inf true) p l = zero-le
-cast-mono h (fin true n d) p l = zero-le
-cast-mono nan (inf false) p l = absurd p
-cast-mono nan (fin false n d) p l = absurd p
-cast-mono (inf true) (inf false) p l = absurd (true≢false p)
-cast-mono (inf true) (fin false n d) p l = absurd (true≢false p)
-cast-mono (fin true m e) (inf false) p l = absurd (true≢false p)
-cast-mono (fin true m e) (fin false n d) p l = absurd (true≢false p)
-cast-mono (inf false) (inf false) p l = omega arith
-cast-mono (inf false) (fin false n d) p l = min-le_right _ _
-cast-mono (fin false m e) (inf false) p l = absurd (true≢false l)
-cast-mono (fin false m e) (fin false n d) p l = omega (arith, div_mono (n * up d) (down d) (m * up e) (down e) (down_pos d) (down_pos e) (ltb-false _ _ l))
+cast_mono h nan p l = zero-le
+cast_mono h (inf true) p l = zero-le
+cast_mono h (fin true n d) p l = zero-le
+cast_mono nan (inf false) p l = absurd p
+cast_mono nan (fin false n d) p l = absurd p
+cast_mono (inf true) (inf false) p l = absurd (true≢false p)
+cast_mono (inf true) (fin false n d) p l = absurd (true≢false p)
+cast_mono (fin true m e) (inf false) p l = absurd (true≢false p)
+cast_mono (fin true m e) (fin false n d) p l = absurd (true≢false p)
+cast_mono (inf false) (inf false) p l = omega arith
+cast_mono (inf false) (fin false n d) p l = min-le_right _ _
+cast_mono (fin false m e) (inf false) p l = absurd (true≢false l)
+cast_mono (fin false m e) (fin false n d) p l = omega (arith, div_mono (n * up d) (down d) (m * up e) (down e) (down_pos d) (down_pos e) (ltb-false _ _ l))
 
 whole_plain : (n : ℕ) → Plain (of_int binary64 (pos n))
 unfolding of_int
-whole_plain n = round-plain n 1
+whole_plain n = round_plain n 1
 
-clamp-le : (h x : Float) → Plain h → to_unsigned 64 (clamp geometry.zero h x) ≤ to_unsigned 64 h
+clamp_le : (h x : Float) → Plain h → to_unsigned 64 (clamp geometry.zero h x) ≤ to_unsigned 64 h
 unfolding clamp of_bits
-clamp-le h x p = either (lt x (fin false 0 (pos 0))) (lt h x) refl
+clamp_le h x p = either (lt x (fin false 0 (pos 0))) (lt h x) refl
   where
     either : (s t : Bool) → lt h x ≡ t → to_unsigned 64 (cond s (fin false 0 (pos 0)) (cond t h x)) ≤ to_unsigned 64 h
-    either true t l = le_trans (cast-le (fin false 0 (pos 0)) 0 (refl, omega arith)) zero-le
+    either true t l = le_trans (cast_le (fin false 0 (pos 0)) 0 (refl, omega arith)) zero-le
     either false true l = omega arith
-    either false false l = cast-mono h x p l
+    either false false l = cast_mono h x p l
 
 held : (n : ℕ) → n ≤ 2 ^ 53 → T (in_float binary64 (pos n))
 unfolding in_float
 held n h = le→leb n (2 ^ 53) h
 
-pub coordinate-lt : (g : ℕ) (u : Float) → 1 ≤ g → g ≤ 2 ^ 53 → cellCoordinate g u < g
-unfolding cellCoordinate
-coordinate-lt g u l h =
-    let e = last-cell g l h in
-    let a = clamp-le (minus (of_int binary64 (pos g)) one) (inCells g u) (rw e (whole_plain (g - 1))) in
+pub coordinate_lt : (g : ℕ) (u : Float) → 1 ≤ g → g ≤ 2 ^ 53 → cell_coordinate g u < g
+unfolding cell_coordinate
+coordinate_lt g u l h =
+    let e = last_cell g l h in
+    let a = clamp_le (minus (of_int binary64 (pos g)) one) (in_cells g u) (rw e (whole_plain (g - 1))) in
     let b : to_unsigned 64 (minus (of_int binary64 (pos g)) one) ≡ g - 1 = rw e (unsigned_back binary64 64 (g - 1) (held (g - 1) (omega arith)) (omega arith)).1 in
     omega arith
 
-pub face-le : (v : Vector3) → cubeFace v ≤ 5
-unfolding cubeFace
-face-le v = either (le (magnitude v.y) (magnitude v.x) && le (magnitude v.z) (magnitude v.x)) (lt geometry.zero v.x) (le (magnitude v.z) (magnitude v.y)) (lt geometry.zero v.y) (lt geometry.zero v.z)
+pub face_le : (v : Vector3) → cube_face v ≤ 5
+unfolding cube_face
+face_le v = either (le (magnitude v.y) (magnitude v.x) && le (magnitude v.z) (magnitude v.x)) (lt geometry.zero v.x) (le (magnitude v.z) (magnitude v.y)) (lt geometry.zero v.y) (lt geometry.zero v.z)
   where
     two : (t : Bool) (a b : ℕ) → a ≤ 5 → b ≤ 5 → cond t a b ≤ 5
     two true a b h k = h
@@ -140,11 +140,11 @@ face-le v = either (le (magnitude v.y) (magnitude v.x) && le (magnitude v.z) (ma
     either p q r s t =
         two p _ _ (two q 0 1 (omega arith) (omega arith)) (two r _ _ (two s 2 3 (omega arith) (omega arith)) (two t 4 5 (omega arith) (omega arith)))
 
-pub cell-index-lt : (g : ℕ) (v : Vector3) → 1 ≤ g → g ≤ 2 ^ 53 → cellIndex g v < cellCount g
-unfolding cellIndex cellCount cubeProject
-cell-index-lt g v l h =
-    let p = cubeProject v in
-    placed (cubeFace v) (cellCoordinate g p.u) (cellCoordinate g p.w) (face-le v) (coordinate-lt g p.u l h) (coordinate-lt g p.w l h)
+pub cell_index_lt : (g : ℕ) (v : Vector3) → 1 ≤ g → g ≤ 2 ^ 53 → cell_index g v < cell_count g
+unfolding cell_index cell_count cube_project
+cell_index_lt g v l h =
+    let p = cube_project v in
+    placed (cube_face v) (cell_coordinate g p.u) (cell_coordinate g p.w) (face_le v) (coordinate_lt g p.u l h) (coordinate_lt g p.w l h)
   where
     placed : (f i j : ℕ) → f ≤ 5 → i < g → j < g → f * (g * g) + i * g + j < 6 * (g * g)
     placed f i j hf hi hj =
@@ -155,6 +155,6 @@ cell-index-lt g v l h =
         omega arith
 
 -- ---- truncation, and not floor (`integral` is opened so that a floor would be computed, to -1): a vertex a quarter of a cell before the first cell has that cell's number
-pub before-first : cellNumber 1 (of_bits binary64 0xBFF8_0000_0000_0000) one ≡ pos 0
-unfolding cellNumber inCells fused of_bits of_int mul div to_signed integral
-before-first = refl
+pub before_first : cell_number 1 (of_bits binary64 0xBFF8_0000_0000_0000) one ≡ pos 0
+unfolding cell_number in_cells fused of_bits of_int mul div to_signed integral
+before_first = refl

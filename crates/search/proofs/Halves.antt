@@ -17,9 +17,9 @@ use Rattle.ieee.proofs.Sums.{sub-mul, sum_like, sum_less}
 use Rattle.ieee.proofs.Terms.{sum_same}
 use Rattle.ieee.specs.Fused.{fused}
 use Rattle.float.proofs.Fields.{digits, digits_lt, field, parts}
-use Rattle.float.proofs.Order.{clear, le-no, round-neg, round-clear, round_number}
+use Rattle.float.proofs.Order.{clear, le_no, round_neg, round_clear, round_number}
 use Rattle.float.proofs.Remainders.{units_under}
-use Rattle.float.proofs.Values.{same-value}
+use Rattle.float.proofs.Values.{same_value}
 use Rattle.search.specs.Geometry.{plus, times, half}
 
 abbrev mid : Float
@@ -31,7 +31,7 @@ squeezed : (x : Float) → T (fits binary64 x) → T (le mid x) → T (le x mid)
 unfolding fits
 squeezed x f l h =
     let p : T (positive x) = between mid x mid tt tt l h in
-    same-value binary64 x mid false (2 ^ 1073) f tt (value x p (le→cross mid x tt p l) (le→cross x mid p tt h)) (refl, refl)
+    same_value binary64 x mid false (2 ^ 1073) f tt (value x p (le→cross mid x tt p l) (le→cross x mid p tt h)) (refl, refl)
   where
     value : (x : Float) → T (positive x) → 1 * den x ≤ num x * 2 → num x * 2 ≤ 1 * den x → HasValue x false (2 ^ 1073) (2 ^ 1074)
     value nan p l h = absurd p
@@ -98,22 +98,22 @@ cross x d y c h = (simp (mul_assoc, mul_comm, mul_left_comm)) ∙ ap (λ (z : �
 abbrev least : Float
 least = fin false 1 (negsuc 999)
 
-least-is : round binary64 false 1 (2 ^ 1000) ≡ least
+least_is : round binary64 false 1 (2 ^ 1000) ≡ least
 unfolding round
-least-is = refl
+least_is = refl
 
-little-sum : (s : Bool) (x : Float) → T (clear x) → T (not (is_nan x)) → lt least x ≡ false → add binary64 (cond s (neg x) x) mid ≡ mid
+little_sum : (s : Bool) (x : Float) → T (clear x) → T (not (is_nan x)) → lt least x ≡ false → add binary64 (cond s (neg x) x) mid ≡ mid
 unfolding add neg lt is_nan
-little-sum s nan c i h = absurd i
-little-sum s (inf true) c i h = absurd c
-little-sum s (inf false) c i h = absurd (true≢false h)
-little-sum s (fin true n d) c i h = absurd c
-little-sum true (fin false n d) c i h = tiny true (n * up d * 2) (1 * down d) (down d * 2) (mul-pos (down_pos d) (zero-lt-suc 1)) (ap (λ (z : ℕ). z * 2) (one-mul (down d))) (doubled (n * up d) (2 ^ 1000) (down d) (ltb-false (1 * 1 * down d) (n * up d * 2 ^ 1000) h))
-little-sum false (fin false n d) c i h = tiny false (n * up d * 2) (1 * down d) (down d * 2) (mul-pos (down_pos d) (zero-lt-suc 1)) (ap (λ (z : ℕ). z * 2) (one-mul (down d))) (doubled (n * up d) (2 ^ 1000) (down d) (ltb-false (1 * 1 * down d) (n * up d * 2 ^ 1000) h))
+little_sum s nan c i h = absurd i
+little_sum s (inf true) c i h = absurd c
+little_sum s (inf false) c i h = absurd (true≢false h)
+little_sum s (fin true n d) c i h = absurd c
+little_sum true (fin false n d) c i h = tiny true (n * up d * 2) (1 * down d) (down d * 2) (mul-pos (down_pos d) (zero-lt-suc 1)) (ap (λ (z : ℕ). z * 2) (one-mul (down d))) (doubled (n * up d) (2 ^ 1000) (down d) (ltb-false (1 * 1 * down d) (n * up d * 2 ^ 1000) h))
+little_sum false (fin false n d) c i h = tiny false (n * up d * 2) (1 * down d) (down d * 2) (mul-pos (down_pos d) (zero-lt-suc 1)) (ap (λ (z : ℕ). z * 2) (one-mul (down d))) (doubled (n * up d) (2 ^ 1000) (down d) (ltb-false (1 * 1 * down d) (n * up d * 2 ^ 1000) h))
 
-either-sign : (s : Bool) (n c : ℕ) → round binary64 s n c ≡ cond s (neg (round binary64 false n c)) (round binary64 false n c)
-either-sign true n c = round-neg binary64 n c
-either-sign false n c = refl
+either_sign : (s : Bool) (n c : ℕ) → round binary64 s n c ≡ cond s (neg (round binary64 false n c)) (round binary64 false n c)
+either_sign true n c = round_neg binary64 n c
+either_sign false n c = refl
 
 module _ (s : Bool) (m : ℕ) (e : ℤ) (f : T (fits binary64 (fin s m e))) where
   abbrev halves : ℕ
@@ -157,9 +157,9 @@ module _ (s : Bool) (m : ℕ) (e : ℤ) (f : T (fits binary64 (fin s m e))) wher
   unfolding fused
   little h =
       rw (own_sign s)
-      (ap (λ (x : Float). add binary64 x mid) (either-sign s (m * up e) halves)
-      ∙ little-sum s (round binary64 false (m * up e) halves) (round-clear binary64 (m * up e) halves) (round_number binary64 false (m * up e) halves)
-      (ap (λ (x : Float). lt x (round binary64 false (m * up e) halves)) (sym least-is) ∙ le-no (round binary64 false (m * up e) halves) (round binary64 false 1 (2 ^ 1000)) (round_mono binary64 (m * up e) halves 1 (2 ^ 1000) some (pow_pos 1000) (spare (m * up e) (2 ^ 1000) (down e) h)))
+      (ap (λ (x : Float). add binary64 x mid) (either_sign s (m * up e) halves)
+      ∙ little_sum s (round binary64 false (m * up e) halves) (round_clear binary64 (m * up e) halves) (round_number binary64 false (m * up e) halves)
+      (ap (λ (x : Float). lt x (round binary64 false (m * up e) halves)) (sym least_is) ∙ le_no (round binary64 false (m * up e) halves) (round binary64 false 1 (2 ^ 1000)) (round_mono binary64 (m * up e) halves 1 (2 ^ 1000) some (pow_pos 1000) (spare (m * up e) (2 ^ 1000) (down e) h)))
       ∙ sym (tiny s (m * up e * 1 * 2) (1 * (down e * 2)) (down e * 2 * 2) (mul-pos some (zero-lt-suc 1)) (ap (λ (z : ℕ). z * 2) (one-mul (down e * 2))) (room (m * up e) (2 ^ 1000) (down e) h)))
     where
       spare : (x p d : ℕ) → x * p ≤ d → x * p ≤ 1 * (d * 2)

@@ -1,6 +1,6 @@
 -- The turns of the search's loops, and its lists by their offsets.
 use mathlib.Core.Path.{◌≡◌, refl, sym, ap, ◌∙◌}
-use Rattle.lists.proofs.Written.{part, slice-none}
+use Rattle.lists.proofs.Written.{part, slice_none}
 use mathlib.Core.Bool.{Bool, true, false, ◌&&◌, ◌||◌, cond, true≢false, and-eq-true_iff}
 use mathlib.Core.List.{List, [], ◌∷◌}
 use Prim.Native.Nat.{ℕ, ◌+◌, ◌-◌, ◌*◌, ◌≤◌, ◌<◌}
@@ -14,10 +14,10 @@ use lib.Ieee.{Float}
 use borrow.Author.Tests.{lt-ltb, le-ltb, le-leb, leb-true, eq-eqb, ne_eqb, eqb-true}
 use Rattle.lists.specs.Lists.{every}
 use Rattle.mesh.specs.Faces.{face}
-use Rattle.search.specs.Geometry.{cellIndex}
+use Rattle.search.specs.Geometry.{cell_index}
 use Rattle.search.specs.Cells.{triples}
-use Rattle.search.specs.Search.{notNearest, nearer, nearestFrom, nearestAmong, nearestInCells, nearestIn, noFit, notLocated, better, fitFrom, locatedFit, bestFace, Locator, vertexInside, entries_at, entriesInside, locateIn}
-use Rattle.search.specs.Internal.{span_of, nearestOver, fitOver}
+use Rattle.search.specs.Search.{not_nearest, nearer, nearest_from, nearest_among, nearest_in_cells, nearest_in, no_fit, not_located, better, fit_from, located_fit, best_face, Locator, vertex_inside, entries_at, entries_inside, locate_in}
+use Rattle.search.specs.Internal.{span_of, nearest_over, fit_over}
 use Rattle.search.specs.declared.Vector3.{Vector3}
 use Rattle.search.specs.declared.Nearest.{Nearest}
 use Rattle.search.specs.declared.cells.Span.{Span}
@@ -36,10 +36,10 @@ module _ (offsets : List ℕ) (w places i : ℕ) where
     unfolding span_of
     span-empty e = rw (← p, ← q, lt-ltb (i + 1) (length offsets) h, eq-eqb a b e)
 
-    pub span-by : (t : Bool) → (a ≡ b → ⊥) → (leb a b && leb (w * b) places) ≡ t
+    pub span_by : (t : Bool) → (a ≡ b → ⊥) → (leb a b && leb (w * b) places) ≡ t
         → span_of w offsets places i ≡ cond t (record { held = true; from = w * a; to = w * b }) (record { held = false; from = 0; to = 0 })
     unfolding span_of
-    span-by t d k = rw (← p, ← q, lt-ltb (i + 1) (length offsets) h, ne_eqb a b d, k)
+    span_by t d k = rw (← p, ← q, lt-ltb (i + 1) (length offsets) h, ne_eqb a b d, k)
 
 -- places that are held, and those that are not
 abbrev at : ℕ → ℕ → Span
@@ -57,14 +57,14 @@ pub record Held (vs : List Float) (n w : ℕ) (offsets entries : List ℕ) (i : 
   pub last : ℕ
   pub end : s.to ≡ w * last
   pub cut : take (s.to - s.from) (drop s.from entries) ≡ entries_at w offsets entries i
-  pub inside : entriesInside vs n w offsets entries i ≡ every (vertexInside vs n) (entries_at w offsets entries i)
+  pub inside : entries_inside vs n w offsets entries i ≡ every (vertex_inside vs n) (entries_at w offsets entries i)
 
 module _ (vs : List Float) (n w : ℕ) (offsets entries : List ℕ) (i : ℕ) where
-  pub not-held : (s : Span) → s ≡ span_of w offsets (length entries) i → s.held ≡ false → entriesInside vs n w offsets entries i ≡ false
-  unfolding span_of entriesInside
-  not-held s e h =
+  pub not_held : (s : Span) → s ≡ span_of w offsets (length entries) i → s.held ≡ false → entries_inside vs n w offsets entries i ≡ false
+  unfolding span_of entries_inside
+  not_held s e h =
       either (ltb (i + 1) (length offsets)) (eqb (get_or offsets i 0) (get_or offsets (i + 1) 0)) (leb (get_or offsets i 0) (get_or offsets (i + 1) 0))
-      (leb (w * get_or offsets (i + 1) 0) (length entries)) (every (vertexInside vs n) (entries_at w offsets entries i))
+      (leb (w * get_or offsets (i + 1) 0) (length entries)) (every (vertex_inside vs n) (entries_at w offsets entries i))
       (w * get_or offsets i 0) (w * get_or offsets (i + 1) 0) (sym (ap (λ (x : Span). x.held) e) ∙ h)
     where
       either : (p o q r t : Bool) (a b : ℕ) → (cond p (cond o (at 0 0) (cond (q && r) (at a b) none)) none).held ≡ false → (p && (q && ((o || r) && t))) ≡ false
@@ -75,7 +75,7 @@ module _ (vs : List Float) (n w : ℕ) (offsets entries : List ℕ) (i : ℕ) wh
       either false o q r t a b h = refl
 
   pub held : (s : Span) → s ≡ span_of w offsets (length entries) i → s.held ≡ true → Held vs n w offsets entries i s
-  unfolding span_of entries_at entriesInside
+  unfolding span_of entries_at entries_inside
   held s e h = made (ltb (i + 1) (length offsets)) (eqb x y) (leb x y) (leb (w * y) (length entries)) refl refl refl refl e
     where
       x : ℕ
@@ -91,7 +91,7 @@ module _ (vs : List Float) (n w : ℕ) (offsets entries : List ℕ) (i : ℕ) wh
           → s ≡ cond p (cond o (at 0 0) (cond (q && r) (at (w * x) (w * y)) none)) none → Held vs n w offsets entries i s
       made true true q r hp ho hq hr e =
           let j : x ≡ y = eqb-true x y ho in
-          let z : slice (w * x) (w * y) entries ≡ [] = rw (← j) (slice-none (w * x) entries) in
+          let z : slice (w * x) (w * y) entries ≡ [] = rw (← j) (slice_none (w * x) entries) in
           record {
             order = rw e (omega arith);
             room = rw e (omega arith);
@@ -116,31 +116,31 @@ module _ (vs : List Float) (n w : ℕ) (offsets entries : List ℕ) (i : ℕ) wh
       made true false false r hp ho hq hr e = never e
       made false o q r hp ho hq hr e = never e
 
-module _ (offsets entries : List ℕ) (vs : List Float) (n g : ℕ) (p : Vector3) (s : Span) (e : s ≡ span_of 1 offsets (length entries) (cellIndex g p)) where
-  pub cell-not-held : s.held ≡ false → nearestInCells offsets entries vs n g p ≡ notNearest 19
-  unfolding nearestInCells
-  cell-not-held h = rw (not-held vs n 1 offsets entries (cellIndex g p) s e h)
+module _ (offsets entries : List ℕ) (vs : List Float) (n g : ℕ) (p : Vector3) (s : Span) (e : s ≡ span_of 1 offsets (length entries) (cell_index g p)) where
+  pub cell_not_held : s.held ≡ false → nearest_in_cells offsets entries vs n g p ≡ not_nearest 19
+  unfolding nearest_in_cells
+  cell_not_held h = rw (not_held vs n 1 offsets entries (cell_index g p) s e h)
 
-  pub cell-held : s.held ≡ true → nearestInCells offsets entries vs n g p ≡ nearestOver vs n p (notNearest 20) (take (s.to - s.from) (drop s.from entries))
-  unfolding nearestInCells nearestOver nearestAmong
-  cell-held h = let k = held vs n 1 offsets entries (cellIndex g p) s e h in rw (k.inside, k.cut)
+  pub cell-held : s.held ≡ true → nearest_in_cells offsets entries vs n g p ≡ nearest_over vs n p (not_nearest 20) (take (s.to - s.from) (drop s.from entries))
+  unfolding nearest_in_cells nearest_over nearest_among
+  cell-held h = let k = held vs n 1 offsets entries (cell_index g p) s e h in rw (k.inside, k.cut)
 
 -- ---- the loop over a cell
 
 module _ (vs : List Float) (n : ℕ) (p : Vector3) (l : List ℕ) where
-  pub nearest-turn : (best : Nearest) (i v : ℕ) → i < length l → v ≡ get_or l i 0 → (ltb v n && leb (3 * v + 3) (length vs)) ≡ true
-      → nearestOver vs n p best (drop i l) ≡ nearestOver vs n p (nearer vs p best v) (drop (i + 1) l)
-  unfolding nearestOver every nearestFrom vertexInside
-  nearest-turn best i v h e t = rw (drop-cons l i 0 h, ← e, t, add-one i)
+  pub nearest_turn : (best : Nearest) (i v : ℕ) → i < length l → v ≡ get_or l i 0 → (ltb v n && leb (3 * v + 3) (length vs)) ≡ true
+      → nearest_over vs n p best (drop i l) ≡ nearest_over vs n p (nearer vs p best v) (drop (i + 1) l)
+  unfolding nearest_over every nearest_from vertex_inside
+  nearest_turn best i v h e t = rw (drop-cons l i 0 h, ← e, t, add-one i)
 
-  pub nearest-stop : (best : Nearest) (i v : ℕ) → i < length l → v ≡ get_or l i 0 → (ltb v n && leb (3 * v + 3) (length vs)) ≡ false
-      → nearestOver vs n p best (drop i l) ≡ notNearest 19
-  unfolding nearestOver every nearestFrom vertexInside
-  nearest-stop best i v h e t = rw (drop-cons l i 0 h, ← e, t)
+  pub nearest_stop : (best : Nearest) (i v : ℕ) → i < length l → v ≡ get_or l i 0 → (ltb v n && leb (3 * v + 3) (length vs)) ≡ false
+      → nearest_over vs n p best (drop i l) ≡ not_nearest 19
+  unfolding nearest_over every nearest_from vertex_inside
+  nearest_stop best i v h e t = rw (drop-cons l i 0 h, ← e, t)
 
-  pub nearest-end : (best : Nearest) (i : ℕ) → length l ≤ i → nearestOver vs n p best (drop i l) ≡ best
-  unfolding nearestOver every nearestFrom
-  nearest-end best i h = rw (drop_of_length-le l h)
+  pub nearest_end : (best : Nearest) (i : ℕ) → length l ≤ i → nearest_over vs n p best (drop i l) ≡ best
+  unfolding nearest_over every nearest_from
+  nearest_end best i h = rw (drop_of_length-le l h)
 
 -- ---- the loop over faces
 
@@ -162,36 +162,36 @@ stops true false r s h = refl
 stops false q r s h = refl
 
 module _ (vs : List Float) (n : ℕ) (p : Vector3) (v : Nearest) (l : List ℕ) where
-  pub fit-turn : (best : Fit) (i a b c : ℕ) → i + 3 ≤ length l → a ≡ get_or l i 0 → b ≡ get_or l (i + 1) 0 → c ≡ get_or l (i + 2) 0
+  pub fit_turn : (best : Fit) (i a b c : ℕ) → i + 3 ≤ length l → a ≡ get_or l i 0 → b ≡ get_or l (i + 1) 0 → c ≡ get_or l (i + 2) 0
       → (inside vs n a && (inside vs n b && inside vs n c)) ≡ true
-      → fitOver vs n p v best (drop i l) ≡ fitOver vs n p v (better vs p best (face a b c)) (drop (i + 3) l)
-  unfolding fitOver every triples fitFrom vertexInside
-  fit-turn best i a b c h x y z t =
+      → fit_over vs n p v best (drop i l) ≡ fit_over vs n p v (better vs p best (face a b c)) (drop (i + 3) l)
+  unfolding fit_over every triples fit_from vertex_inside
+  fit_turn best i a b c h x y z t =
       let k = (and-eq-true_iff (inside vs n a) (inside vs n b && inside vs n c)).0 t in
       let m = (and-eq-true_iff (inside vs n b) (inside vs n c)).0 k.1 in
       rw (three l i a b c h x y z, k.0, m.0, m.1)
 
-  pub fit-stop : (best : Fit) (i a b c : ℕ) → i + 3 ≤ length l → a ≡ get_or l i 0 → b ≡ get_or l (i + 1) 0 → c ≡ get_or l (i + 2) 0
-      → (inside vs n a && (inside vs n b && inside vs n c)) ≡ false → fitOver vs n p v best (drop i l) ≡ notLocated 19
-  unfolding fitOver every triples vertexInside
-  fit-stop best i a b c h x y z t = rw (three l i a b c h x y z, stops (inside vs n a) (inside vs n b) (inside vs n c) (every (vertexInside vs n) (drop (i + 3) l)) t)
+  pub fit_stop : (best : Fit) (i a b c : ℕ) → i + 3 ≤ length l → a ≡ get_or l i 0 → b ≡ get_or l (i + 1) 0 → c ≡ get_or l (i + 2) 0
+      → (inside vs n a && (inside vs n b && inside vs n c)) ≡ false → fit_over vs n p v best (drop i l) ≡ not_located 19
+  unfolding fit_over every triples vertex_inside
+  fit_stop best i a b c h x y z t = rw (three l i a b c h x y z, stops (inside vs n a) (inside vs n b) (inside vs n c) (every (vertex_inside vs n) (drop (i + 3) l)) t)
 
-  pub fit-end : (best : Fit) (i : ℕ) → length l ≤ i → fitOver vs n p v best (drop i l) ≡ locatedFit v best
-  unfolding fitOver every triples fitFrom
-  fit-end best i h = rw (drop_of_length-le l h)
+  pub fit_end : (best : Fit) (i : ℕ) → length l ≤ i → fit_over vs n p v best (drop i l) ≡ located_fit v best
+  unfolding fit_over every triples fit_from
+  fit_end best i h = rw (drop_of_length-le l h)
 
 -- ---- the faces of the nearest vertex
 
-module _ (l : Locator) (vs : List Float) (n g : ℕ) (p : Vector3) (v : Nearest) (e : v ≡ nearestInCells l.cellOffsets l.cellVertices vs n g p) where
-  pub none-near : (v.number ≡ 0 → ⊥) → locateIn l vs n g p ≡ notLocated v.number
-  unfolding locateIn nearestIn
+module _ (l : Locator) (vs : List Float) (n g : ℕ) (p : Vector3) (v : Nearest) (e : v ≡ nearest_in_cells l.cell_offsets l.cell_vertices vs n g p) where
+  pub none-near : (v.number ≡ 0 → ⊥) → locate_in l vs n g p ≡ not_located v.number
+  unfolding locate_in nearest_in
   none-near h = rw (← e, ne_eqb v.number 0 h)
 
-  module _ (f : v.number ≡ 0) (s : Span) (k : s ≡ span_of 3 l.faceOffsets (length l.faces) v.vertex) where
-    pub faces-not-held : s.held ≡ false → locateIn l vs n g p ≡ notLocated 19
-    unfolding locateIn nearestIn
-    faces-not-held h = rw (← e, eq-eqb v.number 0 f, not-held vs n 3 l.faceOffsets l.faces v.vertex s k h)
+  module _ (f : v.number ≡ 0) (s : Span) (k : s ≡ span_of 3 l.face_offsets (length l.faces) v.vertex) where
+    pub faces_not_held : s.held ≡ false → locate_in l vs n g p ≡ not_located 19
+    unfolding locate_in nearest_in
+    faces_not_held h = rw (← e, eq-eqb v.number 0 f, not_held vs n 3 l.face_offsets l.faces v.vertex s k h)
 
-    pub faces-held : s.held ≡ true → locateIn l vs n g p ≡ fitOver vs n p v noFit (take (s.to - s.from) (drop s.from l.faces))
-    unfolding locateIn nearestIn bestFace fitOver
-    faces-held h = let q = held vs n 3 l.faceOffsets l.faces v.vertex s k h in rw (← e, eq-eqb v.number 0 f, q.inside, q.cut)
+    pub faces-held : s.held ≡ true → locate_in l vs n g p ≡ fit_over vs n p v no_fit (take (s.to - s.from) (drop s.from l.faces))
+    unfolding locate_in nearest_in best_face fit_over
+    faces-held h = let q = held vs n 3 l.face_offsets l.faces v.vertex s k h in rw (← e, eq-eqb v.number 0 f, q.inside, q.cut)

@@ -3,8 +3,8 @@ use mathlib.Core.Path.{◌≡◌, refl}
 use mathlib.Core.Bool.{cond, ◌&&◌}
 use lib.Ieee.{neg, le}
 use Rattle.ieee.specs.Fused.{fused}
-use Rattle.search.specs.Geometry.{plus, minus, times, over, zero, one, weights, inFace, projectedBarycentric}
-use Rattle.search.specs.Internal.{sidesOf}
+use Rattle.search.specs.Geometry.{plus, minus, times, over, zero, one, weights, in_face, projected_barycentric}
+use Rattle.search.specs.Internal.{sides_of}
 use Rattle.search.specs.declared.Vector3.{Vector3}
 use Rattle.search.specs.declared.Weights.{Weights}
 use Rattle.search.specs.declared.triangle.Sides.{Sides}
@@ -23,8 +23,8 @@ regions s =
     (cond (le zero s.d6 && le s.d5 s.d6) (weights zero zero one)
     (cond (le vb zero && (le zero s.d2 && le s.d6 zero)) (weights (minus one w) zero w)
     (cond (le va zero && (le zero (minus s.d4 s.d3) && le zero (minus s.d5 s.d6))) (weights zero (minus one x) x)
-    (inFace va vb vc))))))
+    (in_face va vb vc))))))
 
-pub by-regions : (p a b c : Vector3) → projectedBarycentric p a b c ≡ regions (sidesOf p a b c)
-unfolding projectedBarycentric sidesOf
-by-regions p a b c = refl
+pub by_regions : (p a b c : Vector3) → projected_barycentric p a b c ≡ regions (sides_of p a b c)
+unfolding projected_barycentric sides_of
+by_regions p a b c = refl

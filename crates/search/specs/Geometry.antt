@@ -47,14 +47,14 @@ unfoldable pub difference : Vector3 → Vector3 → Vector3
 difference a b = record { x = minus a.x b.x; y = minus a.y b.y; z = minus a.z b.z }
 
 -- vertex v of a mesh
-unfoldable pub vertexAt : List Float → ℕ → Vector3
-vertexAt vs v = record { x = get_or vs (3 * v) nan; y = get_or vs (3 * v + 1) nan; z = get_or vs (3 * v + 2) nan }
+unfoldable pub vertex_at : List Float → ℕ → Vector3
+vertex_at vs v = record { x = get_or vs (3 * v) nan; y = get_or vs (3 * v + 1) nan; z = get_or vs (3 * v + 2) nan }
 
 -- ---- the cube
 
 -- `cube_face_project`
-unfoldable pub cubeFaceProject : ℕ → Vector3 → Seen
-cubeFaceProject f v =
+unfoldable pub cube_face_project : ℕ → Vector3 → Seen
+cube_face_project f v =
     cond (eqb f 0) (record { u = v.y; w = v.z; d = v.x })
     (cond (eqb f 1) (record { u = neg v.y; w = v.z; d = neg v.x })
     (cond (eqb f 2) (record { u = v.x; w = v.z; d = v.y })
@@ -63,31 +63,31 @@ cubeFaceProject f v =
     (record { u = neg v.x; w = v.y; d = neg v.z })))))
 
 -- the face that a point is in front of, by its largest coordinate: `ax >= ay && ax >= az`, `ay >= az`, and the sign
-unfoldable pub cubeFace : Vector3 → ℕ
-cubeFace v =
+unfoldable pub cube_face : Vector3 → ℕ
+cube_face v =
     let ax = magnitude v.x in
     let ay = magnitude v.y in
     let az = magnitude v.z in
     cond (le ay ax && le az ax) (cond (lt zero v.x) 0 1) (cond (le az ay) (cond (lt zero v.y) 2 3) (cond (lt zero v.z) 4 5))
 
 -- `cube_project`
-unfoldable pub cubeProject : Vector3 → Projected
-cubeProject v = let s = cubeFaceProject (cubeFace v) v in record { face = cubeFace v; u = over s.u s.d; w = over s.w s.d }
+unfoldable pub cube_project : Vector3 → Projected
+cube_project v = let s = cube_face_project (cube_face v) v in record { face = cube_face v; u = over s.u s.d; w = over s.w s.d }
 
 -- a coordinate of a face in cells: fused with 0.5 and 0.5, times g
-unfoldable pub inCells : ℕ → Float → Float
-inCells g u = times (fused u half half) (of_int binary64 (pos g))
+unfoldable pub in_cells : ℕ → Float → Float
+in_cells g u = times (fused u half half) (of_int binary64 (pos g))
 
 -- `clamp`; a NaN stays
 unfoldable pub clamp : Float → Float → Float → Float
 clamp low high x = cond (lt x low) low (cond (lt high x) high x)
 
-unfoldable pub cellCoordinate : ℕ → Float → ℕ
-cellCoordinate g u = to_unsigned 64 (clamp zero (minus (of_int binary64 (pos g)) one) (inCells g u))
+unfoldable pub cell_coordinate : ℕ → Float → ℕ
+cell_coordinate g u = to_unsigned 64 (clamp zero (minus (of_int binary64 (pos g)) one) (in_cells g u))
 
 -- `cell_index`: "cell choice" (S11.3)
-unfoldable pub cellIndex : ℕ → Vector3 → ℕ
-cellIndex g v = let p = cubeProject v in p.face * (g * g) + cellCoordinate g p.u * g + cellCoordinate g p.w
+unfoldable pub cell_index : ℕ → Vector3 → ℕ
+cell_index g v = let p = cube_project v in p.face * (g * g) + cell_coordinate g p.u * g + cell_coordinate g p.w
 
 -- ---- the triangle
 
@@ -95,17 +95,17 @@ abbrev pub weights : Float → Float → Float → Weights
 weights a b c = record { a = a; b = b; c = c }
 
 -- the last region of `projected_barycentric`
-unfoldable pub inFace : Float → Float → Float → Weights
-inFace va vb vc =
+unfoldable pub in_face : Float → Float → Float → Weights
+in_face va vb vc =
     let denom = over one (plus (plus va vb) vc) in
     let v = times vb denom in
     let w = times vc denom in
     weights (minus (minus one v) w) v w
 
 -- `projected_barycentric` of p over the triangle a, b, c, region by region as the Rust has it; va, vb and vc are fused (S11.5)
-unfoldable pub projectedBarycentric : Vector3 → Vector3 → Vector3 → Vector3 → Weights
-unfolding inFace
-projectedBarycentric p a b c =
+unfoldable pub projected_barycentric : Vector3 → Vector3 → Vector3 → Vector3 → Weights
+unfolding in_face
+projected_barycentric p a b c =
     let ab = difference b a in
     let ac = difference c a in
     let d1 = dot ab (difference p a) in
@@ -126,4 +126,4 @@ projectedBarycentric p a b c =
     (cond (le zero d6 && le d5 d6) (weights zero zero one)
     (cond (le vb zero && (le zero d2 && le d6 zero)) (weights (minus one w) zero w)
     (cond (le va zero && (le zero (minus d4 d3) && le zero (minus d5 d6))) (weights zero (minus one x) x)
-    (inFace va vb vc))))))
+    (in_face va vb vc))))))

@@ -5,9 +5,9 @@ use Rattle.std.specs.Float.Ieee.{fits, lt, le}
 use Rattle.lists.specs.Lists.{every}
 use Rattle.mesh.specs.Faces.{face}
 use Rattle.mesh.specs.declared.Face.{Face}
-use Rattle.search.specs.Geometry.{times, minus, zero, dot, difference, vertexAt}
+use Rattle.search.specs.Geometry.{times, minus, zero, dot, difference, vertex_at}
 use Rattle.search.specs.Cells.{triples}
-use Rattle.search.specs.Search.{vertexInside, nearestFrom, notNearest, fitFrom, notLocated, locatedFit}
+use Rattle.search.specs.Search.{vertex_inside, nearest_from, not_nearest, fit_from, not_located, located_fit}
 use Rattle.search.specs.declared.Vector3.{Vector3}
 use Rattle.search.specs.declared.Nearest.{Nearest}
 use Rattle.search.specs.declared.Located.{Located}
@@ -31,30 +31,30 @@ span_of w offsets places i =
     (record { held = false; from = 0; to = 0 })
 
 -- the nearest of a list's vertices and of one that was there before, or 19
-unfoldable pub nearestOver : List Float → ℕ → Vector3 → Nearest → List ℕ → Nearest
-nearestOver vs n p best l = cond (every (vertexInside vs n) l) (nearestFrom vs p best l) (notNearest 19)
+unfoldable pub nearest_over : List Float → ℕ → Vector3 → Nearest → List ℕ → Nearest
+nearest_over vs n p best l = cond (every (vertex_inside vs n) l) (nearest_from vs p best l) (not_nearest 19)
 
 -- neither a NaN nor a number whose sign is set
-abbrev pub clearSign : Float → Bool
-clearSign nan = false
-clearSign (inf s) = not s
-clearSign (fin s m e) = not s
+abbrev pub clear_sign : Float → Bool
+clear_sign nan = false
+clear_sign (inf s) = not s
+clear_sign (fin s m e) = not s
 
 -- a nearest vertex whose distance can be compared with others by their plain order
 abbrev pub Measured : Nearest → Type 0
-Measured b = (b.number ≡ 0) × T (fits binary64 b.distance) × T (clearSign b.distance)
+Measured b = (b.number ≡ 0) × T (fits binary64 b.distance) × T (clear_sign b.distance)
 
 -- how many of n vertices have their three coordinates among this many places
-abbrev pub limitOf : ℕ → ℕ → ℕ
-limitOf n places = cond (ltb n (places / 3)) n (places / 3)
+abbrev pub limit_of : ℕ → ℕ → ℕ
+limit_of n places = cond (ltb n (places / 3)) n (places / 3)
 
 -- the best of a list's faces and of one that was there before, beside nearest vertex v; or 19
-unfoldable pub fitOver : List Float → ℕ → Vector3 → Nearest → Fit → List ℕ → Located
-fitOver vs n p v best l = cond (every (vertexInside vs n) l) (locatedFit v (fitFrom vs p best (triples l))) (notLocated 19)
+unfoldable pub fit_over : List Float → ℕ → Vector3 → Nearest → Fit → List ℕ → Located
+fit_over vs n p v best l = cond (every (vertex_inside vs n) l) (located_fit v (fit_from vs p best (triples l))) (not_located 19)
 
 -- the dot products that `projectedBarycentric` begins with
-unfoldable pub sidesOf : Vector3 → Vector3 → Vector3 → Vector3 → Sides
-sidesOf p a b c =
+unfoldable pub sides_of : Vector3 → Vector3 → Vector3 → Vector3 → Sides
+sides_of p a b c =
     let ab = difference b a in
     let ac = difference c a in
     record {
@@ -79,12 +79,12 @@ past s =
 
 -- ---- one pass over faces
 
-abbrev pub pastFace : List Float → Vector3 → Face → Bool
-pastFace vs p f = past (sidesOf p (vertexAt vs f.a) (vertexAt vs f.b) (vertexAt vs f.c))
+abbrev pub past_face : List Float → Vector3 → Face → Bool
+past_face vs p f = past (sides_of p (vertex_at vs f.a) (vertex_at vs f.b) (vertex_at vs f.c))
 
 -- of the faces so far those that p is not told to be past: none, one or more (0, 1, 2), and the place of the last; with face f, listed from place i on
 unfoldable pub sifted : List Float → Vector3 → Within → ℕ → Face → Within
-sifted vs p w i f = cond (pastFace vs p f) w (record { count = cond (eqb w.count 0) 1 2; at = i })
+sifted vs p w i f = cond (past_face vs p f) w (record { count = cond (eqb w.count 0) 1 2; at = i })
 
 -- the faces of a list whose first place is i
 unfoldable pub sift : List Float → Vector3 → ℕ → Within → List ℕ → Within
@@ -93,5 +93,5 @@ sift vs p i w (a ∷ []) = w
 sift vs p i w (a ∷ b ∷ []) = w
 sift vs p i w (a ∷ b ∷ c ∷ l) = sift vs p (i + 3) (sifted vs p w i (face a b c)) l
 
-unfoldable pub siftOver : List Float → ℕ → Vector3 → ℕ → Within → List ℕ → Within
-siftOver vs n p i w l = cond (every (vertexInside vs n) l) (sift vs p i w l) (record { count = 2; at = 0 })
+unfoldable pub sift_over : List Float → ℕ → Vector3 → ℕ → Within → List ℕ → Within
+sift_over vs n p i w l = cond (every (vertex_inside vs n) l) (sift vs p i w l) (record { count = 2; at = 0 })

@@ -1,9 +1,9 @@
 // The nearest vertex of a direction's cell, over lent lists that may be damaged.
 ghost use Rattle.std.specs.Prelude.{◌≡◌, false, cond, ◌&&◌, ◌+◌, ◌*◌, ◌≤◌, ◌<◌, length, leb, ltb};
-ghost use Rattle.mesh.specs.Levels.{vertexCount, gridSize};
-ghost use Rattle.search.specs.Geometry.{vertexAt};
-ghost use Rattle.search.specs.Search.{notNearest, nearer, nearestInCells};
-ghost use Rattle.search.specs.Internal.{span_of, nearestOver, Measured, limitOf};
+ghost use Rattle.mesh.specs.Levels.{vertex_count, grid_size};
+ghost use Rattle.search.specs.Geometry.{vertex_at};
+ghost use Rattle.search.specs.Search.{not_nearest, nearer, nearest_in_cells};
+ghost use Rattle.search.specs.Internal.{span_of, nearest_over, Measured, limit_of};
 
 use crate::geometry::{cell_index, difference, dot};
 use crate::{Nearest, Vector3};
@@ -81,7 +81,7 @@ pub(crate) fn inside(n: usize, places: usize, v: usize) -> bool
 
 pub(crate) fn vertex_at(vertices: &[f64], v: usize) -> Vector3
     requires { 3 * v + 3 ≤ length vertices.now }
-    ensures { result ≡ vertexAt vertices.now v }
+    ensures { result ≡ vertex_at vertices.now v }
 {
     let at = 3 * v;
     Vector3 {
@@ -92,7 +92,7 @@ pub(crate) fn vertex_at(vertices: &[f64], v: usize) -> Vector3
 }
 
 fn not_nearest(number: u64) -> Nearest
-    ensures { result ≡ notNearest number }
+    ensures { result ≡ not_nearest number }
 {
     Nearest {
         number,
@@ -122,7 +122,7 @@ fn nearer(vertices: &[f64], p: Vector3, best: Nearest, v: usize) -> Nearest
 
 // The nearest of the vertices that a cell lists; 20 where it lists none.
 fn nearest_by_order(cell: &[u16], vertices: &[f64], n: usize, p: Vector3) -> Nearest
-    ensures { result ≡ nearestOver vertices.now n p (notNearest 20) cell.now }
+    ensures { result ≡ nearest_over vertices.now n p (not_nearest 20) cell.now }
 {
     let mut best = not_nearest(20);
     let mut i = 0;
@@ -164,7 +164,7 @@ fn closer(vertices: &[f64], p: Vector3, best: Nearest, v: usize) -> Nearest
 // The nearest of the vertices that a list has and of one before; numbers below `limit` are inside.
 fn nearest_of(list: &[u16], vertices: &[f64], limit: usize, p: Vector3, first: Nearest) -> Nearest
     requires { (3 * limit ≤ length vertices.now) × Measured first }
-    ensures { result ≡ nearestOver vertices.now limit p first list.now }
+    ensures { result ≡ nearest_over vertices.now limit p first list.now }
 {
     let mut best = first;
     let mut i = 0;
@@ -181,7 +181,7 @@ fn nearest_of(list: &[u16], vertices: &[f64], limit: usize, p: Vector3, first: N
 
 // How many of n vertices have their coordinates inside `places`.
 pub(crate) fn limit_of(n: usize, places: usize) -> usize
-    ensures { result ≡ limitOf n places }
+    ensures { result ≡ limit_of n places }
 {
     let m = places / 3;
     if n < m { n } else { m }
@@ -190,7 +190,7 @@ pub(crate) fn limit_of(n: usize, places: usize) -> usize
 // The nearest of the vertices that a cell lists; 20 where it lists none. The first one sets the measure, unless its
 // distance is a NaN.
 fn nearest_in_cell(cell: &[u16], vertices: &[f64], n: usize, p: Vector3) -> Nearest
-    ensures { result ≡ nearestOver vertices.now n p (notNearest 20) cell.now }
+    ensures { result ≡ nearest_over vertices.now n p (not_nearest 20) cell.now }
 {
     let limit = limit_of(n, vertices.len());
     if cell.len() == 0 {
@@ -222,7 +222,7 @@ pub fn find_nearest_vertex(
     vertices: &[f64],
     p: Vector3,
 ) -> Nearest
-    ensures { result ≡ nearestInCells cell_offsets.now cell_vertices.now vertices.now (vertexCount level) (gridSize (vertexCount level)) p }
+    ensures { result ≡ nearest_in_cells cell_offsets.now cell_vertices.now vertices.now (vertex_count level) (grid_size (vertex_count level)) p }
 {
     let cell = cell_index(level, p) as usize;
     let s = span_of(cell_offsets, 1, cell_vertices.len(), cell);

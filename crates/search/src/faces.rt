@@ -1,10 +1,10 @@
 // The face around the nearest vertex that fits a direction best.
 ghost use Rattle.std.specs.Prelude.{◌≡◌, ◌+◌, ◌*◌, ◌%◌, ◌≤◌, length};
-ghost use Rattle.mesh.specs.Levels.{vertexCount, gridSize};
+ghost use Rattle.mesh.specs.Levels.{vertex_count, grid_size};
 ghost use Rattle.mesh.specs.Faces.{face};
-ghost use Rattle.search.specs.Geometry.{vertexAt, projectedBarycentric};
-ghost use Rattle.search.specs.Search.{noFit, notLocated, better, locatedFit, locateIn, locatorOf};
-ghost use Rattle.search.specs.Internal.{fitOver, sifted, siftOver};
+ghost use Rattle.search.specs.Geometry.{vertex_at, projected_barycentric};
+ghost use Rattle.search.specs.Search.{no_fit, not_located, better, located_fit, locate_in, locator_of};
+ghost use Rattle.search.specs.Internal.{fit_over, sifted, sift_over};
 
 use crate::cells::{find_nearest_vertex, inside, limit_of, span_of, vertex_at, wide16};
 use crate::triangle::{is_past, projected_barycentric, sides_of};
@@ -22,7 +22,7 @@ fn face_of(a: usize, b: usize, c: usize) -> Face
 }
 
 fn no_fit() -> Fit
-    ensures { result ≡ noFit }
+    ensures { result ≡ no_fit }
 {
     Fit {
         face: Face { a: 0, b: 0, c: 0 },
@@ -36,7 +36,7 @@ fn no_fit() -> Fit
 }
 
 fn not_located(number: u64) -> Located
-    ensures { result ≡ notLocated number }
+    ensures { result ≡ not_located number }
 {
     Located {
         number,
@@ -52,7 +52,7 @@ fn not_located(number: u64) -> Located
 }
 
 fn fitted(near: Nearest, best: Fit) -> Located
-    ensures { result ≡ locatedFit near best }
+    ensures { result ≡ located_fit near best }
 {
     let vertex = near.vertex;
     let distance = near.distance;
@@ -70,7 +70,7 @@ fn fitted(near: Nearest, best: Fit) -> Located
 // The weights of p in the triangle of three vertices.
 fn weights_of(vertices: &[f64], p: Vector3, a: usize, b: usize, c: usize) -> Weights
     requires { (3 * a + 3 ≤ length vertices.now) × (3 * b + 3 ≤ length vertices.now) × (3 * c + 3 ≤ length vertices.now) }
-    ensures { result ≡ projectedBarycentric p (vertexAt vertices.now a) (vertexAt vertices.now b) (vertexAt vertices.now c) }
+    ensures { result ≡ projected_barycentric p (vertex_at vertices.now a) (vertex_at vertices.now b) (vertex_at vertices.now c) }
 {
     let va = vertex_at(vertices, a);
     let vb = vertex_at(vertices, b);
@@ -103,7 +103,7 @@ fn better(vertices: &[f64], p: Vector3, best: Fit, a: usize, b: usize, c: usize)
 // The best of the faces that are listed, three places each, one after another, beside the nearest vertex.
 fn best_of_all(faces: &[u16], vertices: &[f64], n: usize, p: Vector3, near: Nearest) -> Located
     requires { length faces.now % 3 ≡ 0 }
-    ensures { result ≡ fitOver vertices.now n p near noFit faces.now }
+    ensures { result ≡ fit_over vertices.now n p near no_fit faces.now }
 {
     let places = vertices.len();
     let mut best = no_fit();
@@ -150,7 +150,7 @@ fn sifted(vertices: &[f64], p: Vector3, w: Within, i: usize, a: usize, b: usize,
 // One pass over the faces; as if there were more where a vertex is not inside.
 fn sift(faces: &[u16], vertices: &[f64], limit: usize, p: Vector3) -> Within
     requires { (length faces.now % 3 ≡ 0) × (3 * limit ≤ length vertices.now) }
-    ensures { result ≡ siftOver vertices.now limit p 0 (record { count = 0; at = 0 }) faces.now }
+    ensures { result ≡ sift_over vertices.now limit p 0 (record { count = 0; at = 0 }) faces.now }
 {
     let mut w = Within { count: 0, at: 0 };
     let mut i = 0;
@@ -170,7 +170,7 @@ fn sift(faces: &[u16], vertices: &[f64], limit: usize, p: Vector3) -> Within
 // The same, by one pass where it tells.
 fn best_face(faces: &[u16], vertices: &[f64], n: usize, p: Vector3, near: Nearest) -> Located
     requires { length faces.now % 3 ≡ 0 }
-    ensures { result ≡ fitOver vertices.now n p near noFit faces.now }
+    ensures { result ≡ fit_over vertices.now n p near no_fit faces.now }
 {
     let w = sift(faces, vertices, limit_of(n, vertices.len()), p);
     let count = w.count;
@@ -200,7 +200,7 @@ pub fn locate(
     vertices: &[f64],
     p: Vector3,
 ) -> Located
-    ensures { result ≡ locateIn (locatorOf cell_offsets.now cell_vertices.now face_offsets.now faces.now) vertices.now (vertexCount level) (gridSize (vertexCount level)) p }
+    ensures { result ≡ locate_in (locator_of cell_offsets.now cell_vertices.now face_offsets.now faces.now) vertices.now (vertex_count level) (grid_size (vertex_count level)) p }
 {
     let nearest = find_nearest_vertex(level, cell_offsets, cell_vertices, vertices, p);
     let number = nearest.number;

@@ -2,8 +2,8 @@
 ghost use Rattle.std.specs.Prelude.{◌≡◌, cond, ◌&&◌};
 ghost use Rattle.std.specs.Float.Ieee.{lt, le};
 ghost use Rattle.std.specs.Float.Ieee.Scale.{finite};
-ghost use Rattle.mesh.specs.Levels.{vertexCount, gridSize};
-ghost use Rattle.search.specs.Geometry.{zero, dot, norm, unit, difference, cubeFaceProject, cubeProject, inCells, clamp, cellCoordinate, cellIndex};
+ghost use Rattle.mesh.specs.Levels.{vertex_count, grid_size};
+ghost use Rattle.search.specs.Geometry.{zero, dot, norm, unit, difference, cube_face_project, cube_project, in_cells, clamp, cell_coordinate, cell_index};
 
 use crate::{Projected, Seen, Vector3};
 
@@ -52,7 +52,7 @@ pub fn difference(a: Vector3, b: Vector3) -> Vector3
 
 // A point as the face of a number sees it; 5 and every number beyond it are the last face.
 pub fn cube_face_project(face: u64, v: Vector3) -> Seen
-    ensures { result ≡ cubeFaceProject face v }
+    ensures { result ≡ cube_face_project face v }
 {
     let x = v.x;
     let y = v.y;
@@ -94,7 +94,7 @@ fn pair_of(ax: f64, ay: f64, az: f64) -> u64
 // The face by the largest coordinate, and the point on it. With no jump, since the face cannot be foreseen: each choice
 // is by one comparison. What is seen from behind has the other sign, and so has what it is divided by.
 pub fn cube_project(v: Vector3) -> Projected
-    ensures { result ≡ cubeProject v }
+    ensures { result ≡ cube_project v }
 {
     let x = v.x;
     let y = v.y;
@@ -116,7 +116,7 @@ pub fn cube_project(v: Vector3) -> Projected
 
 // A coordinate of a face, counted in cells.
 pub fn in_cells(g: u64, u: f64) -> f64
-    ensures { result ≡ inCells g u }
+    ensures { result ≡ in_cells g u }
 {
     // rounded twice, this is the fused product: half of u is exact, or too small to matter
     (u * 0.5 + 0.5) * float::of_u64(g)
@@ -133,14 +133,14 @@ fn clamp(low: f64, high: f64, x: f64) -> f64
 
 // The cell that a coordinate is in, held to the grid.
 fn cell_coordinate(g: u64, u: f64) -> u64
-    ensures { result ≡ cellCoordinate g u }
+    ensures { result ≡ cell_coordinate g u }
 {
     float::to_u64(clamp(0.0, float::of_u64(g) - 1.0, in_cells(g, u)))
 }
 
 // The cell that a direction is in, at a level's grid.
 pub fn cell_index(level: u8, v: Vector3) -> u64
-    ensures { result ≡ cellIndex (gridSize (vertexCount level)) v }
+    ensures { result ≡ cell_index (grid_size (vertex_count level)) v }
 {
     let g = mesh::grid_size(level);
     let p = cube_project(v);

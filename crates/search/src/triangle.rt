@@ -2,8 +2,8 @@
 ghost use Rattle.std.specs.Prelude.{◌≡◌, ◌&&◌};
 ghost use Rattle.std.specs.Float.Ieee.{neg, le};
 ghost use Rattle.ieee.specs.Fused.{fused};
-ghost use Rattle.search.specs.Geometry.{zero, inFace, projectedBarycentric};
-ghost use Rattle.search.specs.Internal.{sidesOf, past};
+ghost use Rattle.search.specs.Geometry.{zero, in_face, projected_barycentric};
+ghost use Rattle.search.specs.Internal.{sides_of, past};
 
 use crate::geometry::{difference, dot};
 use crate::{Vector3, Weights};
@@ -16,7 +16,7 @@ fn weighed(a: f64, b: f64, c: f64) -> Weights
 
 // Past every edge and corner.
 fn in_face(va: f64, vb: f64, vc: f64) -> Weights
-    ensures { result ≡ inFace va vb vc }
+    ensures { result ≡ in_face va vb vc }
 {
     let denom = 1.0 / (va + vb + vc);
     let v = vb * denom;
@@ -40,7 +40,7 @@ pub(crate) struct Sides {
 }
 
 pub(crate) fn sides_of(p: Vector3, a: Vector3, b: Vector3, c: Vector3) -> Sides
-    ensures { result ≡ sidesOf p a b c }
+    ensures { result ≡ sides_of p a b c }
 {
     let ab = difference(b, a);
     let ac = difference(c, a);
@@ -96,7 +96,7 @@ fn not_above(asked: bool, x: f64, y: f64, m: f64) -> bool
 
 // The weights of p in the triangle a, b, c, region by region; the three products that tell the sides are fused.
 pub fn projected_barycentric(p: Vector3, a: Vector3, b: Vector3, c: Vector3) -> Weights
-    ensures { result ≡ projectedBarycentric p a b c }
+    ensures { result ≡ projected_barycentric p a b c }
 {
     let s = sides_of(p, a, b, c);
     let d1 = s.d1;

@@ -1,11 +1,11 @@
 // The searches and the locator call for a caller in C or Rust. A direction is given by three numbers, and divided by its length here.
 ghost use Rattle.std.specs.Prelude.{◌≡◌, []};
-ghost use Rattle.mesh.specs.Mesh.{meshOf};
-ghost use Rattle.mesh.specs.Levels.{vertexCount, gridSize};
+ghost use Rattle.mesh.specs.Mesh.{mesh_of};
+ghost use Rattle.mesh.specs.Levels.{vertex_count, grid_size};
 ghost use Rattle.search.specs.Geometry.{unit};
-ghost use Rattle.search.specs.Search.{nearestInCells, locateIn, locatorOf};
-ghost use Rattle.locator.specs.Locator.{LocatorOut, locatorOut};
-ghost use Rattle.mesh_search.specs.MeshSearch.{searchOut};
+ghost use Rattle.search.specs.Search.{nearest_in_cells, locate_in, locator_of};
+ghost use Rattle.locator.specs.Locator.{LocatorOut, locator_out};
+ghost use Rattle.mesh_search.specs.MeshSearch.{search_out};
 
 use search::{Located, Nearest, Vector3};
 
@@ -19,7 +19,7 @@ pub extern "C" fn search_find_nearest_vertex(
     y: f64,
     z: f64,
 ) -> Nearest
-    ensures { result ≡ nearestInCells cell_offsets.now cell_vertices.now vertices.now (vertexCount level) (gridSize (vertexCount level)) (unit (record { x = x; y = y; z = z })) }
+    ensures { result ≡ nearest_in_cells cell_offsets.now cell_vertices.now vertices.now (vertex_count level) (grid_size (vertex_count level)) (unit (record { x = x; y = y; z = z })) }
 {
     let p = search::unit(Vector3 { x, y, z });
     search::find_nearest_vertex(level, cell_offsets, cell_vertices, vertices, p)
@@ -37,7 +37,7 @@ pub extern "C" fn search_locate(
     y: f64,
     z: f64,
 ) -> Located
-    ensures { result ≡ locateIn (locatorOf cell_offsets.now cell_vertices.now face_offsets.now faces.now) vertices.now (vertexCount level) (gridSize (vertexCount level)) (unit (record { x = x; y = y; z = z })) }
+    ensures { result ≡ locate_in (locator_of cell_offsets.now cell_vertices.now face_offsets.now faces.now) vertices.now (vertex_count level) (grid_size (vertex_count level)) (unit (record { x = x; y = y; z = z })) }
 {
     let p = search::unit(Vector3 { x, y, z });
     search::locate(
@@ -64,9 +64,9 @@ pub extern "C" fn search_locator(
     faces: &mut [u16],
 ) -> u64
     ensures { ◌≡◌ {A = LocatorOut}
-        (record { number = result; lists = locatorOf cell_offsets.new cell_vertices.new face_offsets.new faces.new })
-        (locatorOut level (meshOf vertices.now counts.now neighbours.now angles.now)
-        (locatorOf cell_offsets.old cell_vertices.old face_offsets.old faces.old)) }
+        (record { number = result; lists = locator_of cell_offsets.new cell_vertices.new face_offsets.new faces.new })
+        (locator_out level (mesh_of vertices.now counts.now neighbours.now angles.now)
+        (locator_of cell_offsets.old cell_vertices.old face_offsets.old faces.old)) }
 {
     locator::locator(
         level,
@@ -92,7 +92,7 @@ pub extern "C" fn search_mesh(
     y: f64,
     z: f64,
 ) -> Located
-    ensures { result ≡ searchOut level (meshOf vertices.now counts.now neighbours.now []) (record { x = x; y = y; z = z }) }
+    ensures { result ≡ search_out level (mesh_of vertices.now counts.now neighbours.now []) (record { x = x; y = y; z = z }) }
 {
     mesh_search::search_mesh(level, vertices, counts, neighbours, Vector3 { x, y, z })
 }

@@ -4,61 +4,61 @@ use mathlib.Core.List.{map-append}
 use lib.ListN.{length-map, get_or-append}
 use lib.Seq.{get_or_at}
 use lib.Ieee.{Float, nan, binary64, mul, neg}
-use Rattle.ieee.proofs.Pack.{le-or-lt}
+use Rattle.ieee.proofs.Pack.{le_or_lt}
 use Rattle.mesh.specs.Mesh.{Mesh}
 use Rattle.lists.specs.Lists.{put}
-use Rattle.lists.proofs.Written.{put-push}
+use Rattle.lists.proofs.Written.{put_push}
 use Rattle.float.specs.Exp.{exponential}
 use Rattle.settling.specs.Gradient.{weight}
-use Rattle.settling.specs.Internal.{line_of, lineExponents, lineWeights, lineGradient}
+use Rattle.settling.specs.Internal.{line_of, line_exponents, line_weights, lineGradient}
 
 module _ (f : Float → Float) (e : List Float) (from step : ℕ) where
-  pub length-line : (n : ℕ) → length (line_of f e from step n) ≡ n
+  pub length_line : (n : ℕ) → length (line_of f e from step n) ≡ n
   unfolding line_of
-  length-line zero = refl
-  length-line (suc n) = length-append (line_of f e from step n) (f (get_or e (from + step * n) nan) ∷ []) ∙ omega (arith, length-line n)
+  length_line zero = refl
+  length_line (suc n) = length-append (line_of f e from step n) (f (get_or e (from + step * n) nan) ∷ []) ∙ omega (arith, length_line n)
 
   -- one entry more
-  pub line-turn : (d out : List Float) (i : ℕ) → out ≡ put d 0 (line_of f e from step i) → i < length d
+  pub line_turn : (d out : List Float) (i : ℕ) → out ≡ put d 0 (line_of f e from step i) → i < length d
       → set out i (f (get_or e (from + step * i) nan)) ≡ put d 0 (line_of f e from step (i + 1))
   unfolding line_of
-  line-turn d out i q h =
-      let n : 0 + length (line_of f e from step i) ≡ i = omega (arith, length-line i) in
-      rw (q, add-one) (rw n at (put-push d 0 (line_of f e from step i) (f (get_or e (from + step * i) nan)) (omega (arith, n))))
+  line_turn d out i q h =
+      let n : 0 + length (line_of f e from step i) ≡ i = omega (arith, length_line i) in
+      rw (q, add-one) (rw n at (put_push d 0 (line_of f e from step i) (f (get_or e (from + step * i) nan)) (omega (arith, n))))
 
   -- an entry of a line
   last_or : (n i : ℕ) → (i < n → get_or (line_of f e from step n) i nan ≡ f (get_or e (from + step * i) nan)) → i < suc n → (n ≤ i) ⊎ (i < n)
       → get_or (line_of f e from step n ++ (f (get_or e (from + step * n) nan) ∷ [])) i nan ≡ f (get_or e (from + step * i) nan)
   last_or n i r h (inl k) =
       let same : i ≡ n = omega arith in
-      rw same (get_or_at (line_of f e from step n) (f (get_or e (from + step * n) nan)) [] nan n (length-line n))
+      rw same (get_or_at (line_of f e from step n) (f (get_or e (from + step * n) nan)) [] nan n (length_line n))
   last_or n i r h (inr k) =
-      get_or-append (line_of f e from step n) (f (get_or e (from + step * n) nan) ∷ []) nan i (omega (arith, length-line n)) ∙ r k
+      get_or-append (line_of f e from step n) (f (get_or e (from + step * n) nan) ∷ []) nan i (omega (arith, length_line n)) ∙ r k
 
   pub line_at : (n i : ℕ) → i < n → get_or (line_of f e from step n) i nan ≡ f (get_or e (from + step * i) nan)
   unfolding line_of
   line_at zero i h = absurd (omega arith)
-  line_at (suc n) i h = last_or n i (line_at n i) h (le-or-lt n i)
+  line_at (suc n) i h = last_or n i (line_at n i) h (le_or_lt n i)
 
 -- the first entries of an array that was written from its beginning
-pub head-part : (d w l : List Float) (n : ℕ) → w ≡ put d 0 l → length l ≡ n → take n w ≡ l
+pub head_part : (d w l : List Float) (n : ℕ) → w ≡ put d 0 l → length l ≡ n → take n w ≡ l
 unfolding put
-head-part d w l n e h = rw e (take_at l (drop (0 + length l) d) n h)
+head_part d w l n e h = rw e (take_at l (drop (0 + length l) d) n h)
 
 -- the weights are E of the exponents
-pub weights-are : (beta : Float) (e : List Float) (from step n : ℕ) → map exponential (lineExponents beta e from step n) ≡ lineWeights beta e from step n
+pub weights_are : (beta : Float) (e : List Float) (from step n : ℕ) → map exponential (line_exponents beta e from step n) ≡ line_weights beta e from step n
 unfolding line_of weight
-weights-are beta e from step zero = refl
-weights-are beta e from step (suc n) = map-append exponential (lineExponents beta e from step n) _ ∙ rw (weights-are beta e from step n)
+weights_are beta e from step zero = refl
+weights_are beta e from step (suc n) = map-append exponential (line_exponents beta e from step n) _ ∙ rw (weights_are beta e from step n)
 
-pub weighed-line : (m : Mesh) (beta : Float) (e : List Float) (from step n : ℕ) (g r : Float) (d w : List Float) → r ≡ lineGradient m n (map exponential (take n w)) g → w ≡ put d 0 (lineExponents beta e from step n)
-    → r ≡ lineGradient m n (lineWeights beta e from step n) g
-weighed-line m beta e from step n g r d w h k =
-    h ∙ ap (λ (l : List Float). lineGradient m n l g) (ap (map exponential) (head-part d w (lineExponents beta e from step n) n k (length-line (mul binary64 (neg beta)) e from step n)) ∙ weights-are beta e from step n)
+pub weighed_line : (m : Mesh) (beta : Float) (e : List Float) (from step n : ℕ) (g r : Float) (d w : List Float) → r ≡ lineGradient m n (map exponential (take n w)) g → w ≡ put d 0 (line_exponents beta e from step n)
+    → r ≡ lineGradient m n (line_weights beta e from step n) g
+weighed_line m beta e from step n g r d w h k =
+    h ∙ ap (λ (l : List Float). lineGradient m n l g) (ap (map exponential) (head_part d w (line_exponents beta e from step n) n k (length_line (mul binary64 (neg beta)) e from step n)) ∙ weights_are beta e from step n)
 
 -- the first n entries, after E was put in their places
-pub weighed-part : (w p rest : List Float) (n : ℕ) → p ≡ map exponential (take (n - 0) w) → n ≤ length w → take (n - 0) (p ++ rest) ≡ map exponential (take n w)
-weighed-part w p rest n e h =
+pub weighed_part : (w p rest : List Float) (n : ℕ) → p ≡ map exponential (take (n - 0) w) → n ≤ length w → take (n - 0) (p ++ rest) ≡ map exponential (take n w)
+weighed_part w p rest n e h =
     let z : n - 0 ≡ n = omega arith in
     let e' : p ≡ map exponential (take n w) = rw z at e in
     rw (z, e') (take_at (map exponential (take n w)) rest n (length-map (take n w) exponential ∙ length-take-le n w h))

@@ -3,11 +3,11 @@ use Rattle.std.proofs.Common.{◌≡◌, ℕ, ◌+◌, ◌*◌, Bool, true, fals
 use lib.Ieee.{Float, nan, binary64, of_bits, sub, div, lt, is_nan}
 use Rattle.float.specs.Order.{magnitude, larger}
 use Rattle.lists.proofs.Loops.{each_turn}
-use Rattle.mesh.specs.Mesh.{Mesh, degree, neighbour, angleTo}
-use Rattle.settling.specs.Gradient.{zero, steeper, alongNeighbours}
-use Rattle.settling.specs.Internal.{lineWeights, lineGradient, columnGradient, fourColumns, firstColumns, linesGradient}
+use Rattle.mesh.specs.Mesh.{Mesh, degree, neighbour, angle_to}
+use Rattle.settling.specs.Gradient.{zero, steeper, along_neighbours}
+use Rattle.settling.specs.Internal.{line_weights, lineGradient, column_gradient, four_columns, first_columns, lines_gradient}
 use Rattle.settling.proofs.Largest.{larger-number}
-use Rattle.settling.proofs.Orders.{each_same, each_keeps, each-four}
+use Rattle.settling.proofs.Orders.{each_same, each_keeps, each_four}
 
 abbrev pub Number : Float → Type 0
 Number x = is_nan x ≡ false
@@ -27,35 +27,35 @@ steeper-number x y angle g h =
     chosen (lt (of_bits binary64 0x3D71_9799_812D_EA11) angle) (larger g q) g (larger-number g q (is_nan q) h refl) h
 
 module _ (m : Mesh) where
-  pub neighbours-number : (v : ℕ) (weightAt : ℕ → Float) (x g : Float) → Number g → Number (alongNeighbours m v weightAt x g)
-  unfolding alongNeighbours
-  neighbours-number v weightAt x g =
-      each_keeps Number (degree m v) (λ k. steeper x (weightAt (neighbour m v k)) (angleTo m v k)) (λ k. steeper-number x (weightAt (neighbour m v k)) (angleTo m v k)) g
+  pub neighbours_number : (v : ℕ) (weightAt : ℕ → Float) (x g : Float) → Number g → Number (along_neighbours m v weightAt x g)
+  unfolding along_neighbours
+  neighbours_number v weightAt x g =
+      each_keeps Number (degree m v) (λ k. steeper x (weightAt (neighbour m v k)) (angle_to m v k)) (λ k. steeper-number x (weightAt (neighbour m v k)) (angle_to m v k)) g
 
-  pub line-number : (n : ℕ) (ws : List Float) (g : Float) → Number g → Number (lineGradient m n ws g)
+  pub line_number : (n : ℕ) (ws : List Float) (g : Float) → Number g → Number (lineGradient m n ws g)
   unfolding lineGradient
-  line-number n ws g =
-      each_keeps Number n (λ v. alongNeighbours m v (λ k. get_or ws k nan) (get_or ws v nan)) (λ v. neighbours-number v (λ k. get_or ws k nan) (get_or ws v nan)) g
+  line_number n ws g =
+      each_keeps Number n (λ v. along_neighbours m v (λ k. get_or ws k nan) (get_or ws v nan)) (λ v. neighbours_number v (λ k. get_or ws k nan) (get_or ws v nan)) g
 
-  pub column-number : (n : ℕ) (beta : Float) (e : List Float) (t : ℕ) (g : Float) → Number g → Number (columnGradient m n beta e t g)
-  unfolding columnGradient
-  column-number n beta e t g = line-number n (lineWeights beta e t n n) g
+  pub column_number : (n : ℕ) (beta : Float) (e : List Float) (t : ℕ) (g : Float) → Number g → Number (column_gradient m n beta e t g)
+  unfolding column_gradient
+  column_number n beta e t g = line_number n (line_weights beta e t n n) g
 
-  pub columns-number : (n : ℕ) (beta : Float) (e : List Float) (k : ℕ) → Number (firstColumns m n beta e k)
-  unfolding firstColumns
-  columns-number n beta e k = each_keeps Number k (columnGradient m n beta e) (column-number n beta e) zero zero_number
+  pub columns-number : (n : ℕ) (beta : Float) (e : List Float) (k : ℕ) → Number (first_columns m n beta e k)
+  unfolding first_columns
+  columns-number n beta e k = each_keeps Number k (column_gradient m n beta e) (column_number n beta e) zero zero_number
 
   -- all columns are lines that begin one place after another
-  pub columns-are : (n : ℕ) (beta : Float) (e : List Float) → firstColumns m n beta e n ≡ linesGradient m n beta e 1 n zero
-  unfolding firstColumns columnGradient linesGradient
-  columns-are n beta e =
-      each_same n (columnGradient m n beta e) (λ t. lineGradient m n (lineWeights beta e (1 * t) n n)) (λ t s h. ap (λ (z : ℕ). lineGradient m n (lineWeights beta e z n n) s) (sym (one-mul t))) zero
+  pub columns_are : (n : ℕ) (beta : Float) (e : List Float) → first_columns m n beta e n ≡ lines_gradient m n beta e 1 n zero
+  unfolding first_columns column_gradient lines_gradient
+  columns_are n beta e =
+      each_same n (column_gradient m n beta e) (λ t. lineGradient m n (line_weights beta e (1 * t) n n)) (λ t s h. ap (λ (z : ℕ). lineGradient m n (line_weights beta e z n n) s) (sym (one-mul t))) zero
 
   -- one column more, and four
-  pub columns-one : (n : ℕ) (beta : Float) (e : List Float) (k : ℕ) → columnGradient m n beta e k (firstColumns m n beta e k) ≡ firstColumns m n beta e (k + 1)
-  unfolding firstColumns
-  columns-one n beta e k = each_turn (columnGradient m n beta e) k zero (firstColumns m n beta e k) refl
+  pub columns-one : (n : ℕ) (beta : Float) (e : List Float) (k : ℕ) → column_gradient m n beta e k (first_columns m n beta e k) ≡ first_columns m n beta e (k + 1)
+  unfolding first_columns
+  columns-one n beta e k = each_turn (column_gradient m n beta e) k zero (first_columns m n beta e k) refl
 
-  pub columns-four : (n : ℕ) (beta : Float) (e : List Float) (k : ℕ) → fourColumns m n beta e k (firstColumns m n beta e k) ≡ firstColumns m n beta e (k + 4)
-  unfolding firstColumns fourColumns
-  columns-four n beta e k = each-four (columnGradient m n beta e) k zero (firstColumns m n beta e k) refl
+  pub columns-four : (n : ℕ) (beta : Float) (e : List Float) (k : ℕ) → four_columns m n beta e k (first_columns m n beta e k) ≡ first_columns m n beta e (k + 4)
+  unfolding first_columns four_columns
+  columns-four n beta e k = each_four (column_gradient m n beta e) k zero (first_columns m n beta e k) refl

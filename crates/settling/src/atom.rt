@@ -1,10 +1,10 @@
 // The settling of one slab against an atom.
 ghost use Rattle.std.specs.Prelude.{◌≡◌, leb, [], if◌then◌else◌};
-ghost use Rattle.mesh.specs.Mesh.{meshOf};
-ghost use Rattle.mesh.specs.Levels.{vertexCount};
-ghost use Rattle.rows.specs.Rows.{rowWith};
+ghost use Rattle.mesh.specs.Mesh.{mesh_of};
+ghost use Rattle.mesh.specs.Levels.{vertex_count};
+ghost use Rattle.rows.specs.Rows.{row_with};
 ghost use Rattle.settling.specs.Gradient.{zero};
-ghost use Rattle.settling.specs.Settling.{atomVerdict, atomVerdictOf, atomLevel};
+ghost use Rattle.settling.specs.Settling.{atom_verdict, atom_verdict_of, atom_level};
 ghost use Rattle.settling.specs.declared.AtomVerdict.{AtomVerdict};
 ghost use Rattle.settling.specs.declared.Verdict.TheVariants.{Empty};
 
@@ -31,7 +31,7 @@ fn atom_verdict(
     energies: &[f64],
     level: u8,
 ) -> AtomVerdict
-    ensures { result ≡ (if leb level 15 then atomVerdict threshold beta (meshOf [] counts.now neighbours.now angles.now) (vertexCount level) energies.now else (record { verdict = Empty; gradient = zero })) }
+    ensures { result ≡ (if leb level 15 then atom_verdict threshold beta (mesh_of [] counts.now neighbours.now angles.now) (vertex_count level) energies.now else (record { verdict = Empty; gradient = zero })) }
 {
     if 15 < level {
         return without_gradient(Verdict::Empty);
@@ -58,7 +58,7 @@ pub fn atom_verdict_of(
     level: u8,
     row: SlabResolution,
 ) -> AtomVerdict
-    ensures { result ≡ (if leb level 15 then atomVerdictOf threshold beta (meshOf [] counts.now neighbours.now angles.now) (vertexCount level) (rowWith row energies.now) else (record { verdict = Empty; gradient = zero })) }
+    ensures { result ≡ (if leb level 15 then atom_verdict_of threshold beta (mesh_of [] counts.now neighbours.now angles.now) (vertex_count level) (row_with row energies.now) else (record { verdict = Empty; gradient = zero })) }
 {
     match row {
         SlabResolution::Scalar(_) => without_gradient(Verdict::Empty),
@@ -71,7 +71,7 @@ pub fn atom_verdict_of(
 
 // The level after a slab.
 pub fn atom_level(threshold: f64, level: u64, v: AtomVerdict) -> u64
-    ensures { result ≡ atomLevel threshold level v }
+    ensures { result ≡ atom_level threshold level v }
 {
     let verdict = v.verdict;
     let gradient = v.gradient;

@@ -3,11 +3,11 @@
 ghost use Rattle.std.specs.Prelude.{◌≡◌, ◌+◌, ◌*◌, ◌/◌, ◌≤◌, false, [], map, length, get_or, take, is_nan, slice_index_or};
 ghost use Rattle.std.specs.Float.{nan, binary64};
 ghost use Rattle.std.specs.Float.Ieee.{mul, neg};
-ghost use Rattle.mesh.specs.Mesh.{meshOf};
+ghost use Rattle.mesh.specs.Mesh.{mesh_of};
 ghost use Rattle.lists.specs.Lists.{put};
 ghost use Rattle.float.specs.Exp.{exponential};
-ghost use Rattle.settling.specs.Gradient.{weight, steeper, alongNeighbours, atomGradient};
-ghost use Rattle.settling.specs.Internal.{lineExponents, lineWeights, lineGradient, fourColumns, firstColumns, linesGradient, byLines};
+ghost use Rattle.settling.specs.Gradient.{weight, steeper, along_neighbours, atom_gradient};
+ghost use Rattle.settling.specs.Internal.{line_exponents, line_weights, lineGradient, four_columns, first_columns, lines_gradient, by_lines};
 
 // The Boltzmann weight of an energy.
 pub(crate) fn weight(beta: f64, e: f64) -> f64
@@ -41,7 +41,7 @@ fn exponent_at(beta: f64, energies: &[f64], from: usize, step: usize, i: usize) 
 // The exponents of a line.
 fn exponents(beta: f64, energies: &[f64], from: usize, step: usize, n: usize, weights: &mut [f64])
     requires { (n ≤ length weights.old) × (n ≤ 2562) × (step ≤ 2562) × (from ≤ 6563844) }
-    ensures { weights.new ≡ put weights.old 0 (lineExponents beta energies.now from step n) }
+    ensures { weights.new ≡ put weights.old 0 (line_exponents beta energies.now from step n) }
 {
     let mut i = 0;
     while i < n {
@@ -63,10 +63,10 @@ fn exponents_four(
     fourth: &mut [f64],
 )
     requires { (n ≤ length first.old) × (n ≤ length second.old) × (n ≤ length third.old) × (n ≤ length fourth.old) × (n ≤ 2562) × (step ≤ 2562) × (from ≤ 2562) }
-    ensures { (first.new ≡ put first.old 0 (lineExponents beta energies.now from step n))
-        × (second.new ≡ put second.old 0 (lineExponents beta energies.now (from + 1) step n))
-        × (third.new ≡ put third.old 0 (lineExponents beta energies.now (from + 2) step n))
-        × (fourth.new ≡ put fourth.old 0 (lineExponents beta energies.now (from + 3) step n)) }
+    ensures { (first.new ≡ put first.old 0 (line_exponents beta energies.now from step n))
+        × (second.new ≡ put second.old 0 (line_exponents beta energies.now (from + 1) step n))
+        × (third.new ≡ put third.old 0 (line_exponents beta energies.now (from + 2) step n))
+        × (fourth.new ≡ put fourth.old 0 (line_exponents beta energies.now (from + 3) step n)) }
 {
     let mut i = 0;
     while i < n {
@@ -88,7 +88,7 @@ fn along_neighbours(
     g: f64,
 ) -> f64
     requires { is_nan g ≡ false }
-    ensures { result ≡ alongNeighbours (meshOf [] counts.now neighbours.now angles.now) v
+    ensures { result ≡ along_neighbours (mesh_of [] counts.now neighbours.now angles.now) v
         (λ k. get_or weights.now k nan) (slice_index_or weights.now v nan) g }
 {
     let d = mesh::degree(counts, v);
@@ -113,7 +113,7 @@ fn line_gradient(
     g: f64,
 ) -> f64
     requires { is_nan g ≡ false }
-    ensures { result ≡ lineGradient (meshOf [] counts.now neighbours.now angles.now) n weights.now g }
+    ensures { result ≡ lineGradient (mesh_of [] counts.now neighbours.now angles.now) n weights.now g }
 {
     let mut h = g;
     let mut v: u32 = 0;
@@ -134,7 +134,7 @@ fn weighed(
     g: f64,
 ) -> f64
     requires { (n ≤ length weights.old) × (is_nan g ≡ false) }
-    ensures { result ≡ lineGradient (meshOf [] counts.now neighbours.now angles.now) n
+    ensures { result ≡ lineGradient (mesh_of [] counts.now neighbours.now angles.now) n
         (map exponential (take n weights.old)) g }
 {
     let m = n as usize;
@@ -156,8 +156,8 @@ fn line(
     weights: &mut [f64],
 ) -> f64
     requires { (n ≤ 2562) × (step ≤ 2562) × (from ≤ 6563844) × (is_nan g ≡ false) × (n ≤ length weights.old) }
-    ensures { result ≡ lineGradient (meshOf [] counts.now neighbours.now angles.now) n
-        (lineWeights beta energies.now from step n) g }
+    ensures { result ≡ lineGradient (mesh_of [] counts.now neighbours.now angles.now) n
+        (line_weights beta energies.now from step n) g }
 {
     let m = n as usize;
     exponents(beta, energies, from, step, m, weights);
@@ -180,7 +180,7 @@ fn four_columns(
     fourth: &mut [f64],
 ) -> f64
     requires { (n ≤ 2562) × (from ≤ 2562) × (is_nan g ≡ false) × (n ≤ length first.old) × (n ≤ length second.old) × (n ≤ length third.old) × (n ≤ length fourth.old) }
-    ensures { result ≡ fourColumns (meshOf [] counts.now neighbours.now angles.now) n beta energies.now from g }
+    ensures { result ≡ four_columns (mesh_of [] counts.now neighbours.now angles.now) n beta energies.now from g }
 {
     let m = n as usize;
     exponents_four(beta, energies, from, m, m, first, second, third, fourth);
@@ -201,7 +201,7 @@ fn fours(
     first: &mut [f64],
 ) -> f64
     requires { (n ≤ 2562) × (n ≤ length first.old) }
-    ensures { result ≡ firstColumns (meshOf [] counts.now neighbours.now angles.now) n beta energies.now (n / 4 * 4) }
+    ensures { result ≡ first_columns (mesh_of [] counts.now neighbours.now angles.now) n beta energies.now (n / 4 * 4) }
 {
     let mut second = [0.0; 2562];
     let mut third = [0.0; 2562];
@@ -239,7 +239,7 @@ fn columns(
     weights: &mut [f64],
 ) -> f64
     requires { (n ≤ 2562) × (n ≤ length weights.old) }
-    ensures { result ≡ firstColumns (meshOf [] counts.now neighbours.now angles.now) n beta energies.now n }
+    ensures { result ≡ first_columns (mesh_of [] counts.now neighbours.now angles.now) n beta energies.now n }
 {
     let m = n as usize;
     let mut h = fours(counts, neighbours, angles, energies, beta, n, weights);
@@ -267,7 +267,7 @@ fn lines(
     weights: &mut [f64],
 ) -> f64
     requires { (n ≤ 2562) × (step ≤ 2562) × (apart ≤ 2562) × (is_nan g ≡ false) × (n ≤ length weights.old) }
-    ensures { result ≡ linesGradient (meshOf [] counts.now neighbours.now angles.now) n beta energies.now apart step g }
+    ensures { result ≡ lines_gradient (mesh_of [] counts.now neighbours.now angles.now) n beta energies.now apart step g }
 {
     let mut h = g;
     let mut t: u32 = 0;
@@ -299,7 +299,7 @@ pub(crate) fn gradient(
     n: u32,
 ) -> f64
     requires { n ≤ 2562 }
-    ensures { result ≡ byLines (meshOf [] counts.now neighbours.now angles.now) n beta energies.now }
+    ensures { result ≡ by_lines (mesh_of [] counts.now neighbours.now angles.now) n beta energies.now }
 {
     let mut weights = [0.0; 2562];
     let m = n as usize;
@@ -328,7 +328,7 @@ pub(crate) fn atom_gradient(
     n: u32,
 ) -> f64
     requires { n ≤ 2562 }
-    ensures { result ≡ atomGradient (meshOf [] counts.now neighbours.now angles.now) n beta energies.now }
+    ensures { result ≡ atom_gradient (mesh_of [] counts.now neighbours.now angles.now) n beta energies.now }
 {
     let mut weights = [0.0; 2562];
     line(

@@ -1,14 +1,14 @@
 // The settling of one slab.
 ghost use Rattle.std.specs.Prelude.{◌≡◌, ◌+◌, ◌%◌, ◌^◌, ◌&&◌, ◌||◌, [], if◌then◌else◌, from_bits, nat_le};
 ghost use Rattle.std.specs.Float.{binary64};
-ghost use Rattle.mesh.specs.Mesh.{meshOf};
-ghost use Rattle.mesh.specs.Levels.{vertexCount};
-ghost use Rattle.rows.specs.Words.{wordRows};
-ghost use Rattle.rows.specs.Rows.{Rows, rowWith, rows_of};
-ghost use Rattle.settling.specs.Gradient.{repulsive, allRepulsive, sumFrom, meanNarrowed};
-ghost use Rattle.settling.specs.Settling.{byGradient, verdict, verdictOf, new_row, replacedBy, steeperOf, settles, packedAfter, comparisonsFor};
+ghost use Rattle.mesh.specs.Mesh.{mesh_of};
+ghost use Rattle.mesh.specs.Levels.{vertex_count};
+ghost use Rattle.rows.specs.Words.{word_rows};
+ghost use Rattle.rows.specs.Rows.{Rows, row_with, rows_of};
+ghost use Rattle.settling.specs.Gradient.{repulsive, all_repulsive, sum_from, mean_narrowed};
+ghost use Rattle.settling.specs.Settling.{by_gradient, verdict, verdict_of, new_row, replaced_by, steeper_of, settles, packed_after, comparisons_for};
 ghost use Rattle.settling.specs.declared.Verdict.TheVariants.{Empty};
-ghost use Rattle.settling.specs.Internal.{stays, becomes, left_row, isClear, packedIn};
+ghost use Rattle.settling.specs.Internal.{stays, becomes, left_row, is_clear, packed_in};
 
 use crate::{Tally, Verdict, gradient};
 use rows::SlabResolution;
@@ -20,7 +20,7 @@ fn is_repulsive(beta: f64, e: f64) -> bool
 }
 
 pub(crate) fn all_repulsive(beta: f64, energies: &[f64]) -> bool
-    ensures { result ≡ allRepulsive beta energies.now }
+    ensures { result ≡ all_repulsive beta energies.now }
 {
     let mut i = 0;
     while i < energies.len() {
@@ -34,7 +34,7 @@ pub(crate) fn all_repulsive(beta: f64, energies: &[f64]) -> bool
 
 // The sum in index order, from -0.0.
 fn sum(energies: &[f64]) -> f64
-    ensures { result ≡ sumFrom (from_bits binary64 0x8000_0000_0000_0000) energies.now }
+    ensures { result ≡ sum_from (from_bits binary64 0x8000_0000_0000_0000) energies.now }
 {
     let mut x = -0.0;
     let mut i = 0;
@@ -46,13 +46,13 @@ fn sum(energies: &[f64]) -> f64
 }
 
 fn mean_narrowed(energies: &[f64]) -> f32
-    ensures { result ≡ meanNarrowed energies.now }
+    ensures { result ≡ mean_narrowed energies.now }
 {
     ieee::narrow(sum(energies) / float::of_u64(energies.len() as u64))
 }
 
 pub(crate) fn by_gradient(threshold: f64, energies: &[f64], x: f64) -> Verdict
-    ensures { result ≡ byGradient threshold energies.now x }
+    ensures { result ≡ by_gradient threshold energies.now x }
 {
     if x < threshold / 10.0 {
         return Verdict::Isotropic(mean_narrowed(energies));
@@ -64,7 +64,7 @@ pub(crate) fn by_gradient(threshold: f64, energies: &[f64], x: f64) -> Verdict
 }
 
 fn steeper_of(x: f64, v: Verdict) -> f64
-    ensures { result ≡ steeperOf x v }
+    ensures { result ≡ steeper_of x v }
 {
     match v {
         Verdict::Empty => x,
@@ -98,7 +98,7 @@ fn verdict(
     energies: &[f64],
     level: u8,
 ) -> Verdict
-    ensures { result ≡ (if nat_le level 15 then verdict threshold beta (meshOf [] counts.now neighbours.now angles.now) (vertexCount level) energies.now else Empty) }
+    ensures { result ≡ (if nat_le level 15 then verdict threshold beta (mesh_of [] counts.now neighbours.now angles.now) (vertex_count level) energies.now else Empty) }
 {
     if 15 < level {
         return Verdict::Empty;
@@ -122,7 +122,7 @@ pub fn verdict_of(
     level: u8,
     row: SlabResolution,
 ) -> Verdict
-    ensures { result ≡ (if nat_le level 15 then verdictOf threshold beta (meshOf [] counts.now neighbours.now angles.now) (vertexCount level) (rowWith row energies.now) else Empty) }
+    ensures { result ≡ (if nat_le level 15 then verdict_of threshold beta (mesh_of [] counts.now neighbours.now angles.now) (vertex_count level) (row_with row energies.now) else Empty) }
 {
     match row {
         SlabResolution::Scalar(_) => Verdict::Empty,
@@ -169,7 +169,7 @@ fn left_row(level: u8, row: SlabResolution, v: Verdict) -> SlabResolution
 }
 
 fn is_clear(row: SlabResolution) -> bool
-    ensures { result ≡ isClear row }
+    ensures { result ≡ is_clear row }
 {
     match row {
         SlabResolution::Scalar(_) => true,
@@ -180,7 +180,7 @@ fn is_clear(row: SlabResolution) -> bool
 
 // The packed energies of a row: n·n of its level if it is Mesh.
 pub fn packed_row(row: SlabResolution) -> u64
-    ensures { result ≡ packedIn row }
+    ensures { result ≡ packed_in row }
 {
     match row {
         SlabResolution::Scalar(_) => 0,
@@ -191,7 +191,7 @@ pub fn packed_row(row: SlabResolution) -> u64
 
 // The number of packed energies after rows with `old` of them became rows with `new`, wrapping.
 pub fn packed_after(packed: u64, old: u64, new: u64) -> u64
-    ensures { result ≡ packedAfter packed old new }
+    ensures { result ≡ packed_after packed old new }
 {
     let without = std::num::wrapping_sub_u64(packed, old);
     std::num::wrapping_add_u64(without, new)
@@ -199,7 +199,7 @@ pub fn packed_after(packed: u64, old: u64, new: u64) -> u64
 
 // How many slabs reached the gradient, with one slab more.
 fn reached_with(reached: u64, v: Verdict) -> u64
-    ensures { result ≡ (reached + comparisonsFor 1 v) % 2 ^ 64 }
+    ensures { result ≡ (reached + comparisons_for 1 v) % 2 ^ 64 }
 {
     if settles(v) {
         return std::num::wrapping_add_u64(reached, 1);
@@ -210,11 +210,11 @@ fn reached_with(reached: u64, v: Verdict) -> u64
 // The slice with one slab more.
 pub fn tallied(level: u8, t: Tally, row: SlabResolution, v: Verdict) -> Tally
     ensures { result ≡ record {
-      gradient = steeperOf t.gradient v;
+      gradient = steeper_of t.gradient v;
       settled = t.settled || settles v;
-      clear = t.clear && isClear (left_row level row v);
-      packed = packedAfter t.packed (packedIn row) (packedIn (left_row level row v));
-      reached = (t.reached + comparisonsFor 1 v) % 2 ^ 64;
+      clear = t.clear && is_clear (left_row level row v);
+      packed = packed_after t.packed (packed_in row) (packed_in (left_row level row v));
+      reached = (t.reached + comparisons_for 1 v) % 2 ^ 64;
     } }
 {
     let gradient = t.gradient;
@@ -243,7 +243,7 @@ pub fn replace_by(
 )
     ensures { ◌≡◌ {A = Rows}
         (rows_of kinds.new levels.new values.new)
-        (replacedBy (rows_of kinds.old levels.old values.old) s (new_row level v)) }
+        (replaced_by (rows_of kinds.old levels.old values.old) s (new_row level v)) }
 {
     if stays(v) {
         return;
@@ -252,7 +252,7 @@ pub fn replace_by(
 }
 
 pub fn replace_word_by(words: &mut [u64], s: u64, level: u8, v: Verdict)
-    ensures { ◌≡◌ {A = Rows} (wordRows words.new) (replacedBy (wordRows words.old) s (new_row level v)) }
+    ensures { ◌≡◌ {A = Rows} (word_rows words.new) (replaced_by (word_rows words.old) s (new_row level v)) }
 {
     if stays(v) {
         return;

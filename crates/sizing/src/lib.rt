@@ -1,8 +1,8 @@
 // What a build needs, from its settings, top level and neighbour lists alone: no slab is sampled, and no vertex or angle is looked at.
 ghost use Rattle.std.specs.Prelude.{◌≡◌, ◌+◌, ◌*◌, suc, ◌≤◌};
-ghost use Rattle.mesh.specs.Levels.{vertexCount, gridSize, cellCount};
-ghost use Rattle.mesh.specs.Mesh.{neighbourTotal};
-ghost use Rattle.sizing.specs.Sizing.{sizingRefusal, byLevel, noSize, sized, sizingOut, atomSizingOut};
+ghost use Rattle.mesh.specs.Levels.{vertex_count, grid_size, cell_count};
+ghost use Rattle.mesh.specs.Mesh.{neighbour_total};
+ghost use Rattle.sizing.specs.Sizing.{sizing_refusal, by_level, no_size, sized, sizing_out, atom_sizing_out};
 
 use grid::{AtomGrid, Grid};
 
@@ -24,7 +24,7 @@ pub struct Size {
 // Questions 6 and 7 of the neighbour lists, after those that gave `asked`.
 fn refusal(asked: u64, top: u64, counts: &[u8], neighbours: &[u16]) -> u64
     requires { asked ≡ 0 → top ≤ 15 }
-    ensures { result ≡ sizingRefusal asked top counts.now neighbours.now }
+    ensures { result ≡ sizing_refusal asked top counts.now neighbours.now }
 {
     if asked != 0 {
         return asked;
@@ -40,7 +40,7 @@ fn refusal(asked: u64, top: u64, counts: &[u8], neighbours: &[u16]) -> u64
 }
 
 fn no_size(number: u64) -> Size
-    ensures { result ≡ noSize number }
+    ensures { result ≡ no_size number }
 {
     Size {
         number,
@@ -57,7 +57,7 @@ fn no_size(number: u64) -> Size
 // So many for each vertex, and some more.
 fn by_vertices(levels: u8, times: u64, more: u64) -> [u64; 16]
     requires { (levels ≤ 16) × (times ≤ 45) × (more ≤ 1) }
-    ensures { result ≡ byLevel levels (λ m. times * vertexCount m + more) }
+    ensures { result ≡ by_level levels (λ m. times * vertex_count m + more) }
 {
     let mut out = [0; 16];
     let mut m: u8 = 0;
@@ -70,7 +70,7 @@ fn by_vertices(levels: u8, times: u64, more: u64) -> [u64; 16]
 
 fn by_cells(levels: u8) -> [u64; 16]
     requires { levels ≤ 16 }
-    ensures { result ≡ byLevel levels (λ m. cellCount (gridSize (vertexCount m)) + 1) }
+    ensures { result ≡ by_level levels (λ m. cell_count (grid_size (vertex_count m)) + 1) }
 {
     let mut out = [0; 16];
     let mut m: u8 = 0;
@@ -85,7 +85,7 @@ fn by_cells(levels: u8) -> [u64; 16]
 // The comparisons of one settle: against each neighbour, so many for each vertex of a line and some more.
 fn by_neighbours(levels: u8, times: u64, more: u64, counts: &[u8]) -> [u64; 16]
     requires { (levels ≤ 16) × (times ≤ 131070) × (more ≤ 1) }
-    ensures { result ≡ byLevel levels (λ m. (times * vertexCount m + more) * neighbourTotal counts.now m) }
+    ensures { result ≡ by_level levels (λ m. (times * vertex_count m + more) * neighbour_total counts.now m) }
 {
     let mut out = [0; 16];
     let mut m: u8 = 0;
@@ -101,7 +101,7 @@ fn by_neighbours(levels: u8, times: u64, more: u64, counts: &[u8]) -> [u64; 16]
 // Of so many slabs with `each` energies at the top level, in a file with `head` bytes besides vertex counts, rows and energies.
 fn sized(head: u64, slabs: u64, each: u64, top: u8, times: u64, more: u64, counts: &[u8]) -> Size
     requires { (head ≤ 85899345964) × (slabs ≤ 4294836225) × (slabs * each ≤ 4294967295) × (top ≤ 15) × (times ≤ 131070) × (more ≤ 1) }
-    ensures { result ≡ sized head slabs each top (λ m. (times * vertexCount m + more) * neighbourTotal counts.now m) }
+    ensures { result ≡ sized head slabs each top (λ m. (times * vertex_count m + more) * neighbour_total counts.now m) }
 {
     let levels = top + 1;
     let store = slabs * each;
@@ -119,7 +119,7 @@ fn sized(head: u64, slabs: u64, each: u64, top: u8, times: u64, more: u64, count
 
 // What a build of these settings needs, with so many terms in its tail. The counts in the settings are ignored, as fresh ignores them.
 pub fn sizing(g: Grid, top: u64, counts: &[u8], neighbours: &[u16], terms: u64) -> Size
-    ensures { result ≡ sizingOut g top counts.now neighbours.now terms }
+    ensures { result ≡ sizing_out g top counts.now neighbours.now terms }
 {
     let no = refusal(grid::fresh_question(g, top), top, counts, neighbours);
     if no != 0 {
@@ -146,7 +146,7 @@ pub fn sizing(g: Grid, top: u64, counts: &[u8], neighbours: &[u16], terms: u64) 
 
 // The same of a table against an atom, whose slabs are distance bins: each compares each neighbour once.
 pub fn atom_sizing(g: AtomGrid, top: u64, counts: &[u8], neighbours: &[u16]) -> Size
-    ensures { result ≡ atomSizingOut g top counts.now neighbours.now }
+    ensures { result ≡ atom_sizing_out g top counts.now neighbours.now }
 {
     let c = grid::atom_counted(g);
     let no = refusal(grid::atom_question(c, top, top), top, counts, neighbours);

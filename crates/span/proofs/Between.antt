@@ -7,17 +7,17 @@ use Prim.Native.Nat.{ℕ, zero, suc, ◌+◌, ◌<◌}
 use native.Mathlib.Nat.{eq-or-lt_of_le, le_of_suc-le-suc, not-suc-le-zero}
 use lib.Dec.{T, eqb}
 use lib.Ieee.{Float, inf, lt, le, is_nan}
-use Rattle.ieee.proofs.Fields.{less-no-nan, more-no-nan}
-use Rattle.lists.specs.Lists.{forEach}
-use Rattle.lists.proofs.Counting.{chosen, or-none}
+use Rattle.ieee.proofs.Fields.{less_no_nan, more_no_nan}
+use Rattle.lists.specs.Lists.{for_each}
+use Rattle.lists.proofs.Counting.{chosen, or_none}
 use Rattle.float.specs.Order.{farther}
-use Rattle.float.proofs.Order.{lt_trans, lt-asym, le_not}
+use Rattle.float.proofs.Order.{lt_trans, lt_asym, le_not}
 use Rattle.mesh.specs.Levels.{per}
 use Rattle.table.specs.File.{Entry}
 use Rattle.table.specs.declared.Table.{Table}
 use Rattle.reading.specs.Resolve.{widened}
-use Rattle.reading.specs.Reading.{energyAt}
-use Rattle.span.specs.Spans.{included, scalarIncluded, entryIncluded}
+use Rattle.reading.specs.Reading.{energy_at}
+use Rattle.span.specs.Spans.{included, scalar_included, entry_included}
 use Rattle.span.specs.declared.Extremes.{Extremes}
 
 -- of two values, the one that a test chooses
@@ -38,11 +38,11 @@ is_number : (x : Float) → is_nan x ≡ false → T (not (is_nan x))
 is_number x h = rw h tt
 
 -- nothing is below itself
-pub lt-self : (x : Float) → lt x x ≡ false
-lt-self x = by (lt x x) refl
+pub lt_self : (x : Float) → lt x x ≡ false
+lt_self x = by (lt x x) refl
   where
     by : (b : Bool) → lt x x ≡ b → b ≡ false
-    by true h = sym h ∙ lt-asym x x h
+    by true h = sym h ∙ lt_asym x x h
     by false h = refl
 
 -- numbers are in order where the second is not below the first
@@ -61,7 +61,7 @@ module _ (passes : Float → Float → Bool) where
   unfolding farther
   taken a e n s =
       either (λ z. Unpassed z e) (is_nan a || passes a e) e a (λ h. record { known = n; stays = s })
-      (λ h. let o = or-none (is_nan a) (passes a e) h in record { known = o.0; stays = o.1 })
+      (λ h. let o = or_none (is_nan a) (passes a e) h in record { known = o.0; stays = o.1 })
 
   module _ (through : (a b c : Float) → passes a b ≡ true → passes b c ≡ true → passes a c ≡ true) (real : (a b : Float) → passes a b ≡ true → is_nan b ≡ false) where
     kept : (a d e : Float) → Unpassed a e → Unpassed (farther passes a d) e
@@ -80,20 +80,20 @@ pub record Within (x : Extremes) (e : Float) : Type 0 where
   pub least : Unpassed (λ a b. lt b a) x.smallest e
   pub most : Unpassed lt x.largest e
 
-pub included-new : (e : Float) (x : Extremes) → is_nan e ≡ false → Within (included e x) e
+pub included_new : (e : Float) (x : Extremes) → is_nan e ≡ false → Within (included e x) e
 unfolding included
-included-new e x n = record { least = taken (λ a b. lt b a) x.smallest e n (lt-self e); most = taken lt x.largest e n (lt-self e) }
+included_new e x n = record { least = taken (λ a b. lt b a) x.smallest e n (lt_self e); most = taken lt x.largest e n (lt_self e) }
 
 pub included-kept : (d e : Float) (x : Extremes) → Within x e → Within (included d x) e
 unfolding included
 included-kept d e x w =
     record {
-      least = kept (λ a b. lt b a) (λ a b c p q. lt_trans c b a q p) (λ a b p. number b (less-no-nan b a p)) x.smallest d e w.least;
-      most = kept lt lt_trans (λ a b p. number b (more-no-nan a b p)) x.largest d e w.most;
+      least = kept (λ a b. lt b a) (λ a b c p q. lt_trans c b a q p) (λ a b p. number b (less_no_nan b a p)) x.smallest d e w.least;
+      most = kept lt lt_trans (λ a b p. number b (more_no_nan a b p)) x.largest d e w.most;
     }
 
-counted : (e v : Float) (x : Extremes) → Within (included e x) v → Within (scalarIncluded e x) v
-unfolding scalarIncluded
+counted : (e v : Float) (x : Extremes) → Within (included e x) v → Within (scalar_included e x) v
+unfolding scalar_included
 counted e v x w = record { least = w.least; most = w.most }
 
 pub between : (x : Extremes) (e : Float) → is_nan e ≡ false → Within x e → (le x.smallest e ≡ true) × (le e x.largest ≡ true)
@@ -102,38 +102,38 @@ between x e n w = (le_is x.smallest e w.least.known n w.least.stays, le_is e x.l
 -- ---- a loop
 
 module _ (v : Float) (f : ℕ → Extremes → Extremes) (keeps : (j : ℕ) (x : Extremes) → Within x v → Within (f j x) v) where
-  pub each-kept : (n : ℕ) (x : Extremes) → Within x v → Within (forEach n f x) v
-  unfolding forEach
-  each-kept zero x w = w
-  each-kept (suc n) x w = keeps n (forEach n f x) (each-kept n x w)
+  pub each_kept : (n : ℕ) (x : Extremes) → Within x v → Within (for_each n f x) v
+  unfolding for_each
+  each_kept zero x w = w
+  each_kept (suc n) x w = keeps n (for_each n f x) (each_kept n x w)
 
-  pub each-new : (k n : ℕ) → k < n → ((x : Extremes) → Within (f k x) v) → (x : Extremes) → Within (forEach n f x) v
-  unfolding forEach
-  each-new k zero l h x = absurd (not-suc-le-zero l)
-  each-new k (suc n) l h x =
-      ⊎_elim (λ (e : k ≡ n). subst (λ (i : ℕ). Within (f i (forEach n f x)) v) e (h (forEach n f x))) (λ (m : k < n). keeps n (forEach n f x) (each-new k n m h x)) (eq-or-lt_of_le (le_of_suc-le-suc l))
+  pub each_new : (k n : ℕ) → k < n → ((x : Extremes) → Within (f k x) v) → (x : Extremes) → Within (for_each n f x) v
+  unfolding for_each
+  each_new k zero l h x = absurd (not-suc-le-zero l)
+  each_new k (suc n) l h x =
+      ⊎_elim (λ (e : k ≡ n). subst (λ (i : ℕ). Within (f i (for_each n f x)) v) e (h (for_each n f x))) (λ (m : k < n). keeps n (for_each n f x) (each_new k n m h x)) (eq-or-lt_of_le (le_of_suc-le-suc l))
 
 -- ---- a row
 
 module _ (file : List ℕ) (t : Table) (e : Entry) where
-  pub entry_kept : (v : Float) (x : Extremes) → Within x v → Within (entryIncluded file t e x) v
-  unfolding entryIncluded
+  pub entry_kept : (v : Float) (x : Extremes) → Within x v → Within (entry_included file t e x) v
+  unfolding entry_included
   entry_kept v x w =
       chosen (λ z. Within z v) (eqb e.kind 0) _ _ (λ h. counted (widened e.scalar) v x (included-kept (widened e.scalar) v x w))
       (chosen (λ z. Within z v) (eqb e.kind 1) _ _ (λ h. included-kept (inf false) v x w)
-      (each-kept v (λ k y. included (widened (energyAt file t (e.offset + k))) y) (λ k y z. included-kept (widened (energyAt file t (e.offset + k))) v y z) (per e.level) x w))
+      (each_kept v (λ k y. included (widened (energy_at file t (e.offset + k))) y) (λ k y z. included-kept (widened (energy_at file t (e.offset + k))) v y z) (per e.level) x w))
 
-  pub scalar-new : (x : Extremes) → eqb e.kind 0 ≡ true → is_nan (widened e.scalar) ≡ false → Within (entryIncluded file t e x) (widened e.scalar)
-  unfolding entryIncluded
-  scalar-new x h n = rw h (counted (widened e.scalar) (widened e.scalar) x (included-new (widened e.scalar) x n))
+  pub scalar_new : (x : Extremes) → eqb e.kind 0 ≡ true → is_nan (widened e.scalar) ≡ false → Within (entry_included file t e x) (widened e.scalar)
+  unfolding entry_included
+  scalar_new x h n = rw h (counted (widened e.scalar) (widened e.scalar) x (included_new (widened e.scalar) x n))
 
-  pub repulsive-new : (x : Extremes) → eqb e.kind 0 ≡ false → eqb e.kind 1 ≡ true → is_nan (inf false) ≡ false → Within (entryIncluded file t e x) (inf false)
-  unfolding entryIncluded
-  repulsive-new x h k n = rw (h, k) (included-new (inf false) x n)
+  pub repulsive_new : (x : Extremes) → eqb e.kind 0 ≡ false → eqb e.kind 1 ≡ true → is_nan (inf false) ≡ false → Within (entry_included file t e x) (inf false)
+  unfolding entry_included
+  repulsive_new x h k n = rw (h, k) (included_new (inf false) x n)
 
-  pub mesh-new : (x : Extremes) (k : ℕ) → eqb e.kind 0 ≡ false → eqb e.kind 1 ≡ false → k < per e.level → (let v = widened (energyAt file t (e.offset + k)) in is_nan v ≡ false → Within (entryIncluded file t e x) v)
-  unfolding entryIncluded
-  mesh-new x k h g l n =
-      let v = widened (energyAt file t (e.offset + k)) in
+  pub mesh_new : (x : Extremes) (k : ℕ) → eqb e.kind 0 ≡ false → eqb e.kind 1 ≡ false → k < per e.level → (let v = widened (energy_at file t (e.offset + k)) in is_nan v ≡ false → Within (entry_included file t e x) v)
+  unfolding entry_included
+  mesh_new x k h g l n =
+      let v = widened (energy_at file t (e.offset + k)) in
       rw (h, g)
-      (each-new v (λ j y. included (widened (energyAt file t (e.offset + j))) y) (λ j y z. included-kept (widened (energyAt file t (e.offset + j))) v y z) k (per e.level) l (λ y. included-new v y n) x)
+      (each_new v (λ j y. included (widened (energy_at file t (e.offset + j))) y) (λ j y z. included-kept (widened (energy_at file t (e.offset + j))) v y z) k (per e.level) l (λ y. included_new v y n) x)

@@ -4,15 +4,15 @@ use Rattle.std.specs.Float.{nan, inf, binary64}
 use Rattle.std.specs.Float.Ieee.{of_bits, lt, is_nan}
 use Rattle.std.specs.Float.Ieee.Scale.{finite}
 use Rattle.lists.specs.Questions.{ask}
-use Rattle.lists.specs.Lists.{allUpTo, forEach}
+use Rattle.lists.specs.Lists.{all_up_to, for_each}
 use Rattle.float.specs.Order.{larger, smaller}
 use Rattle.mesh.specs.Levels.{per}
-use Rattle.grid.specs.Bins.{distanceBin, dihedralBin}
+use Rattle.grid.specs.Bins.{distance_bin, dihedral_bin}
 use Rattle.grid.specs.declared.Grid.{Grid}
 use Rattle.table.specs.File.{Entry}
 use Rattle.table.specs.declared.Table.{Table}
 use Rattle.reading.specs.Resolve.{outside, widened}
-use Rattle.reading.specs.Reading.{rowInside, energyInside, entry_at, energyAt}
+use Rattle.reading.specs.Reading.{row_inside, energy_inside, entry_at, energy_at}
 use Rattle.span.specs.declared.Extremes.{Extremes}
 use Rattle.span.specs.declared.Spanned.{Spanned}
 use Rattle.span.specs.declared.SpanAnswer.{SpanAnswer}
@@ -25,62 +25,62 @@ pub record SpanValues : Type 0 where
   pub last : ℕ
   pub smallest : Float
   pub largest : Float
-  pub scalarNans : ℕ
+  pub scalar_nans : ℕ
 
-abbrev pub spanValues : SpanAnswer → SpanValues
-spanValues (Accepted s) = record { number = 0; first = s.first; last = s.last; smallest = s.smallest; largest = s.largest; scalarNans = s.scalar_nans }
-spanValues (Refused n) = record { number = n; first = 0; last = 0; smallest = of_bits binary64 0; largest = of_bits binary64 0; scalarNans = 0 }
+abbrev pub span_values : SpanAnswer → SpanValues
+span_values (Accepted s) = record { number = 0; first = s.first; last = s.last; smallest = s.smallest; largest = s.largest; scalar_nans = s.scalar_nans }
+span_values (Refused n) = record { number = n; first = 0; last = 0; smallest = of_bits binary64 0; largest = of_bits binary64 0; scalar_nans = 0 }
 
 -- a refusal has a number: 0 is acceptance alone
-abbrev pub spanNumbered : SpanAnswer → Bool
-spanNumbered (Accepted s) = true
-spanNumbered (Refused n) = not (eqb n 0)
+abbrev pub span_numbered : SpanAnswer → Bool
+span_numbered (Accepted s) = true
+span_numbered (Refused n) = not (eqb n 0)
 
 -- ---- bins and rows
 
 -- the bin of an end, as a reading at that distance has it
 abbrev pub bin_of : Grid → Float → ℕ
-bin_of g r = distanceBin r g.rmin g.dr g.n_r
+bin_of g r = distance_bin r g.rmin g.dr g.n_r
 
 -- the slab of a distance bin "at the given dihedral"
-abbrev pub slabIn : Grid → ℕ → Float → ℕ
-slabIn g i omega = i * g.n_omega + dihedralBin omega g.omega_step g.n_omega
+abbrev pub slab_in : Grid → ℕ → Float → ℕ
+slab_in g i omega = i * g.n_omega + dihedral_bin omega g.omega_step g.n_omega
 
 -- how many bins there are from the first to the last
-abbrev pub binsIn : ℕ → ℕ → ℕ
-binsIn first last = last + 1 - first
+abbrev pub bins_in : ℕ → ℕ → ℕ
+bins_in first last = last + 1 - first
 
 -- ---- questions
 
 -- "18 for both ends and the dihedral" (S24.2)
-unfoldable pub endsValid : Float → Float → Float → Bool
-endsValid low high omega = not (is_nan low) && (not (is_nan high) && finite omega)
+unfoldable pub ends_valid : Float → Float → Float → Bool
+ends_valid low high omega = not (is_nan low) && (not (is_nan high) && finite omega)
 
 -- 26: "where low exceeds high or an end is below rmin or above rmax", the rmax of a reading (S24.3)
-unfoldable pub endsInside : Grid → Float → Float → Bool
-endsInside g low high = not (lt high low) && (not (outside g low) && not (outside g high))
+unfoldable pub ends_inside : Grid → Float → Float → Bool
+ends_inside g low high = not (lt high low) && (not (outside g low) && not (outside g high))
 
 -- 19 of a row that is inside: its kind is known, and a Mesh row's level held and each of its energies inside (S24.4)
-unfoldable pub entryTouched : List ℕ → Table → Entry → Bool
-entryTouched file t e =
-    leb e.kind 1 || ((leb e.kind 3 && ltb e.level t.levels) && allUpTo (per e.level) (λ k. energyInside file t (e.offset + k)))
+unfoldable pub entry_touched : List ℕ → Table → Entry → Bool
+entry_touched file t e =
+    leb e.kind 1 || ((leb e.kind 3 && ltb e.level t.levels) && all_up_to (per e.level) (λ k. energy_inside file t (e.offset + k)))
 
-unfoldable pub rowTouched : List ℕ → Table → ℕ → Bool
-rowTouched file t s = rowInside file t s && entryTouched file t (entry_at file t s)
+unfoldable pub row_touched : List ℕ → Table → ℕ → Bool
+row_touched file t s = row_inside file t s && entry_touched file t (entry_at file t s)
 
 -- "19 for all rows and energies touched", and as in a reading: "Are bin counts above 0" (S24.4)
-unfoldable pub rowsTouched : List ℕ → Table → ℕ → ℕ → Float → Bool
-rowsTouched file t first last omega =
+unfoldable pub rows_touched : List ℕ → Table → ℕ → ℕ → Float → Bool
+rows_touched file t first last omega =
     let g = t.grid in
-    (ltb 0 g.n_r && ltb 0 g.n_omega) && allUpTo (binsIn first last) (λ i. rowTouched file t (slabIn g (first + i) omega))
+    (ltb 0 g.n_r && ltb 0 g.n_omega) && all_up_to (bins_in first last) (λ i. row_touched file t (slab_in g (first + i) omega))
 
 -- "26, after 18 for both ends and the dihedral and before 19 for all rows and energies touched"
-unfoldable pub spanQuestion : List ℕ → Table → Float → Float → Float → ℕ
-spanQuestion file t low high omega =
+unfoldable pub span_question : List ℕ → Table → Float → Float → Float → ℕ
+span_question file t low high omega =
     let g = t.grid in
-    ask (endsValid low high omega) 18
-    (ask (endsInside g low high) 26
-    (ask (rowsTouched file t (bin_of g low) (bin_of g high) omega) 19 0))
+    ask (ends_valid low high omega) 18
+    (ask (ends_inside g low high) 26
+    (ask (rows_touched file t (bin_of g low) (bin_of g high) omega) 19 0))
 
 -- ---- energies
 
@@ -89,26 +89,26 @@ unfoldable pub included : Float → Extremes → Extremes
 included e x = record { smallest = smaller x.smallest e; largest = larger x.largest e; scalar_nans = x.scalar_nans }
 
 -- NaNs "of Scalar rows counted separately" (S24.7)
-unfoldable pub scalarIncluded : Float → Extremes → Extremes
-scalarIncluded e x =
+unfoldable pub scalar_included : Float → Extremes → Extremes
+scalar_included e x =
     let y = included e x in
     record { smallest = y.smallest; largest = y.largest; scalar_nans = x.scalar_nans + cond (is_nan e) 1 0 }
 
 -- what a row adds: a Scalar row its scalar, a Repulsive row infinity, a Mesh row, interpolated or not, its stored energies in index order (S24.5)
-unfoldable pub entryIncluded : List ℕ → Table → Entry → Extremes → Extremes
-entryIncluded file t e x =
-    cond (eqb e.kind 0) (scalarIncluded (widened e.scalar) x)
+unfoldable pub entry_included : List ℕ → Table → Entry → Extremes → Extremes
+entry_included file t e x =
+    cond (eqb e.kind 0) (scalar_included (widened e.scalar) x)
     (cond (eqb e.kind 1) (included (inf false) x)
-    (forEach (per e.level) (λ k y. included (widened (energyAt file t (e.offset + k))) y) x))
+    (for_each (per e.level) (λ k y. included (widened (energy_at file t (e.offset + k))) y) x))
 
 -- "if nothing else is present both energies are NaN"
-abbrev pub noExtremes : Extremes
-noExtremes = record { smallest = nan; largest = nan; scalar_nans = 0 }
+abbrev pub no_extremes : Extremes
+no_extremes = record { smallest = nan; largest = nan; scalar_nans = 0 }
 
 -- "in row order, then in index order"
-unfoldable pub extremesOf : List ℕ → Table → ℕ → ℕ → Float → Extremes
-extremesOf file t first last omega =
-    forEach (binsIn first last) (λ i x. entryIncluded file t (entry_at file t (slabIn t.grid (first + i) omega)) x) noExtremes
+unfoldable pub extremes_of : List ℕ → Table → ℕ → ℕ → Float → Extremes
+extremes_of file t first last omega =
+    for_each (bins_in first last) (λ i x. entry_included file t (entry_at file t (slab_in t.grid (first + i) omega)) x) no_extremes
 
 -- ---- the whole
 
@@ -117,10 +117,10 @@ unfoldable pub span_of : List ℕ → Table → Float → Float → Float → Sp
 span_of file t low high omega =
     let first = bin_of t.grid low in
     let last = bin_of t.grid high in
-    let x = extremesOf file t first last omega in
+    let x = extremes_of file t first last omega in
     record { first = first; last = last; smallest = x.smallest; largest = x.largest; scalar_nans = x.scalar_nans }
 
-unfoldable pub spanOut : List ℕ → Table → Float → Float → Float → SpanValues
-spanOut file t low high omega =
-    let n = spanQuestion file t low high omega in
-    cond (eqb n 0) (spanValues (Accepted (span_of file t low high omega))) (spanValues (Refused n))
+unfoldable pub span_out : List ℕ → Table → Float → Float → Float → SpanValues
+span_out file t low high omega =
+    let n = span_question file t low high omega in
+    cond (eqb n 0) (span_values (Accepted (span_of file t low high omega))) (span_values (Refused n))

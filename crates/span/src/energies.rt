@@ -1,10 +1,10 @@
 // The energies in the rows of a span, once its questions are answered yes.
 ghost use Rattle.std.specs.Prelude.{◌≡◌, true, ◌+◌, ◌*◌, ◌≤◌, ◌<◌, length, take, drop};
-ghost use Rattle.lists.specs.Lists.{forEach};
+ghost use Rattle.lists.specs.Lists.{for_each};
 ghost use Rattle.table.specs.Bytes.{number_at};
 ghost use Rattle.table.specs.File.{entry_of};
 ghost use Rattle.reading.specs.Resolve.{widened};
-ghost use Rattle.span.specs.Spans.{included, scalarIncluded, entryTouched, entryIncluded, rowsTouched, extremesOf};
+ghost use Rattle.span.specs.Spans.{included, scalar_included, entry_touched, entry_included, rows_touched, extremes_of};
 
 use crate::Extremes;
 use crate::questions::u32_inside;
@@ -24,7 +24,7 @@ fn included(e: f64, x: Extremes) -> Extremes
 // A Scalar row's energy.
 fn scalar_included(e: f64, x: Extremes) -> Extremes
     requires { x.scalar_nans < 18446744073709551615 }
-    ensures { result ≡ scalarIncluded e x }
+    ensures { result ≡ scalar_included e x }
 {
     let y = included(e, x);
     let n = x.scalar_nans;
@@ -41,7 +41,7 @@ fn scalar_included(e: f64, x: Extremes) -> Extremes
 // A Mesh row's n energies, from place `offset` on.
 fn mesh_included(file: &[u8], start: u64, offset: u64, n: u64, x: Extremes) -> Extremes
     requires { start + (offset + n) * 4 ≤ length file.now }
-    ensures { result ≡ forEach n (λ k y. included (widened (number_at 4 file.now (start + (offset + k) * 4))) y) x }
+    ensures { result ≡ for_each n (λ k y. included (widened (number_at 4 file.now (start + (offset + k) * 4))) y) x }
 {
     let mut y = x;
     let mut k = 0;
@@ -55,8 +55,8 @@ fn mesh_included(file: &[u8], start: u64, offset: u64, n: u64, x: Extremes) -> E
 
 // The energies of the row that starts at a byte.
 fn entry_included(t: Table, file: &[u8], at: u64, x: Extremes) -> Extremes
-    requires { (at + 10 ≤ length file.now) × (entryTouched file.now t (entry_of (take 10 (drop at file.now))) ≡ true) × (x.scalar_nans < 18446744073709551615) }
-    ensures { result ≡ entryIncluded file.now t (entry_of (take 10 (drop at file.now))) x }
+    requires { (at + 10 ≤ length file.now) × (entry_touched file.now t (entry_of (take 10 (drop at file.now))) ≡ true) × (x.scalar_nans < 18446744073709551615) }
+    ensures { result ≡ entry_included file.now t (entry_of (take 10 (drop at file.now))) x }
 {
     let start = t.energies_start;
     let i = at as usize;
@@ -76,8 +76,8 @@ fn entry_included(t: Table, file: &[u8], at: u64, x: Extremes) -> Extremes
 
 // The energies of the rows of the bins from the first to the last.
 pub(crate) fn extremes_of(t: Table, file: &[u8], first: u64, last: u64, omega: f64) -> Extremes
-    requires { (first ≤ last) × (last < 18446744073709551615) × (rowsTouched file.now t first last omega ≡ true) }
-    ensures { result ≡ extremesOf file.now t first last omega }
+    requires { (first ≤ last) × (last < 18446744073709551615) × (rows_touched file.now t first last omega ≡ true) }
+    ensures { result ≡ extremes_of file.now t first last omega }
 {
     let g = t.grid;
     let n = g.n_omega;

@@ -1,6 +1,6 @@
 // Distances known within a span: the bins that the span touches, and the smallest and largest energy in their rows.
 ghost use Rattle.std.specs.Prelude.{◌≡◌, true};
-ghost use Rattle.span.specs.Spans.{spanValues, spanNumbered, spanOut};
+ghost use Rattle.span.specs.Spans.{span_values, span_numbered, span_out};
 
 use crate::energies::extremes_of;
 use crate::questions::{ends_inside, ends_valid, rows_touched};
@@ -36,7 +36,7 @@ pub enum SpanAnswer {
 
 // The bins and the energies of the distances from `low` to `high`, at a dihedral angle.
 pub fn span(t: Table, file: &[u8], low: f64, high: f64, omega: f64) -> SpanAnswer
-    ensures { (spanNumbered result ≡ true) × (spanValues result ≡ spanOut file.now t low high omega) }
+    ensures { (span_numbered result ≡ true) × (span_values result ≡ span_out file.now t low high omega) }
 {
     let g = t.grid;
     if !ends_valid(low, high, omega) {

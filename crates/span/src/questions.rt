@@ -1,19 +1,19 @@
 // What a span asks: 18 of its ends and the dihedral angle, 26 of its ends, 19 of its rows and their energies. Counts and starts are any numbers
 // that a host hands in, so nothing is added up before it is known to fit.
 ghost use Rattle.std.specs.Prelude.{◌≡◌, ◌&&◌, ◌+◌, ◌-◌, ◌*◌, ◌≤◌, ◌<◌, length, take, drop, leb, ltb};
-ghost use Rattle.lists.specs.Lists.{allUpTo};
+ghost use Rattle.lists.specs.Lists.{all_up_to};
 ghost use Rattle.table.specs.Bytes.{number_at};
 ghost use Rattle.table.specs.File.{entry_of};
 ghost use Rattle.reading.specs.Resolve.{outside};
 ghost use Rattle.reading.specs.Reading.{entry_at};
-ghost use Rattle.span.specs.Spans.{endsValid, endsInside, entryTouched, rowsTouched};
+ghost use Rattle.span.specs.Spans.{ends_valid, ends_inside, entry_touched, rows_touched};
 
 use grid::Grid;
 use table::Table;
 
 // Question 18.
 pub(crate) fn ends_valid(low: f64, high: f64, omega: f64) -> bool
-    ensures { result ≡ endsValid low high omega }
+    ensures { result ≡ ends_valid low high omega }
 {
     !(low != low) & (!(high != high) & ieee::is_finite(omega))
 }
@@ -30,7 +30,7 @@ fn outside(g: Grid, r: f64) -> bool
 
 // Question 26.
 pub(crate) fn ends_inside(g: Grid, low: f64, high: f64) -> bool
-    ensures { result ≡ endsInside g low high }
+    ensures { result ≡ ends_inside g low high }
 {
     !(high < low) & (!outside(g, low) & !outside(g, high))
 }
@@ -59,7 +59,7 @@ fn energies_inside(start: u64, count: u64, offset: u64, n: u64, length: u64) -> 
 // Question 19 of the row that starts at a byte.
 fn entry_touched(t: Table, file: &[u8], at: u64) -> bool
     requires { at + 10 ≤ length file.now }
-    ensures { result ≡ entryTouched file.now t (entry_of (take 10 (drop at file.now))) }
+    ensures { result ≡ entry_touched file.now t (entry_of (take 10 (drop at file.now))) }
 {
     let levels = t.levels;
     let start = t.energies_start;
@@ -99,7 +99,7 @@ fn slab_inside(start: u64, rows: u64, i: u64, n: u64, oi: u64, length: u64) -> b
 // Question 19 of the rows of `count` bins that are inside the file.
 fn entries_touched(t: Table, file: &[u8], first: u64, count: u64, oi: u64) -> bool
     requires { (1 ≤ t.grid.n_omega) × (t.rows_start + ((first + (count - 1)) * t.grid.n_omega + oi) * 10 + 10 ≤ length file.now) }
-    ensures { result ≡ allUpTo count (λ i. entryTouched file.now t (entry_at file.now t ((first + i) * t.grid.n_omega + oi))) }
+    ensures { result ≡ all_up_to count (λ i. entry_touched file.now t (entry_at file.now t ((first + i) * t.grid.n_omega + oi))) }
 {
     let g = t.grid;
     let n = g.n_omega;
@@ -117,7 +117,7 @@ fn entries_touched(t: Table, file: &[u8], first: u64, count: u64, oi: u64) -> bo
 // Question 19.
 pub(crate) fn rows_touched(t: Table, file: &[u8], first: u64, last: u64, omega: f64) -> bool
     requires { (first ≤ last) × (last < 18446744073709551615) }
-    ensures { result ≡ rowsTouched file.now t first last omega }
+    ensures { result ≡ rows_touched file.now t first last omega }
 {
     let g = t.grid;
     let n_r = g.n_r;

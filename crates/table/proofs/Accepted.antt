@@ -12,43 +12,43 @@ use borrow.Author.Tests.{leb-true, le-leb, eqb-true, eqb-false, eq-eqb, ne_eqb}
 use Rattle.lists.specs.Questions.{ask, first}
 use Rattle.lists.specs.Lists.{every}
 use Rattle.mesh.specs.Levels.{per}
-use Rattle.grid.specs.Settings.{gridRange, gridValid, slabsFit}
-use Rattle.grid.specs.Atom.{atomGridRange, atomSlabsFit, atomGridValid}
+use Rattle.grid.specs.Settings.{grid_range, grid_valid, slabs_fit}
+use Rattle.grid.specs.Atom.{atom_grid_range, atom_slabs_fit, atom_grid_valid}
 use Rattle.grid.specs.declared.Grid.{Grid}
 use Rattle.grid.specs.declared.AtomGrid.{AtomGrid}
-use Rattle.grid.proofs.Laws.{Ranged, ranged, AtomRanged, atom-ranged}
-use Rattle.table.specs.Tail.{tailValid}
-use Rattle.table.specs.Read.{countAt, layout, laidOut, ended, tableLaidOut, tail_at, tableOf, rowItems, energyItems, tailIn, tableValid, entryValid, tiled, readValues, readRefusal, readOut}
-use Rattle.table.specs.View.{host, within, readRefusalOver, readOver, Smaller, AcceptedAlike, HostReads}
+use Rattle.grid.proofs.Laws.{Ranged, ranged, AtomRanged, atom_ranged}
+use Rattle.table.specs.Tail.{tail_valid}
+use Rattle.table.specs.Read.{count_at, layout, laid_out, ended, table_laid_out, tail_at, table_of, row_items, energy_items, tail_in, table_valid, entry_valid, tiled, read_values, read_refusal, read_out}
+use Rattle.table.specs.View.{host, within, read_refusal_over, read_over, Smaller, AcceptedAlike, HostReads}
 use Rattle.table.specs.declared.Bound.{Bound}
-use Rattle.table.specs.Atom.{atomTableOf, atomReadValues, atomReadRefusal, atomReadOut}
-use Rattle.table.specs.Internal.{SectionsInside, Inside, TailInside, TableSections, tableQuestion, atomTableQuestion}
+use Rattle.table.specs.Atom.{atom_table_of, atom_read_values, atom_read_refusal, atom_read_out}
+use Rattle.table.specs.Internal.{SectionsInside, Inside, TailInside, TableSections, table_question, atom_table_question}
 use Rattle.table.specs.declared.Layout.{Layout}
 use Rattle.table.specs.declared.ReadAnswer.TheVariants.{Accepted as Reads, Refused as NotRead}
 use Rattle.table.specs.declared.AtomReadAnswer.TheVariants.{Accepted as AtomReads, Refused as AtomNotRead}
 use Rattle.table.specs.declared.Table.{Table}
-use Rattle.table.proofs.Numbers.{none-there}
+use Rattle.table.proofs.Numbers.{none_there}
 
-heads : (i j : ℕ) (file : List ℕ) → eqb (countAt file 0) i ≡ true → eqb (countAt file (layout file).bins) j ≡ true → (layout file).end ≤ length file
+heads : (i j : ℕ) (file : List ℕ) → eqb (count_at file 0) i ≡ true → eqb (count_at file (layout file).bins) j ≡ true → (layout file).end ≤ length file
     → SectionsInside i j file (layout file)
 unfolding layout
 heads i j file a b l =
-    let m = eqb-true (countAt file 0) i a in
-    let n = eqb-true (countAt file (layout file).bins) j b in
+    let m = eqb-true (count_at file 0) i a in
+    let n = eqb-true (count_at file (layout file).bins) j b in
     record { bins = omega (arith, m); levels = omega (arith, m, n); rows = omega arith; energies = omega arith; end = l }
 
-by_layout : (i j : ℕ) (file : List ℕ) → laidOut i j file (layout file) ≡ true → SectionsInside i j file (layout file)
-unfolding laidOut
+by_layout : (i j : ℕ) (file : List ℕ) → laid_out i j file (layout file) ≡ true → SectionsInside i j file (layout file)
+unfolding laid_out
 by_layout i j file h =
-    let a = (and-eq-true_iff (eqb (countAt file 0) i) _).0 h in
-    let b = (and-eq-true_iff (eqb (countAt file (layout file).bins) j) _).0 a.1 in
+    let a = (and-eq-true_iff (eqb (count_at file 0) i) _).0 h in
+    let b = (and-eq-true_iff (eqb (count_at file (layout file).bins) j) _).0 a.1 in
     heads i j file a.0 b.0 (omega (arith, eqb-true (layout file).end (length file) b.1))
 
-pub laid : (i j : ℕ) (file : List ℕ) (p : Layout) → p ≡ layout file → laidOut i j file p ≡ true → SectionsInside i j file p
+pub laid : (i j : ℕ) (file : List ℕ) (p : Layout) → p ≡ layout file → laid_out i j file p ≡ true → SectionsInside i j file p
 laid i j file p e h = rw e (by_layout i j file (rw e at h))
 
 pub inside : (i j : ℕ) (file : List ℕ) (p : Layout) → SectionsInside i j file p
-    → Inside file (p.levels + 4) (countAt file p.levels) (p.rows + 4) (countAt file p.rows) (p.energies + 4) (countAt file p.energies)
+    → Inside file (p.levels + 4) (count_at file p.levels) (p.rows + 4) (count_at file p.rows) (p.energies + 4) (count_at file p.energies)
 inside i j file p h = record {
   levels = omega (arith, h.rows, h.energies, h.end);
   rows = omega (arith, h.energies, h.end);
@@ -69,50 +69,50 @@ left_by n end k false h e = ne_eqb (n - end) (k * 20 + 12) (λ z. eqb-false (end
 pub left_is : (n end k : ℕ) → end ≤ n → eqb (n - end) (k * 20 + 12) ≡ eqb (end + 4 + k * 20 + 8) n
 left_is n end k h = left_by n end k _ h refl
 
-ended_by : (file : List ℕ) (end : ℕ) (x : Bool) → eqb end (length file) ≡ x → ended file end ≡ true → (end ≤ length file) × TailInside file (end + 4) (countAt file end)
+ended_by : (file : List ℕ) (end : ℕ) (x : Bool) → eqb end (length file) ≡ x → ended file end ≡ true → (end ≤ length file) × TailInside file (end + 4) (count_at file end)
 unfolding ended
 ended_by file end true e h =
     let l = eqb-true end (length file) e in
-    (omega (arith, l), λ z. absurd (omega (arith, z, none-there file end (omega (arith, l)))))
+    (omega (arith, l), λ z. absurd (omega (arith, z, none_there file end (omega (arith, l)))))
 ended_by file end false e h =
-    let a = (and-eq-true_iff (ltb 0 (countAt file end)) _).0 (rw e at h) in
-    let s = eqb-true (end + 4 + countAt file end * 20 + 8) (length file) a.1 in
+    let a = (and-eq-true_iff (ltb 0 (count_at file end)) _).0 (rw e at h) in
+    let s = eqb-true (end + 4 + count_at file end * 20 + 8) (length file) a.1 in
     (omega (arith, s), λ z. omega (arith, s))
 
-by-table-layout : (file : List ℕ) → tableLaidOut file (layout file) ≡ true → TableSections file (layout file)
-unfolding tableLaidOut
-by-table-layout file h =
-    let a = (and-eq-true_iff (eqb (countAt file 0) 3) _).0 h in
-    let b = (and-eq-true_iff (eqb (countAt file (layout file).bins) 2) _).0 a.1 in
+by_table-layout : (file : List ℕ) → table_laid_out file (layout file) ≡ true → TableSections file (layout file)
+unfolding table_laid_out
+by_table-layout file h =
+    let a = (and-eq-true_iff (eqb (count_at file 0) 3) _).0 h in
+    let b = (and-eq-true_iff (eqb (count_at file (layout file).bins) 2) _).0 a.1 in
     let d = ended_by file (layout file).end _ refl b.1 in
     (heads 3 2 file a.0 b.0 d.0, d.1)
 
-pub table-laid : (file : List ℕ) (p : Layout) → p ≡ layout file → tableLaidOut file p ≡ true → TableSections file p
-table-laid file p e h = rw e (by-table-layout file (rw e at h))
+pub table_laid : (file : List ℕ) (p : Layout) → p ≡ layout file → table_laid_out file p ≡ true → TableSections file p
+table_laid file p e h = rw e (by_table-layout file (rw e at h))
 
-tail-inside : (file : List ℕ) (end : ℕ) → TailInside file (end + 4) (countAt file end) → TailInside file (tail_at file end) (countAt file end)
+tail_inside : (file : List ℕ) (end : ℕ) → TailInside file (end + 4) (count_at file end) → TailInside file (tail_at file end) (count_at file end)
 unfolding tail_at
-tail-inside file end h = λ z. rw (ne_eqb (countAt file end) 0 (λ e. omega (arith, z, e))) (h z)
+tail_inside file end h = λ z. rw (ne_eqb (count_at file end) 0 (λ e. omega (arith, z, e))) (h z)
 
-pub table-inside : (file : List ℕ) (p : Layout) → TableSections file p
-    → Inside file (p.levels + 4) (countAt file p.levels) (p.rows + 4) (countAt file p.rows) (p.energies + 4) (countAt file p.energies)
-    × TailInside file (tail_at file p.end) (countAt file p.end)
-table-inside file p h = (inside 3 2 file p h.0, tail-inside file p.end h.1)
+pub table_inside : (file : List ℕ) (p : Layout) → TableSections file p
+    → Inside file (p.levels + 4) (count_at file p.levels) (p.rows + 4) (count_at file p.rows) (p.energies + 4) (count_at file p.energies)
+    × TailInside file (tail_at file p.end) (count_at file p.end)
+table_inside file p h = (inside 3 2 file p h.0, tail_inside file p.end h.1)
 
-pub held-ranged : (g : Grid) (levels : ℕ) → gridValid g levels ≡ true → Ranged g levels
-unfolding gridValid
-held-ranged g levels h = ranged g levels ((and-eq-true_iff (gridRange g levels) (slabsFit g.n_r g.n_omega (levels - 1))).0 h).0
+pub held_ranged : (g : Grid) (levels : ℕ) → grid_valid g levels ≡ true → Ranged g levels
+unfolding grid_valid
+held_ranged g levels h = ranged g levels ((and-eq-true_iff (grid_range g levels) (slabs_fit g.n_r g.n_omega (levels - 1))).0 h).0
 
-pub atom-held-ranged : (g : AtomGrid) (levels : ℕ) → atomGridValid g levels ≡ true → AtomRanged g levels
-unfolding atomGridValid
-atom-held-ranged g levels h = atom-ranged g levels ((and-eq-true_iff (atomGridRange g levels) (atomSlabsFit g.n_r (levels - 1))).0 h).0
+pub atom_held_ranged : (g : AtomGrid) (levels : ℕ) → atom_grid_valid g levels ≡ true → AtomRanged g levels
+unfolding atom_grid_valid
+atom_held_ranged g levels h = atom_ranged g levels ((and-eq-true_iff (atom_grid_range g levels) (atom_slabs_fit g.n_r (levels - 1))).0 h).0
 
 -- ---- the outcome
 
 -- questions that a call answered by the number n, and those after them
-pub then-no : (n r x : ℕ) → n ≡ r → (n ≡ 0 → ⊥) → n ≡ first r x
+pub then_no : (n r x : ℕ) → n ≡ r → (n ≡ 0 → ⊥) → n ≡ first r x
 unfolding first
-then-no n r x e h = rw (← e, ne_eqb n 0 h)
+then_no n r x e h = rw (← e, ne_eqb n 0 h)
 
 pub then-zero : (n r x : ℕ) → n ≡ r → n ≡ 0 → x ≡ first r x
 unfolding first
@@ -127,38 +127,38 @@ rows_then true true false rest = refl
 rows_then true true true rest = refl
 
 module _ (b : Bound) (file : List ℕ) where
-  pub read-unlaid : tableLaidOut file (layout file) ≡ false → readOver b file ≡ readValues (NotRead 13)
-  unfolding readOver readRefusalOver ask
-  read-unlaid h = rw h
+  pub read_unlaid : table_laid_out file (layout file) ≡ false → read_over b file ≡ read_values (NotRead 13)
+  unfolding read_over read_refusal_over ask
+  read_unlaid h = rw h
 
-  module _ (h : tableLaidOut file (layout file) ≡ true) (n : ℕ) (e : n ≡ tableQuestion b file (tableOf file (layout file))) where
-    asked : readRefusalOver b file (layout file) (tableOf file (layout file)) ≡ n
-    unfolding readRefusalOver ask
+  module _ (h : table_laid_out file (layout file) ≡ true) (n : ℕ) (e : n ≡ table_question b file (table_of file (layout file))) where
+    asked : read_refusal_over b file (layout file) (table_of file (layout file)) ≡ n
+    unfolding read_refusal_over ask
     asked =
-        let t = tableOf file (layout file) in
+        let t = table_of file (layout file) in
         rw h
-        (ap (λ (m : ℕ). ask (tableValid file t) 14 (ask (within b t) 24 m))
-        (rows_then (every (entryValid t.levels) (rowItems file t)) (tiled per 0 t.energies (rowItems file t)) (every (λ x. not (nan_bits binary32 x)) (energyItems file t))
-        (ask (tailValid (tailIn file t)) 23 0))
+        (ap (λ (m : ℕ). ask (table_valid file t) 14 (ask (within b t) 24 m))
+        (rows_then (every (entry_valid t.levels) (row_items file t)) (tiled per 0 t.energies (row_items file t)) (every (λ x. not (nan_bits binary32 x)) (energy_items file t))
+        (ask (tail_valid (tail_in file t)) 23 0))
         ∙ sym e)
 
-    pub read-refused : (n ≡ 0 → ⊥) → readOver b file ≡ readValues (NotRead n)
-    unfolding readOver
-    read-refused z = rw (asked, ne_eqb n 0 z)
+    pub read_refused : (n ≡ 0 → ⊥) → read_over b file ≡ read_values (NotRead n)
+    unfolding read_over
+    read_refused z = rw (asked, ne_eqb n 0 z)
 
-    pub read-accepted : n ≡ 0 → readOver b file ≡ readValues (Reads (tableOf file (layout file)))
-    unfolding readOver
-    read-accepted z = rw (asked, eq-eqb n 0 z)
+    pub read_accepted : n ≡ 0 → read_over b file ≡ read_values (Reads (table_of file (layout file)))
+    unfolding read_over
+    read_accepted z = rw (asked, eq-eqb n 0 z)
 
 -- ---- bounds
 
 -- 14 answered yes keeps the host's bound
-pub host-within : (file : List ℕ) (t : Table) → tableValid file t ≡ true → within host t ≡ true
-unfolding tableValid within
+pub host-within : (file : List ℕ) (t : Table) → table_valid file t ≡ true → within host t ≡ true
+unfolding table_valid within
 host-within file t h =
-    let a = (and-eq-true_iff (gridValid t.grid t.levels) _).0 h in
+    let a = (and-eq-true_iff (grid_valid t.grid t.levels) _).0 h in
     let many = eqb-true t.rows (t.grid.n_r * t.grid.n_omega) ((and-eq-true_iff (eqb t.rows (t.grid.n_r * t.grid.n_omega)) _).0 a.1).0 in
-    let r = held-ranged t.grid t.levels a.0 in
+    let r = held_ranged t.grid t.levels a.0 in
     rw (le-leb t.levels 16 r.few, le-leb t.rows 4294836225 (omega (arith, many, mul-le-mul r.distances r.dihedrals)))
 
 -- 13, 14, then 24, which was answered yes where these were
@@ -168,11 +168,11 @@ no_bound a false w rest h = refl
 no_bound a true w rest h = rw (h refl)
 
 pub host-reads : HostReads
-unfolding readOver readOut readRefusalOver readRefusal
+unfolding read_over read_out read_refusal_over read_refusal
 host-reads file =
     let p = layout file in
-    let t = tableOf file p in
-    rw (no_bound (tableLaidOut file p) (tableValid file t) (within host t) _ (host-within file t)) refl
+    let t = table_of file p in
+    rw (no_bound (table_laid_out file p) (table_valid file t) (within host t) _ (host-within file t)) refl
 
 -- 24 answered yes under a bound is answered yes under a larger one
 within-larger : (b c : Bound) (t : Table) → Smaller b c → within b t ≡ true → within c t ≡ true
@@ -184,40 +184,40 @@ within-larger b c t s h =
     rw (le-leb t.levels c.levels (omega (arith, l, s.levels)), le-leb t.rows c.rows (omega (arith, r, s.rows)))
 
 -- a file that is accepted: the questions of one bound are those of the other
-same-questions : (a v w x : Bool) (rest : ℕ) → (w ≡ true → x ≡ true) → ask a 13 (ask v 14 (ask w 24 rest)) ≡ 0 → ask a 13 (ask v 14 (ask x 24 rest)) ≡ ask a 13 (ask v 14 (ask w 24 rest))
+same_questions : (a v w x : Bool) (rest : ℕ) → (w ≡ true → x ≡ true) → ask a 13 (ask v 14 (ask w 24 rest)) ≡ 0 → ask a 13 (ask v 14 (ask x 24 rest)) ≡ ask a 13 (ask v 14 (ask w 24 rest))
 unfolding ask
-same-questions false v w x rest h e = refl
-same-questions true false w x rest h e = refl
-same-questions true true false x rest h e = absurd (omega (arith, e))
-same-questions true true true x rest h e = rw (h refl)
+same_questions false v w x rest h e = refl
+same_questions true false w x rest h e = refl
+same_questions true true false x rest h e = absurd (omega (arith, e))
+same_questions true true true x rest h e = rw (h refl)
 
-accepted-by : (b c : Bound) → Smaller b c → (file : List ℕ) (x : Bool) → eqb (readRefusalOver b file (layout file) (tableOf file (layout file))) 0 ≡ x
-    → (readOver b file).number ≡ 0 → readOver c file ≡ readOver b file
-unfolding readOver readRefusalOver
-accepted-by b c s file true d e =
+accepted_by : (b c : Bound) → Smaller b c → (file : List ℕ) (x : Bool) → eqb (read_refusal_over b file (layout file) (table_of file (layout file))) 0 ≡ x
+    → (read_over b file).number ≡ 0 → read_over c file ≡ read_over b file
+unfolding read_over read_refusal_over
+accepted_by b c s file true d e =
     let p = layout file in
-    let t = tableOf file p in
-    rw (same-questions (tableLaidOut file p) (tableValid file t) (within b t) (within c t) _ (within-larger b c t s) (eqb-true _ 0 d)) refl
-accepted-by b c s file false d e = absurd (eqb-false _ 0 d (rw d at e))
+    let t = table_of file p in
+    rw (same_questions (table_laid_out file p) (table_valid file t) (within b t) (within c t) _ (within-larger b c t s) (eqb-true _ 0 d)) refl
+accepted_by b c s file false d e = absurd (eqb-false _ 0 d (rw d at e))
 
-pub accepted-alike : AcceptedAlike
-accepted-alike b c s file e = accepted-by b c s file _ refl e
+pub accepted_alike : AcceptedAlike
+accepted_alike b c s file e = accepted_by b c s file _ refl e
 
 module _ (file : List ℕ) where
   -- against an atom
-  pub atom-read-unlaid : laidOut 2 1 file (layout file) ≡ false → atomReadOut file ≡ atomReadValues (AtomNotRead 13)
-  unfolding atomReadOut atomReadRefusal ask
-  atom-read-unlaid h = rw h
+  pub atom_read_unlaid : laid_out 2 1 file (layout file) ≡ false → atom_read_out file ≡ atom_read_values (AtomNotRead 13)
+  unfolding atom_read_out atom_read_refusal ask
+  atom_read_unlaid h = rw h
 
-  module _ (h : laidOut 2 1 file (layout file) ≡ true) (n : ℕ) (e : n ≡ atomTableQuestion file (atomTableOf file (layout file))) where
-    atom-asked : atomReadRefusal file (layout file) (atomTableOf file (layout file)) ≡ n
-    unfolding atomReadRefusal ask
-    atom-asked = rw h (sym e)
+  module _ (h : laid_out 2 1 file (layout file) ≡ true) (n : ℕ) (e : n ≡ atom_table_question file (atom_table_of file (layout file))) where
+    atom_asked : atom_read_refusal file (layout file) (atom_table_of file (layout file)) ≡ n
+    unfolding atom_read_refusal ask
+    atom_asked = rw h (sym e)
 
-    pub atom-read-refused : (n ≡ 0 → ⊥) → atomReadOut file ≡ atomReadValues (AtomNotRead n)
-    unfolding atomReadOut
-    atom-read-refused z = rw (atom-asked, ne_eqb n 0 z)
+    pub atom_read_refused : (n ≡ 0 → ⊥) → atom_read_out file ≡ atom_read_values (AtomNotRead n)
+    unfolding atom_read_out
+    atom_read_refused z = rw (atom_asked, ne_eqb n 0 z)
 
-    pub atom-read-accepted : n ≡ 0 → atomReadOut file ≡ atomReadValues (AtomReads (atomTableOf file (layout file)))
-    unfolding atomReadOut
-    atom-read-accepted z = rw (atom-asked, eq-eqb n 0 z)
+    pub atom_read_accepted : n ≡ 0 → atom_read_out file ≡ atom_read_values (AtomReads (atom_table_of file (layout file)))
+    unfolding atom_read_out
+    atom_read_accepted z = rw (atom_asked, eq-eqb n 0 z)

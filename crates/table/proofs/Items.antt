@@ -11,37 +11,37 @@ use lib.Dec.{leb, eqb}
 use lib.Ieee.{binary64, of_bits}
 use borrow.Author.Tests.{eqb-true}
 use Rattle.lists.specs.Lists.{every}
-use Rattle.mesh.proofs.Laws.{count-le, per-le}
+use Rattle.mesh.proofs.Laws.{count_le, per_le}
 use Rattle.table.specs.Bytes.{number_of, number_at, items}
-use Rattle.table.specs.Tail.{Term, termOf}
+use Rattle.table.specs.Tail.{Term, term_of}
 use Rattle.table.specs.File.{Entry, entry_of}
 use Rattle.table.specs.Read.{tiled}
-use Rattle.table.specs.Internal.{eachOf, placed_at, nextPlace}
+use Rattle.table.specs.Internal.{each_of, placed_at, next_place}
 use Rattle.table.proofs.Numbers.{number-suc, no_bytes}
 
 module _ {A : Type 0} (dec : List ℕ → A) (w : ℕ) (file : List ℕ) where
-  pub items-cons : (at n : ℕ) → 0 < n → items dec w file at n ≡ dec (take w (drop at file)) ∷ items dec w file (at + w) (n - 1)
+  pub items_cons : (at n : ℕ) → 0 < n → items dec w file at n ≡ dec (take w (drop at file)) ∷ items dec w file (at + w) (n - 1)
   unfolding items
-  items-cons at zero h = absurd (omega arith)
-  items-cons at (suc n) h = let e : suc n - 1 ≡ n = omega arith in rw e
+  items_cons at zero h = absurd (omega arith)
+  items_cons at (suc n) h = let e : suc n - 1 ≡ n = omega arith in rw e
 
   pub items-many : (at n : ℕ) → length (items dec w file at n) ≡ n
   unfolding items
   items-many at zero = refl
   items-many at (suc n) = ap suc (items-many (at + w) n)
 
-  pub every-stop : (p : A → Bool) (at n : ℕ) → 0 < n → p (dec (take w (drop at file))) ≡ false → every p (items dec w file at n) ≡ false
+  pub every_stop : (p : A → Bool) (at n : ℕ) → 0 < n → p (dec (take w (drop at file))) ≡ false → every p (items dec w file at n) ≡ false
   unfolding every
-  every-stop p at n h e = rw (items-cons at n h, e)
+  every_stop p at n h e = rw (items_cons at n h, e)
 
-  pub every-next : (p : A → Bool) (at n : ℕ) → 0 < n → p (dec (take w (drop at file))) ≡ true
+  pub every_next : (p : A → Bool) (at n : ℕ) → 0 < n → p (dec (take w (drop at file))) ≡ true
       → every p (items dec w file at n) ≡ every p (items dec w file (at + w) (n - 1))
   unfolding every
-  every-next p at n h e = rw (items-cons at n h, e)
+  every_next p at n h e = rw (items_cons at n h, e)
 
-  pub every-end : (p : A → Bool) (at n : ℕ) → n ≤ 0 → every p (items dec w file at n) ≡ true
+  pub every_end : (p : A → Bool) (at n : ℕ) → n ≤ 0 → every p (items dec w file at n) ≡ true
   unfolding every items
-  every-end p at n h = let e : n ≡ 0 = omega arith in rw e
+  every_end p at n h = let e : n ≡ 0 = omega arith in rw e
 
   -- the same in a loop that goes on to the end, two a turn, h being what was found so far; then the last one, or none
   pub every_two : (p : A → Bool) (at n : ℕ) (h : Bool) → 1 < n
@@ -52,14 +52,14 @@ module _ {A : Type 0} (dec : List ℕ → A) (w : ℕ) (file : List ℕ) where
       let y = p (dec (take w (drop (at + w) file))) in
       let r = every p (items dec w file (at + w + w) (n - 2)) in
       let m : n - 1 - 1 ≡ n - 2 = omega arith in
-      rw (items-cons at n (omega arith), items-cons (at + w) (n - 1) (omega arith), m) (and_assoc h (x && y) r ∙ ap (λ (b : Bool). h && b) (and_assoc x y r))
+      rw (items_cons at n (omega arith), items_cons (at + w) (n - 1) (omega arith), m) (and_assoc h (x && y) r ∙ ap (λ (b : Bool). h && b) (and_assoc x y r))
 
   pub every_one : (p : A → Bool) (at n : ℕ) (h : Bool) → n ≡ 1 → (h && p (dec (take w (drop at file)))) ≡ (h && every p (items dec w file at n))
   unfolding every items
   every_one p at n h e = rw e (ap (λ (x : Bool). h && x) (sym (and-true (p (dec (take w (drop at file)))))))
 
   pub every-none : (p : A → Bool) (at n : ℕ) (h : Bool) → n ≤ 0 → h ≡ (h && every p (items dec w file at n))
-  every-none p at n h l = rw (every-end p at n l) (sym (and-true h))
+  every-none p at n h l = rw (every_end p at n l) (sym (and-true h))
 
 -- ---- rows
 
@@ -76,25 +76,25 @@ part_at : (a w n : ℕ) (file : List ℕ) (at : ℕ) → a + w ≤ n → number_
 unfolding number_at
 part_at a w n file at h = rw (window a w n (drop at file) h, drop-drop)
 
-byte-is : (file : List ℕ) (at : ℕ) → number_at 1 file at ≡ get_or file at 0
-byte-is file at = omega (arith, number-suc 0 file at (at + 1) (omega arith), no_bytes file (at + 1))
+byte_is : (file : List ℕ) (at : ℕ) → number_at 1 file at ≡ get_or file at 0
+byte_is file at = omega (arith, number-suc 0 file at (at + 1) (omega arith), no_bytes file (at + 1))
 
 -- the row at a byte
 abbrev pub entry_at : List ℕ → ℕ → Entry
 entry_at file at = record { kind = get_or file at 0; level = get_or file (at + 1) 0; offset = number_at 4 file (at + 2); scalar = number_at 4 file (at + 6) }
 
-pub entry-at : (file : List ℕ) (at : ℕ) → entry_of (take 10 (drop at file)) ≡ entry_at file at
+pub entry_at_lem : (file : List ℕ) (at : ℕ) → entry_of (take 10 (drop at file)) ≡ entry_at file at
 unfolding entry_of
-entry-at file at =
-    let k : number_of (take 1 (take 10 (drop at file))) ≡ get_or file at 0 = part_at 0 1 10 file at (omega arith) ∙ byte-is file (at + 0) ∙ rw (add-zero at) in
-    rw (k, part_at 1 1 10 file at (omega arith), byte-is file (at + 1), part_at 2 4 10 file at (omega arith), part_at 6 4 10 file at (omega arith))
+entry_at_lem file at =
+    let k : number_of (take 1 (take 10 (drop at file))) ≡ get_or file at 0 = part_at 0 1 10 file at (omega arith) ∙ byte_is file (at + 0) ∙ rw (add-zero at) in
+    rw (k, part_at 1 1 10 file at (omega arith), byte_is file (at + 1), part_at 2 4 10 file at (omega arith), part_at 6 4 10 file at (omega arith))
 
 -- the term at a byte
-pub term-at : (file : List ℕ) (at : ℕ)
-    → ◌≡◌ {A = Term} (termOf (take 20 (drop at file)))
+pub term_at_lem : (file : List ℕ) (at : ℕ)
+    → ◌≡◌ {A = Term} (term_of (take 20 (drop at file)))
     (record { coefficient = of_bits binary64 (number_at 8 file at); kappa = of_bits binary64 (number_at 8 file (at + 8)); power = number_at 4 file (at + 16) })
-unfolding termOf
-term-at file at =
+unfolding term_of
+term_at_lem file at =
     let x : number_of (take 8 (take 20 (drop at file))) ≡ number_at 8 file at = part_at 0 8 20 file at (omega arith) ∙ rw (add-zero at) in
     rw (x, part_at 8 8 20 file at (omega arith), part_at 16 4 20 file at (omega arith))
 
@@ -113,24 +113,24 @@ module _ (each : ℕ → ℕ) (n : ℕ) (rs : List Entry) (f o : ℕ) (v : ℕ) 
   goes false false h e = absurd (let z : ◌≡◌ {A = ℕ} 0 1 = ap (λ (t : Bool). cond t 1 0) e in omega arith)
 
 module _ (each : ℕ → ℕ) (file : List ℕ) (e o at n : ℕ) (l : 0 < n) where
-  pub tiled-stop : placed_at (get_or file at 0) (number_at 4 file (at + 2)) o ≡ false → tiled each o e (items entry_of 10 file at n) ≡ false
+  pub tiled_stop : placed_at (get_or file at 0) (number_at 4 file (at + 2)) o ≡ false → tiled each o e (items entry_of 10 file at n) ≡ false
   unfolding tiled
-  tiled-stop h = rw (items-cons entry_of 10 file at n l, entry-at file at) (stops (leb (get_or file at 0) 1) (eqb (number_at 4 file (at + 2)) o) _ _ h)
+  tiled_stop h = rw (items_cons entry_of 10 file at n l, entry_at_lem file at) (stops (leb (get_or file at 0) 1) (eqb (number_at 4 file (at + 2)) o) _ _ h)
 
-  pub tiled-next : placed_at (get_or file at 0) (number_at 4 file (at + 2)) o ≡ true
+  pub tiled_next : placed_at (get_or file at 0) (number_at 4 file (at + 2)) o ≡ true
       → tiled each o e (items entry_of 10 file at n)
-      ≡ tiled each (nextPlace each (get_or file at 0) (get_or file (at + 1) 0) (number_at 4 file (at + 2)) o) e (items entry_of 10 file (at + 10) (n - 1))
+      ≡ tiled each (next_place each (get_or file at 0) (get_or file (at + 1) 0) (number_at 4 file (at + 2)) o) e (items entry_of 10 file (at + 10) (n - 1))
   unfolding tiled
-  tiled-next h =
-      rw (items-cons entry_of 10 file at n l, entry-at file at)
+  tiled_next h =
+      rw (items_cons entry_of 10 file at n l, entry_at_lem file at)
       (goes each e (items entry_of 10 file (at + 10) (n - 1)) (number_at 4 file (at + 2)) o (get_or file (at + 1) 0)
       (leb (get_or file at 0) 1) (eqb (number_at 4 file (at + 2)) o) (eqb-true (number_at 4 file (at + 2)) o) h)
 
-pub tiled-end : (each : ℕ → ℕ) (file : List ℕ) (e o at n : ℕ) → n ≤ 0 → tiled each o e (items entry_of 10 file at n) ≡ eqb o e
+pub tiled_end : (each : ℕ → ℕ) (file : List ℕ) (e o at n : ℕ) → n ≤ 0 → tiled each o e (items entry_of 10 file at n) ≡ eqb o e
 unfolding tiled items
-tiled-end each file e o at n h = let z : n ≡ 0 = omega arith in rw z
+tiled_end each file e o at n h = let z : n ≡ 0 = omega arith in rw z
 
 -- the energies of a row whose level is a byte
-pub each-le : (pairs : Bool) (v : ℕ) → v < 256 → eachOf pairs v ≤ 655362 * 655362
-each-le true v h = per-le v 256 h
-each-le false v h = omega (arith, count-le v 256 h)
+pub each_le : (pairs : Bool) (v : ℕ) → v < 256 → each_of pairs v ≤ 655362 * 655362
+each_le true v h = per_le v 256 h
+each_le false v h = omega (arith, count_le v 256 h)

@@ -7,7 +7,7 @@ use native.Mathlib.Numerals.{add-one}
 use native.Mathlib.Omega.{arith}
 use lib.ListN.{length, get_or, get_or-eq_default, drop_of_length-le}
 use lib.Seq.{drop-cons, take_all}
-use Rattle.ieee.proofs.Pack.{le-or-lt}
+use Rattle.ieee.proofs.Pack.{le_or_lt}
 use Rattle.table.specs.Bytes.{number_of, number_at}
 
 pub beyond : (file : List ℕ) (i : ℕ) → length file ≤ i → get_or file i 0 ≡ 0
@@ -24,7 +24,7 @@ first w file at =
     ⊎_elim
     (λ h. rw (drop_of_length-le file h, beyond file at h, drop_of_length-le file {i = at + 1} (omega arith), take_all {A = ℕ} w [] (omega arith)))
     (λ l. rw (drop-cons file at 0 l, add-one))
-    (le-or-lt (length file) at)
+    (le_or_lt (length file) at)
 
 pub number-suc : (w : ℕ) (file : List ℕ) (at next : ℕ) → next ≡ at + 1 → number_at (suc w) file at ≡ number_at w file next * 256 + get_or file at 0
 number-suc w file at next e = rw e (first w file at)
@@ -46,8 +46,8 @@ pub four : (file : List ℕ) (at : ℕ) → number_at 4 file at ≡ ((get_or fil
 four file at = above 0 file at ∙ omega (arith, no_bytes file (at + 4))
 
 -- beyond the end
-pub none-there : (file : List ℕ) (at : ℕ) → length file ≤ at → number_at 4 file at ≡ 0
-none-there file at h =
+pub none_there : (file : List ℕ) (at : ℕ) → length file ≤ at → number_at 4 file at ≡ 0
+none_there file at h =
     omega (arith, four file at, beyond file at h, beyond file (at + 1) (omega arith), beyond file (at + 2) (omega arith), beyond file (at + 3) (omega arith))
 
 pub four_bytes : (file : List ℕ) (at : ℕ) → number_of (get_or file at 0 ∷ get_or file (at + 1) 0 ∷ get_or file (at + 2) 0 ∷ get_or file (at + 3) 0 ∷ []) ≡ number_at 4 file at

@@ -12,44 +12,44 @@ use lib.Ieee.Bits.{of_bits-to_bits, to_bits-lt}
 use borrow.Author.Tests.{leb-true, eq-eqb}
 use Rattle.lists.specs.Questions.{ask, first}
 use Rattle.mesh.specs.Levels.{per}
-use Rattle.mesh.proofs.Sizes.{per-mono}
-use Rattle.grid.specs.Bins.{tableRmax}
-use Rattle.grid.specs.Settings.{gridRange, slabsFit, gridValid}
+use Rattle.mesh.proofs.Sizes.{per_mono}
+use Rattle.grid.specs.Bins.{table_rmax}
+use Rattle.grid.specs.Settings.{grid_range, slabs_fit, grid_valid}
 use Rattle.grid.specs.declared.Grid.{Grid}
 use Rattle.grid.proofs.Laws.{ranged}
 use Rattle.rows.specs.Rows.{Row, repulsive}
 use Rattle.table.specs.Bytes.{number_at}
-use Rattle.table.specs.Tail.{Tail, noTail, tail_bytes, tailValid}
-use Rattle.table.specs.File.{entry_of, entry, energiesIn, packedEnergies, fileOf, fullFile}
-use Rattle.table.specs.Read.{layout, tableLaidOut, gridOf, tableOf, tailIn, tableValid, ReadValues, readValues, readOut}
+use Rattle.table.specs.Tail.{Tail, no_tail, tail_bytes, tail_valid}
+use Rattle.table.specs.File.{entry_of, entry, energies_in, packed_energies, file_of, full_file}
+use Rattle.table.specs.Read.{layout, table_laid_out, grid_of, table_of, tail_in, table_valid, ReadValues, read_values, read_out}
 use Rattle.table.specs.View.{host}
-use Rattle.table.specs.Internal.{tableQuestion}
+use Rattle.table.specs.Internal.{table_question}
 use Rattle.table.specs.declared.Table.{Table}
 use Rattle.table.specs.declared.ReadAnswer.TheVariants.{Accepted as Reads}
-use Rattle.table.proofs.Accepted.{read-accepted, host-within, host-reads}
+use Rattle.table.proofs.Accepted.{read_accepted, host-within, host-reads}
 use Rattle.table.proofs.Back.{All}
 use Rattle.table.proofs.Sound.{Fine}
 use Rattle.table.proofs.OfSections as OfSections
-use Rattle.table.proofs.OfSections.{Sized, laid, float_of, bin-of, sections-length, rows_same}
-use Rattle.table.proofs.OfTail.{Tailable, TailHolds, none-tailable, tail-count, tail-ended, tail-start, tail-held, tail-back, tails-same}
-use Rattle.table.proofs.Accepts.{floats-count, bins-count, levels-count, rows-count, energies-count, levels-held, rows-asked}
-use Rattle.table.proofs.OfRows.{before, energies-le}
+use Rattle.table.proofs.OfSections.{Sized, laid, float_of, bin_of_lem, sections_length, rows_same}
+use Rattle.table.proofs.OfTail.{Tailable, TailHolds, none_tailable, tail_count, tail_ended, tail_start, tail_held, tail_back, tails-same}
+use Rattle.table.proofs.Accepts.{floats_count, bins_count, levels_count, rows_count, energies_count, levels_held, rows-asked}
+use Rattle.table.proofs.OfRows.{before, energies_le}
 
 -- a grid, a level count and rows that a file can hold: settings that an f64 can have, 14 answered yes, a row for each slab, and each row one of a table
 pub record Filable (g : Grid) (levels : ℕ) (rows : List (Row ℕ)) : Type 0 where
   pub rmin : T (fits binary64 g.rmin)
   pub dr : T (fits binary64 g.dr)
   pub step : T (fits binary64 g.omega_step)
-  pub held : gridValid g levels ≡ true
+  pub held : grid_valid g levels ≡ true
   pub many : length rows ≡ g.n_r * g.n_omega
   pub fine : All (Fine per levels) rows
 
 module _ (g : Grid) (levels : ℕ) (rows : List (Row ℕ)) where
   -- what read answers for the file
-  abbrev pub gridIn : Grid
-  gridIn = record {
+  abbrev pub grid_in : Grid
+  grid_in = record {
     rmin = g.rmin;
-    rmax = tableRmax g.n_r g.dr g.rmin;
+    rmax = table_rmax g.n_r g.dr g.rmin;
     dr = g.dr;
     omega_step = g.omega_step;
     threshold = of_bits binary64 0;
@@ -59,113 +59,113 @@ module _ (g : Grid) (levels : ℕ) (rows : List (Row ℕ)) where
   }
 
   -- where its fifth section ends
-  abbrev pub fileEnd : ℕ
-  fileEnd = 40 + 4 + levels * 4 + 4 + length rows * 10 + 4 + length (packedEnergies rows) * 4
+  abbrev pub file_end : ℕ
+  file_end = 40 + 4 + levels * 4 + 4 + length rows * 10 + 4 + length (packed_energies rows) * 4
 
-  abbrev pub fullTableIn : Tail → Table
-  fullTableIn t = record {
-    grid = gridIn;
+  abbrev pub full_table_in : Tail → Table
+  full_table_in t = record {
+    grid = grid_in;
     levels = levels;
     rows = length rows;
-    energies = length (packedEnergies rows);
+    energies = length (packed_energies rows);
     terms = length t.terms;
     grid_start = 4;
     bins_start = 28 + 4;
     levels_start = 40 + 4;
     rows_start = 40 + 4 + levels * 4 + 4;
     energies_start = 40 + 4 + levels * 4 + 4 + length rows * 10 + 4;
-    tail_start = cond (eqb (length t.terms) 0) fileEnd (fileEnd + 4);
+    tail_start = cond (eqb (length t.terms) 0) file_end (file_end + 4);
   }
 
-  abbrev pub tableIn : Table
-  tableIn = fullTableIn noTail
+  abbrev pub table_in : Table
+  table_in = full_table_in no_tail
 
 module _ (g : Grid) (levels : ℕ) (rows : List (Row ℕ)) (t : Tail) (ok : Filable g levels rows) (tails : Tailable t) where
   abbrev file : List ℕ
-  file = fullFile g levels rows t
+  file = full_file g levels rows t
 
   abbrev es : List ℕ
-  es = packedEnergies rows
+  es = packed_energies rows
 
   pub sized : Sized per (to_bits binary64 g.rmin ∷ to_bits binary64 g.dr ∷ to_bits binary64 g.omega_step ∷ []) (g.n_r ∷ g.n_omega ∷ []) levels rows file (tail_bytes t)
-  unfolding fullFile fileOf gridValid slabsFit
+  unfolding full_file file_of grid_valid slabs_fit
   sized =
-      let a = (and-eq-true_iff (gridRange g levels) (leb (g.n_r * g.n_omega * per (levels - 1)) 4294967295)).0 ok.held in
+      let a = (and-eq-true_iff (grid_range g levels) (leb (g.n_r * g.n_omega * per (levels - 1)) 4294967295)).0 ok.held in
       let r = ranged g levels a.0 in
       let fit = leb-true (g.n_r * g.n_omega * per (levels - 1)) 4294967295 a.1 in
       record {
         is = refl;
         floats = (to_bits-lt binary64 g.rmin ok.rmin, (to_bits-lt binary64 g.dr ok.dr, (to_bits-lt binary64 g.omega_step ok.step, tt)));
         bins = (omega (arith, r.distances), (omega (arith, r.dihedrals), tt));
-        few-floats = lit< tt;
-        few-bins = lit< tt;
-        few-levels = r.few;
-        few-rows = omega (arith, ok.many, mul-le-mul r.distances r.dihedrals);
-        few-energies = omega (arith, rw ok.many at (energies-le per levels per-mono rows ok.fine), fit);
+        few_floats = lit< tt;
+        few_bins = lit< tt;
+        few_levels = r.few;
+        few_rows = omega (arith, ok.many, mul-le-mul r.distances r.dihedrals);
+        few_energies = omega (arith, rw ok.many at (energies_le per levels per_mono rows ok.fine), fit);
         fine = ok.fine;
       }
 
-  table_is : tableOf file (layout file) ≡ fullTableIn g levels rows t
-  unfolding tableOf gridOf
+  table_is : table_of file (layout file) ≡ full_table_in g levels rows t
+  unfolding table_of grid_of
   table_is =
       rw (
         laid sized,
-        levels-count sized,
-        rows-count sized,
-        energies-count sized,
-        tail-count t sized tails,
-        tail-start t sized tails,
+        levels_count sized,
+        rows_count sized,
+        energies_count sized,
+        tail_count t sized tails,
+        tail_start t sized tails,
         float_of sized 0 (lit< tt),
         float_of sized 1 (lit< tt),
         float_of sized 2 (lit< tt),
-        bin-of sized 0 (lit< tt),
-        bin-of sized 1 (lit< tt),
+        bin_of_lem sized 0 (lit< tt),
+        bin_of_lem sized 1 (lit< tt),
         of_bits-to_bits binary64 g.rmin ok.rmin,
         of_bits-to_bits binary64 g.dr ok.dr,
         of_bits-to_bits binary64 g.omega_step ok.step,
       )
 
   -- 13
-  laid_out : tableLaidOut file (layout file) ≡ true
-  unfolding tableLaidOut
-  laid_out = rw (laid sized, floats-count sized, bins-count sized) (tail-ended t sized tails)
+  laid_out_lem : table_laid_out file (layout file) ≡ true
+  unfolding table_laid_out
+  laid_out_lem = rw (laid sized, floats_count sized, bins_count sized) (tail_ended t sized tails)
 
   -- 14
-  held : tableValid file (fullTableIn g levels rows t) ≡ true
-  unfolding tableValid gridValid
-  held = rw (ok.held, eq-eqb (length rows) (g.n_r * g.n_omega) ok.many) (levels-held sized)
+  held : table_valid file (full_table_in g levels rows t) ≡ true
+  unfolding table_valid grid_valid
+  held = rw (ok.held, eq-eqb (length rows) (g.n_r * g.n_omega) ok.many) (levels_held sized)
 
   -- 23
-  tail-valid : tailValid (tailIn file (fullTableIn g levels rows t)) ≡ true
-  tail-valid = tail-held t sized tails
+  tail_valid_lem : tail_valid (tail_in file (full_table_in g levels rows t)) ≡ true
+  tail_valid_lem = tail_held t sized tails
 
-  asked : 0 ≡ tableQuestion host file (tableOf file (layout file))
+  asked : 0 ≡ table_question host file (table_of file (layout file))
   unfolding ask first
-  asked = rw (table_is, held, host-within file (fullTableIn g levels rows t) held, rows-asked sized, tail-valid)
+  asked = rw (table_is, held, host-within file (full_table_in g levels rows t) held, rows-asked sized, tail_valid_lem)
 
   -- the reader accepts the file
-  pub full-accepted : readOut (fullFile g levels rows t) ≡ readValues (Reads (fullTableIn g levels rows t))
-  full-accepted = sym (host-reads file) ∙ read-accepted host file laid_out 0 asked refl ∙ ap (λ (k : Table). readValues (Reads k)) table_is
+  pub full_accepted : read_out (full_file g levels rows t) ≡ read_values (Reads (full_table_in g levels rows t))
+  full_accepted = sym (host-reads file) ∙ read_accepted host file laid_out_lem 0 asked refl ∙ ap (λ (k : Table). read_values (Reads k)) table_is
 
   -- ---- what stands in it
 
-  pub full-length : length (fullFile g levels rows t) ≡ fileEnd g levels rows + length (tail_bytes t)
-  full-length = sections-length sized
+  pub full_length : length (full_file g levels rows t) ≡ file_end g levels rows + length (tail_bytes t)
+  full_length = sections_length sized
 
   -- row s, its energies at the place where those of the rows before it end
-  pub entry-of : (s : ℕ) → s < length rows
-      → entry_of (take 10 (drop ((fullTableIn g levels rows t).rows_start + s * 10) (fullFile g levels rows t))) ≡ entry (before per levels rows s) (get_or rows s repulsive)
-  entry-of = OfSections.entry-of sized
+  pub entry_of_lem : (s : ℕ) → s < length rows
+      → entry_of (take 10 (drop ((full_table_in g levels rows t).rows_start + s * 10) (full_file g levels rows t))) ≡ entry (before per levels rows s) (get_or rows s repulsive)
+  entry_of_lem = OfSections.entry-of sized
 
   -- energy k of row s
-  pub energy-of : (s k : ℕ) → s < length rows → k < length (energiesIn (get_or rows s repulsive))
+  pub energy_of_lem : (s k : ℕ) → s < length rows → k < length (energies_in (get_or rows s repulsive))
       → (before per levels rows s + k < length es)
-      × (number_at 4 (fullFile g levels rows t) ((fullTableIn g levels rows t).energies_start + (before per levels rows s + k) * 4) ≡ get_or (energiesIn (get_or rows s repulsive)) k 0)
-  energy-of = OfSections.energy-of sized
+      × (number_at 4 (full_file g levels rows t) ((full_table_in g levels rows t).energies_start + (before per levels rows s + k) * 4) ≡ get_or (energies_in (get_or rows s repulsive)) k 0)
+  energy_of_lem = OfSections.energy-of sized
 
   -- the tail, where there are terms
-  pub tail_of : 0 < length t.terms → tailIn (fullFile g levels rows t) (fullTableIn g levels rows t) ≡ t
-  tail_of = tail-back t sized tails
+  pub tail_of_lem : 0 < length t.terms → tail_in (full_file g levels rows t) (full_table_in g levels rows t) ≡ t
+  tail_of_lem = tail_back t sized tails
 
 -- ---- one to one
 
@@ -180,11 +180,11 @@ pub record Holds (g h : Grid) (m n : ℕ) (a b : List (Row ℕ)) : Type 0 where
   pub rows : a ≡ b
 
 -- files are equal only where they hold the same
-pub full-holds : (g h : Grid) (m n : ℕ) (a b : List (Row ℕ)) (s t : Tail) → Filable g m a → Filable h n b → Tailable s → Tailable t
-    → fullFile g m a s ≡ fullFile h n b t → Holds g h m n a b × TailHolds s t
-full-holds g h m n a b s t p q v w e =
-    let k : fullTableIn g m a s ≡ fullTableIn h n b t =
-    sym (ap (λ (r : ReadValues). r.table) (full-accepted g m a s p v)) ∙ ap (λ (f : List ℕ). (readOut f).table) e ∙ ap (λ (r : ReadValues). r.table) (full-accepted h n b t q w) in (
+pub full_holds : (g h : Grid) (m n : ℕ) (a b : List (Row ℕ)) (s t : Tail) → Filable g m a → Filable h n b → Tailable s → Tailable t
+    → full_file g m a s ≡ full_file h n b t → Holds g h m n a b × TailHolds s t
+full_holds g h m n a b s t p q v w e =
+    let k : full_table_in g m a s ≡ full_table_in h n b t =
+    sym (ap (λ (r : ReadValues). r.table) (full_accepted g m a s p v)) ∙ ap (λ (f : List ℕ). (read_out f).table) e ∙ ap (λ (r : ReadValues). r.table) (full_accepted h n b t q w) in (
       record {
         rmin = ap (λ (r : Table). r.grid.rmin) k;
         dr = ap (λ (r : Table). r.grid.dr) k;
@@ -199,12 +199,12 @@ full-holds g h m n a b s t p q v w e =
 
 -- ---- without terms
 
-pub none_is : (g : Grid) (levels : ℕ) (rows : List (Row ℕ)) → fullFile g levels rows noTail ≡ fileOf g levels rows
-unfolding fullFile
-none_is g levels rows = append-nil (fileOf g levels rows)
+pub none_is : (g : Grid) (levels : ℕ) (rows : List (Row ℕ)) → full_file g levels rows no_tail ≡ file_of g levels rows
+unfolding full_file
+none_is g levels rows = append-nil (file_of g levels rows)
 
-pub file-accepted : (g : Grid) (levels : ℕ) (rows : List (Row ℕ)) → Filable g levels rows → readOut (fileOf g levels rows) ≡ readValues (Reads (tableIn g levels rows))
-file-accepted g levels rows ok = ap readOut (sym (none_is g levels rows)) ∙ full-accepted g levels rows noTail ok none-tailable
+pub file_accepted : (g : Grid) (levels : ℕ) (rows : List (Row ℕ)) → Filable g levels rows → read_out (file_of g levels rows) ≡ read_values (Reads (table_in g levels rows))
+file_accepted g levels rows ok = ap read_out (sym (none_is g levels rows)) ∙ full_accepted g levels rows no_tail ok none_tailable
 
-pub file-holds : (g h : Grid) (m n : ℕ) (a b : List (Row ℕ)) → Filable g m a → Filable h n b → fileOf g m a ≡ fileOf h n b → Holds g h m n a b
-file-holds g h m n a b p q e = (full-holds g h m n a b noTail noTail p q none-tailable none-tailable (none_is g m a ∙ e ∙ sym (none_is h n b))).0
+pub file_holds : (g h : Grid) (m n : ℕ) (a b : List (Row ℕ)) → Filable g m a → Filable h n b → file_of g m a ≡ file_of h n b → Holds g h m n a b
+file_holds g h m n a b p q e = (full_holds g h m n a b no_tail no_tail p q none_tailable none_tailable (none_is g m a ∙ e ∙ sym (none_is h n b))).0

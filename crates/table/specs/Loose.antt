@@ -4,26 +4,26 @@ use Rattle.std.specs.Float.{binary32}
 use Rattle.std.specs.Float.Ieee.{nan_bits}
 use Rattle.lists.specs.Questions.{ask}
 use Rattle.lists.specs.Lists.{every}
-use Rattle.table.specs.Tail.{tailValid}
-use Rattle.table.specs.Read.{layout, tableLaidOut, tableOf, rowItems, energyItems, tailIn, tableValid, entryValid, ReadValues, readValues}
-use Rattle.table.specs.Checks.{slabChecked}
+use Rattle.table.specs.Tail.{tail_valid}
+use Rattle.table.specs.Read.{layout, table_laid_out, table_of, row_items, energy_items, tail_in, table_valid, entry_valid, ReadValues, read_values}
+use Rattle.table.specs.Checks.{slab_checked}
 use Rattle.table.specs.declared.Layout.{Layout}
 use Rattle.table.specs.declared.Table.{Table}
 use Rattle.table.specs.declared.ReadAnswer.TheVariants.{Accepted as Reads, Refused as NotRead}
 
 -- "Refused: 25, in the place of 16 for this tool, where a row fails `check_slabs`." 17 is put to all of section 5, gaps too (S23.2)
-unfoldable pub looseRefusal : List ℕ → Layout → Table → ℕ
-looseRefusal file p t =
-    ask (tableLaidOut file p) 13
-    (ask (tableValid file t) 14
-    (ask (every (entryValid t.levels) (rowItems file t)) 15
-    (ask (every (slabChecked file t) (rowItems file t)) 25
-    (ask (every (λ x. not (nan_bits binary32 x)) (energyItems file t)) 17
-    (ask (tailValid (tailIn file t)) 23 0)))))
+unfoldable pub loose_refusal : List ℕ → Layout → Table → ℕ
+loose_refusal file p t =
+    ask (table_laid_out file p) 13
+    (ask (table_valid file t) 14
+    (ask (every (entry_valid t.levels) (row_items file t)) 15
+    (ask (every (slab_checked file t) (row_items file t)) 25
+    (ask (every (λ x. not (nan_bits binary32 x)) (energy_items file t)) 17
+    (ask (tail_valid (tail_in file t)) 23 0)))))
 
-unfoldable pub looseOut : List ℕ → ReadValues
-looseOut file =
+unfoldable pub loose_out : List ℕ → ReadValues
+loose_out file =
     let p = layout file in
-    let t = tableOf file p in
-    let r = looseRefusal file p t in
-    cond (eqb r 0) (readValues (Reads t)) (readValues (NotRead r))
+    let t = table_of file p in
+    let r = loose_refusal file p t in
+    cond (eqb r 0) (read_values (Reads t)) (read_values (NotRead r))

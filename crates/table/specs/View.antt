@@ -5,8 +5,8 @@ use Rattle.std.specs.Float.Ieee.{nan_bits}
 use Rattle.lists.specs.Questions.{ask}
 use Rattle.lists.specs.Lists.{every}
 use Rattle.mesh.specs.Levels.{per}
-use Rattle.table.specs.Tail.{tailValid}
-use Rattle.table.specs.Read.{layout, tableLaidOut, tableOf, rowItems, energyItems, tailIn, tableValid, entryValid, tiled, ReadValues, readValues, readOut}
+use Rattle.table.specs.Tail.{tail_valid}
+use Rattle.table.specs.Read.{layout, table_laid_out, table_of, row_items, energy_items, tail_in, table_valid, entry_valid, tiled, ReadValues, read_values, read_out}
 use Rattle.table.specs.declared.Bound.{Bound}
 use Rattle.table.specs.declared.Layout.{Layout}
 use Rattle.table.specs.declared.Table.{Table}
@@ -25,22 +25,22 @@ unfoldable pub within : Bound → Table → Bool
 within b t = leb t.levels b.levels && leb t.rows b.rows
 
 -- "Both callers use the same reader over a bound". "Refused: 24, after 14 .., where a bound is passed" (S21.3)
-unfoldable pub readRefusalOver : Bound → List ℕ → Layout → Table → ℕ
-readRefusalOver b file p t =
-    ask (tableLaidOut file p) 13
-    (ask (tableValid file t) 14
+unfoldable pub read_refusal_over : Bound → List ℕ → Layout → Table → ℕ
+read_refusal_over b file p t =
+    ask (table_laid_out file p) 13
+    (ask (table_valid file t) 14
     (ask (within b t) 24
-    (ask (every (entryValid t.levels) (rowItems file t)) 15
-    (ask (tiled per 0 t.energies (rowItems file t)) 16
-    (ask (every (λ x. not (nan_bits binary32 x)) (energyItems file t)) 17
-    (ask (tailValid (tailIn file t)) 23 0))))))
+    (ask (every (entry_valid t.levels) (row_items file t)) 15
+    (ask (tiled per 0 t.energies (row_items file t)) 16
+    (ask (every (λ x. not (nan_bits binary32 x)) (energy_items file t)) 17
+    (ask (tail_valid (tail_in file t)) 23 0))))))
 
-unfoldable pub readOver : Bound → List ℕ → ReadValues
-readOver b file =
+unfoldable pub read_over : Bound → List ℕ → ReadValues
+read_over b file =
     let p = layout file in
-    let t = tableOf file p in
-    let r = readRefusalOver b file p t in
-    cond (eqb r 0) (readValues (Reads t)) (readValues (NotRead r))
+    let t = table_of file p in
+    let r = read_refusal_over b file p t in
+    cond (eqb r 0) (read_values (Reads t)) (read_values (NotRead r))
 
 -- ---- what is promised
 
@@ -51,8 +51,8 @@ pub record Smaller (b c : Bound) : Type 0 where
 
 -- "what the viewer accepts the large reader accepts with the same contents": what a bound accepts a larger one accepts, with the same table (S21.4)
 abbrev pub AcceptedAlike : Type 0
-AcceptedAlike = (b c : Bound) → Smaller b c → (file : List ℕ) → (readOver b file).number ≡ 0 → readOver c file ≡ readOver b file
+AcceptedAlike = (b c : Bound) → Smaller b c → (file : List ℕ) → (read_over b file).number ≡ 0 → read_over c file ≡ read_over b file
 
 -- the host's reader is the one of document 01: its bound never refuses (S21.5)
 abbrev pub HostReads : Type 0
-HostReads = (file : List ℕ) → readOver host file ≡ readOut file
+HostReads = (file : List ℕ) → read_over host file ≡ read_out file

@@ -4,9 +4,9 @@ ghost use Rattle.lists.specs.Lists.{every};
 ghost use Rattle.mesh.specs.Levels.{per};
 ghost use Rattle.table.specs.Bytes.{items};
 ghost use Rattle.table.specs.File.{entry_of};
-ghost use Rattle.table.specs.Read.{readValues, readNumbered};
-ghost use Rattle.table.specs.Loose.{looseOut};
-ghost use Rattle.table.specs.Internal.{TableInside, endsBelow, looseQuestion};
+ghost use Rattle.table.specs.Read.{read_values, read_numbered};
+ghost use Rattle.table.specs.Loose.{loose_out};
+ghost use Rattle.table.specs.Internal.{TableInside, ends_below, loose_question};
 
 use crate::bytes::u32_in;
 use crate::questions::{energies_of, energies_valid, rows_valid, table_valid, tail_valid};
@@ -26,7 +26,7 @@ fn slab_inside(kind: u8, level: u8, offset: u32, energies: u64) -> bool
 // Question 25, of every row.
 fn slabs_inside(file: &[u8], start: u64, rows: u64, energies: u64) -> bool
     requires { start + rows * 10 ≤ length file.now }
-    ensures { result ≡ every (endsBelow energies) (items entry_of 10 file.now start rows) }
+    ensures { result ≡ every (ends_below energies) (items entry_of 10 file.now start rows) }
 {
     let mut at = start;
     let mut left = rows;
@@ -47,7 +47,7 @@ fn slabs_inside(file: &[u8], start: u64, rows: u64, energies: u64) -> bool
 // Questions 14, 15, 25, 17, then 23.
 fn loose_question(file: &[u8], t: Table) -> u64
     requires { TableInside file.now t }
-    ensures { result ≡ looseQuestion file.now t }
+    ensures { result ≡ loose_question file.now t }
 {
     let rows = t.rows;
     let levels = t.levels;
@@ -74,7 +74,7 @@ fn loose_question(file: &[u8], t: Table) -> u64
 
 // Reads a loosely packed file: the questions 13, 14, 15, 25, 17, then 23, each put to the whole file before the next.
 pub fn read_loose(file: &[u8]) -> ReadAnswer
-    ensures { (readNumbered result ≡ true) × (readValues result ≡ looseOut file.now) }
+    ensures { (read_numbered result ≡ true) × (read_values result ≡ loose_out file.now) }
 {
     let p = sections(file);
     if !table_laid_out(file, p) {

@@ -2,15 +2,15 @@
 ghost use Rattle.std.specs.Prelude.{◌≡◌, not, ◌&&◌, ◌+◌, ◌*◌, ◌≤◌, length, take, drop, eqb};
 ghost use Rattle.std.specs.Float.{binary32};
 ghost use Rattle.std.specs.Float.Ieee.{nan_bits};
-ghost use Rattle.lists.specs.Lists.{allUpTo, every};
-ghost use Rattle.mesh.specs.Levels.{vertexCount};
+ghost use Rattle.lists.specs.Lists.{all_up_to, every};
+ghost use Rattle.mesh.specs.Levels.{vertex_count};
 ghost use Rattle.table.specs.Bytes.{number_of, number_at, items};
-ghost use Rattle.table.specs.Tail.{termOf, termValid, tailValid};
+ghost use Rattle.table.specs.Tail.{term_of, term_valid, tail_valid};
 ghost use Rattle.table.specs.File.{entry_of};
-ghost use Rattle.table.specs.Read.{tableValid, tailIn, scalarValid, entryValid, tiled};
+ghost use Rattle.table.specs.Read.{table_valid, tail_in, scalar_valid, entry_valid, tiled};
 ghost use Rattle.table.specs.View.{within};
-ghost use Rattle.table.specs.Atom.{atomTableValid};
-ghost use Rattle.table.specs.Internal.{TableInside, TailInside, AtomTableInside, eachOf, rowsQuestion, tableQuestion, atomTableQuestion, placed_at, nextPlace};
+ghost use Rattle.table.specs.Atom.{atom_table_valid};
+ghost use Rattle.table.specs.Internal.{TableInside, TailInside, AtomTableInside, each_of, rows_question, table_question, atom_table_question, placed_at, next_place};
 
 use crate::bytes::{u32_in, u64_in};
 use crate::walk::f64_in;
@@ -19,7 +19,7 @@ use crate::{AtomTable, Bound, Table};
 // Each vertex count is its level's.
 fn levels_valid(file: &[u8], start: u64, levels: u64) -> bool
     requires { (start + levels * 4 ≤ length file.now) × (levels ≤ 16) }
-    ensures { result ≡ allUpTo levels (λ m. eqb (number_at 4 file.now (start + 4 * m)) (vertexCount m)) }
+    ensures { result ≡ all_up_to levels (λ m. eqb (number_at 4 file.now (start + 4 * m)) (vertex_count m)) }
 {
     let mut m: u64 = 0;
     while m < levels {
@@ -34,7 +34,7 @@ fn levels_valid(file: &[u8], start: u64, levels: u64) -> bool
 // Question 14.
 pub(crate) fn table_valid(file: &[u8], t: Table) -> bool
     requires { t.levels_start + t.levels * 4 ≤ length file.now }
-    ensures { result ≡ tableValid file.now t }
+    ensures { result ≡ table_valid file.now t }
 {
     let g = t.grid;
     let n_r = t.grid.n_r;
@@ -54,7 +54,7 @@ pub(crate) fn table_valid(file: &[u8], t: Table) -> bool
 // Question 14 of a table against an atom.
 fn atom_table_valid(file: &[u8], t: AtomTable) -> bool
     requires { t.levels_start + t.levels * 4 ≤ length file.now }
-    ensures { result ≡ atomTableValid file.now t }
+    ensures { result ≡ atom_table_valid file.now t }
 {
     let g = t.grid;
     let n_r = t.grid.n_r;
@@ -78,7 +78,7 @@ fn nan_bits(x: u32) -> bool
 }
 
 fn scalar_valid(x: u32) -> bool
-    ensures { result ≡ scalarValid x }
+    ensures { result ≡ scalar_valid x }
 {
     if nan_bits(x) {
         return x == 0x7fc0_0000;
@@ -88,7 +88,7 @@ fn scalar_valid(x: u32) -> bool
 
 // Question 15, of the four numbers of a row.
 fn entry_valid(n: u64, kind: u8, level: u8, offset: u32, scalar: u32) -> bool
-    ensures { result ≡ entryValid n (record { kind = kind; level = level; offset = offset; scalar = scalar }) }
+    ensures { result ≡ entry_valid n (record { kind = kind; level = level; offset = offset; scalar = scalar }) }
 {
     if kind == 0 {
         return (level == 0) & ((offset == 0xffff_ffff) & scalar_valid(scalar));
@@ -102,7 +102,7 @@ fn entry_valid(n: u64, kind: u8, level: u8, offset: u32, scalar: u32) -> bool
 // Question 15, of the row at a byte.
 fn row_valid(file: &[u8], at: u64, n: u64) -> bool
     requires { at + 10 ≤ length file.now }
-    ensures { result ≡ entryValid n (entry_of (take 10 (drop at file.now))) }
+    ensures { result ≡ entry_valid n (entry_of (take 10 (drop at file.now))) }
 {
     let i = at as usize;
     let kind = file[i];
@@ -115,7 +115,7 @@ fn row_valid(file: &[u8], at: u64, n: u64) -> bool
 // Question 15.
 pub(crate) fn rows_valid(file: &[u8], start: u64, rows: u64, levels: u64) -> bool
     requires { start + rows * 10 ≤ length file.now }
-    ensures { result ≡ every (entryValid levels) (items entry_of 10 file.now start rows) }
+    ensures { result ≡ every (entry_valid levels) (items entry_of 10 file.now start rows) }
 {
     let mut at = start;
     let mut left = rows;
@@ -138,7 +138,7 @@ fn placed(kind: u8, offset: u32, o: u64) -> bool
 
 // The energies of a Mesh row of a level: n·n where two directions are paired, n against an atom.
 pub fn energies_of(pairs: bool, level: u8) -> u64
-    ensures { result ≡ eachOf pairs level }
+    ensures { result ≡ each_of pairs level }
 {
     let n = mesh::vertex_count(level);
     if pairs {
@@ -150,7 +150,7 @@ pub fn energies_of(pairs: bool, level: u8) -> u64
 // Where the energies of the next row start. From the offset, which is the place, since an offset is known to be small.
 fn next_place(pairs: bool, kind: u8, level: u8, offset: u32, o: u64) -> u64
     requires { o ≤ 433794318339 }
-    ensures { (result ≡ nextPlace (eachOf pairs) kind level offset o) × (result ≤ 433794318339) }
+    ensures { (result ≡ next_place (each_of pairs) kind level offset o) × (result ≤ 433794318339) }
 {
     if kind <= 1 {
         return o;
@@ -161,7 +161,7 @@ fn next_place(pairs: bool, kind: u8, level: u8, offset: u32, o: u64) -> u64
 // Question 16.
 fn rows_tiled(file: &[u8], pairs: bool, start: u64, rows: u64, energies: u64) -> bool
     requires { start + rows * 10 ≤ length file.now }
-    ensures { result ≡ tiled (eachOf pairs) 0 energies (items entry_of 10 file.now start rows) }
+    ensures { result ≡ tiled (each_of pairs) 0 energies (items entry_of 10 file.now start rows) }
 {
     let mut at = start;
     let mut left = rows;
@@ -223,7 +223,7 @@ fn rows_question(
     energies: u64,
 ) -> u64
     requires { (rows_start + rows * 10 ≤ length file.now) × (energies_start + energies * 4 ≤ length file.now) }
-    ensures { result ≡ rowsQuestion (eachOf pairs) file.now levels rows_start rows energies_start energies }
+    ensures { result ≡ rows_question (each_of pairs) file.now levels rows_start rows energies_start energies }
 {
     if !rows_valid(file, rows_start, rows, levels) {
         return 15;
@@ -240,7 +240,7 @@ fn rows_question(
 // Question 23, of the term at a byte.
 fn term_valid(file: &[u8], at: u64) -> bool
     requires { at + 20 ≤ length file.now }
-    ensures { result ≡ termValid (termOf (take 20 (drop at file.now))) }
+    ensures { result ≡ term_valid (term_of (take 20 (drop at file.now))) }
 {
     let coefficient = f64_in(file, at);
     let kappa = f64_in(file, at + 8);
@@ -251,7 +251,7 @@ fn term_valid(file: &[u8], at: u64) -> bool
 // Question 23, of every term.
 fn terms_valid(file: &[u8], start: u64, terms: u64) -> bool
     requires { start + terms * 20 ≤ length file.now }
-    ensures { result ≡ every termValid (items termOf 20 file.now start terms) }
+    ensures { result ≡ every term_valid (items term_of 20 file.now start terms) }
 {
     let mut at = start;
     let mut left = terms;
@@ -268,7 +268,7 @@ fn terms_valid(file: &[u8], start: u64, terms: u64) -> bool
 // Question 23.
 pub(crate) fn tail_valid(file: &[u8], t: Table) -> bool
     requires { TailInside file.now t.tail_start t.terms }
-    ensures { result ≡ tailValid (tailIn file.now t) }
+    ensures { result ≡ tail_valid (tail_in file.now t) }
 {
     let terms = t.terms;
     let start = t.tail_start;
@@ -291,7 +291,7 @@ fn within(bound: Bound, t: Table) -> bool
 // Question 14, 24 under a bound, 15 to 17, then 23.
 pub(crate) fn table_question(bound: Bound, file: &[u8], t: Table) -> u64
     requires { TableInside file.now t }
-    ensures { result ≡ tableQuestion bound file.now t }
+    ensures { result ≡ table_question bound file.now t }
 {
     let rows = t.rows;
     let levels = t.levels;
@@ -324,7 +324,7 @@ pub(crate) fn table_question(bound: Bound, file: &[u8], t: Table) -> u64
 
 pub(crate) fn atom_table_question(file: &[u8], t: AtomTable) -> u64
     requires { AtomTableInside file.now t }
-    ensures { result ≡ atomTableQuestion file.now t }
+    ensures { result ≡ atom_table_question file.now t }
 {
     let rows = t.rows;
     let levels = t.levels;

@@ -1,8 +1,8 @@
 // Read: the walk, then its questions in their order.
 ghost use Rattle.std.specs.Prelude.{◌≡◌, true};
-ghost use Rattle.table.specs.Read.{readValues, readNumbered, readOut};
-ghost use Rattle.table.specs.View.{viewer, readOver};
-ghost use Rattle.table.specs.Atom.{atomReadValues, atomReadNumbered, atomReadOut};
+ghost use Rattle.table.specs.Read.{read_values, read_numbered, read_out};
+ghost use Rattle.table.specs.View.{viewer, read_over};
+ghost use Rattle.table.specs.Atom.{atom_read_values, atom_read_numbered, atom_read_out};
 
 use crate::questions::{atom_table_question, table_question};
 use crate::walk::{atom_table_of, laid_out, sections, table_laid_out, table_of};
@@ -10,7 +10,7 @@ use crate::{AtomReadAnswer, Bound, ReadAnswer};
 
 // Reads a file under a bound: the questions 13, 14, 24, 15 to 17, then 23, each put to the whole file before the next.
 pub fn read_over(bound: Bound, file: &[u8]) -> ReadAnswer
-    ensures { (readNumbered result ≡ true) × (readValues result ≡ readOver bound file.now) }
+    ensures { (read_numbered result ≡ true) × (read_values result ≡ read_over bound file.now) }
 {
     let p = sections(file);
     if !table_laid_out(file, p) {
@@ -26,7 +26,7 @@ pub fn read_over(bound: Bound, file: &[u8]) -> ReadAnswer
 
 // Reads a file for the host: no bound but those of question 14.
 pub fn read(file: &[u8]) -> ReadAnswer
-    ensures { (readNumbered result ≡ true) × (readValues result ≡ readOut file.now) }
+    ensures { (read_numbered result ≡ true) × (read_values result ≡ read_out file.now) }
 {
     read_over(
         Bound {
@@ -39,7 +39,7 @@ pub fn read(file: &[u8]) -> ReadAnswer
 
 // Reads a file for the viewer, which opens small tables alone.
 pub fn view(file: &[u8]) -> ReadAnswer
-    ensures { (readNumbered result ≡ true) × (readValues result ≡ readOver viewer file.now) }
+    ensures { (read_numbered result ≡ true) × (read_values result ≡ read_over viewer file.now) }
 {
     read_over(
         Bound {
@@ -52,7 +52,7 @@ pub fn view(file: &[u8]) -> ReadAnswer
 
 // The same of the file of a table against an atom.
 pub fn atom_read(file: &[u8]) -> AtomReadAnswer
-    ensures { (atomReadNumbered result ≡ true) × (atomReadValues result ≡ atomReadOut file.now) }
+    ensures { (atom_read_numbered result ≡ true) × (atom_read_values result ≡ atom_read_out file.now) }
 {
     let p = sections(file);
     if !laid_out(file, p, 2, 1) {

@@ -1,8 +1,8 @@
 // The walk over the sections of a file, and question 13.
 ghost use Rattle.std.specs.Prelude.{◌≡◌, ◌+◌, ◌*◌, ◌≤◌, length};
-ghost use Rattle.table.specs.Tail.{tailSize};
-ghost use Rattle.table.specs.Read.{countAt, past, layout, laidOut, ended, tableLaidOut, tail_at, f64At, gridOf, tableOf};
-ghost use Rattle.table.specs.Atom.{atomGridOf, atomTableOf};
+ghost use Rattle.table.specs.Tail.{tail_size};
+ghost use Rattle.table.specs.Read.{count_at, past, layout, laid_out, ended, table_laid_out, tail_at, f64_at, grid_of, table_of};
+ghost use Rattle.table.specs.Atom.{atom_grid_of, atom_table_of};
 ghost use Rattle.table.specs.Internal.{SectionsInside, TailInside, TableSections};
 
 use crate::bytes::{u32_at, u32_in, u64_in};
@@ -36,7 +36,7 @@ pub(crate) fn sections(file: &[u8]) -> Layout
 
 // Question 13, with i numbers in section 1 and j in section 2.
 pub(crate) fn laid_out(file: &[u8], p: Layout, i: u32, j: u32) -> bool
-    ensures { result ≡ laidOut i j file.now p }
+    ensures { result ≡ laid_out i j file.now p }
 {
     let bins = p.bins;
     let end = p.end;
@@ -60,7 +60,7 @@ fn ended(file: &[u8], end: u64) -> bool
 
 // Question 13 of a table that may have a sixth section.
 pub(crate) fn table_laid_out(file: &[u8], p: Layout) -> bool
-    ensures { result ≡ tableLaidOut file.now p }
+    ensures { result ≡ table_laid_out file.now p }
 {
     let bins = p.bins;
     let end = p.end;
@@ -69,7 +69,7 @@ pub(crate) fn table_laid_out(file: &[u8], p: Layout) -> bool
 
 // The bytes of the sixth section of so many terms and of the prefactor behind it.
 pub fn tail_size(terms: u32) -> u64
-    ensures { result ≡ tailSize terms }
+    ensures { result ≡ tail_size terms }
 {
     if terms == 0 {
         return 0;
@@ -79,7 +79,7 @@ pub fn tail_size(terms: u32) -> u64
 
 // Where the terms start, behind the fifth section, which ends at byte `end`.
 fn terms_start(file: &[u8], end: u64) -> u64
-    requires { TailInside file.now (end + 4) (countAt file.now end) }
+    requires { TailInside file.now (end + 4) (count_at file.now end) }
     ensures { result ≡ tail_at file.now end }
 {
     if u32_at(file, end) == 0 {
@@ -90,7 +90,7 @@ fn terms_start(file: &[u8], end: u64) -> u64
 
 pub(crate) fn f64_in(file: &[u8], at: u64) -> f64
     requires { at + 8 ≤ length file.now }
-    ensures { result ≡ f64At file.now at }
+    ensures { result ≡ f64_at file.now at }
 {
     bits::float64(u64_in(file, at))
 }
@@ -98,7 +98,7 @@ pub(crate) fn f64_in(file: &[u8], at: u64) -> f64
 // The grid that a file holds. It has neither threshold nor beta.
 fn grid_of(file: &[u8], p: Layout) -> Grid
     requires { SectionsInside 3 2 file.now p }
-    ensures { result ≡ gridOf file.now p }
+    ensures { result ≡ grid_of file.now p }
 {
     let bins = p.bins;
     let rmin = f64_in(file, 4);
@@ -118,7 +118,7 @@ fn grid_of(file: &[u8], p: Layout) -> Grid
 
 fn atom_grid_of(file: &[u8], p: Layout) -> AtomGrid
     requires { SectionsInside 2 1 file.now p }
-    ensures { result ≡ atomGridOf file.now p }
+    ensures { result ≡ atom_grid_of file.now p }
 {
     let bins = p.bins;
     let rmin = f64_in(file, 4);
@@ -136,7 +136,7 @@ fn atom_grid_of(file: &[u8], p: Layout) -> AtomGrid
 
 pub(crate) fn table_of(file: &[u8], p: Layout) -> Table
     requires { TableSections file.now p }
-    ensures { result ≡ tableOf file.now p }
+    ensures { result ≡ table_of file.now p }
 {
     let bins = p.bins;
     let levels = p.levels;
@@ -161,7 +161,7 @@ pub(crate) fn table_of(file: &[u8], p: Layout) -> Table
 
 pub(crate) fn atom_table_of(file: &[u8], p: Layout) -> AtomTable
     requires { SectionsInside 2 1 file.now p }
-    ensures { result ≡ atomTableOf file.now p }
+    ensures { result ≡ atom_table_of file.now p }
 {
     let bins = p.bins;
     let levels = p.levels;

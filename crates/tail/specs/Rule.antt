@@ -8,16 +8,16 @@ use Rattle.float.specs.Power.{power}
 use Rattle.table.specs.Tail.{Term, Tail}
 
 -- "The oracle uses this power and E." "The tail at a distance of 0 follows IEEE division."
-unfoldable pub termEnergy : Float → Term → Float
-termEnergy r t = div binary64 (mul binary64 t.coefficient (exponential (mul binary64 (neg t.kappa) r))) (power r t.power)
+unfoldable pub term_energy : Float → Term → Float
+term_energy r t = div binary64 (mul binary64 t.coefficient (exponential (mul binary64 (neg t.kappa) r))) (power r t.power)
 
 -- the energies of terms, in their order, added to s
-unfoldable pub sumFrom : Float → Float → List Term → Float
-sumFrom r s [] = s
-sumFrom r s (t ∷ ts) = sumFrom r (add binary64 s (termEnergy r t)) ts
+unfoldable pub sum_from : Float → Float → List Term → Float
+sum_from r s [] = s
+sum_from r s (t ∷ ts) = sum_from r (add binary64 s (term_energy r t)) ts
 
 -- "The terms' sum starts at -0.0." The tail "is 0.0 without terms"
-unfoldable pub tailRule : Tail → Float → Float
-tailRule t r =
+unfoldable pub tail_rule : Tail → Float → Float
+tail_rule t r =
     cond (eqb (length t.terms) 0) (of_bits binary64 0)
-    (mul binary64 t.prefactor (sumFrom r (of_bits binary64 0x8000_0000_0000_0000) t.terms))
+    (mul binary64 t.prefactor (sum_from r (of_bits binary64 0x8000_0000_0000_0000) t.terms))

@@ -3,10 +3,10 @@ ghost use Rattle.std.specs.Prelude.{◌≡◌, true, ◌+◌, ◌*◌, ◌≤◌
 ghost use Rattle.std.specs.Float.{binary64};
 ghost use Rattle.std.specs.Float.Ieee.{of_bits};
 ghost use Rattle.table.specs.Bytes.{number_at, items};
-ghost use Rattle.table.specs.Tail.{termOf};
-ghost use Rattle.table.specs.Read.{f64At};
-ghost use Rattle.tail.specs.Rule.{termEnergy, sumFrom};
-ghost use Rattle.tail.specs.Reading.{tailValues, tailNumbered, tailOut};
+ghost use Rattle.table.specs.Tail.{term_of};
+ghost use Rattle.table.specs.Read.{f64_at};
+ghost use Rattle.tail.specs.Rule.{term_energy, sum_from};
+ghost use Rattle.tail.specs.Reading.{tail_values, tail_numbered, tail_out};
 
 use table::Table;
 
@@ -29,7 +29,7 @@ fn u32_inside(file: &[u8], at: u64) -> u32
 // Eight bytes that are inside the file.
 fn f64_inside(file: &[u8], at: u64) -> f64
     requires { at + 8 ≤ length file.now }
-    ensures { result ≡ f64At file.now at }
+    ensures { result ≡ f64_at file.now at }
 {
     let low = u32_inside(file, at) as u64;
     let high = u32_inside(file, at + 4) as u64;
@@ -39,7 +39,7 @@ fn f64_inside(file: &[u8], at: u64) -> f64
 // The energy of the term at a byte. In a damaged file its power is any number.
 fn term_energy(file: &[u8], at: u64, r: f64) -> f64
     requires { at + 20 ≤ length file.now }
-    ensures { result ≡ termEnergy r (termOf (take 20 (drop at file.now))) }
+    ensures { result ≡ term_energy r (term_of (take 20 (drop at file.now))) }
 {
     let coefficient = f64_inside(file, at);
     let kappa = f64_inside(file, at + 8);
@@ -50,7 +50,7 @@ fn term_energy(file: &[u8], at: u64, r: f64) -> f64
 // The sum of the terms' energies, from -0.0 on.
 fn terms_sum(file: &[u8], start: u64, terms: u64, r: f64) -> f64
     requires { start + terms * 20 ≤ length file.now }
-    ensures { result ≡ sumFrom r (of_bits binary64 0x8000_0000_0000_0000) (items termOf 20 file.now start terms) }
+    ensures { result ≡ sum_from r (of_bits binary64 0x8000_0000_0000_0000) (items term_of 20 file.now start terms) }
 {
     let mut at = start;
     let mut left = terms;
@@ -79,7 +79,7 @@ fn tail_inside(start: u64, terms: u64, n: u64) -> bool
 
 // The tail's energy at a distance.
 pub fn tail_energy(t: Table, file: &[u8], r: f64) -> TailAnswer
-    ensures { (tailNumbered result ≡ true) × (tailValues result ≡ tailOut file.now t r) }
+    ensures { (tail_numbered result ≡ true) × (tail_values result ≡ tail_out file.now t r) }
 {
     let terms = t.terms;
     let start = t.tail_start;

@@ -1,8 +1,8 @@
 // The lent forms behind plain signatures: a caller that holds a builder or records in a local lends them from such a function, whose proof is a walk by hand.
 ghost use Rattle.std.specs.Prelude.{◌≡◌, true, set};
-ghost use Rattle.mesh.specs.Mesh.{meshOf};
-ghost use Rattle.builder.specs.BuilderLists.{wordLists};
-ghost use Rattle.lent.specs.Calls.{LentOut, LentValues, lentValues, lentNumbered, settleLent};
+ghost use Rattle.mesh.specs.Mesh.{mesh_of};
+ghost use Rattle.builder.specs.BuilderLists.{word_lists};
+ghost use Rattle.lent.specs.Calls.{LentOut, LentValues, lent_values, lent_numbered, settle_lent};
 ghost use Rattle.lent.specs.Records.{gathered};
 
 use builder::Builder;
@@ -25,10 +25,10 @@ pub(crate) fn settle_through(
     angles: &[f64],
     ri: u64,
 ) -> SettleLeft
-    ensures { (lentNumbered result.answer ≡ true) × ◌≡◌ {A = LentOut LentValues}
-        (record { answer = lentValues result.answer; builder = result.builder; lists = wordLists store.now words.new })
-        (settleLent b (meshOf vertices.now counts.now neighbours.now angles.now)
-        (wordLists store.now words.old) ri) }
+    ensures { (lent_numbered result.answer ≡ true) × ◌≡◌ {A = LentOut LentValues}
+        (record { answer = lent_values result.answer; builder = result.builder; lists = word_lists store.now words.new })
+        (settle_lent b (mesh_of vertices.now counts.now neighbours.now angles.now)
+        (word_lists store.now words.old) ri) }
 {
     let mut c = b;
     let answer = lent::settle_lent(

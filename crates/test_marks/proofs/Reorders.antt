@@ -6,52 +6,52 @@ use Prim.Native.Nat.{ℕ}
 use native.Mathlib.Omega.{arith}
 use lib.ListN.{get_or, replicate}
 use lib.Ieee.{Float}
-use Rattle.ledger.specs.Ledger.{set-call}
+use Rattle.ledger.specs.Ledger.{set_call}
 use Rattle.ledger.specs.Promise.{file}
-use Rattle.ledger.specs.Order.{once, answersOf, Alike, Untraced}
+use Rattle.ledger.specs.Order.{once, answers_of, Alike, Untraced}
 use Rattle.ledger.proofs.Order.{any_order, later}
 use Rattle.test_marks.specs.Computed.{f64, history, computed}
 use Rattle.test_marks.specs.Settled.{tens}
-use Rattle.test_marks.specs.Ordered.{history₃, outwards, mixed, inwards, to-mixed, to-inwards, no-slab-twice, zeros-last, tens-last}
+use Rattle.test_marks.specs.Ordered.{history₃, outwards, mixed, inwards, to_mixed, to_inwards, no_slab-twice, zeros_last, tens_last}
 
 -- ---- three slabs in three orders
 
-outwards-once : once outwards (answersOf (history₃ outwards)) ≡ true
+outwards-once : once outwards (answers_of (history₃ outwards)) ≡ true
 unfolding computed
-outwards-once = no-slab-twice
+outwards-once = no_slab-twice
 
-pub mixed-alike : Alike (history₃ outwards) mixed to-mixed
-mixed-alike = any_order (history₃ outwards) mixed to-mixed outwards-once
+pub mixed_alike : Alike (history₃ outwards) mixed to_mixed
+mixed_alike = any_order (history₃ outwards) mixed to_mixed outwards-once
 
-mixed-once : once mixed (answersOf (history₃ mixed)) ≡ true
+mixed-once : once mixed (answers_of (history₃ mixed)) ≡ true
 unfolding computed
 mixed-once = refl
 
-pub inwards-alike : Alike (history₃ mixed) inwards to-inwards
-inwards-alike = any_order (history₃ mixed) inwards to-inwards mixed-once
+pub inwards_alike : Alike (history₃ mixed) inwards to_inwards
+inwards_alike = any_order (history₃ mixed) inwards to_inwards mixed-once
 
 -- ---- a slab accepted twice
 
 -- the last byte of the first energy in the file
-lastByte : List ℕ → ℕ
-lastByte l = get_or l 69 0
+last_byte : List ℕ → ℕ
+last_byte l = get_or l 69 0
 
-end-zeros : lastByte (file (history zeros-last)) ≡ 0
-unfolding computed lastByte
-end-zeros = refl
+end_zeros : last_byte (file (history zeros_last)) ≡ 0
+unfolding computed last_byte
+end_zeros = refl
 
-end-tens : lastByte (file (history tens-last)) ≡ 65
-unfolding computed lastByte
-end-tens = refl
+end_tens : last_byte (file (history tens_last)) ≡ 65
+unfolding computed last_byte
+end_tens = refl
 
 -- one list is the other with its two sets exchanged, and the files differ
-pub twice-differs : file (history zeros-last) ≡ file (history tens-last) → ⊥
-twice-differs e = absurd (let z = ap lastByte e in omega (arith, end-zeros, end-tens, z))
+pub twice_differs : file (history zeros_last) ≡ file (history tens_last) → ⊥
+twice_differs e = absurd (let z = ap last_byte e in omega (arith, end_zeros, end_tens, z))
 
 abbrev zeros : List Float
 zeros = replicate 144 (f64 0)
 
 -- the later energies stand: the set of tens before the set of zeros leaves no trace
-pub tens-untraced : Untraced (history []) [] 0 0 tens (set-call 0 0 zeros ∷ [])
+pub tens_untraced : Untraced (history []) [] 0 0 tens (set_call 0 0 zeros ∷ [])
 unfolding computed
-tens-untraced = later (history []) [] 0 0 tens (set-call 0 0 zeros ∷ []) refl
+tens_untraced = later (history []) [] 0 0 tens (set_call 0 0 zeros ∷ []) refl

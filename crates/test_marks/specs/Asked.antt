@@ -5,7 +5,7 @@ use Rattle.std.specs.Float.{binary64}
 use Rattle.std.specs.Float.Ieee.{of_bits}
 use Rattle.lists.specs.Questions.{ask}
 use Rattle.mesh.specs.Levels.{per}
-use Rattle.grid.specs.Settings.{in_range, levelsValid, countsValid, ownCount, slabsFit, question, freshQuestion}
+use Rattle.grid.specs.Settings.{in_range, levels_valid, counts_valid, own_count, slabs_fit, question, fresh_question}
 use Rattle.grid.specs.declared.Grid.{Grid}
 
 -- rmin, rmax, dr, omega step, threshold, beta by their bits, and the counts
@@ -23,55 +23,55 @@ settings rmin rmax dr step threshold beta n m = record {
 
 pub record Asked : Type 0 where
   -- rmin 0, rmax 1, dr 1, step 6, threshold 0.1, beta 1, top level 0
-  pub accepted : freshQuestion (settings 0 0x3FF0_0000_0000_0000 0x3FF0_0000_0000_0000 0x4018_0000_0000_0000 0x3FB9_9999_9999_999A 0x3FF0_0000_0000_0000 0 0) 0 ≡ 0
+  pub accepted : fresh_question (settings 0 0x3FF0_0000_0000_0000 0x3FF0_0000_0000_0000 0x4018_0000_0000_0000 0x3FB9_9999_9999_999A 0x3FF0_0000_0000_0000 0 0) 0 ≡ 0
   -- a threshold of -0.0 is not below 0
-  pub threshold-zero : freshQuestion (settings 0 0x3FF0_0000_0000_0000 0x3FF0_0000_0000_0000 0x4018_0000_0000_0000 0x8000_0000_0000_0000 0x3FF0_0000_0000_0000 0 0) 0 ≡ 0
+  pub threshold_zero : fresh_question (settings 0 0x3FF0_0000_0000_0000 0x3FF0_0000_0000_0000 0x4018_0000_0000_0000 0x8000_0000_0000_0000 0x3FF0_0000_0000_0000 0 0) 0 ≡ 0
   -- rmax is not above rmin
-  pub equal-ends : freshQuestion (settings 0 0 0x3FF0_0000_0000_0000 0x4018_0000_0000_0000 0x3FB9_9999_9999_999A 0x3FF0_0000_0000_0000 0 0) 0 ≡ 1
+  pub equal_ends : fresh_question (settings 0 0 0x3FF0_0000_0000_0000 0x4018_0000_0000_0000 0x3FB9_9999_9999_999A 0x3FF0_0000_0000_0000 0 0) 0 ≡ 1
   -- dr 0 and top level 16: 1 is asked first
-  pub range-before-level : freshQuestion (settings 0 0x3FF0_0000_0000_0000 0 0x4018_0000_0000_0000 0x3FB9_9999_9999_999A 0x3FF0_0000_0000_0000 0 0) 16 ≡ 1
+  pub range_before_level : fresh_question (settings 0 0x3FF0_0000_0000_0000 0 0x4018_0000_0000_0000 0x3FB9_9999_9999_999A 0x3FF0_0000_0000_0000 0 0) 16 ≡ 1
   -- top level 16
-  pub level : freshQuestion (settings 0 0x3FF0_0000_0000_0000 0x3FF0_0000_0000_0000 0x4018_0000_0000_0000 0x3FB9_9999_9999_999A 0x3FF0_0000_0000_0000 0 0) 16 ≡ 2
+  pub level : fresh_question (settings 0 0x3FF0_0000_0000_0000 0x3FF0_0000_0000_0000 0x4018_0000_0000_0000 0x3FB9_9999_9999_999A 0x3FF0_0000_0000_0000 0 0) 16 ≡ 2
   -- top level 16 and a step of 20, which gives no bin: 2 is asked before 3
-  pub level-before-counts : freshQuestion (settings 0 0x3FF0_0000_0000_0000 0x3FF0_0000_0000_0000 0x4034_0000_0000_0000 0x3FB9_9999_9999_999A 0x3FF0_0000_0000_0000 0 0) 16 ≡ 2
+  pub level_before_counts : fresh_question (settings 0 0x3FF0_0000_0000_0000 0x3FF0_0000_0000_0000 0x4034_0000_0000_0000 0x3FB9_9999_9999_999A 0x3FF0_0000_0000_0000 0 0) 16 ≡ 2
   -- a step of 20
-  pub no-bin : freshQuestion (settings 0 0x3FF0_0000_0000_0000 0x3FF0_0000_0000_0000 0x4034_0000_0000_0000 0x3FB9_9999_9999_999A 0x3FF0_0000_0000_0000 0 0) 0 ≡ 3
+  pub no_bin : fresh_question (settings 0 0x3FF0_0000_0000_0000 0x3FF0_0000_0000_0000 0x4034_0000_0000_0000 0x3FB9_9999_9999_999A 0x3FF0_0000_0000_0000 0 0) 0 ≡ 3
   -- rmax is infinite: above rmin, but no count comes of it
-  pub endless : freshQuestion (settings 0 0x7FF0_0000_0000_0000 0x3FF0_0000_0000_0000 0x4018_0000_0000_0000 0x3FB9_9999_9999_999A 0x3FF0_0000_0000_0000 0 0) 0 ≡ 3
+  pub endless : fresh_question (settings 0 0x7FF0_0000_0000_0000 0x3FF0_0000_0000_0000 0x4018_0000_0000_0000 0x3FB9_9999_9999_999A 0x3FF0_0000_0000_0000 0 0) 0 ≡ 3
   -- "rmin 0, rmax 1.79e308, dr 1.1e308: 4"
-  pub own-count : freshQuestion (settings 0 0x7FEF_DCF1_58AD_BB99 0x7FE3_94A5_79B6_8FE3 0x4018_0000_0000_0000 0x3FB9_9999_9999_999A 0x3FF0_0000_0000_0000 0 0) 0 ≡ 4
+  pub own_count : fresh_question (settings 0 0x7FEF_DCF1_58AD_BB99 0x7FE3_94A5_79B6_8FE3 0x4018_0000_0000_0000 0x3FB9_9999_9999_999A 0x3FF0_0000_0000_0000 0 0) 0 ≡ 4
   -- the table's own rmax falls into the next binade: it gives three bins for two
-  pub own-count-finite : freshQuestion (settings 0x433F_FFFF_FFFF_FFFF 0x4340_0000_0000_0001 0x4000_0000_0000_0000 0x4018_0000_0000_0000 0x3FB9_9999_9999_999A 0x3FF0_0000_0000_0000 0 0) 0 ≡ 4
+  pub own_count_finite : fresh_question (settings 0x433F_FFFF_FFFF_FFFF 0x4340_0000_0000_0001 0x4000_0000_0000_0000 0x4018_0000_0000_0000 0x3FB9_9999_9999_999A 0x3FF0_0000_0000_0000 0 0) 0 ≡ 4
   -- the same at the top level 15 with 41,887 dihedral bins, which is too many slabs: 4 is asked first
-  pub own-count-before-room : freshQuestion (settings 0x433F_FFFF_FFFF_FFFF 0x4340_0000_0000_0001 0x4000_0000_0000_0000 0x3F23_A92A_3055_3261 0x3FB9_9999_9999_999A 0x3FF0_0000_0000_0000 0 0) 15 ≡ 4
+  pub own_count_before_room : fresh_question (settings 0x433F_FFFF_FFFF_FFFF 0x4340_0000_0000_0001 0x4000_0000_0000_0000 0x3F23_A92A_3055_3261 0x3FB9_9999_9999_999A 0x3FF0_0000_0000_0000 0 0) 15 ≡ 4
   -- 65,535 distance bins at level 15
-  pub room : freshQuestion (settings 0 0x40EF_FFE0_0000_0000 0x3FF0_0000_0000_0000 0x4018_0000_0000_0000 0x3FB9_9999_9999_999A 0x3FF0_0000_0000_0000 0 0) 15 ≡ 5
+  pub room : fresh_question (settings 0 0x40EF_FFE0_0000_0000 0x3FF0_0000_0000_0000 0x4018_0000_0000_0000 0x3FB9_9999_9999_999A 0x3FF0_0000_0000_0000 0 0) 15 ≡ 5
   -- and at level 0
-  pub room-at-zero : freshQuestion (settings 0 0x40EF_FFE0_0000_0000 0x3FF0_0000_0000_0000 0x4018_0000_0000_0000 0x3FB9_9999_9999_999A 0x3FF0_0000_0000_0000 0 0) 0 ≡ 0
+  pub room_at_zero : fresh_question (settings 0 0x40EF_FFE0_0000_0000 0x3FF0_0000_0000_0000 0x4018_0000_0000_0000 0x3FB9_9999_9999_999A 0x3FF0_0000_0000_0000 0 0) 0 ≡ 0
   -- a held builder with its own counts
   pub held : question (settings 0 0x3FF0_0000_0000_0000 0x3FF0_0000_0000_0000 0x4018_0000_0000_0000 0x3FB9_9999_9999_999A 0x3FF0_0000_0000_0000 1 1) 0 0 ≡ 0
   -- with another count
-  pub held-counts : question (settings 0 0x3FF0_0000_0000_0000 0x3FF0_0000_0000_0000 0x4018_0000_0000_0000 0x3FB9_9999_9999_999A 0x3FF0_0000_0000_0000 2 1) 0 0 ≡ 3
+  pub held_counts : question (settings 0 0x3FF0_0000_0000_0000 0x3FF0_0000_0000_0000 0x4018_0000_0000_0000 0x3FB9_9999_9999_999A 0x3FF0_0000_0000_0000 2 1) 0 0 ≡ 3
   -- with its current level above the top
-  pub held-level : question (settings 0 0x3FF0_0000_0000_0000 0x3FF0_0000_0000_0000 0x4018_0000_0000_0000 0x3FB9_9999_9999_999A 0x3FF0_0000_0000_0000 1 1) 0 1 ≡ 2
+  pub held_level : question (settings 0 0x3FF0_0000_0000_0000 0x3FF0_0000_0000_0000 0x4018_0000_0000_0000 0x3FB9_9999_9999_999A 0x3FF0_0000_0000_0000 1 1) 0 1 ≡ 2
 
 pub asked : Asked
-unfolding ask question freshQuestion in_range levelsValid countsValid ownCount slabsFit per
+unfolding ask question fresh_question in_range levels_valid counts_valid own_count slabs_fit per
 asked = record {
   accepted = refl;
-  threshold-zero = refl;
-  equal-ends = refl;
-  range-before-level = refl;
+  threshold_zero = refl;
+  equal_ends = refl;
+  range_before_level = refl;
   level = refl;
-  level-before-counts = refl;
-  no-bin = refl;
+  level_before_counts = refl;
+  no_bin = refl;
   endless = refl;
-  own-count = refl;
-  own-count-finite = refl;
-  own-count-before-room = refl;
+  own_count = refl;
+  own_count_finite = refl;
+  own_count_before_room = refl;
   room = refl;
-  room-at-zero = refl;
+  room_at_zero = refl;
   held = refl;
-  held-counts = refl;
-  held-level = refl;
+  held_counts = refl;
+  held_level = refl;
 }

@@ -35,8 +35,8 @@ angles1 =
 abbrev float : ℕ → Float
 float b = of_bits binary64 b
 
-abbrev angleOf : ℕ → Float
-angleOf k = get_or (float 0x3FE1_B6E1_92EB_BE45 ∷ float 0x3FE4_1B2F_769C_F0E0 ∷ []) k nan
+abbrev angle_of : ℕ → Float
+angle_of k = get_or (float 0x3FE1_B6E1_92EB_BE45 ∷ float 0x3FE4_1B2F_769C_F0E0 ∷ []) k nan
 
 unfoldable pub icosahedron : Mesh
 unfolding coordinates0 neighbours0
@@ -49,12 +49,12 @@ icosahedron =
       angles = map (λ k. cond (eqb k 65535) nan side) neighbours0;
     }
 
-unfoldable pub twoLevels : Mesh
+unfoldable pub two_levels : Mesh
 unfolding icosahedron coordinates1 counts1 neighbours1 angles1
-twoLevels =
+two_levels =
     record {
       vertices = icosahedron.vertices ++ map float coordinates1;
       counts = icosahedron.counts ++ counts1;
       neighbours = icosahedron.neighbours ++ neighbours1;
-      angles = icosahedron.angles ++ map angleOf angles1;
+      angles = icosahedron.angles ++ map angle_of angles1;
     }

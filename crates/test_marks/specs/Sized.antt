@@ -1,23 +1,23 @@
 -- Checks of request 8 by computation: the sizing of one slab at level 0. Not in the starred table.
 use Rattle.std.specs.Prelude.{◌≡◌, refl, List, [], ◌∷◌, ℕ, set, take}
-use Rattle.mesh.specs.Mesh.{neighbourLinked, vertexLinked, linksKept, neighbourTotal, linksRoom, meshesLinked}
-use Rattle.grid.specs.Settings.{freshQuestion}
-use Rattle.sizing.specs.Sizing.{sizingRefusal, byLevel, noSize, sized, sizingOut}
+use Rattle.mesh.specs.Mesh.{neighbour_linked, vertex_linked, links_kept, neighbour_total, links_room, meshes_linked}
+use Rattle.grid.specs.Settings.{fresh_question}
+use Rattle.sizing.specs.Sizing.{sizing_refusal, by_level, no_size, sized, sizing_out}
 use Rattle.sizing.specs.declared.Size.{Size}
 use Rattle.test_marks.specs.Icospheres.{icosahedron}
 use Rattle.test_marks.specs.Computed.{plain, computed}
 
 unfoldable pub sizes : {A : Type 0} → A → A
-unfolding neighbourLinked vertexLinked linksKept neighbourTotal linksRoom meshesLinked freshQuestion sizingRefusal byLevel noSize sized sizingOut
+unfolding neighbour_linked vertex_linked links_kept neighbour_total links_room meshes_linked fresh_question sizing_refusal by_level no_size sized sizing_out
 sizes x = x
 
 -- over neighbour counts and neighbours
 abbrev over : List ℕ → List ℕ → Size
-over counts neighbours = sizingOut plain 0 counts neighbours 0
+over counts neighbours = sizing_out plain 0 counts neighbours 0
 
 -- with k terms
-abbrev withTerms : ℕ → Size
-withTerms k = sizingOut plain 0 icosahedron.counts icosahedron.neighbours k
+abbrev with_terms : ℕ → Size
+with_terms k = sizing_out plain 0 icosahedron.counts icosahedron.neighbours k
 
 abbrev size : Size
 size = over icosahedron.counts icosahedron.neighbours
@@ -37,31 +37,31 @@ unfolding computed sizes
 one-compared = refl
 
 -- "6 and 7 to the neighbour counts and lists alone": an entry less of either list; a vertex with four neighbours, and one that is its own
-pub counts-short : computed (sizes (over (take 11 icosahedron.counts) icosahedron.neighbours).number) ≡ 6
+pub counts_short : computed (sizes (over (take 11 icosahedron.counts) icosahedron.neighbours).number) ≡ 6
 unfolding computed sizes
-counts-short = refl
+counts_short = refl
 
-pub neighbours-short : computed (sizes (over icosahedron.counts (take 71 icosahedron.neighbours)).number) ≡ 6
+pub neighbours_short : computed (sizes (over icosahedron.counts (take 71 icosahedron.neighbours)).number) ≡ 6
 unfolding computed sizes
-neighbours-short = refl
+neighbours_short = refl
 
-pub four-neighbours : computed (sizes (over (set icosahedron.counts 3 4) icosahedron.neighbours).number) ≡ 7
+pub four_neighbours : computed (sizes (over (set icosahedron.counts 3 4) icosahedron.neighbours).number) ≡ 7
 unfolding computed sizes
-four-neighbours = refl
+four_neighbours = refl
 
-pub own-neighbour : computed (sizes (over icosahedron.counts (set icosahedron.neighbours 0 0)).number) ≡ 7
+pub own_neighbour : computed (sizes (over icosahedron.counts (set icosahedron.neighbours 0 0)).number) ≡ 7
 unfolding computed sizes
-own-neighbour = refl
+own_neighbour = refl
 
 -- request 9: three terms add 72 bytes; as many as a u32 counts pass, and one more is 23
-pub three-terms : computed (sizes (withTerms 3).file) ≡ 714
+pub three_terms_lem : computed (sizes (with_terms 3).file) ≡ 714
 unfolding computed sizes
-three-terms = refl
+three_terms_lem = refl
 
-pub most-terms : computed (sizes (withTerms 4294967295).number) ≡ 0
+pub most_terms : computed (sizes (with_terms 4294967295).number) ≡ 0
 unfolding computed sizes
-most-terms = refl
+most_terms = refl
 
-pub too-many-terms : computed (sizes (withTerms 4294967296).number) ≡ 23
+pub too_many_terms : computed (sizes (with_terms 4294967296).number) ≡ 23
 unfolding computed sizes
-too-many-terms = refl
+too_many_terms = refl

@@ -2,18 +2,18 @@
 use Rattle.std.specs.Prelude.{◌≡◌, refl, List, [], ◌∷◌, ◌++◌, ℕ, length, set, take, drop, replicate, Float}
 use Rattle.std.specs.Float.{binary64}
 use Rattle.std.specs.Float.Ieee.{to_bits}
-use Rattle.float.specs.Exp.{exponential, scaled, raised, halved, doublings, residue, twoTo}
-use Rattle.float.specs.Power.{squaredTimes, powerWithin, power}
+use Rattle.float.specs.Exp.{exponential, scaled, raised, halved, doublings, residue, two_to}
+use Rattle.float.specs.Power.{squared_times, power_within, power}
 use Rattle.table.specs.Tail.{Term, Tail}
-use Rattle.table.specs.Read.{readOut}
-use Rattle.writer.specs.Tailed.{TailLists, tailLists}
-use Rattle.tail.specs.Rule.{termEnergy, sumFrom, tailRule}
-use Rattle.tail.specs.Reading.{tailQuestion, tailOut}
-use Rattle.ledger.specs.Promise.{lastWrite, file}
-use Rattle.test_marks.specs.Computed.{f64, tailHistory, history, computed}
+use Rattle.table.specs.Read.{read_out}
+use Rattle.writer.specs.Tailed.{TailLists, tail_lists}
+use Rattle.tail.specs.Rule.{term_energy, sum_from, tail_rule}
+use Rattle.tail.specs.Reading.{tail_question, tail_out}
+use Rattle.ledger.specs.Promise.{last_write, file}
+use Rattle.test_marks.specs.Computed.{f64, tail_history, history, computed}
 
 unfoldable pub tails : {A : Type 0} → A → A
-unfolding squaredTimes powerWithin power termEnergy sumFrom tailRule tailQuestion tailOut
+unfolding squared_times power_within power term_energy sum_from tail_rule tail_question tail_out
 tails x = x
 
 -- ---- "The power of r is 1 for exponent 0", of a NaN too; 3 to the 5th is ((3²)²)·3
@@ -32,7 +32,7 @@ abbrev term : ℕ → ℕ → ℕ → Term
 term c k n = record { coefficient = f64 c; kappa = f64 k; power = n }
 
 abbrev energy : List Term → ℕ → ℕ → ℕ
-energy ts x r = to_bits binary64 (tailRule (record { terms = ts; prefactor = f64 x }) (f64 r))
+energy ts x r = to_bits binary64 (tail_rule (record { terms = ts; prefactor = f64 x }) (f64 r))
 
 -- 6 · (2 · E(-0 · 2) / 2^1) = 6
 pub one-term : computed (tails (energy (term 0x4000_0000_0000_0000 0 1 ∷ []) 0x4018_0000_0000_0000 0x4000_0000_0000_0000)) ≡ 0x4018_0000_0000_0000
@@ -40,91 +40,91 @@ unfolding computed tails
 one-term = refl
 
 -- "The terms' sum starts at -0.0": a term of -0.0 leaves it
-pub starts-negative : computed (tails (energy (term 0x8000_0000_0000_0000 0 0 ∷ []) 0x3FF0_0000_0000_0000 0x4000_0000_0000_0000)) ≡ 0x8000_0000_0000_0000
+pub starts_negative : computed (tails (energy (term 0x8000_0000_0000_0000 0 0 ∷ []) 0x3FF0_0000_0000_0000 0x4000_0000_0000_0000)) ≡ 0x8000_0000_0000_0000
 unfolding computed tails
-starts-negative = refl
+starts_negative = refl
 
 -- "The tail at a distance of 0 follows IEEE division"
-pub at-nought : computed (tails (energy (term 0x4000_0000_0000_0000 0 1 ∷ []) 0x4018_0000_0000_0000 0)) ≡ 0x7FF0_0000_0000_0000
+pub at_nought : computed (tails (energy (term 0x4000_0000_0000_0000 0 1 ∷ []) 0x4018_0000_0000_0000 0)) ≡ 0x7FF0_0000_0000_0000
 unfolding computed tails
-at-nought = refl
+at_nought = refl
 
 -- it "is 0.0 without terms", whatever the prefactor
-pub without-terms : computed (tails (energy [] 0x7FF0_0000_0000_0000 0x4000_0000_0000_0000)) ≡ 0
+pub without_terms : computed (tails (energy [] 0x7FF0_0000_0000_0000 0x4000_0000_0000_0000)) ≡ 0
 unfolding computed tails
-without-terms = refl
+without_terms = refl
 
 -- ---- the file: the 66 bytes, then the section of one term and the prefactor
 
 abbrev pub lists : TailLists
-lists = tailLists (f64 0x4000_0000_0000_0000 ∷ []) (f64 0 ∷ []) (1 ∷ []) (f64 0x4018_0000_0000_0000 ∷ [])
+lists = tail_lists (f64 0x4000_0000_0000_0000 ∷ []) (f64 0 ∷ []) (1 ∷ []) (f64 0x4018_0000_0000_0000 ∷ [])
 
 abbrev tailed : List ℕ
-tailed = file (tailHistory lists [])
+tailed = file (tail_history lists [])
 
-pub sixth-bytes : computed (tails (drop 66 tailed)) ≡ 1 ∷ 0 ∷ 0 ∷ 0 ∷ replicate 7 0 ++ (64 ∷ replicate 8 0) ++ (1 ∷ 0 ∷ 0 ∷ 0 ∷ replicate 6 0) ++ (24 ∷ 64 ∷ [])
+pub sixth_bytes : computed (tails (drop 66 tailed)) ≡ 1 ∷ 0 ∷ 0 ∷ 0 ∷ replicate 7 0 ++ (64 ∷ replicate 8 0) ++ (1 ∷ 0 ∷ 0 ∷ 0 ∷ replicate 6 0) ++ (24 ∷ 64 ∷ [])
 unfolding computed tails
-sixth-bytes = refl
+sixth_bytes = refl
 
-pub five-before : computed (tails (take 66 tailed)) ≡ computed (file (history []))
+pub five_before : computed (tails (take 66 tailed)) ≡ computed (file (history []))
 unfolding computed tails
-five-before = refl
+five_before = refl
 
 abbrev reads : List ℕ → ℕ
-reads l = (readOut l).number
+reads l = (read_out l).number
 
 pub accepts : computed (tails (reads tailed)) ≡ 0
 unfolding computed tails
 accepts = refl
 
-pub counts-one : computed (tails (readOut tailed).table.terms) ≡ 1
+pub counts_one : computed (tails (read_out tailed).table.terms) ≡ 1
 unfolding computed tails
-counts-one = refl
+counts_one = refl
 
-pub starts-at : computed (tails (readOut tailed).table.tail_start) ≡ 70
+pub starts_at_lem : computed (tails (read_out tailed).table.tail_start) ≡ 70
 unfolding computed tails
-starts-at = refl
+starts_at_lem = refl
 
 -- "Without the section, read gives its count as 0 and its start as the file's length."
-pub starts-without : computed (tails (readOut (file (history []))).table.tail_start) ≡ 66
+pub starts-without : computed (tails (read_out (file (history []))).table.tail_start) ≡ 66
 unfolding computed tails
 starts-without = refl
 
 -- 13: "a sixth section with count 0, or one without its prefactor"; a byte too many
-pub count-nought : computed (tails (reads (file (history []) ++ replicate 12 0))) ≡ 13
+pub count_nought : computed (tails (reads (file (history []) ++ replicate 12 0))) ≡ 13
 unfolding computed tails
-count-nought = refl
+count_nought = refl
 
-pub no-prefactor : computed (tails (reads (take 90 tailed))) ≡ 13
+pub no_prefactor : computed (tails (reads (take 90 tailed))) ≡ 13
 unfolding computed tails
-no-prefactor = refl
+no_prefactor = refl
 
-pub a-byte-more : computed (tails (reads (tailed ++ (0 ∷ [])))) ≡ 13
+pub a_byte_more : computed (tails (reads (tailed ++ (0 ∷ [])))) ≡ 13
 unfolding computed tails
-a-byte-more = refl
+a_byte_more = refl
 
 -- 23: a power of 2147483649, an infinite prefactor
 pub power-above : computed (tails (reads (set tailed 89 128))) ≡ 23
 unfolding computed tails
 power-above = refl
 
-pub prefactor-infinite : computed (tails (reads (set (set tailed 96 240) 97 127))) ≡ 23
+pub prefactor_infinite : computed (tails (reads (set (set tailed 96 240) 97 127))) ≡ 23
 unfolding computed tails
-prefactor-infinite = refl
+prefactor_infinite = refl
 
 -- ---- write: 6 where kappas or powers are fewer than coefficients, 22 without a prefactor, 23 of a value, then 12
 
 abbrev wrote : TailLists → ℕ
-wrote t = (lastWrite (tailHistory t [])).answer.number
+wrote t = (last_write (tail_history t [])).answer.number
 
-pub kappas-short : computed (tails (wrote (tailLists (f64 0 ∷ []) [] (1 ∷ []) []))) ≡ 6
+pub kappas_short : computed (tails (wrote (tail_lists (f64 0 ∷ []) [] (1 ∷ []) []))) ≡ 6
 unfolding computed tails
-kappas-short = refl
+kappas_short = refl
 
-pub prefactor-absent : computed (tails (wrote (tailLists (f64 0x7FF0_0000_0000_0000 ∷ []) (f64 0 ∷ []) (1 ∷ []) []))) ≡ 22
+pub prefactor_absent : computed (tails (wrote (tail_lists (f64 0x7FF0_0000_0000_0000 ∷ []) (f64 0 ∷ []) (1 ∷ []) []))) ≡ 22
 unfolding computed tails
-prefactor-absent = refl
+prefactor_absent = refl
 
-pub value-infinite : computed (tails (wrote (tailLists (f64 0 ∷ []) (f64 0x7FF0_0000_0000_0000 ∷ []) (1 ∷ []) (f64 0 ∷ [])))) ≡ 23
+pub value_infinite : computed (tails (wrote (tail_lists (f64 0 ∷ []) (f64 0x7FF0_0000_0000_0000 ∷ []) (1 ∷ []) (f64 0 ∷ [])))) ≡ 23
 unfolding computed tails
-value-infinite = refl
+value_infinite = refl

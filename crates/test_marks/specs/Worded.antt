@@ -1,19 +1,19 @@
 -- Checks of rows in words by computation: document 02, paper 11. Not in the starred table.
 use Rattle.std.specs.Prelude.{◌≡◌, refl, false, [], ◌∷◌, ℕ, replicate}
-use Rattle.rows.specs.Rows.{Rows, rows_of, rowKnown}
-use Rattle.rows.specs.Words.{word_of, wordRows}
-use Rattle.builder.specs.BuilderLists.{wordLists}
-use Rattle.builder.specs.Calls.{setOut, settleOut}
-use Rattle.writer.specs.Write.{writeOut}
-use Rattle.words.specs.Moves.{words_of, restsClear, toWordsQuestion, rowsToWords, toRowsQuestion, wordsToRows}
+use Rattle.rows.specs.Rows.{Rows, rows_of, row_known}
+use Rattle.rows.specs.Words.{word_of, word_rows}
+use Rattle.builder.specs.BuilderLists.{word_lists}
+use Rattle.builder.specs.Calls.{set_out, settle_out}
+use Rattle.writer.specs.Write.{write_out}
+use Rattle.words.specs.Moves.{words_of, rests_clear, to_words_question, rows_to_words, to_rows_question, words_to_rows}
 use Rattle.ledger.specs.Promise.{ended}
 use Rattle.test_marks.specs.Icospheres.{icosahedron}
-use Rattle.test_marks.specs.Computed.{lentStore, history, computed}
+use Rattle.test_marks.specs.Computed.{lent_store, history, computed}
 use Rattle.test_marks.specs.Settled.{tens}
 
 -- the moves opened as well
 unfoldable pub moving : {A : Type 0} → A → A
-unfolding computed words_of restsClear toWordsQuestion rowsToWords toRowsQuestion wordsToRows
+unfolding computed words_of rests_clear to_words_question rows_to_words to_rows_question words_to_rows
 moving x = x
 
 -- ---- "scalar or offset .. in the low 32 bits, level in the next eight, kind in the eight above"
@@ -30,7 +30,7 @@ pub repulsive : moving (word_of 1 0 0) ≡ 0x0100_0000_0000
 unfolding moving
 repulsive = refl
 
-pub parts : moving (wordRows (0x0304_0000_0000 ∷ 0xC8FF_FFFF_FFFF ∷ [])) ≡ rows_of (3 ∷ 200 ∷ []) (4 ∷ 255 ∷ []) (0 ∷ 0xFFFF_FFFF ∷ [])
+pub parts : moving (word_rows (0x0304_0000_0000 ∷ 0xC8FF_FFFF_FFFF ∷ [])) ≡ rows_of (3 ∷ 200 ∷ []) (4 ∷ 255 ∷ []) (0 ∷ 0xFFFF_FFFF ∷ [])
 unfolding moving
 parts = refl
 
@@ -40,29 +40,29 @@ parts = refl
 abbrev top_bit : ℕ
 top_bit = 0x8000_0000_0000_0000
 
-abbrev lowBit : ℕ
-lowBit = 0x0001_0000_0000_0000
+abbrev low_bit : ℕ
+low_bit = 0x0001_0000_0000_0000
 
-pub top-unknown : moving (rowKnown 15 (wordRows (top_bit ∷ [])) 0) ≡ false
+pub top_unknown : moving (row_known 15 (word_rows (top_bit ∷ [])) 0) ≡ false
 unfolding moving
-top-unknown = refl
+top_unknown = refl
 
-pub low-unknown : moving (rowKnown 15 (wordRows (lowBit ∷ [])) 0) ≡ false
+pub low_unknown : moving (row_known 15 (word_rows (low_bit ∷ [])) 0) ≡ false
 unfolding moving
-low-unknown = refl
+low_unknown = refl
 
 -- one slab, and a word with a rest
-pub set_rest : moving (setOut (ended (history [])).builder (wordLists (lentStore 144) (lowBit ∷ [])) 0 0 tens).answer.number ≡ 15
+pub set_rest : moving (set_out (ended (history [])).builder (word_lists (lent_store 144) (low_bit ∷ [])) 0 0 tens).answer.number ≡ 15
 unfolding moving
 set_rest = refl
 
-pub settle-rest : moving (settleOut (ended (history [])).builder icosahedron (wordLists (lentStore 144) (lowBit ∷ [])) 0).answer.number ≡ 15
+pub settle_rest : moving (settle_out (ended (history [])).builder icosahedron (word_lists (lent_store 144) (low_bit ∷ [])) 0).answer.number ≡ 15
 unfolding moving
-settle-rest = refl
+settle_rest = refl
 
-pub write-rest : moving (writeOut (ended (history [])).builder icosahedron (wordLists (lentStore 144) (lowBit ∷ [])) (replicate 66 0)).answer.number ≡ 15
+pub write_rest : moving (write_out (ended (history [])).builder icosahedron (word_lists (lent_store 144) (low_bit ∷ [])) (replicate 66 0)).answer.number ≡ 15
 unfolding moving
-write-rest = refl
+write_rest = refl
 
 -- ---- moves
 
@@ -71,37 +71,37 @@ abbrev two : Rows
 two = rows_of (3 ∷ 200 ∷ 7 ∷ []) (4 ∷ 255 ∷ []) (0 ∷ 0xFFFF_FFFF ∷ [])
 
 -- "Any row of the old lists moves to its word"; what is beyond stays
-pub to-words : moving (rowsToWords 2 two (5 ∷ 5 ∷ 5 ∷ [])) ≡ record { number = 0; words = 0x0304_0000_0000 ∷ 0xC8FF_FFFF_FFFF ∷ 5 ∷ [] }
+pub to_words : moving (rows_to_words 2 two (5 ∷ 5 ∷ 5 ∷ [])) ≡ record { number = 0; words = 0x0304_0000_0000 ∷ 0xC8FF_FFFF_FFFF ∷ 5 ∷ [] }
 unfolding moving
-to-words = refl
+to_words = refl
 
-pub to-words-none : moving (rowsToWords 0 two []) ≡ record { number = 0; words = [] }
+pub to_words_none : moving (rows_to_words 0 two []) ≡ record { number = 0; words = [] }
 unfolding moving
-to-words-none = refl
+to_words_none = refl
 
 -- a row more than two of the lists have; a word less
-pub rows_short : moving (rowsToWords 3 two (5 ∷ 5 ∷ 5 ∷ [])) ≡ record { number = 6; words = 5 ∷ 5 ∷ 5 ∷ [] }
+pub rows_short : moving (rows_to_words 3 two (5 ∷ 5 ∷ 5 ∷ [])) ≡ record { number = 6; words = 5 ∷ 5 ∷ 5 ∷ [] }
 unfolding moving
 rows_short = refl
 
-pub words-short : moving (rowsToWords 2 two (5 ∷ [])) ≡ record { number = 6; words = 5 ∷ [] }
+pub words_short : moving (rows_to_words 2 two (5 ∷ [])) ≡ record { number = 6; words = 5 ∷ [] }
 unfolding moving
-words-short = refl
+words_short = refl
 
 -- ".. and back unchanged": a rest behind the two words is not asked
 abbrev nines : Rows
 nines = rows_of (9 ∷ 9 ∷ 9 ∷ []) (9 ∷ 9 ∷ []) (9 ∷ 9 ∷ [])
 
-pub to-rows : moving (wordsToRows 2 (0x0304_0000_0000 ∷ 0xC8FF_FFFF_FFFF ∷ top_bit ∷ []) nines)
+pub to_rows : moving (words_to_rows 2 (0x0304_0000_0000 ∷ 0xC8FF_FFFF_FFFF ∷ top_bit ∷ []) nines)
     ≡ record { number = 0; rows = rows_of (3 ∷ 200 ∷ 9 ∷ []) (4 ∷ 255 ∷ []) (0 ∷ 0xFFFF_FFFF ∷ []) }
 unfolding moving
-to-rows = refl
+to_rows = refl
 
 -- "moving it to the lists is refused by 15, after 6"
-pub rest-refused : moving (wordsToRows 2 (0x0304_0000_0000 ∷ lowBit ∷ []) nines) ≡ record { number = 15; rows = nines }
+pub rest-refused : moving (words_to_rows 2 (0x0304_0000_0000 ∷ low_bit ∷ []) nines) ≡ record { number = 15; rows = nines }
 unfolding moving
 rest-refused = refl
 
-pub short-first : moving (wordsToRows 3 (top_bit ∷ top_bit ∷ top_bit ∷ []) nines) ≡ record { number = 6; rows = nines }
+pub short-first : moving (words_to_rows 3 (top_bit ∷ top_bit ∷ top_bit ∷ []) nines) ≡ record { number = 6; rows = nines }
 unfolding moving
 short-first = refl

@@ -32,9 +32,9 @@ module _ (text : List ℕ) (n i d : ℕ) (there : i < length text) (value : d �
   unfolding word
   one_more h k = rw (add-one, drop-cons text i 0, ← value, ne_eqb d 16 h, lt-leb (2 ^ 60) n k)
 
-pub at-end : (text : List ℕ) (n i : ℕ) → length text ≤ i → Number n ≡ word n (drop i text)
+pub at_end : (text : List ℕ) (n i : ℕ) → length text ≤ i → Number n ≡ word n (drop i text)
 unfolding word
-at-end text n i h = rw (drop_of_length-le text h)
+at_end text n i h = rw (drop_of_length-le text h)
 
 -- what the machine reads back of an i64 below zero, and of -1 less that
 pub record Turned (n : ℤ) : Type 0 where

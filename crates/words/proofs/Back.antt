@@ -11,10 +11,10 @@ use borrow.Author.Tests.{leb-true}
 use Rattle.lists.specs.Questions.{ask}
 use Rattle.lists.specs.Lists.{every, put}
 use Rattle.lists.proofs.Written.{length-put}
-use Rattle.rows.specs.Rows.{Rows, rowRoom}
-use Rattle.rows.specs.Words.{wordKind, wordLevel, wordValue, wordRows}
-use Rattle.words.specs.Moves.{words_of, firstRows, putRows, moveRoom, restsClear, toWordsQuestion, rowsToWords, toRowsQuestion, wordsToRows, rowsFit, Unchanged}
-use Rattle.words.proofs.Zipped.{words-many, words-rows, rows_words}
+use Rattle.rows.specs.Rows.{Rows, row_room}
+use Rattle.rows.specs.Words.{word_kind, word_level, word_value, word_rows}
+use Rattle.words.specs.Moves.{words_of, first_rows, put_rows, move_room, rests_clear, to_words_question, rows_to_words, to_rows_question, words_to_rows, rows_fit, Unchanged}
+use Rattle.words.proofs.Zipped.{words_many, words_rows, rows_words}
 
 -- ---- the outcome
 
@@ -22,30 +22,30 @@ module _ (n : ℕ) (r : Rows) (words : List ℕ) where
   abbrev pub made : List ℕ
   made = take n (words_of r.kinds r.levels r.values)
 
-  pub words-short : moveRoom n r words ≡ false → rowsToWords n r words ≡ record { number = 6; words = words }
-  unfolding rowsToWords toWordsQuestion ask
-  words-short e = rw e
+  pub words_short : move_room n r words ≡ false → rows_to_words n r words ≡ record { number = 6; words = words }
+  unfolding rows_to_words to_words_question ask
+  words_short e = rw e
 
-  pub words-done : moveRoom n r words ≡ true → rowsToWords n r words ≡ record { number = 0; words = put words 0 made }
-  unfolding rowsToWords toWordsQuestion ask
-  words-done e = rw e
+  pub words_done : move_room n r words ≡ true → rows_to_words n r words ≡ record { number = 0; words = put words 0 made }
+  unfolding rows_to_words to_words_question ask
+  words_done e = rw e
 
-  pub rows_short : moveRoom n r words ≡ false → wordsToRows n words r ≡ record { number = 6; rows = r }
-  unfolding wordsToRows toRowsQuestion ask
+  pub rows_short : move_room n r words ≡ false → words_to_rows n words r ≡ record { number = 6; rows = r }
+  unfolding words_to_rows to_rows_question ask
   rows_short e = rw e
 
-  pub rows-rest : moveRoom n r words ≡ true → restsClear n words ≡ false → wordsToRows n words r ≡ record { number = 15; rows = r }
-  unfolding wordsToRows toRowsQuestion ask
+  pub rows-rest : move_room n r words ≡ true → rests_clear n words ≡ false → words_to_rows n words r ≡ record { number = 15; rows = r }
+  unfolding words_to_rows to_rows_question ask
   rows-rest e f = rw (e, f)
 
-  pub rows-done : moveRoom n r words ≡ true → restsClear n words ≡ true → wordsToRows n words r ≡ record { number = 0; rows = putRows r (wordRows (take n words)) }
-  unfolding wordsToRows toRowsQuestion ask
-  rows-done e f = rw (e, f)
+  pub rows_done : move_room n r words ≡ true → rests_clear n words ≡ true → words_to_rows n words r ≡ record { number = 0; rows = put_rows r (word_rows (take n words)) }
+  unfolding words_to_rows to_rows_question ask
+  rows_done e f = rw (e, f)
 
 -- the room that 6 asks for
 module _ (n k l v w : ℕ) where
-  pub roomy : rowRoom n k l v && leb n w ≡ true → (n ≤ k) × (n ≤ l) × (n ≤ v) × (n ≤ w)
-  unfolding rowRoom
+  pub roomy : row_room n k l v && leb n w ≡ true → (n ≤ k) × (n ≤ l) × (n ≤ v) × (n ≤ w)
+  unfolding row_room
   roomy h =
       let a = (and-eq-true_iff _ (leb n w)).0 h in
       let b = (and-eq-true_iff (leb n k) _).0 a.0 in
@@ -69,51 +69,51 @@ put_same n d h =
     rw e (take-append-drop n d)
 
 -- rows that words were written into have these words
-remade : (r : Rows) (ws : List ℕ) (n : ℕ) → length ws ≡ n → let s = putRows r (wordRows ws) in take n (words_of s.kinds s.levels s.values) ≡ ws
-unfolding put wordRows
+remade : (r : Rows) (ws : List ℕ) (n : ℕ) → length ws ≡ n → let s = put_rows r (word_rows ws) in take n (words_of s.kinds s.levels s.values) ≡ ws
+unfolding put word_rows
 remade r ws n e =
     rw (← e)
-    (rows_words ws (drop (0 + length (map wordKind ws)) r.kinds) (drop (0 + length (map wordLevel ws)) r.levels) (drop (0 + length (map wordValue ws)) r.values))
+    (rows_words ws (drop (0 + length (map word_kind ws)) r.kinds) (drop (0 + length (map word_level ws)) r.levels) (drop (0 + length (map word_value ws)) r.values))
 
 -- ---- back
 
-module _ (n : ℕ) (r : Rows) (words : List ℕ) (h : moveRoom n r words ≡ true) where
+module _ (n : ℕ) (r : Rows) (words : List ℕ) (h : move_room n r words ≡ true) where
   abbrev room : (n ≤ length r.kinds) × (n ≤ length r.levels) × (n ≤ length r.values) × (n ≤ length words)
   room = roomy n (length r.kinds) (length r.levels) (length r.values) (length words) h
 
-  same_rows : putRows r (firstRows n r) ≡ r
+  same_rows : put_rows r (first_rows n r) ≡ r
   same_rows = rw (put_same n r.kinds room.0, put_same n r.levels room.1, put_same n r.values room.2)
 
-  module _ (fit : rowsFit r ≡ true) where
-    back-rows : (s : Rows) → moveRoom n s words ≡ true → wordsToRows n (rowsToWords n r words).words s ≡ record { number = 0; rows = putRows s (firstRows n r) }
-    unfolding restsClear
-    back-rows s g =
+  module _ (fit : rows_fit r ≡ true) where
+    back_rows : (s : Rows) → move_room n s words ≡ true → words_to_rows n (rows_to_words n r words).words s ≡ record { number = 0; rows = put_rows s (first_rows n r) }
+    unfolding rests_clear
+    back_rows s g =
         let k = (and-eq-true_iff (every (λ x. leb x 255) r.kinds) _).0 fit in
         let l = (and-eq-true_iff (every (λ x. leb x 255) r.levels) _).0 k.1 in
         let w = made n r words in
-        let z = words-rows n r.kinds r.levels r.values k.0 l.0 l.1 room.0 room.1 room.2 in
-        let many : length w ≡ n = length-take-le n _ (words-many n r.kinds r.levels r.values room.0 room.1 room.2) in
+        let z = words_rows n r.kinds r.levels r.values k.0 l.0 l.1 room.0 room.1 room.2 in
+        let many : length w ≡ n = length-take-le n _ (words_many n r.kinds r.levels r.values room.0 room.1 room.2) in
         let front : take n (put words 0 w) ≡ w = put_front words w n many in
-        let roomy-still : moveRoom n s (put words 0 w) ≡ true = rw (put-many words w n many room.3) g in
-        rw (words-done n r words h) (rows-done n s (put words 0 w) roomy-still (rw front z.1) ∙ rw (front, z.0))
+        let roomy-still : move_room n s (put words 0 w) ≡ true = rw (put-many words w n many room.3) g in
+        rw (words_done n r words h) (rows_done n s (put words 0 w) roomy-still (rw front z.1) ∙ rw (front, z.0))
 
-  module _ (clear : restsClear n words ≡ true) where
-    back-words : (to : List ℕ) → moveRoom n r to ≡ true → rowsToWords n (wordsToRows n words r).rows to ≡ record { number = 0; words = put to 0 (take n words) }
-    unfolding wordRows
-    back-words to g =
+  module _ (clear : rests_clear n words ≡ true) where
+    back_words : (to : List ℕ) → move_room n r to ≡ true → rows_to_words n (words_to_rows n words r).rows to ≡ record { number = 0; words = put to 0 (take n words) }
+    unfolding word_rows
+    back_words to g =
         let w = take n words in
         let many : length w ≡ n = length-take-le n words room.3 in
-        let k : length (map wordKind w) ≡ n = length-map w wordKind ∙ many in
-        let l : length (map wordLevel w) ≡ n = length-map w wordLevel ∙ many in
-        let v : length (map wordValue w) ≡ n = length-map w wordValue ∙ many in
-        let s = putRows r (wordRows w) in
-        let still : moveRoom n s to ≡ true = rw (put-many r.kinds (map wordKind w) n k room.0, put-many r.levels (map wordLevel w) n l room.1, put-many r.values (map wordValue w) n v room.2) g in
-        rw (rows-done n r words h clear) (words-done n s to still ∙ rw (remade r w n many))
+        let k : length (map word_kind w) ≡ n = length-map w word_kind ∙ many in
+        let l : length (map word_level w) ≡ n = length-map w word_level ∙ many in
+        let v : length (map word_value w) ≡ n = length-map w word_value ∙ many in
+        let s = put_rows r (word_rows w) in
+        let still : move_room n s to ≡ true = rw (put-many r.kinds (map word_kind w) n k room.0, put-many r.levels (map word_level w) n l room.1, put-many r.values (map word_value w) n v room.2) g in
+        rw (rows_done n r words h clear) (words_done n s to still ∙ rw (remade r w n many))
 
 pub unchanged : Unchanged
 unchanged = record {
-  rows_back = λ n r s words fit h g. back-rows n r words h fit s g;
-  rows_same = λ n r words fit h. back-rows n r words h fit r h ∙ rw (same_rows n r words h);
-  words_back = λ n words to r clear h g. back-words n r words h clear to g;
-  words_same = λ n words r clear h. back-words n r words h clear words h ∙ rw (put_same n words (room n r words h).3);
+  rows_back = λ n r s words fit h g. back_rows n r words h fit s g;
+  rows_same = λ n r words fit h. back_rows n r words h fit r h ∙ rw (same_rows n r words h);
+  words_back = λ n words to r clear h g. back_words n r words h clear to g;
+  words_same = λ n words r clear h. back_words n r words h clear words h ∙ rw (put_same n words (room n r words h).3);
 }

@@ -1,25 +1,25 @@
 // Rows moved between the three lists and words.
 ghost use Rattle.std.specs.Prelude.{◌≡◌, true, ◌&&◌, ◌≤◌, length, take, leb};
 ghost use Rattle.lists.specs.Lists.{every, put};
-ghost use Rattle.rows.specs.Rows.{Rows, rows_of, rowRoom};
-ghost use Rattle.rows.specs.Words.{wordRows};
-ghost use Rattle.words.specs.Moves.{words_of, putRows, restClear, restsClear, ToWords, rowsToWords, ToRows, wordsToRows};
+ghost use Rattle.rows.specs.Rows.{Rows, rows_of, row_room};
+ghost use Rattle.rows.specs.Words.{word_rows};
+ghost use Rattle.words.specs.Moves.{words_of, put_rows, rest_clear, rests_clear, ToWords, rows_to_words, ToRows, words_to_rows};
 
 // Question 6, of all four lists.
 fn move_long(n: u64, kinds: u64, levels: u64, values: u64, words: u64) -> bool
-    ensures { result ≡ rowRoom n kinds levels values && leb n words }
+    ensures { result ≡ row_room n kinds levels values && leb n words }
 {
     ((n <= kinds) & ((n <= levels) & (n <= values))) & (n <= words)
 }
 
 fn rest_clear(w: u64) -> bool
-    ensures { result ≡ restClear w }
+    ensures { result ≡ rest_clear w }
 {
     rows::word_kind(w) < 256
 }
 
 fn all_clear(words: &[u64]) -> bool
-    ensures { result ≡ every restClear words.now }
+    ensures { result ≡ every rest_clear words.now }
 {
     let mut i: usize = 0;
     while i < words.len() {
@@ -33,7 +33,7 @@ fn all_clear(words: &[u64]) -> bool
 
 // Question 15 of a move to the lists: no rest in the first n words.
 pub fn rests_clear(words: &[u64], n: u64) -> bool
-    ensures { result ≡ restsClear n words.now }
+    ensures { result ≡ rests_clear n words.now }
 {
     if words.len() as u64 <= n {
         return all_clear(words);
@@ -55,10 +55,10 @@ fn put_words(n: u64, kinds: &[u8], levels: &[u8], values: &[u32], words: &mut [u
 }
 
 fn put_rows(n: u64, words: &[u64], kinds: &mut [u8], levels: &mut [u8], values: &mut [u32])
-    requires { (n ≤ length words.now) × (n ≤ length kinds.old) × (n ≤ length levels.old) × (n ≤ length values.old) × (restsClear n words.now ≡ true) }
+    requires { (n ≤ length words.now) × (n ≤ length kinds.old) × (n ≤ length levels.old) × (n ≤ length values.old) × (rests_clear n words.now ≡ true) }
     ensures { ◌≡◌ {A = Rows}
         (rows_of kinds.new levels.new values.new)
-        (putRows (rows_of kinds.old levels.old values.old) (wordRows (take n words.now))) }
+        (put_rows (rows_of kinds.old levels.old values.old) (word_rows (take n words.now))) }
 {
     let end = n as usize;
     let mut i: usize = 0;
@@ -81,7 +81,7 @@ pub fn rows_to_words(
 ) -> u64
     ensures { ◌≡◌ {A = ToWords}
         (record { number = result; words = words.new })
-        (rowsToWords rows (rows_of kinds.now levels.now values.now) words.old) }
+        (rows_to_words rows (rows_of kinds.now levels.now values.now) words.old) }
 {
     if !move_long(
         rows,
@@ -106,7 +106,7 @@ pub fn words_to_rows(
 ) -> u64
     ensures { ◌≡◌ {A = ToRows}
         (record { number = result; rows = rows_of kinds.new levels.new values.new })
-        (wordsToRows rows words.now (rows_of kinds.old levels.old values.old)) }
+        (words_to_rows rows words.now (rows_of kinds.old levels.old values.old)) }
 {
     if !move_long(
         rows,

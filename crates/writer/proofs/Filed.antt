@@ -9,16 +9,16 @@ use lib.ListN.{length, get_or, take, drop, length-append, length-map, length-dro
 use lib.Seq.{drop-cons, drop-drop, take-add, take_all, take_at, length-take-le}
 use lib.Ieee.{Float, binary32, nan, to_bits}
 use Rattle.lists.specs.Lists.{below, put}
-use Rattle.lists.proofs.Loops.{part-is}
+use Rattle.lists.proofs.Loops.{part_is}
 use Rattle.ieee.specs.Narrow.{narrowed}
-use Rattle.mesh.specs.Levels.{vertexCount}
+use Rattle.mesh.specs.Levels.{vertex_count}
 use Rattle.rows.specs.declared.SlabResolution.{SlabResolution}
-use Rattle.rows.specs.Rows.{Rows, resolutionAt, narrowBits}
+use Rattle.rows.specs.Rows.{Rows, resolution_at, narrow_bits}
 use Rattle.table.specs.Bytes.{bytes_of, packed}
-use Rattle.table.specs.File.{Entry, entryBytes}
-use Rattle.writer.specs.Internal.{heldBy, entryFor, resolutions, entriesFor, total, energiesFor, Bounded}
-use Rattle.table.proofs.Lengths.{bytes-length, packed-length, packed-append, entry_length}
-use Rattle.writer.proofs.Puts.{puts-three}
+use Rattle.table.specs.File.{Entry, entry_bytes}
+use Rattle.writer.specs.Internal.{held_by, entry_for, resolutions, entries_for, total, energies_for, Bounded}
+use Rattle.table.proofs.Lengths.{bytes_length, packed-length, packed-append, entry_length}
+use Rattle.writer.proofs.Puts.{puts_three}
 
 pub one_less : (n z : ℕ) → 0 < n → n * z ≡ (n - 1) * z + z
 one_less zero z h = absurd (omega arith)
@@ -26,11 +26,11 @@ one_less (suc n) z h = let e : suc n - 1 ≡ n = omega arith in rw (e, suc-mul)
 
 -- ---- levels
 
-pub counts-turn : (m : ℕ) → packed (bytes_of 4) (map vertexCount (below (m + 1))) ≡ packed (bytes_of 4) (map vertexCount (below m)) ++ bytes_of 4 (vertexCount m)
+pub counts_turn : (m : ℕ) → packed (bytes_of 4) (map vertex_count (below (m + 1))) ≡ packed (bytes_of 4) (map vertex_count (below m)) ++ bytes_of 4 (vertex_count m)
 unfolding below packed
-counts-turn m =
-    let e : map vertexCount (below m ++ (m ∷ [])) ≡ map vertexCount (below m) ++ (vertexCount m ∷ []) = map-append vertexCount (below m) (m ∷ []) in
-    rw (add-one, e) (packed-append (bytes_of 4) (map vertexCount (below m)) (vertexCount m ∷ []) ∙ rw (append-nil (bytes_of 4 (vertexCount m))))
+counts_turn m =
+    let e : map vertex_count (below m ++ (m ∷ [])) ≡ map vertex_count (below m) ++ (vertex_count m ∷ []) = map-append vertex_count (below m) (m ∷ []) in
+    rw (add-one, e) (packed-append (bytes_of 4) (map vertex_count (below m)) (vertex_count m ∷ []) ∙ rw (append-nil (bytes_of 4 (vertex_count m))))
 
 -- ---- rows
 
@@ -39,66 +39,66 @@ unfolding bytes_of
 one_byte x h = rw (mod-eq_of_lt h)
 
 pub row_put : (d : List ℕ) (at : ℕ) (r : Entry) → r.kind < 256 → r.level < 256 → at + 10 ≤ length d
-    → put (put (put d at (r.kind ∷ r.level ∷ [])) (at + 2) (bytes_of 4 r.offset)) (at + 6) (bytes_of 4 r.scalar) ≡ put d at (entryBytes r)
-unfolding entryBytes
+    → put (put (put d at (r.kind ∷ r.level ∷ [])) (at + 2) (bytes_of 4 r.offset)) (at + 6) (bytes_of 4 r.scalar) ≡ put d at (entry_bytes r)
+unfolding entry_bytes
 row_put d at r hk hl h =
-    puts-three d at (r.kind ∷ r.level ∷ []) (bytes_of 4 r.offset) (bytes_of 4 r.scalar) (at + 2) (at + 6) refl (omega (arith, bytes-length 4 r.offset)) (omega arith)
+    puts_three d at (r.kind ∷ r.level ∷ []) (bytes_of 4 r.offset) (bytes_of 4 r.scalar) (at + 2) (at + 6) refl (omega (arith, bytes_length 4 r.offset)) (omega arith)
     ∙ rw (one_byte r.kind hk, one_byte r.level hl)
 
 module _ (r : Rows) where
-  res-cons : (s n : ℕ) → 0 < n → resolutions r s n ≡ resolutionAt r s ∷ resolutions r (s + 1) (n - 1)
+  res_cons : (s n : ℕ) → 0 < n → resolutions r s n ≡ resolution_at r s ∷ resolutions r (s + 1) (n - 1)
   unfolding resolutions
-  res-cons s zero h = absurd (omega arith)
-  res-cons s (suc n) h = let e : suc n - 1 ≡ n = omega arith in rw (e, add-one)
+  res_cons s zero h = absurd (omega arith)
+  res_cons s (suc n) h = let e : suc n - 1 ≡ n = omega arith in rw (e, add-one)
 
-  pub res-length : (s n : ℕ) → length (resolutions r s n) ≡ n
+  pub res_length : (s n : ℕ) → length (resolutions r s n) ≡ n
   unfolding resolutions
-  res-length s zero = refl
-  res-length s (suc n) = ap suc (res-length (suc s) n)
+  res_length s zero = refl
+  res_length s (suc n) = ap suc (res_length (suc s) n)
 
 module _ (each : ℕ → ℕ) (r : Rows) where
-  pub total-turn : (s n : ℕ) → 0 < n → total each (resolutions r s n) ≡ heldBy each (resolutionAt r s) + total each (resolutions r (s + 1) (n - 1))
+  pub total_turn : (s n : ℕ) → 0 < n → total each (resolutions r s n) ≡ held_by each (resolution_at r s) + total each (resolutions r (s + 1) (n - 1))
   unfolding total
-  total-turn s n h = rw (res-cons r s n h)
+  total_turn s n h = rw (res_cons r s n h)
 
-  pub total-end : (s n : ℕ) → n ≤ 0 → total each (resolutions r s n) ≡ 0
+  pub total_end : (s n : ℕ) → n ≤ 0 → total each (resolutions r s n) ≡ 0
   unfolding total resolutions
-  total-end s n h = let e : n ≡ 0 = omega arith in rw e
+  total_end s n h = let e : n ≡ 0 = omega arith in rw e
 
-  pub entries-turn : (s n o : ℕ) → 0 < n
-      → packed entryBytes (entriesFor each o (resolutions r s n))
-      ≡ entryBytes (entryFor o (resolutionAt r s)) ++ packed entryBytes (entriesFor each (o + heldBy each (resolutionAt r s)) (resolutions r (s + 1) (n - 1)))
-  unfolding entriesFor packed
-  entries-turn s n o h = rw (res-cons r s n h)
+  pub entries_turn : (s n o : ℕ) → 0 < n
+      → packed entry_bytes (entries_for each o (resolutions r s n))
+      ≡ entry_bytes (entry_for o (resolution_at r s)) ++ packed entry_bytes (entries_for each (o + held_by each (resolution_at r s)) (resolutions r (s + 1) (n - 1)))
+  unfolding entries_for packed
+  entries_turn s n o h = rw (res_cons r s n h)
 
-  pub entries-end : (s n o : ℕ) → n ≤ 0 → packed entryBytes (entriesFor each o (resolutions r s n)) ≡ []
-  unfolding entriesFor packed resolutions
-  entries-end s n o h = let e : n ≡ 0 = omega arith in rw e
+  pub entries_end : (s n o : ℕ) → n ≤ 0 → packed entry_bytes (entries_for each o (resolutions r s n)) ≡ []
+  unfolding entries_for packed resolutions
+  entries_end s n o h = let e : n ≡ 0 = omega arith in rw e
 
-  pub bounded-turn : (z s n : ℕ) → 0 < n → Bounded each z (resolutions r s n) → (heldBy each (resolutionAt r s) ≤ z) × Bounded each z (resolutions r (s + 1) (n - 1))
+  pub bounded_turn : (z s n : ℕ) → 0 < n → Bounded each z (resolutions r s n) → (held_by each (resolution_at r s) ≤ z) × Bounded each z (resolutions r (s + 1) (n - 1))
   unfolding Bounded
-  bounded-turn z s n h b = rw (res-cons r s n h) at b
+  bounded_turn z s n h b = rw (res_cons r s n h) at b
 
-  pub energies-turn : (z : ℕ) (store : List Float) (p s n : ℕ) → 0 < n
-      → packed (bytes_of 4) (energiesFor each z store p (resolutions r s n))
-      ≡ packed (bytes_of 4) (map narrowBits (take (heldBy each (resolutionAt r s)) (drop p store))) ++ packed (bytes_of 4) (energiesFor each z store (p + z) (resolutions r (s + 1) (n - 1)))
-  unfolding energiesFor
-  energies-turn z store p s n h =
-      rw (res-cons r s n h) (packed-append (bytes_of 4) (map narrowBits (take (heldBy each (resolutionAt r s)) (drop p store))) (energiesFor each z store (p + z) (resolutions r (s + 1) (n - 1))))
+  pub energies_turn : (z : ℕ) (store : List Float) (p s n : ℕ) → 0 < n
+      → packed (bytes_of 4) (energies_for each z store p (resolutions r s n))
+      ≡ packed (bytes_of 4) (map narrow_bits (take (held_by each (resolution_at r s)) (drop p store))) ++ packed (bytes_of 4) (energies_for each z store (p + z) (resolutions r (s + 1) (n - 1)))
+  unfolding energies_for
+  energies_turn z store p s n h =
+      rw (res_cons r s n h) (packed-append (bytes_of 4) (map narrow_bits (take (held_by each (resolution_at r s)) (drop p store))) (energies_for each z store (p + z) (resolutions r (s + 1) (n - 1))))
 
-  pub energies-end : (z : ℕ) (store : List Float) (p s n : ℕ) → n ≤ 0 → packed (bytes_of 4) (energiesFor each z store p (resolutions r s n)) ≡ []
-  unfolding energiesFor packed resolutions
-  energies-end z store p s n h = let e : n ≡ 0 = omega arith in rw e
+  pub energies_end : (z : ℕ) (store : List Float) (p s n : ℕ) → n ≤ 0 → packed (bytes_of 4) (energies_for each z store p (resolutions r s n)) ≡ []
+  unfolding energies_for packed resolutions
+  energies_end z store p s n h = let e : n ≡ 0 = omega arith in rw e
 
-pub entriesFor-length : (each : ℕ → ℕ) (o : ℕ) (xs : List SlabResolution) → length (entriesFor each o xs) ≡ length xs
-unfolding entriesFor
-entriesFor-length each o [] = refl
-entriesFor-length each o (x ∷ xs) = ap suc (entriesFor-length each (o + heldBy each x) xs)
+pub entries_for-length : (each : ℕ → ℕ) (o : ℕ) (xs : List SlabResolution) → length (entries_for each o xs) ≡ length xs
+unfolding entries_for
+entries_for-length each o [] = refl
+entries_for-length each o (x ∷ xs) = ap suc (entries_for-length each (o + held_by each x) xs)
 
-pub entries-length : (each : ℕ → ℕ) (r : Rows) (o s n : ℕ) → length (packed entryBytes (entriesFor each o (resolutions r s n))) ≡ n * 10
+pub entries-length : (each : ℕ → ℕ) (r : Rows) (o s n : ℕ) → length (packed entry_bytes (entries_for each o (resolutions r s n))) ≡ n * 10
 entries-length each r o s n =
-    packed-length entryBytes 10 entry_length (entriesFor each o (resolutions r s n))
-    ∙ ap (λ (k : ℕ). k * 10) (entriesFor-length each o (resolutions r s n) ∙ res-length r s n)
+    packed-length entry_bytes 10 entry_length (entries_for each o (resolutions r s n))
+    ∙ ap (λ (k : ℕ). k * 10) (entries_for-length each o (resolutions r s n) ∙ res_length r s n)
 
 -- ---- energies
 
@@ -107,52 +107,52 @@ module _ (g : Float → ℕ) (store : List Float) (p k : ℕ) where
   pub taken-length : p + k ≤ length store → length (map g (take k (drop p store))) ≡ k
   taken-length h = length-map (take k (drop p store)) g ∙ length-take-le k (drop p store) (omega (arith, length-drop p store))
 
-  pub taken-bytes : p + k ≤ length store → length (packed (bytes_of 4) (map g (take k (drop p store)))) ≡ k * 4
-  taken-bytes h = packed-length (bytes_of 4) 4 (bytes-length 4) (map g (take k (drop p store))) ∙ ap (λ (n : ℕ). n * 4) (taken-length h)
+  pub taken_bytes : p + k ≤ length store → length (packed (bytes_of 4) (map g (take k (drop p store)))) ≡ k * 4
+  taken_bytes h = packed-length (bytes_of 4) 4 (bytes_length 4) (map g (take k (drop p store))) ∙ ap (λ (n : ℕ). n * 4) (taken-length h)
 
   -- the first i of them, and the others
-  pub taken-split : (i : ℕ) → i ≤ k
+  pub taken_split : (i : ℕ) → i ≤ k
       → packed (bytes_of 4) (map g (take k (drop p store)))
       ≡ packed (bytes_of 4) (map g (take i (drop p store))) ++ packed (bytes_of 4) (map g (take (k - i) (drop (p + i) store)))
-  taken-split i h =
+  taken_split i h =
       let e : i + (k - i) ≡ k = omega arith in
       rw (← packed-append (bytes_of 4) (map g (take i (drop p store))) (map g (take (k - i) (drop (p + i) store))), ← map-append g (take i (drop p store)) (take (k - i) (drop (p + i) store)), ← drop-drop i p store, ← take-add i (k - i) (drop p store), e)
 
-  pub taken-turn : 0 < k → p < length store
+  pub taken_turn : 0 < k → p < length store
       → packed (bytes_of 4) (map g (take k (drop p store)))
       ≡ bytes_of 4 (g (get_or store p nan)) ++ packed (bytes_of 4) (map g (take (k - 1) (drop (p + 1) store)))
   unfolding packed
-  taken-turn h l =
+  taken_turn h l =
       let e : take 1 (drop p store) ≡ get_or store p nan ∷ [] = ap (take 1) (drop-cons store p nan l) in
-      taken-split 1 h ∙ rw (e, append-nil (bytes_of 4 (g (get_or store p nan))))
+      taken_split 1 h ∙ rw (e, append-nil (bytes_of 4 (g (get_or store p nan))))
 
-  pub taken-end : k ≤ 0 → packed (bytes_of 4) (map g (take k (drop p store))) ≡ []
+  pub taken_end : k ≤ 0 → packed (bytes_of 4) (map g (take k (drop p store))) ≡ []
   unfolding packed
-  taken-end h = let e : k ≡ 0 = omega arith in rw e
+  taken_end h = let e : k ≡ 0 = omega arith in rw e
 
 -- the bits of what was narrowed into a block
 pub block-bits : (store block b : List Float) (p n : ℕ) → p + n ≤ length store → n ≤ length block → b ≡ put block 0 (map narrowed (take (length block) (take (p + n - p) (drop p store))))
-    → map (to_bits binary32) (take n b) ≡ map narrowBits (take n (drop p store))
+    → map (to_bits binary32) (take n b) ≡ map narrow_bits (take n (drop p store))
 unfolding put
 block-bits store block b p n h g e =
     let l = take n (drop p store) in
     let s : length l ≡ n = length-take-le n (drop p store) (omega (arith, length-drop p store)) in
-    let a : take (length block) (take (p + n - p) (drop p store)) ≡ l = ap (take (length block)) (part-is store p n) ∙ take_all (length block) l (omega (arith, s)) in
+    let a : take (length block) (take (p + n - p) (drop p store)) ≡ l = ap (take (length block)) (part_is store p n) ∙ take_all (length block) l (omega (arith, s)) in
     ap (λ (y : List Float). map (to_bits binary32) (take n y)) e
     ∙ rw a (ap (map (to_bits binary32)) (take_at (map narrowed l) (drop (0 + length (map narrowed l)) block) n (length-map l narrowed ∙ s)) ∙ map-map (to_bits binary32) narrowed l)
 
 -- as many energies as the rows hold, where they are inside the store
-pub energies-length : (each : ℕ → ℕ) (z : ℕ) (store : List Float) (p : ℕ) (xs : List SlabResolution) → Bounded each z xs → p + length xs * z ≤ length store → length (energiesFor each z store p xs) ≡ total each xs
-unfolding energiesFor total Bounded
-energies-length each z store p [] b h = refl
-energies-length each z store p (x ∷ xs) b h =
+pub energies_length : (each : ℕ → ℕ) (z : ℕ) (store : List Float) (p : ℕ) (xs : List SlabResolution) → Bounded each z xs → p + length xs * z ≤ length store → length (energies_for each z store p xs) ≡ total each xs
+unfolding energies_for total Bounded
+energies_length each z store p [] b h = refl
+energies_length each z store p (x ∷ xs) b h =
     let m : p + (length xs * z + z) ≤ length store = rw suc-mul at h in
-    length-append (map narrowBits (take (heldBy each x) (drop p store))) (energiesFor each z store (p + z) xs)
-    ∙ omega (arith, taken-length narrowBits store p (heldBy each x) (omega (arith, m, b.0)), energies-length each z store (p + z) xs b.1 (omega (arith, m)))
+    length-append (map narrow_bits (take (held_by each x) (drop p store))) (energies_for each z store (p + z) xs)
+    ∙ omega (arith, taken-length narrow_bits store p (held_by each x) (omega (arith, m, b.0)), energies_length each z store (p + z) xs b.1 (omega (arith, m)))
 
-pub energies-bytes : (each : ℕ → ℕ) (z : ℕ) (store : List Float) (p : ℕ) (xs : List SlabResolution) → Bounded each z xs → p + length xs * z ≤ length store
-    → length (packed (bytes_of 4) (energiesFor each z store p xs)) ≡ total each xs * 4
-energies-bytes each z store p xs b h = packed-length (bytes_of 4) 4 (bytes-length 4) (energiesFor each z store p xs) ∙ ap (λ (n : ℕ). n * 4) (energies-length each z store p xs b h)
+pub energies_bytes : (each : ℕ → ℕ) (z : ℕ) (store : List Float) (p : ℕ) (xs : List SlabResolution) → Bounded each z xs → p + length xs * z ≤ length store
+    → length (packed (bytes_of 4) (energies_for each z store p xs)) ≡ total each xs * 4
+energies_bytes each z store p xs b h = packed-length (bytes_of 4) 4 (bytes_length 4) (energies_for each z store p xs) ∙ ap (λ (n : ℕ). n * 4) (energies_length each z store p xs b h)
 
 -- a turn of the loop over slabs: the k energies of row s fit, and so do those of the rows behind it
 pub record Slab (each : ℕ → ℕ) (r : Rows) (z s n to p k room held : ℕ) : Type 0 where
@@ -162,12 +162,12 @@ pub record Slab (each : ℕ → ℕ) (r : Rows) (z s n to p k room held : ℕ) :
   pub next : p + z + (n - 1) * z ≤ held
   pub bounded : Bounded each z (resolutions r (s + 1) (n - 1))
 
-pub slab-turn : (each : ℕ → ℕ) (r : Rows) (z s n to p k room held : ℕ) → 0 < n → k ≡ heldBy each (resolutionAt r s) → to + total each (resolutions r s n) * 4 ≤ room → p + n * z ≤ held
+pub slab_turn : (each : ℕ → ℕ) (r : Rows) (z s n to p k room held : ℕ) → 0 < n → k ≡ held_by each (resolution_at r s) → to + total each (resolutions r s n) * 4 ≤ room → p + n * z ≤ held
     → Bounded each z (resolutions r s n) → Slab each r z s n to p k room held
-slab-turn each r z s n to p k room held h e fits inside b =
-    let t = total-turn each r s n h in
+slab_turn each r z s n to p k room held h e fits inside b =
+    let t = total_turn each r s n h in
     let m = one_less n z h in
-    let d = bounded-turn each r z s n h b in
+    let d = bounded_turn each r z s n h b in
     record {
       fits = omega (arith, t, e, fits);
       inside = omega (arith, e, d.0, m, inside);

@@ -3,12 +3,12 @@ ghost use Rattle.std.specs.Prelude.{◌≡◌, true, ◌&&◌, suc, ◌≤◌, l
 ghost use Rattle.rows.specs.Rows.{rows_of};
 ghost use Rattle.lists.specs.Questions.{ask, first};
 ghost use Rattle.lists.specs.Lists.{put};
-ghost use Rattle.mesh.specs.Levels.{vertexCount, verticesBelow};
-ghost use Rattle.mesh.specs.Mesh.{meshLong, meshesKeep, meshOf};
-ghost use Rattle.builder.specs.BuilderLists.{rowsKnown, lists_of};
-ghost use Rattle.builder.specs.Atom.{atomBuilderQuestion, atomRoom};
-ghost use Rattle.writer.specs.Write.{writtenValues, writtenNumbered};
-ghost use Rattle.writer.specs.Atom.{AtomWriteOut, atomFileFrom, atomWriteOut};
+ghost use Rattle.mesh.specs.Levels.{vertex_count, vertices_below};
+ghost use Rattle.mesh.specs.Mesh.{mesh_long, meshes_keep, mesh_of};
+ghost use Rattle.builder.specs.BuilderLists.{rows_known, lists_of};
+ghost use Rattle.builder.specs.Atom.{atom_builder_question, atom_room};
+ghost use Rattle.writer.specs.Write.{written_values, written_numbered};
+ghost use Rattle.writer.specs.Atom.{AtomWriteOut, atom_file_from, atom_write_out};
 ghost use Rattle.writer.specs.Internal.{WriteReady};
 
 use crate::Written;
@@ -28,10 +28,10 @@ fn atom_write_question(
     neighbours: &[u16],
     angles: &[f64],
 ) -> u64
-    ensures { result ≡ first (first (atomBuilderQuestion b)
-        (ask (atomRoom b.grid b.top store (length kinds.now) (length levels.now) (length values.now) && meshLong (verticesBelow (suc b.top)) (meshOf vertices.now counts.now neighbours.now angles.now)) 6
-        (ask (meshesKeep b.top (meshOf vertices.now counts.now neighbours.now angles.now)) 7 0)))
-        (ask (rowsKnown b.top (rows_of kinds.now levels.now values.now) 0 b.grid.n_r) 15 0) }
+    ensures { result ≡ first (first (atom_builder_question b)
+        (ask (atom_room b.grid b.top store (length kinds.now) (length levels.now) (length values.now) && mesh_long (vertices_below (suc b.top)) (mesh_of vertices.now counts.now neighbours.now angles.now)) 6
+        (ask (meshes_keep b.top (mesh_of vertices.now counts.now neighbours.now angles.now)) 7 0)))
+        (ask (rows_known b.top (rows_of kinds.now levels.now values.now) 0 b.grid.n_r) 15 0) }
 {
     let n_r = b.grid.n_r;
     let top = b.top;
@@ -66,9 +66,9 @@ fn put_atom_file(
     e: u64,
     out: &mut [u8],
 )
-    requires { WriteReady vertexCount 28 b.top b.grid.n_r (lists_of store.now kinds.now levels.now values.now) e (length out.old)
+    requires { WriteReady vertex_count 28 b.top b.grid.n_r (lists_of store.now kinds.now levels.now values.now) e (length out.old)
         × (b.grid.n_r ≤ 65535) }
-    ensures { out.new ≡ put out.old 0 (atomFileFrom b (lists_of store.now kinds.now levels.now values.now)) }
+    ensures { out.new ≡ put out.old 0 (atom_file_from b (lists_of store.now kinds.now levels.now values.now)) }
 {
     let g = b.grid;
     let n_r = b.grid.n_r;
@@ -93,9 +93,9 @@ pub fn atom_write(
     angles: &[f64],
     output: &mut [u8],
 ) -> Written
-    ensures { (writtenNumbered result ≡ true) × ◌≡◌ {A = AtomWriteOut}
-        (record { answer = writtenValues result; builder = b; lists = lists_of store.now kinds.now levels.now values.now; output = output.new })
-        (atomWriteOut b (meshOf vertices.now counts.now neighbours.now angles.now)
+    ensures { (written_numbered result ≡ true) × ◌≡◌ {A = AtomWriteOut}
+        (record { answer = written_values result; builder = b; lists = lists_of store.now kinds.now levels.now values.now; output = output.new })
+        (atom_write_out b (mesh_of vertices.now counts.now neighbours.now angles.now)
         (lists_of store.now kinds.now levels.now values.now) output.old) }
 {
     let n_r = b.grid.n_r;

@@ -3,10 +3,10 @@ ghost use Rattle.std.specs.Prelude.{◌≡◌, true, ◌≤◌, length};
 ghost use Rattle.rows.specs.Words.{rows_by};
 ghost use Rattle.lists.specs.Lists.{put};
 ghost use Rattle.mesh.specs.Levels.{per};
-ghost use Rattle.mesh.specs.Mesh.{meshOf};
-ghost use Rattle.builder.specs.BuilderLists.{slabs, rowsKnown, wordLists};
-ghost use Rattle.writer.specs.Write.{WriteOut, writtenValues, writtenNumbered, fileFrom, writeOut};
-ghost use Rattle.writer.specs.Internal.{WriteReady, writeQuestion};
+ghost use Rattle.mesh.specs.Mesh.{mesh_of};
+ghost use Rattle.builder.specs.BuilderLists.{slabs, rows_known, word_lists};
+ghost use Rattle.writer.specs.Write.{WriteOut, written_values, written_numbered, file_from, write_out};
+ghost use Rattle.writer.specs.Internal.{WriteReady, write_question};
 
 use crate::Written;
 use crate::sections::{put_head, put_rest, word_total};
@@ -22,7 +22,7 @@ pub(crate) fn rows_known(
     values: &[u32],
     n: u64,
 ) -> bool
-    ensures { result ≡ rowsKnown top (rows_by pairs words.now kinds.now levels.now values.now) 0 n }
+    ensures { result ≡ rows_known top (rows_by pairs words.now kinds.now levels.now values.now) 0 n }
 {
     let mut s: u64 = 0;
     while s < n {
@@ -44,7 +44,7 @@ pub(crate) fn write_question(
     neighbours: &[u16],
     angles: &[f64],
 ) -> u64
-    ensures { result ≡ writeQuestion b (meshOf vertices.now counts.now neighbours.now angles.now) (wordLists store.now words.now) }
+    ensures { result ≡ write_question b (mesh_of vertices.now counts.now neighbours.now angles.now) (word_lists store.now words.now) }
 {
     let n_r = b.grid.n_r;
     let n_omega = b.grid.n_omega;
@@ -71,9 +71,9 @@ pub(crate) fn write_question(
 
 // The file, whose rows hold e energies together.
 pub(crate) fn put_file(b: Builder, store: &[f64], words: &[u64], e: u64, out: &mut [u8])
-    requires { WriteReady per 40 b.top (slabs b.grid) (wordLists store.now words.now) e (length out.old)
+    requires { WriteReady per 40 b.top (slabs b.grid) (word_lists store.now words.now) e (length out.old)
         × (b.grid.n_r ≤ 65535) × (b.grid.n_omega ≤ 65535) }
-    ensures { out.new ≡ put out.old 0 (fileFrom b (wordLists store.now words.now)) }
+    ensures { out.new ≡ put out.old 0 (file_from b (word_lists store.now words.now)) }
 {
     let g = b.grid;
     let n_r = b.grid.n_r;
@@ -108,10 +108,10 @@ pub fn write(
     angles: &[f64],
     output: &mut [u8],
 ) -> Written
-    ensures { (writtenNumbered result ≡ true) × ◌≡◌ {A = WriteOut}
-        (record { answer = writtenValues result; builder = b; lists = wordLists store.now words.now; output = output.new })
-        (writeOut b (meshOf vertices.now counts.now neighbours.now angles.now)
-        (wordLists store.now words.now) output.old) }
+    ensures { (written_numbered result ≡ true) × ◌≡◌ {A = WriteOut}
+        (record { answer = written_values result; builder = b; lists = word_lists store.now words.now; output = output.new })
+        (write_out b (mesh_of vertices.now counts.now neighbours.now angles.now)
+        (word_lists store.now words.now) output.old) }
 {
     let n_r = b.grid.n_r;
     let n_omega = b.grid.n_omega;

@@ -3,13 +3,13 @@ ghost use Rattle.std.specs.Prelude.{◌≡◌, [], ◌∷◌, map, ◌+◌, ◌*
 ghost use Rattle.std.specs.Float.{binary32, binary64};
 ghost use Rattle.std.specs.Float.Ieee.{to_bits};
 ghost use Rattle.lists.specs.Lists.{put, below};
-ghost use Rattle.mesh.specs.Levels.{vertexCount, per};
-ghost use Rattle.rows.specs.Rows.{narrowBits};
-ghost use Rattle.rows.specs.Words.{wordRows, rows_by};
+ghost use Rattle.mesh.specs.Levels.{vertex_count, per};
+ghost use Rattle.rows.specs.Rows.{narrow_bits};
+ghost use Rattle.rows.specs.Words.{word_rows, rows_by};
 ghost use Rattle.table.specs.Bytes.{bytes_of, packed, section};
-ghost use Rattle.table.specs.File.{entryBytes};
-ghost use Rattle.table.specs.Internal.{eachOf};
-ghost use Rattle.writer.specs.Internal.{heldBy, offset_of, resolutions, entriesFor, total, energiesFor, Bounded, headBytes, restBytes, listsBy, WriteReady};
+ghost use Rattle.table.specs.File.{entry_bytes};
+ghost use Rattle.table.specs.Internal.{each_of};
+ghost use Rattle.writer.specs.Internal.{held_by, offset_of, resolutions, entries_for, total, energies_for, Bounded, head_bytes, rest_bytes, lists_by, WriteReady};
 
 use crate::bytes::{put_f64, put_u32};
 use grid::{AtomGrid, Grid};
@@ -37,7 +37,7 @@ fn put_bins(out: &mut [u8], n: u32, m: u32)
 // The two head sections of a grid.
 pub(crate) fn put_head(out: &mut [u8], g: Grid)
     requires { (40 ≤ length out.old) × (g.n_r ≤ 65535) × (g.n_omega ≤ 65535) }
-    ensures { out.new ≡ put out.old 0 (headBytes (to_bits binary64 g.rmin ∷ to_bits binary64 g.dr ∷ to_bits binary64 g.omega_step ∷ []) (g.n_r ∷ g.n_omega ∷ [])) }
+    ensures { out.new ≡ put out.old 0 (head_bytes (to_bits binary64 g.rmin ∷ to_bits binary64 g.dr ∷ to_bits binary64 g.omega_step ∷ []) (g.n_r ∷ g.n_omega ∷ [])) }
 {
     let rmin = g.rmin;
     let dr = g.dr;
@@ -50,7 +50,7 @@ pub(crate) fn put_head(out: &mut [u8], g: Grid)
 
 pub(crate) fn put_atom_head(out: &mut [u8], g: AtomGrid)
     requires { (28 ≤ length out.old) × (g.n_r ≤ 65535) }
-    ensures { out.new ≡ put out.old 0 (headBytes (to_bits binary64 g.rmin ∷ to_bits binary64 g.dr ∷ []) (g.n_r ∷ [])) }
+    ensures { out.new ≡ put out.old 0 (head_bytes (to_bits binary64 g.rmin ∷ to_bits binary64 g.dr ∷ []) (g.n_r ∷ [])) }
 {
     let rmin = g.rmin;
     let dr = g.dr;
@@ -64,7 +64,7 @@ pub(crate) fn put_atom_head(out: &mut [u8], g: AtomGrid)
 
 fn put_vertex_counts(out: &mut [u8], at: u64, levels: u64)
     requires { (at + 4 * levels ≤ length out.old) × (levels ≤ 16) }
-    ensures { out.new ≡ put out.old at (packed (bytes_of 4) (map vertexCount (below levels))) }
+    ensures { out.new ≡ put out.old at (packed (bytes_of 4) (map vertex_count (below levels))) }
 {
     let mut m: u64 = 0;
     while m < levels {
@@ -75,7 +75,7 @@ fn put_vertex_counts(out: &mut [u8], at: u64, levels: u64)
 
 fn put_levels(out: &mut [u8], at: u64, levels: u64)
     requires { (at + 4 + 4 * levels ≤ length out.old) × (levels ≤ 16) }
-    ensures { out.new ≡ put out.old at (section (bytes_of 4) (map vertexCount (below levels))) }
+    ensures { out.new ≡ put out.old at (section (bytes_of 4) (map vertex_count (below levels))) }
 {
     put_u32(out, at, levels as u32);
     put_vertex_counts(out, at + 4, levels);
@@ -83,7 +83,7 @@ fn put_levels(out: &mut [u8], at: u64, levels: u64)
 
 // How many energies a row holds.
 fn energy_count(pairs: bool, x: SlabResolution) -> u64
-    ensures { result ≡ heldBy (eachOf pairs) x }
+    ensures { result ≡ held_by (each_of pairs) x }
 {
     match x {
         SlabResolution::Scalar(_) => 0,
@@ -114,7 +114,7 @@ fn put_two(out: &mut [u8], at: u64, a: u8, b: u8)
 
 fn put_row(out: &mut [u8], at: u64, kind: u8, level: u8, offset: u32, value: u32)
     requires { at + 10 ≤ length out.old }
-    ensures { out.new ≡ put out.old at (entryBytes (record { kind = kind; level = level; offset = offset; scalar = value })) }
+    ensures { out.new ≡ put out.old at (entry_bytes (record { kind = kind; level = level; offset = offset; scalar = value })) }
 {
     put_two(out, at, kind, level);
     put_u32(out, at + 2, offset);
@@ -133,8 +133,8 @@ fn put_entries(
     n: u64,
 )
     requires { (at + n * 10 ≤ length out.old)
-        × (total (eachOf pairs) (resolutions (rows_by pairs words.now kinds.now levels.now values.now) 0 n) ≤ 4294967295) }
-    ensures { out.new ≡ put out.old at (packed entryBytes (entriesFor (eachOf pairs) 0 (resolutions (rows_by pairs words.now kinds.now levels.now values.now) 0 n))) }
+        × (total (each_of pairs) (resolutions (rows_by pairs words.now kinds.now levels.now values.now) 0 n) ≤ 4294967295) }
+    ensures { out.new ≡ put out.old at (packed entry_bytes (entries_for (each_of pairs) 0 (resolutions (rows_by pairs words.now kinds.now levels.now values.now) 0 n))) }
 {
     let mut s: u64 = 0;
     let mut left = n;
@@ -167,8 +167,8 @@ pub(crate) fn energy_total(
     values: &[u32],
     n: u64,
 ) -> u64
-    requires { total (eachOf pairs) (resolutions (rows_by pairs words.now kinds.now levels.now values.now) 0 n) ≤ 4294967295 }
-    ensures { result ≡ total (eachOf pairs) (resolutions (rows_by pairs words.now kinds.now levels.now values.now) 0 n) }
+    requires { total (each_of pairs) (resolutions (rows_by pairs words.now kinds.now levels.now values.now) 0 n) ≤ 4294967295 }
+    ensures { result ≡ total (each_of pairs) (resolutions (rows_by pairs words.now kinds.now levels.now values.now) 0 n) }
 {
     let mut s: u64 = 0;
     let mut left = n;
@@ -186,8 +186,8 @@ pub(crate) fn energy_total(
 
 // .. of rows that are words; the lists that are not looked at have to be handed over all the same.
 pub(crate) fn word_total(words: &[u64], n: u64) -> u64
-    requires { total per (resolutions (wordRows words.now) 0 n) ≤ 4294967295 }
-    ensures { result ≡ total per (resolutions (wordRows words.now) 0 n) }
+    requires { total per (resolutions (word_rows words.now) 0 n) ≤ 4294967295 }
+    ensures { result ≡ total per (resolutions (word_rows words.now) 0 n) }
 {
     let bytes: [u8; 1] = [0; 1];
     let numbers: [u32; 1] = [0; 1];
@@ -214,7 +214,7 @@ fn put_floats(out: &mut [u8], at: u64, list: &[f32], n: u64)
 // Energies that the block has room for, narrowed.
 fn put_block(out: &mut [u8], at: u64, store: &[f64], from: u64, n: u64, block: &mut [f32])
     requires { (at + n * 4 ≤ length out.old) × (from + n ≤ length store.now) × (n ≤ length block.old) }
-    ensures { out.new ≡ put out.old at (packed (bytes_of 4) (map narrowBits (take n (drop from store.now)))) }
+    ensures { out.new ≡ put out.old at (packed (bytes_of 4) (map narrow_bits (take n (drop from store.now)))) }
 {
     let start = from as usize;
     let end = (from + n) as usize;
@@ -231,7 +231,7 @@ fn block_size(left: u64) -> u64
 // A block at a time.
 fn put_blocks(out: &mut [u8], at: u64, store: &[f64], from: u64, n: u64, block: &mut [f32])
     requires { (at + n * 4 ≤ length out.old) × (from + n ≤ length store.now) × (256 ≤ length block.old) }
-    ensures { out.new ≡ put out.old at (packed (bytes_of 4) (map narrowBits (take n (drop from store.now)))) }
+    ensures { out.new ≡ put out.old at (packed (bytes_of 4) (map narrow_bits (take n (drop from store.now)))) }
 {
     let mut p = from;
     let mut left = n;
@@ -248,7 +248,7 @@ fn put_blocks(out: &mut [u8], at: u64, store: &[f64], from: u64, n: u64, block: 
 // The energies of one row, narrowed.
 fn put_energies(out: &mut [u8], at: u64, store: &[f64], from: u64, n: u64)
     requires { (at + n * 4 ≤ length out.old) × (from + n ≤ length store.now) }
-    ensures { out.new ≡ put out.old at (packed (bytes_of 4) (map narrowBits (take n (drop from store.now)))) }
+    ensures { out.new ≡ put out.old at (packed (bytes_of 4) (map narrow_bits (take n (drop from store.now)))) }
 {
     let mut block: [f32; 256] = [0.0; 256];
     put_blocks(out, at, store, from, n, &mut block);
@@ -267,9 +267,9 @@ fn put_slabs(
     values: &[u32],
     n: u64,
 )
-    requires { (at + total (eachOf pairs) (resolutions (rows_by pairs words.now kinds.now levels.now values.now) 0 n) * 4 ≤ length out.old)
-        × (n * z ≤ length store.now) × (Bounded (eachOf pairs) z (resolutions (rows_by pairs words.now kinds.now levels.now values.now) 0 n)) }
-    ensures { out.new ≡ put out.old at (packed (bytes_of 4) (energiesFor (eachOf pairs) z store.now 0 (resolutions (rows_by pairs words.now kinds.now levels.now values.now) 0 n))) }
+    requires { (at + total (each_of pairs) (resolutions (rows_by pairs words.now kinds.now levels.now values.now) 0 n) * 4 ≤ length out.old)
+        × (n * z ≤ length store.now) × (Bounded (each_of pairs) z (resolutions (rows_by pairs words.now kinds.now levels.now values.now) 0 n)) }
+    ensures { out.new ≡ put out.old at (packed (bytes_of 4) (energies_for (each_of pairs) z store.now 0 (resolutions (rows_by pairs words.now kinds.now levels.now values.now) 0 n))) }
 {
     let mut s: u64 = 0;
     let mut left = n;
@@ -300,8 +300,8 @@ fn put_rows(
     n: u64,
 )
     requires { (at + 4 + n * 10 ≤ length out.old) × (n ≤ 4294967295)
-        × (total (eachOf pairs) (resolutions (rows_by pairs words.now kinds.now levels.now values.now) 0 n) ≤ 4294967295) }
-    ensures { out.new ≡ put out.old at (section entryBytes (entriesFor (eachOf pairs) 0 (resolutions (rows_by pairs words.now kinds.now levels.now values.now) 0 n))) }
+        × (total (each_of pairs) (resolutions (rows_by pairs words.now kinds.now levels.now values.now) 0 n) ≤ 4294967295) }
+    ensures { out.new ≡ put out.old at (section entry_bytes (entries_for (each_of pairs) 0 (resolutions (rows_by pairs words.now kinds.now levels.now values.now) 0 n))) }
 {
     put_u32(out, at, n as u32);
     put_entries(out, at + 4, pairs, words, kinds, levels, values, n);
@@ -322,9 +322,9 @@ fn put_energy_section(
     n: u64,
 )
     requires { (at + 4 + e * 4 ≤ length out.old) × (e ≤ 4294967295)
-        × (e ≡ total (eachOf pairs) (resolutions (rows_by pairs words.now kinds.now levels.now values.now) 0 n))
-        × (n * z ≤ length store.now) × (Bounded (eachOf pairs) z (resolutions (rows_by pairs words.now kinds.now levels.now values.now) 0 n)) }
-    ensures { out.new ≡ put out.old at (section (bytes_of 4) (energiesFor (eachOf pairs) z store.now 0 (resolutions (rows_by pairs words.now kinds.now levels.now values.now) 0 n))) }
+        × (e ≡ total (each_of pairs) (resolutions (rows_by pairs words.now kinds.now levels.now values.now) 0 n))
+        × (n * z ≤ length store.now) × (Bounded (each_of pairs) z (resolutions (rows_by pairs words.now kinds.now levels.now values.now) 0 n)) }
+    ensures { out.new ≡ put out.old at (section (bytes_of 4) (energies_for (each_of pairs) z store.now 0 (resolutions (rows_by pairs words.now kinds.now levels.now values.now) 0 n))) }
 {
     put_u32(out, at, e as u32);
     put_slabs(
@@ -355,8 +355,8 @@ pub(crate) fn put_rest(
     levels: &[u8],
     values: &[u32],
 )
-    requires { WriteReady (eachOf pairs) at top n (listsBy pairs store.now words.now kinds.now levels.now values.now) e (length out.old) × (at ≤ 40) }
-    ensures { out.new ≡ put out.old at (restBytes (eachOf pairs) top n (listsBy pairs store.now words.now kinds.now levels.now values.now)) }
+    requires { WriteReady (each_of pairs) at top n (lists_by pairs store.now words.now kinds.now levels.now values.now) e (length out.old) × (at ≤ 40) }
+    ensures { out.new ≡ put out.old at (rest_bytes (each_of pairs) top n (lists_by pairs store.now words.now kinds.now levels.now values.now)) }
 {
     let z = table::energies_of(pairs, top as u8);
     put_levels(out, at, top + 1);

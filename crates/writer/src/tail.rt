@@ -1,12 +1,12 @@
 // Write of a table with a long-range tail: its questions, then the file with its sixth section.
 ghost use Rattle.std.specs.Prelude.{◌≡◌, true, ◌&&◌, ◌+◌, ◌*◌, ◌≤◌, ◌<◌, length, leb};
 ghost use Rattle.lists.specs.Lists.{put, every};
-ghost use Rattle.mesh.specs.Mesh.{meshOf};
-ghost use Rattle.builder.specs.BuilderLists.{wordLists};
+ghost use Rattle.mesh.specs.Mesh.{mesh_of};
+ghost use Rattle.builder.specs.BuilderLists.{word_lists};
 ghost use Rattle.table.specs.Bytes.{packed};
-ghost use Rattle.table.specs.Tail.{termBytes, termValid, tail_bytes};
-ghost use Rattle.writer.specs.Write.{WriteOut, writtenValues, writtenNumbered};
-ghost use Rattle.writer.specs.Tailed.{tailLists, termAt, termsFrom, handed, tailQuestion, tailedQuestion, writeTailOut};
+ghost use Rattle.table.specs.Tail.{term_bytes, term_valid, tail_bytes};
+ghost use Rattle.writer.specs.Write.{WriteOut, written_values, written_numbered};
+ghost use Rattle.writer.specs.Tailed.{tail_lists, term_at, terms_from, handed, tail_question, tailed_question, write_tail_out};
 
 use crate::Written;
 use crate::bytes::{put_f64, put_u32};
@@ -24,7 +24,7 @@ fn tail_long(n: u64, kappas: u64, powers: u64) -> bool
 // Question 23, of a term.
 fn term_fine(coefficients: &[f64], kappas: &[f64], powers: &[u32], i: u64) -> bool
     requires { (i < length coefficients.now) × (i < length kappas.now) × (i < length powers.now) }
-    ensures { result ≡ termValid (termAt coefficients.now kappas.now powers.now i) }
+    ensures { result ≡ term_valid (term_at coefficients.now kappas.now powers.now i) }
 {
     let j = i as usize;
     let coefficient = coefficients[j];
@@ -36,7 +36,7 @@ fn term_fine(coefficients: &[f64], kappas: &[f64], powers: &[u32], i: u64) -> bo
 // Question 23, of every term.
 fn terms_fine(coefficients: &[f64], kappas: &[f64], powers: &[u32], n: u64) -> bool
     requires { (n ≤ length coefficients.now) × (n ≤ length kappas.now) × (n ≤ length powers.now) }
-    ensures { result ≡ every termValid (termsFrom coefficients.now kappas.now powers.now 0 n) }
+    ensures { result ≡ every term_valid (terms_from coefficients.now kappas.now powers.now 0 n) }
 {
     let mut i: u64 = 0;
     let mut left = n;
@@ -53,7 +53,7 @@ fn terms_fine(coefficients: &[f64], kappas: &[f64], powers: &[u32], n: u64) -> b
 // Questions 22 and 23.
 fn tail_question(coefficients: &[f64], kappas: &[f64], powers: &[u32], prefactor: &[f64]) -> u64
     requires { (length coefficients.now ≤ length kappas.now) × (length coefficients.now ≤ length powers.now) }
-    ensures { result ≡ tailQuestion (tailLists coefficients.now kappas.now powers.now prefactor.now) }
+    ensures { result ≡ tail_question (tail_lists coefficients.now kappas.now powers.now prefactor.now) }
 {
     let n = coefficients.len() as u64;
     if n == 0 {
@@ -88,10 +88,10 @@ fn tailed_question(
     powers: &[u32],
     prefactor: &[f64],
 ) -> u64
-    ensures { result ≡ tailedQuestion b
-        (meshOf vertices.now counts.now neighbours.now angles.now)
-        (wordLists store.now words.now)
-        (tailLists coefficients.now kappas.now powers.now prefactor.now) }
+    ensures { result ≡ tailed_question b
+        (mesh_of vertices.now counts.now neighbours.now angles.now)
+        (word_lists store.now words.now)
+        (tail_lists coefficients.now kappas.now powers.now prefactor.now) }
 {
     let g = b.grid;
     let top = b.top;
@@ -116,7 +116,7 @@ fn tailed_question(
 
 fn put_term(out: &mut [u8], at: u64, coefficient: f64, kappa: f64, power: u32)
     requires { at + 20 ≤ length out.old }
-    ensures { out.new ≡ put out.old at (termBytes (record { coefficient = coefficient; kappa = kappa; power = power })) }
+    ensures { out.new ≡ put out.old at (term_bytes (record { coefficient = coefficient; kappa = kappa; power = power })) }
 {
     put_f64(out, at, coefficient);
     put_f64(out, at + 8, kappa);
@@ -126,7 +126,7 @@ fn put_term(out: &mut [u8], at: u64, coefficient: f64, kappa: f64, power: u32)
 // The terms, one after another.
 fn put_terms(out: &mut [u8], at: u64, coefficients: &[f64], kappas: &[f64], powers: &[u32], n: u64)
     requires { (at + n * 20 ≤ length out.old) × (n ≤ length coefficients.now) × (n ≤ length kappas.now) × (n ≤ length powers.now) }
-    ensures { out.new ≡ put out.old at (packed termBytes (termsFrom coefficients.now kappas.now powers.now 0 n)) }
+    ensures { out.new ≡ put out.old at (packed term_bytes (terms_from coefficients.now kappas.now powers.now 0 n)) }
 {
     let mut i: u64 = 0;
     let mut left = n;
@@ -152,7 +152,7 @@ fn put_sixth(
 )
     requires { (n ≡ length coefficients.now) × (n ≤ length kappas.now) × (n ≤ length powers.now) × (n ≤ 4294967295)
         × (0 < n → (at + 12 + n * 20 ≤ length out.old) × (0 < length prefactor.now)) }
-    ensures { out.new ≡ put out.old at (tail_bytes (handed (tailLists coefficients.now kappas.now powers.now prefactor.now))) }
+    ensures { out.new ≡ put out.old at (tail_bytes (handed (tail_lists coefficients.now kappas.now powers.now prefactor.now))) }
 {
     if n == 0 {
         return;
@@ -178,11 +178,11 @@ pub fn write_tail(
     prefactor: &[f64],
     output: &mut [u8],
 ) -> Written
-    ensures { (writtenNumbered result ≡ true) × ◌≡◌ {A = WriteOut}
-        (record { answer = writtenValues result; builder = b; lists = wordLists store.now words.now; output = output.new })
-        (writeTailOut b (meshOf vertices.now counts.now neighbours.now angles.now)
-        (wordLists store.now words.now)
-        (tailLists coefficients.now kappas.now powers.now prefactor.now) output.old) }
+    ensures { (written_numbered result ≡ true) × ◌≡◌ {A = WriteOut}
+        (record { answer = written_values result; builder = b; lists = word_lists store.now words.now; output = output.new })
+        (write_tail_out b (mesh_of vertices.now counts.now neighbours.now angles.now)
+        (word_lists store.now words.now)
+        (tail_lists coefficients.now kappas.now powers.now prefactor.now) output.old) }
 {
     let n_r = b.grid.n_r;
     let n_omega = b.grid.n_omega;

@@ -5,21 +5,21 @@ use native.Mathlib.Omega.{arith}
 use lib.ListN.{length}
 use borrow.Author.Rules.{rules}
 use borrow.Author.Tests.{eq-eqb, ne_eqb}
-use Rattle.mesh.specs.Mesh.{meshOf}
-use Rattle.builder.specs.Calls.{freshOut, filledSlabs}
-use Rattle.builder.specs.Refusals.{meshedRefusal}
+use Rattle.mesh.specs.Mesh.{mesh_of}
+use Rattle.builder.specs.Calls.{fresh_out, filled_slabs}
+use Rattle.builder.specs.Refusals.{meshed_refusal}
 use Rattle.builder.proofs.Laws.{Meshed, meshed, words_long}
 use Rattle.builder.proofs.fresh.Statement.{statement}
 use Rattle.builder.proofs.fresh.Tie as tie
 
 -- where no question was answered no
 facts : (c : tie.Else1) → let a = c.before.before.before.before.before.before.before.before.before.args in
-    Meshed c.before.before.fresh-builder.result (meshOf a.vertices.now a.counts.now a.neighbours.now a.angles.now)
+    Meshed c.before.before.fresh-builder.result (mesh_of a.vertices.now a.counts.now a.neighbours.now a.angles.now)
     (length a.store.now) (length a.words.now) (length a.words.now) (length a.words.now)
 facts c = meshed _ _ _ _ _ _ (sym c.before.meshed-refusal.ensures ∙ c.if1.false)
 
 returns : tie.Need-returns
-unfolding freshOut meshedRefusal
+unfolding fresh_out meshed_refusal
 returns c =
     let a = c.before.before.before.before.before.before.before.before.before.args in
     (rw (ne_eqb _ _ c.if1.true), rw (← c.before.before.fresh-builder.ensures, words_long c.before.before.fresh-builder.result a.store.now a.words.now, ← c.before.meshed-refusal.ensures, ne_eqb _ _ c.if1.true))
@@ -28,13 +28,13 @@ mul-clear-slabs : tie.Need-overflow-mul-clear-slabs
 mul-clear-slabs c = let f = facts c in omega (arith, mul-le-mul f.asked.rs f.asked.omegas)
 
 cast-per-level : tie.Need-overflow-cast-per-level
-cast-per-level c = let f = facts c in omega (arith, f.asked.top-le)
+cast-per-level c = let f = facts c in omega (arith, f.asked.top_le)
 
 clear-slabs-requires : tie.Need-clear-slabs-requires
-clear-slabs-requires c κs = let f = facts c.before.before.before in rw c.before.before.per-level.ensures (f.room.store-le, f.room.kinds-le)
+clear-slabs-requires c κs = let f = facts c.before.before.before in rw c.before.before.per-level.ensures (f.room.store_le, f.room.kinds_le)
 
 returns-2 : tie.Need-returns-2
-unfolding freshOut meshedRefusal
+unfolding fresh_out meshed_refusal
 returns-2 c =
     let d = c.before.before.before.before.before.before.before.before in
     let a = d.before.before.before.before.before.before.before.before.before.args in

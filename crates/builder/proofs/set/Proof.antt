@@ -5,11 +5,11 @@ use native.Mathlib.Nat.{mul-le-mul}
 use native.Mathlib.Omega.{arith}
 use lib.ListN.{length}
 use borrow.Author.Tests.{eq-eqb, ne_eqb}
-use Rattle.builder.specs.BuilderLists.{BuilderLists, wordLists, slab, row_at}
-use Rattle.builder.specs.Calls.{setBuilder, setOut, slabSet}
-use Rattle.builder.specs.Refusals.{setRefusal}
+use Rattle.builder.specs.BuilderLists.{BuilderLists, word_lists, slab, row_at}
+use Rattle.builder.specs.Calls.{set_builder, set_out, slab_set}
+use Rattle.builder.specs.Refusals.{set_refusal}
 use Rattle.builder.proofs.Laws.{Set, accepted, words_long}
-use Rattle.builder.proofs.Turns.{set-builder-is}
+use Rattle.builder.proofs.Turns.{set_builder_is}
 use borrow.Author.Rules.{rules}
 use Rattle.builder.proofs.set.Statement.{statement}
 use Rattle.builder.proofs.set.Tie as tie
@@ -20,7 +20,7 @@ facts : (c : tie.Else1) → let a = c.before.before.before.before.before.before.
 facts c = accepted _ _ _ _ _ _ _ _ _ (sym c.before.set-refusal.ensures ∙ c.if1.false)
 
 returns : tie.Need-returns
-unfolding setOut setRefusal
+unfolding set_out set_refusal
 returns c =
     let a = c.before.before.before.before.before.before.args in
     (rw (ne_eqb _ _ c.if1.true), rw (words_long a.b a.store.now a.words.now, ← c.before.set-refusal.ensures, ne_eqb _ _ c.if1.true))
@@ -32,13 +32,13 @@ add-s : tie.Need-overflow-add-s
 add-s c = let f = facts c in omega (arith, f.row, mul-le-mul f.asked.rs f.asked.omegas)
 
 set-builder-requires : tie.Need-set-builder-requires
-set-builder-requires c κs = let f = facts c.before.before in omega (arith, f.asked.top-le, f.asked.level-le)
+set-builder-requires c κs = let f = facts c.before.before in omega (arith, f.asked.top_le, f.asked.level_le)
 
 cast-per-level : tie.Need-overflow-cast-per-level
-cast-per-level c = let f = facts c.before.before.before in omega (arith, f.asked.top-le)
+cast-per-level c = let f = facts c.before.before.before in omega (arith, f.asked.top_le)
 
 cast-set-slab : tie.Need-overflow-cast-set-slab
-cast-set-slab c = let f = facts c.before.before.before.before in omega (arith, f.asked.top-le, f.asked.level-le)
+cast-set-slab c = let f = facts c.before.before.before.before in omega (arith, f.asked.top_le, f.asked.level_le)
 
 set-slab-requires : tie.Need-set-slab-requires
 set-slab-requires c κs =
@@ -47,7 +47,7 @@ set-slab-requires c κs =
     rw p.per-level.ensures f.energies
 
 returns-2 : tie.Need-returns-2
-unfolding setOut setRefusal
+unfolding set_out set_refusal
 returns-2 c =
     let w = c.before.before.before.before in
     let p = w.before.before.before in
@@ -55,10 +55,10 @@ returns-2 c =
     let r = s.before in
     let e = r.before.before in
     let a = e.before.before.before.before.before.before.args in
-    let l : BuilderLists = wordLists a.store.now a.words.now in
+    let l : BuilderLists = word_lists a.store.now a.words.now in
     let at = slab a.b.grid a.ri a.oi in
-    let after : s.set-builder.result ≡ setBuilder a.b (row_at a.b.top l at) =
-    s.set-builder.ensures ∙ rw r.resolution-in.ensures (set-builder-is a.b l at) in
+    let after : s.set-builder.result ≡ set_builder a.b (row_at a.b.top l at) =
+    s.set-builder.ensures ∙ rw r.resolution-in.ensures (set_builder_is a.b l at) in
     (refl, rw (words_long a.b a.store.now a.words.now, ← e.before.set-refusal.ensures, eq-eqb _ _ e.if1.false, ← p.per-level.ensures, w.set-slab.ensures, after))
 
 pub set_spec : {M : Type 1} → statement M

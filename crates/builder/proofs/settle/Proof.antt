@@ -2,10 +2,10 @@
 use mathlib.Core.Path.{refl, sym, ◌∙◌}
 use Prim.Native.Nat.{◌^◌, ◌<◌}
 use borrow.Author.Tests.{eq-eqb, ne_eqb}
-use Rattle.mesh.specs.Mesh.{Mesh, meshOf}
-use Rattle.builder.specs.BuilderLists.{BuilderLists, wordLists}
-use Rattle.builder.specs.Calls.{settleOut}
-use Rattle.builder.proofs.Accepted.{ready, count-ready, settle_is}
+use Rattle.mesh.specs.Mesh.{Mesh, mesh_of}
+use Rattle.builder.specs.BuilderLists.{BuilderLists, word_lists}
+use Rattle.builder.specs.Calls.{settle_out}
+use Rattle.builder.proofs.Accepted.{ready, count_ready, settle_is}
 use borrow.Author.Rules.{rules}
 use Rattle.builder.proofs.settle.Statement.{statement}
 use Rattle.builder.proofs.settle.Tie as tie
@@ -14,32 +14,32 @@ few : (c : tie.Start) → c.args.b.packed < 2 ^ 64
 few c = search rules
 
 returns : tie.Need-returns
-unfolding settleOut
+unfolding settle_out
 returns c = (rw (ne_eqb _ _ c.if1.true), rw (← c.before.settle-refusal.ensures, ne_eqb _ _ c.if1.true))
 
 settle-slice-requires : tie.Need-settle-slice-requires
 settle-slice-requires c κs =
     let a = c.before.before.before.before.before.before.before.before.before.before.args in
-    let m : Mesh = meshOf a.vertices.now a.counts.now a.neighbours.now a.angles.now in
-    let l : BuilderLists = wordLists a.store.now a.words.now in
+    let m : Mesh = mesh_of a.vertices.now a.counts.now a.neighbours.now a.angles.now in
+    let l : BuilderLists = word_lists a.store.now a.words.now in
     let e = c.before in
     ready a.b m l a.ri (sym e.before.settle-refusal.ensures ∙ e.if1.false)
 
 compared-requires : tie.Need-compared-requires
 compared-requires c κs =
     let a = c.before.before.before.before.before.before.before.before.before.before.before.before.before.args in
-    let m : Mesh = meshOf a.vertices.now a.counts.now a.neighbours.now a.angles.now in
-    let l : BuilderLists = wordLists a.store.now a.words.now in
+    let m : Mesh = mesh_of a.vertices.now a.counts.now a.neighbours.now a.angles.now in
+    let l : BuilderLists = word_lists a.store.now a.words.now in
     let e = c.before.before.before.before in
-    count-ready a.b m l a.ri _ (sym e.before.settle-refusal.ensures ∙ e.if1.false) c.before.before.settle-slice.ensures.0
+    count_ready a.b m l a.ri _ (sym e.before.settle-refusal.ensures ∙ e.if1.false) c.before.before.settle-slice.ensures.0
 
 returns-2 : tie.Need-returns-2
-unfolding settleOut
+unfolding settle_out
 returns-2 c =
     let start = c.before.before.before.before.before.before.before.before.before.before.before.before.before.before.before in
     let a = start.args in
-    let m : Mesh = meshOf a.vertices.now a.counts.now a.neighbours.now a.angles.now in
-    let l : BuilderLists = wordLists a.store.now a.words.now in
+    let m : Mesh = mesh_of a.vertices.now a.counts.now a.neighbours.now a.angles.now in
+    let l : BuilderLists = word_lists a.store.now a.words.now in
     let e = c.before.before.before.before.before.before in
     let told = c.before.before.before.before.settle-slice.ensures in
     let put = settle_is a.b m l a.ri _ _ (few start) (sym e.before.settle-refusal.ensures ∙ e.if1.false) told in

@@ -1,8 +1,8 @@
 -- `power` meets its contract: the exponent is the measure. Assumes nothing.
 use Rattle.std.proofs.Common.{◌≡◌, ℕ, ◌/◌, ◌%◌, ◌<◌, Bool, true, false, cond, eqb, sym, ap, ◌∙◌, subst, eq-eqb, ne_eqb}
 use lib.Ieee.{Float, binary64, mul}
-use Rattle.float.specs.Power.{squaredTimes, power as powerOf}
-use Rattle.float.proofs.Halving.{power-none, power-halves, half-falls}
+use Rattle.float.specs.Power.{squared_times, power as powerOf}
+use Rattle.float.proofs.Halving.{power-none, power-halves, half_falls}
 use borrow.Fn.Kinds.{In}
 use borrow.Fn.PlainCycle.{Measures, is, falls, and}
 use Rattle.float.proofs.power.Reads as power
@@ -24,8 +24,8 @@ power_below t = and 0 power-kinds.ps (falls 0 power-kinds.ps ◌<◌ μ-power t)
 turned :
     (r : Float) (n : ℕ) (p : Float) (odd : Bool) → ((n ≡ 0) → ⊥) → p ≡ powerOf r (n / 2) → eqb (n % 2) 1 ≡ odd
     → cond odd (mul binary64 (mul binary64 p p) r) (mul binary64 p p) ≡ powerOf r n
-unfolding squaredTimes
-turned r n p odd f e d = sym (power-halves r n f ∙ ap (squaredTimes r n) (sym e) ∙ ap (λ b. cond b (mul binary64 (mul binary64 p p) r) (mul binary64 p p)) d)
+unfolding squared_times
+turned r n p odd f e d = sym (power-halves r n f ∙ ap (squared_times r n) (sym e) ∙ ap (λ b. cond b (mul binary64 (mul binary64 p p) r) (mul binary64 p p)) d)
 
 power-returns :
     (t : ℕ) → power-lts.Need-returns (power_below t, power.Post) (power_at t) power.Post
@@ -33,7 +33,7 @@ power-returns t c = sym (ap (powerOf c.before.args.r) c.if1.true ∙ power-none 
 
 power-power-requires :
     (t : ℕ) → power-lts.Need-power-requires (power_below t, power.Post) (power_at t) power.Post
-power-power-requires t c κs = (subst (λ (j : ℕ). c.before.args.n / 2 < j) c.before.requires.0 (half-falls c.before.args.n c.if1.false), tt)
+power-power-requires t c κs = (subst (λ (j : ℕ). c.before.args.n / 2 < j) c.before.requires.0 (half_falls c.before.args.n c.if1.false), tt)
 
 power-returns-2 :
     (t : ℕ) → power-lts.Need-returns-2 (power_below t, power.Post) (power_at t) power.Post

@@ -4,7 +4,7 @@ use denote.Floats.{passes}
 use lib.Ieee.{is_nan, div, of_bits, neg}
 use lib.Ieee.Compare.{differs_from_itself}
 use Rattle.float.specs.Exp.{exponential}
-use Rattle.float.proofs.Tests.{nan-test, inside}
+use Rattle.float.proofs.Tests.{nan_test, inside}
 use Rattle.float.proofs.exp.Statement.{statement}
 use Rattle.float.proofs.exp.Tie as tie
 
@@ -17,7 +17,7 @@ returns c = rw (differs_from_itself c.before.before.before.args.y (passes _ c.if
 
 -- past the test for a NaN
 number : (c : tie.Else1) → is_nan c.before.before.before.args.y ≡ false
-number c = sym (nan-test c.before.before.before.args.y) ∙ c.if1.false
+number c = sym (nan_test c.before.before.before.args.y) ∙ c.if1.false
 
 returns-2 : tie.Need-returns-2
 unfolding exponential of_bits neg

@@ -1,7 +1,7 @@
 -- `exp_list` meets its contract. Assumes nothing.
 use Rattle.std.proofs.Common.{◌≡◌, ◌-◌, ◌≤◌, ◌++◌, map, length, take, drop, sym, refl, ◌∙◌, arith, length-set, rules}
 use lib.Ieee.{nan}
-use Rattle.lists.proofs.Loops.{map-turn, map-end}
+use Rattle.lists.proofs.Loops.{map_turn, map_end}
 use Rattle.float.specs.Exp.{exponential}
 use Rattle.float.proofs.exp_list.Statement.{statement}
 use Rattle.float.proofs.exp_list.Tie as tie
@@ -31,12 +31,12 @@ loop-less c = omega (arith, length-set c.before.before.before.loop.list c.before
 loop-again : tie.Need-loop-preserved invariant-loop decreases-loop
 loop-again c =
     let l = c.before.before.before.loop in
-    (omega (arith, length-set l.list l.i c.exp.result), simp length-set l.invariant.1, rw c.exp.ensures (map-turn exponential l.list l.i nan (search rules) ∙ l.invariant.2))
+    (omega (arith, length-set l.list l.i c.exp.result), simp length-set l.invariant.1, rw c.exp.ensures (map_turn exponential l.list l.i nan (search rules) ∙ l.invariant.2))
 
 returns : tie.Need-returns invariant-loop decreases-loop
 returns c =
     let l = c.before.loop in
-    sym (map-end exponential l.list l.i (search rules)) ∙ l.invariant.2
+    sym (map_end exponential l.list l.i (search rules)) ∙ l.invariant.2
 
 pub exp-list-spec : {M : Type 1} → statement M
 exp-list-spec =

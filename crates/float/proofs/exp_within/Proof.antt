@@ -2,19 +2,19 @@
 use Rattle.std.proofs.Common.{false, sym, ap, subst, rules}
 use lib.Ieee.{of_bits}
 use Rattle.float.specs.Exp.{doublings, residue, raised, scaled}
-use Rattle.float.proofs.Values.{value-no-nan}
+use Rattle.float.proofs.Values.{value_no_nan}
 use Rattle.float.proofs.Reach.{argument, reach}
-use Rattle.float.proofs.Shifts.{Exponent, small-exponent, shifted, shifted-value, first-is, first-pattern, second_is, second-pattern}
+use Rattle.float.proofs.Shifts.{Exponent, small_exponent, shifted, shifted_value, first_is, first-pattern, second_is, second-pattern}
 use Rattle.float.proofs.exp_within.Statement.{statement}
 use Rattle.float.proofs.exp_within.Tie as tie
 
 exponent : (c : tie.After-doublings) → Exponent c.doublings.result
 unfolding doublings of_bits
-exponent c = let p = c.before.requires in subst Exponent (sym c.doublings.ensures) (small-exponent (argument c.before.args.y) (reach c.before.args.y p.0 p.1 p.2))
+exponent c = let p = c.before.requires in subst Exponent (sym c.doublings.ensures) (small_exponent (argument c.before.args.y) (reach c.before.args.y p.0 p.1 p.2))
 
 float-to-bits-fields : tie.Need-float-to-bits-fields
 unfolding of_bits
-float-to-bits-fields c = let k = c.doublings.result in value-no-nan (shifted k (exponent c)) false _ _ (shifted-value k (exponent c))
+float-to-bits-fields c = let k = c.doublings.result in value_no_nan (shifted k (exponent c)) false _ _ (shifted_value k (exponent c))
 
 float-from-bits-p : tie.Need-float-from-bits-p
 unfolding of_bits
@@ -29,7 +29,7 @@ unfolding scaled raised residue of_bits
 returns c =
     let d = c.before in
     let k = d.doublings.result in
-    rw (c.series.ensures, first-is k (exponent d), second_is k (exponent d)) (ap (scaled d.before.args.y) d.doublings.ensures)
+    rw (c.series.ensures, first_is k (exponent d), second_is k (exponent d)) (ap (scaled d.before.args.y) d.doublings.ensures)
 
 pub exp-within-spec : {M : Type 1} → statement M
 exp-within-spec =

@@ -4,10 +4,10 @@ use denote.Floats.{passes}
 use lib.Count.{count_leading_zeros, leading_le}
 use lib.Ieee.{nan, inf, binary64, fits, to_bits, of_bits, neg, div}
 use Rattle.ieee.proofs.Steps.{Lead, lead}
-use Rattle.ieee.proofs.RootSteps.{unbounded, zero-alone, neither}
+use Rattle.ieee.proofs.RootSteps.{unbounded, zero_alone, neither}
 use Rattle.float.specs.Log.{logarithm}
 use Rattle.float.proofs.Ends.{above_no_nan}
-use Rattle.float.proofs.Leading.{normal-value, low-pos, raised-value, no-finite}
+use Rattle.float.proofs.Leading.{normal_value, low_pos, raised_value, no_finite}
 use Rattle.float.proofs.ln.Statement.{statement}
 use Rattle.float.proofs.ln.Tie as tie
 
@@ -21,7 +21,7 @@ float-to-bits-b c = above_no_nan c.before.args.x c.if1.true
 -- the digits moved up
 moved : (c : tie.Then2) → let b = to_bits binary64 c.before.before.args.x in (11 ≤ count_leading_zeros 64 b) × Lead b 11 (count_leading_zeros 64 b - 11)
 unfolding of_bits
-moved c = let s = c.before.before in lead (to_bits binary64 s.args.x) 11 (low-pos s.args.x (held s) c.before.if1.true c.if2.true) (omega (arith, c.if2.true))
+moved c = let s = c.before.before in lead (to_bits binary64 s.args.x) 11 (low_pos s.args.x (held s) c.before.if1.true c.if2.true) (omega (arith, c.if2.true))
 
 whole : (c : tie.Then2) → let b = to_bits binary64 c.before.before.args.x in let z = count_leading_zeros 64 b - 11 in b * 2 ^ z % 2 ^ 64 ≡ b * 2 ^ z
 whole c = mod-eq_of_lt (lt_of_lt_of_le (moved c).1.high (lit≤ tt))
@@ -49,18 +49,18 @@ returns c =
     let z = count_leading_zeros 64 b - 11 in
     let w = sym (whole k) in
     let m = (moved k).1 in
-    c.ln-digits.ensures s.args.x (held s) (raised-value s.args.x z (b * 2 ^ z % 2 ^ 64) (held s) k.if2.true (whole k) (subst (λ (y : ℕ). 2 ^ 52 ≤ y) w m.low) (subst (λ (y : ℕ). y < 2 ^ 53) w m.high))
+    c.ln-digits.ensures s.args.x (held s) (raised_value s.args.x z (b * 2 ^ z % 2 ^ 64) (held s) k.if2.true (whole k) (subst (λ (y : ℕ). 2 ^ 52 ≤ y) w m.low) (subst (λ (y : ℕ). y < 2 ^ 53) w m.high))
 
 returns-2 : tie.Need-returns-2
-returns-2 c = let k = c.before in let s = k.before.before.before in c.ln-digits2.ensures s.args.x (held s) (normal-value s.args.x (held s) k.before.if2.false k.if3.true)
+returns-2 c = let k = c.before in let s = k.before.before.before in c.ln-digits2.ensures s.args.x (held s) (normal_value s.args.x (held s) k.before.if2.false k.if3.true)
 
 returns-3 : tie.Need-returns-3
 unfolding of_bits logarithm
-returns-3 c = let s = c.before.before.before in let l = c.before.before.if1.true in unbounded (λ x. x ≡ logarithm x) refl s.args.x l (no-finite s.args.x (held s) l c.if3.false)
+returns-3 c = let s = c.before.before.before in let l = c.before.before.if1.true in unbounded (λ x. x ≡ logarithm x) refl s.args.x l (no_finite s.args.x (held s) l c.if3.false)
 
 returns-4 : tie.Need-returns-4
 unfolding of_bits neg div logarithm
-returns-4 c = zero-alone (λ x. inf true ≡ logarithm x) (λ s e. refl) c.before.before.args.x c.if4.true
+returns-4 c = zero_alone (λ x. inf true ≡ logarithm x) (λ s e. refl) c.before.before.args.x c.if4.true
 
 returns-5 : tie.Need-returns-5
 unfolding of_bits div logarithm

@@ -5,7 +5,7 @@ use lib.Ieee.{binary64, to_bits}
 use lib.Ieee.Bits.{to_bits-lt}
 use lib.Ieee.Compare.{differs_from_itself}
 use Rattle.float.specs.Order.{rank}
-use Rattle.ieee.proofs.Fields.{no-nan-of-same}
+use Rattle.ieee.proofs.Fields.{no_nan_of_same}
 use Rattle.float.proofs.place.Statement.{statement}
 use Rattle.float.proofs.place.Tie as tie
 
@@ -14,7 +14,7 @@ unfolding rank to_bits
 returns c = rw (differs_from_itself c.before.args.x (passes _ c.if1.true))
 
 float-to-bits-b : tie.Need-float-to-bits-b
-float-to-bits-b c = no-nan-of-same c.before.args.x c.if1.false
+float-to-bits-b c = no_nan_of_same c.before.args.x c.if1.false
 
 returns-2 : tie.Need-returns-2
 unfolding rank

@@ -3,18 +3,18 @@ use mathlib.Core.Path.{◌≡◌, sym, ap, ◌∙◌}
 use Prim.Native.Nat.{ℕ, ◌%◌}
 use native.Mathlib.Nat.{mod_self, mod-eq_of_lt}
 use borrow.Author.Tests.{eq-eqb, ne_eqb}
-use Rattle.grid.specs.Bins.{dihedralBin}
+use Rattle.grid.specs.Bins.{dihedral_bin}
 use borrow.Author.Rules.{rules}
 use Rattle.grid.proofs.dihedral_bin.Statement.{statement}
 use Rattle.grid.proofs.dihedral_bin.Tie as tie
 
 -- once there are bins
-turned : (c : tie.Else1) → (let a = c.before.before.before.args in c.before.nearest-bin.result % a.n ≡ dihedralBin a.omega a.step a.n)
-unfolding dihedralBin
+turned : (c : tie.Else1) → (let a = c.before.before.before.args in c.before.nearest-bin.result % a.n ≡ dihedral_bin a.omega a.step a.n)
+unfolding dihedral_bin
 turned c = rw (c.before.nearest-bin.ensures, c.before.before.rem-tau.ensures, ne_eqb c.before.before.before.args.n 0 c.if1.false)
 
 returns : tie.Need-returns
-unfolding dihedralBin
+unfolding dihedral_bin
 returns c = rw (eq-eqb c.before.before.before.args.n 0 c.if1.true)
 
 returns-2 : tie.Need-returns-2

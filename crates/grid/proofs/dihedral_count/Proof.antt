@@ -1,11 +1,11 @@
 -- `dihedral_count` meets its contract. Assumes nothing.
-use Rattle.grid.specs.Bins.{dihedralCount}
+use Rattle.grid.specs.Bins.{dihedral_count}
 use borrow.Author.Rules.{rules}
 use Rattle.grid.proofs.dihedral_count.Statement.{statement}
 use Rattle.grid.proofs.dihedral_count.Tie as tie
 
 returns : tie.Need-returns
-unfolding dihedralCount
+unfolding dihedral_count
 returns c = c.nearest-bin.ensures
 
 pub dihedral-count-spec : {M : Type 1} → statement M

@@ -1,19 +1,19 @@
 -- `distance_bin` meets its contract. Assumes nothing.
-use Rattle.grid.specs.Bins.{distanceBin}
+use Rattle.grid.specs.Bins.{distance_bin}
 use borrow.Author.Rules.{rules}
 use Rattle.grid.proofs.distance_bin.Statement.{statement}
 use Rattle.grid.proofs.distance_bin.Tie as tie
 
 returns : tie.Need-returns
-unfolding distanceBin
+unfolding distance_bin
 returns c = search rules
 
 returns-2 : tie.Need-returns-2
-unfolding distanceBin
+unfolding distance_bin
 returns-2 c = search rules
 
 returns-3 : tie.Need-returns-3
-unfolding distanceBin
+unfolding distance_bin
 returns-3 c = search rules
 
 pub distance-bin-spec : {M : Type 1} → statement M

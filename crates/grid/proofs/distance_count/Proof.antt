@@ -1,11 +1,11 @@
 -- `distance_count` meets its contract. Assumes nothing.
-use Rattle.grid.specs.Bins.{distanceCount}
+use Rattle.grid.specs.Bins.{distance_count}
 use borrow.Author.Rules.{rules}
 use Rattle.grid.proofs.distance_count.Statement.{statement}
 use Rattle.grid.proofs.distance_count.Tie as tie
 
 returns : tie.Need-returns
-unfolding distanceCount
+unfolding distance_count
 returns c = c.nearest-bin.ensures
 
 pub distance-count-spec : {M : Type 1} → statement M

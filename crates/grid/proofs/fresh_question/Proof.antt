@@ -1,11 +1,11 @@
 -- `fresh_question` meets its contract. Assumes nothing.
-use Rattle.grid.specs.Settings.{freshQuestion}
+use Rattle.grid.specs.Settings.{fresh_question}
 use borrow.Author.Rules.{rules}
 use Rattle.grid.proofs.fresh_question.Statement.{statement}
 use Rattle.grid.proofs.fresh_question.Tie as tie
 
 returns : tie.Need-returns
-unfolding freshQuestion
+unfolding fresh_question
 returns c = rw (c.question.ensures, c.before.counted.ensures)
 
 pub fresh-question-spec : {M : Type 1} → statement M

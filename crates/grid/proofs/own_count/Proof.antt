@@ -1,11 +1,11 @@
 -- `own_count` meets its contract. Assumes nothing.
-use Rattle.grid.specs.Settings.{ownCount}
+use Rattle.grid.specs.Settings.{own_count}
 use borrow.Author.Rules.{rules}
 use Rattle.grid.proofs.own_count.Statement.{statement}
 use Rattle.grid.proofs.own_count.Tie as tie
 
 returns : tie.Need-returns
-unfolding ownCount
+unfolding own_count
 returns c = rw (c.distance-count.ensures, c.before.table-rmax.ensures)
 
 pub own-count-spec : {M : Type 1} → statement M

@@ -3,8 +3,8 @@ use mathlib.Core.Path.{◌≡◌}
 use Rattle.lists.proofs.Counting.{yes, no}
 use mathlib.Core.Bool.{true}
 use Rattle.lists.specs.Questions.{ask}
-use Rattle.grid.specs.Settings.{in_range, levelsValid, countsValid, question}
-use Rattle.grid.proofs.Laws.{counts-le, top-le}
+use Rattle.grid.specs.Settings.{in_range, levels_valid, counts_valid, question}
+use Rattle.grid.proofs.Laws.{counts_le, top_le}
 use borrow.Author.Rules.{rules}
 use Rattle.grid.proofs.question.Statement.{statement}
 use Rattle.grid.proofs.question.Tie as tie
@@ -13,10 +13,10 @@ use Rattle.grid.proofs.question.Tie as tie
 ranges : (c : tie.Else1) → in_range c.before.before.args.g ≡ true
 ranges c = yes c.before.in-range.ensures c.if1.false
 
-levels : (c : tie.Else2) → levelsValid c.before.before.before.before.args.top c.before.before.before.before.args.level ≡ true
+levels : (c : tie.Else2) → levels_valid c.before.before.before.before.args.top c.before.before.before.before.args.level ≡ true
 levels c = yes c.before.levels-valid.ensures c.if2.false
 
-counts : (c : tie.Else3) → countsValid c.before.before.before.before.before.before.args.g ≡ true
+counts : (c : tie.Else3) → counts_valid c.before.before.before.before.before.before.args.g ≡ true
 counts c = yes c.before.counts-valid.ensures c.if3.false
 
 returns : tie.Need-returns
@@ -36,15 +36,15 @@ unfolding question ask
 returns-4 c =
     let e = c.before.before in
     let d = e.before.before in
-    rw (ranges d.before.before, levels d, counts e, no c.before.own-count.ensures c.if4.true)
+    rw (ranges d.before.before, levels d, counts e, no c.before.own_count.ensures c.if4.true)
 
 slabs-fit-requires : tie.Need-slabs-fit-requires
 slabs-fit-requires c κs =
     let e = c.before.before in
     let d = e.before.before in
     let s = d.before.before.before.before in
-    let n = counts-le s.args.g (counts e) in
-    (n.0, n.1, top-le s.args.top s.args.level (levels d))
+    let n = counts_le s.args.g (counts e) in
+    (n.0, n.1, top_le s.args.top s.args.level (levels d))
 
 returns-5 : tie.Need-returns-5
 unfolding question ask
@@ -52,7 +52,7 @@ returns-5 c =
     let f = c.before.before in
     let e = f.before.before in
     let d = e.before.before in
-    rw (ranges d.before.before, levels d, counts e, yes f.before.own-count.ensures f.if4.false, no c.before.slabs-fit.ensures c.if5.true)
+    rw (ranges d.before.before, levels d, counts e, yes f.before.own_count.ensures f.if4.false, no c.before.slabs-fit.ensures c.if5.true)
 
 returns-6 : tie.Need-returns-6
 unfolding question ask
@@ -60,7 +60,7 @@ returns-6 c =
     let f = c.before.before in
     let e = f.before.before in
     let d = e.before.before in
-    rw (ranges d.before.before, levels d, counts e, yes f.before.own-count.ensures f.if4.false, yes c.before.slabs-fit.ensures c.if5.false)
+    rw (ranges d.before.before, levels d, counts e, yes f.before.own_count.ensures f.if4.false, yes c.before.slabs-fit.ensures c.if5.false)
 
 pub question-spec : {M : Type 1} → statement M
 question-spec =

@@ -1,11 +1,11 @@
 -- `table_rmax` meets its contract. Assumes nothing.
-use Rattle.grid.specs.Bins.{tableRmax}
+use Rattle.grid.specs.Bins.{table_rmax}
 use borrow.Author.Rules.{rules}
 use Rattle.grid.proofs.table_rmax.Statement.{statement}
 use Rattle.grid.proofs.table_rmax.Tie as tie
 
 returns : tie.Need-returns
-unfolding tableRmax
+unfolding table_rmax
 returns c = rw (c.mul-add.ensures, c.before.of-u64.ensures)
 
 pub table-rmax-spec : {M : Type 1} → statement M

@@ -1,15 +1,15 @@
 -- `built_answer` meets its contract. Assumes nothing.
-use Rattle.icotable.specs.Answers.{builtIn}
+use Rattle.icotable.specs.Answers.{built_in}
 use borrow.Author.Rules.{rules}
 use Rattle.icotable.proofs.built_answer.Statement.{statement}
 use Rattle.icotable.proofs.built_answer.Tie as tie
 
 returns : tie.Need-returns
-unfolding builtIn
+unfolding built_in
 returns c = rw c.before.a.given.1
 
 returns-2 : tie.Need-returns-2
-unfolding builtIn
+unfolding built_in
 returns-2 c = rw c.before.a2.given.1
 
 pub built-answer-spec : {M : Type 1} → statement M

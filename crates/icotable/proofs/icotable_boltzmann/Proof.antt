@@ -40,10 +40,10 @@ use denote.Triple.Table.{entered, cited}
 use denote.Triple.Walked.{says, Stays, stay_none, stay_none_slice, walk_of, AllGo, stay_none_ref, Goes-none_ref, Goes-none, Goes-none_slice, Walks, ends_at, walked, walk_Meets}
 use denote.Exit.{yes}
 use denote.Struct.Laws as LL
-use Rattle.search.specs.Search.{locatorOf}
+use Rattle.search.specs.Search.{locator_of}
 use Rattle.reading.specs.Resolve.{boltzmann}
-use Rattle.reading.specs.Reading.{readingBy}
-use Rattle.icotable.specs.Answers.{valueIn, tableFrom}
+use Rattle.reading.specs.Reading.{reading_by}
+use Rattle.icotable.specs.Answers.{value_in, table_from}
 use Rattle.icotable.specs.declared.TableAnswer.{TableAnswer}
 use Rattle.icotable.specs.contracts.TableAnswer as T
 use Rattle.icotable.proofs.TableAnswer.TheLaws as T'
@@ -136,7 +136,7 @@ module _ {M : Type 1} {𝓤 : Ura M} (𝓛 : Logic 𝓤) (at_mem : Memory → SP
 
   -- what is ensured
   abbrev Said : ValueAnswer → Type 0
-  Said z = valueIn z ≡ readingBy file.now (tableFrom table.now) vertices.now (locatorOf cell-offsets.now cell-vertices.now face-offsets.now faces.now) (boltzmann beta) (record { r = r; omega = omega; a = record { x = ax; y = ay; z = az }; b = record { x = bx; y = by'; z = bz } })
+  Said z = value_in z ≡ reading_by file.now (table_from table.now) vertices.now (locator_of cell-offsets.now cell-vertices.now face-offsets.now faces.now) (boltzmann beta) (record { r = r; omega = omega; a = record { x = ax; y = ay; z = az }; b = record { x = bx; y = by'; z = bz } })
 
   exits : (z : ValueAnswer) → Said z → Is N.the_row z (mach-N z ∷ []) → ent 𝓤 (⋆ 𝓛 Left) (Post (mach-N z))
   exits z e g =
@@ -174,7 +174,7 @@ module _ {M : Type 1} {𝓤 : Ura M} (𝓛 : Logic 𝓤) (at_mem : Memory → SP
 
   -- what it ensures
   abbrev callee-said : ValueAnswer → Type 0
-  callee-said z = valueIn z ≡ readingBy file.now (tableFrom table.now) vertices.now (locatorOf cell-offsets.now cell-vertices.now face-offsets.now faces.now) (boltzmann beta) (record { r = r; omega = omega; a = record { x = ax; y = ay; z = az }; b = record { x = bx; y = by'; z = bz } })
+  callee-said z = value_in z ≡ reading_by file.now (table_from table.now) vertices.now (locator_of cell-offsets.now cell-vertices.now face-offsets.now faces.now) (boltzmann beta) (record { r = r; omega = omega; a = record { x = ax; y = ay; z = az }; b = record { x = bx; y = by'; z = bz } })
 
   module _ (𝓣 : Tables 𝓤 H) (Callee-Known : Triple 𝓤 (𝓣.C #icotable·boltzmann-of) (Callee 𝓛 at_mem run)) where
     walk : ent 𝓤 (on_entry 𝓛 fn.signature (κ, (κ1, (κ2, (κ3, (κ4, (κ5, (κ6, tt))))))) (q, (q1, (q2, (q3, (q4, (q5, (q6, tt))))))) a at) (WpFn 𝓤 H 𝓣.C 𝓣.Λ code.function (vptr table.ptr.0 table.ptr.1 ∷ v-file ∷ v-vertices ∷ v-cell-offsets ∷ v-cell-vertices ∷ v-face-offsets ∷ v-faces ∷ vfloat binary64 r ∷ vfloat binary64 omega ∷ vfloat binary64 ax ∷ vfloat binary64 ay ∷ vfloat binary64 az ∷ vfloat binary64 bx ∷ vfloat binary64 by' ∷ vfloat binary64 bz ∷ vfloat binary64 beta ∷ []) Post)

@@ -6,18 +6,18 @@ use native.Mathlib.Omega.{arith}
 use borrow.Author.Rules.{rules}
 use borrow.Author.Tests.{le-leb, lt-leb}
 use Rattle.lists.specs.Lists.{sum}
-use Rattle.mesh.specs.Levels.{vertexCount, gridSize, cellCount, cellOffsetsBelow}
+use Rattle.mesh.specs.Levels.{vertex_count, grid_size, cell_count, cell_offsets_below}
 use Rattle.icotable.proofs.icotable_cells.Statement.{statement}
 use Rattle.icotable.proofs.icotable_cells.Tie as tie
 
-next : (m : ℕ) → cellOffsetsBelow (m + 1) ≡ cellOffsetsBelow m + (cellCount (gridSize (vertexCount m)) + 1)
-unfolding cellOffsetsBelow sum
+next : (m : ℕ) → cell_offsets_below (m + 1) ≡ cell_offsets_below m + (cell_count (grid_size (vertex_count m)) + 1)
+unfolding cell_offsets_below sum
 next m = rw add-one
 
-more : (c : tie.After-cell-offsets-below2) → c.before.cell-offsets-below.result ≡ c.cell-offsets-below2.result + (cellCount (gridSize (vertexCount c.before.before.before.args.level)) + 1)
+more : (c : tie.After-cell-offsets-below2) → c.before.cell-offsets-below.result ≡ c.cell-offsets-below2.result + (cell_count (grid_size (vertex_count c.before.before.before.args.level)) + 1)
 more c =
     let m = c.before.before.before.args.level in
-    c.before.cell-offsets-below.ensures ∙ next m ∙ ap (λ (x : ℕ). x + (cellCount (gridSize (vertexCount m)) + 1)) (sym c.cell-offsets-below2.ensures)
+    c.before.cell-offsets-below.ensures ∙ next m ∙ ap (λ (x : ℕ). x + (cell_count (grid_size (vertex_count m)) + 1)) (sym c.cell-offsets-below2.ensures)
 
 sub-result : tie.Need-overflow-sub-result
 sub-result c = omega (arith, more c)

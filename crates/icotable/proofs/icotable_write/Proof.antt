@@ -4,7 +4,7 @@ use Rattle.icotable.proofs.icotable_write.Statement.{statement}
 use Rattle.icotable.proofs.icotable_write.Tie as tie
 
 returns : tie.Need-returns
-returns c = rw c.write-answer.ensures c.before.before.before.write.ensures.1
+returns c = rw c.write_answer.ensures c.before.before.before.write.ensures.1
 
 pub icotable-write-spec : {M : Type 1} → statement M
 icotable-write-spec = tie.close

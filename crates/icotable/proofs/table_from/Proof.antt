@@ -1,12 +1,12 @@
 -- `table_from` meets its contract. Assumes nothing.
 use mathlib.Core.Path.{refl}
-use Rattle.icotable.specs.Answers.{tableFrom}
+use Rattle.icotable.specs.Answers.{table_from}
 use borrow.Author.Rules.{rules}
 use Rattle.icotable.proofs.table_from.Statement.{statement}
 use Rattle.icotable.proofs.table_from.Tie as tie
 
 returns : tie.Need-returns
-unfolding tableFrom
+unfolding table_from
 returns c = refl
 
 pub table-from-spec : {M : Type 1} → statement M

@@ -1,15 +1,15 @@
 -- `write_answer` meets its contract. Assumes nothing.
-use Rattle.icotable.specs.Answers.{writtenIn}
+use Rattle.icotable.specs.Answers.{written_in}
 use borrow.Author.Rules.{rules}
 use Rattle.icotable.proofs.write_answer.Statement.{statement}
 use Rattle.icotable.proofs.write_answer.Tie as tie
 
 returns : tie.Need-returns
-unfolding writtenIn
+unfolding written_in
 returns c = rw c.before.a.given.1
 
 returns-2 : tie.Need-returns-2
-unfolding writtenIn
+unfolding written_in
 returns-2 c = rw c.before.a2.given.1
 
 pub write-answer-spec : {M : Type 1} → statement M

@@ -3,8 +3,8 @@ use mathlib.Core.Path.{refl}
 use native.Mathlib.Nat.{mul-le-mul}
 use native.Mathlib.Omega.{arith}
 use borrow.Author.Rules.{rules}
-use Rattle.mesh.specs.Levels.{cellCount}
-use Rattle.locator.specs.Locator.{locatorRoom}
+use Rattle.mesh.specs.Levels.{cell_count}
+use Rattle.locator.specs.Locator.{locator_room}
 use Rattle.locator.proofs.locator_room.Statement.{statement}
 use Rattle.locator.proofs.locator_room.Tie as tie
 
@@ -18,7 +18,7 @@ add-result : tie.Need-overflow-add-result
 add-result c = let g = c.args.g in omega (arith, mul-le-mul {n₁ = g} {m₁ = g} {n₂ = 400} {m₂ = 400} (omega arith) (omega arith))
 
 returns : tie.Need-returns
-unfolding locatorRoom cellCount
+unfolding locator_room cell_count
 returns c = refl
 
 pub locator-room-spec : {M : Type 1} → statement M

@@ -3,8 +3,8 @@ use native.Mathlib.Omega.{arith}
 use borrow.Author.Tests.{le-leb, lt-leb}
 use borrow.Author.Rules.{rules}
 use Rattle.lists.specs.Questions.{ask}
-use Rattle.mesh.proofs.Laws.{count-le}
-use Rattle.mesh.proofs.Tables.{grid-le}
+use Rattle.mesh.proofs.Laws.{count_le}
+use Rattle.mesh.proofs.Tables.{grid_le}
 use Rattle.lists.proofs.Counting.{yes, no}
 use Rattle.locator.specs.Internal.{refusal}
 use Rattle.locator.proofs.refusal.Statement.{statement}
@@ -15,14 +15,14 @@ unfolding refusal ask
 returns c = rw (lt-leb _ _ c.if1.true)
 
 cast-mesh-room : tie.Need-overflow-cast-mesh-room
-cast-mesh-room c = omega (arith, count-le c.before.before.before.before.before.before.args.level 256 (omega arith))
+cast-mesh-room c = omega (arith, count_le c.before.before.before.before.before.before.args.level 256 (omega arith))
 
 returns-2 : tie.Need-returns-2
 unfolding refusal ask
 returns-2 c = rw (le-leb _ _ c.before.before.before.if1.false, ← c.before.before.vertex-count.ensures, no c.before.mesh-room.ensures c.if2.true)
 
 locator-room-requires : tie.Need-locator-room-requires
-locator-room-requires c κs = (omega (arith, count-le c.before.before.before.before.before.before.before.before.before.args.level 16 (omega arith)), omega (arith, grid-le c.before.before.before.before.before.before.before.before.before.args.level (omega arith)))
+locator-room-requires c κs = (omega (arith, count_le c.before.before.before.before.before.before.before.before.before.args.level 16 (omega arith)), omega (arith, grid_le c.before.before.before.before.before.before.before.before.before.args.level (omega arith)))
 
 returns-3 : tie.Need-returns-3
 unfolding refusal ask

@@ -4,34 +4,34 @@ use borrow.Author.Tests.{le-leb, lt-leb}
 use borrow.Author.Rules.{rules}
 use Rattle.lists.specs.Questions.{ask}
 use Rattle.lists.proofs.Counting.{yes, no}
-use Rattle.mesh.specs.Mesh.{within, lists, linksKept, vertexLinked, neighbourLinked}
-use Rattle.mesh.proofs.Laws.{count-le}
-use Rattle.mesh_search.specs.MeshSearch.{keepsButAngles, directionValid, searchRefusal}
+use Rattle.mesh.specs.Mesh.{within, lists, links_kept, vertex_linked, neighbour_linked}
+use Rattle.mesh.proofs.Laws.{count_le}
+use Rattle.mesh_search.specs.MeshSearch.{keeps_but_angles, direction_valid, search_refusal}
 use Rattle.mesh_search.proofs.refusal.Statement.{statement}
 use Rattle.mesh_search.proofs.refusal.Tie as tie
 
 returns : tie.Need-returns
-unfolding searchRefusal ask
+unfolding search_refusal ask
 returns c = rw (lt-leb _ _ c.if1.true)
 
 cast-n : tie.Need-overflow-cast-n
-cast-n c = omega (arith, c.vertex-count.ensures, count-le c.before.before.before.before.before.args.level 256 (omega arith))
+cast-n c = omega (arith, c.vertex-count.ensures, count_le c.before.before.before.before.before.args.level 256 (omega arith))
 
 returns-2 : tie.Need-returns-2
-unfolding searchRefusal ask
+unfolding search_refusal ask
 returns-2 c =
     let r = c.before in
     rw (le-leb _ _ r.before.before.if1.false, ← r.before.vertex-count.ensures, no r.search-room.ensures c.if2.true)
 
 returns-3 : tie.Need-returns-3
-unfolding searchRefusal ask keepsButAngles
+unfolding search_refusal ask keeps_but_angles
 returns-3 c =
     let f = c.before in
     let r = f.before.before in
     rw (le-leb _ _ r.before.before.if1.false, ← r.before.vertex-count.ensures, yes r.search-room.ensures f.before.if2.false, no f.vertices-finite.ensures c.if3.true)
 
 returns-4 : tie.Need-returns-4
-unfolding searchRefusal ask keepsButAngles linksKept vertexLinked neighbourLinked lists within
+unfolding search_refusal ask keeps_but_angles links_kept vertex_linked neighbour_linked lists within
 returns-4 c =
     let k = c.before in
     let f = k.before.before in
@@ -45,7 +45,7 @@ returns-4 c =
     )
 
 returns-5 : tie.Need-returns-5
-unfolding searchRefusal ask keepsButAngles directionValid linksKept vertexLinked neighbourLinked lists within
+unfolding search_refusal ask keeps_but_angles direction_valid links_kept vertex_linked neighbour_linked lists within
 returns-5 c =
     let d = c.before in
     let k = d.before.before in
@@ -61,7 +61,7 @@ returns-5 c =
     )
 
 returns-6 : tie.Need-returns-6
-unfolding searchRefusal ask keepsButAngles directionValid linksKept vertexLinked neighbourLinked lists within
+unfolding search_refusal ask keeps_but_angles direction_valid links_kept vertex_linked neighbour_linked lists within
 returns-6 c =
     let d = c.before in
     let k = d.before.before in

@@ -3,19 +3,19 @@ use mathlib.Core.Path.{◌≡◌, sym, ◌∙◌}
 use mathlib.Core.List.{[]}
 use Prim.Native.Nat.{◌≤◌}
 use native.Mathlib.Omega.{arith}
-use Rattle.mesh.specs.Levels.{vertexCount, gridSize}
-use Rattle.mesh.specs.Mesh.{Mesh, meshOf}
-use Rattle.mesh.proofs.Laws.{count-le}
-use Rattle.mesh.proofs.Tables.{grid-le, grid-ge}
-use Rattle.search.specs.Geometry.{unit, cellIndex}
+use Rattle.mesh.specs.Levels.{vertex_count, grid_size}
+use Rattle.mesh.specs.Mesh.{Mesh, mesh_of}
+use Rattle.mesh.proofs.Laws.{count_le}
+use Rattle.mesh.proofs.Tables.{grid_le, grid_ge}
+use Rattle.search.specs.Geometry.{unit, cell_index}
 use Rattle.search.specs.Cells.{cell}
-use Rattle.search.specs.Search.{nearestAmong}
-use Rattle.mesh_search.proofs.Answered.{low-level, refused, none-near, near-face}
+use Rattle.search.specs.Search.{nearest_among}
+use Rattle.mesh_search.proofs.Answered.{low_level, refused, none-near, near-face}
 use Rattle.mesh_search.proofs.search_mesh.Statement.{statement}
 use Rattle.mesh_search.proofs.search_mesh.Tie as tie
 
 abbrev lent : tie.Start → Mesh
-lent s = meshOf s.args.vertices.now s.args.counts.now s.args.neighbours.now []
+lent s = mesh_of s.args.vertices.now s.args.counts.now s.args.neighbours.now []
 
 returns : tie.Need-returns
 returns c =
@@ -27,7 +27,7 @@ low : (c : tie.Else1) → c.before.before.before.before.before.args.level ≤ 15
 low c =
     let r = c.before in
     let s = r.before.before.before.before in
-    low-level s.args.level (lent s) s.args.d (sym r.refusal.ensures ∙ c.if1.false)
+    low_level s.args.level (lent s) s.args.d (sym r.refusal.ensures ∙ c.if1.false)
 
 cast-k : tie.Need-overflow-cast-k
 cast-k c = omega (arith, low c)
@@ -36,7 +36,7 @@ cast-k c = omega (arith, low c)
 few : (c : tie.After-vertex-count) → c.vertex-count.result ≤ 2562
 few c =
     let s = c.before.before.before.before.before.before in
-    omega (arith, c.vertex-count.ensures, count-le s.args.level 16 (omega (arith, low c.before)))
+    omega (arith, c.vertex-count.ensures, count_le s.args.level 16 (omega (arith, low c.before)))
 
 cast-n : tie.Need-overflow-cast-n
 cast-n c = omega (arith, few c)
@@ -46,12 +46,12 @@ nearest-requires c κs =
     let g = c.before in
     let e = g.before.before.before in
     let s = e.before.before.before.before.before in
-    (omega (arith, g.grid-size.ensures, grid-ge (vertexCount s.args.level)), omega (arith, g.grid-size.ensures, grid-le s.args.level (omega (arith, low e))))
+    (omega (arith, g.grid-size.ensures, grid_ge (vertex_count s.args.level)), omega (arith, g.grid-size.ensures, grid_le s.args.level (omega (arith, low e))))
 
 -- the nearest vertex is that of the direction's cell
 near-is : (c : tie.After-nearest) → (let s = c.before.before.before.before.before.before.before.before.before.before in
-    let vs = s.args.vertices.now in let n = vertexCount s.args.level in let g = gridSize n in let p = unit s.args.d in
-    c.nearest.result ≡ nearestAmong vs p (cell vs n g (cellIndex g p)))
+    let vs = s.args.vertices.now in let n = vertex_count s.args.level in let g = grid_size n in let p = unit s.args.d in
+    c.nearest.result ≡ nearest_among vs p (cell vs n g (cell_index g p)))
 near-is c =
     let i = c.before in
     let g = i.before in

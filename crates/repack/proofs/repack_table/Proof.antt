@@ -4,11 +4,11 @@ use native.Mathlib.Omega.{arith}
 use lib.ListN.{length}
 use borrow.Author.Tests.{lt-leb, le-leb}
 use borrow.Author.Rules.{rules}
-use Rattle.table.specs.Read.{layout, tableOf}
-use Rattle.table.specs.Loose.{looseRefusal}
+use Rattle.table.specs.Read.{layout, table_of}
+use Rattle.table.specs.Loose.{loose_refusal}
 use Rattle.repack.specs.Repack.{repacked}
 use Rattle.repack.specs.Internal.{Loose}
-use Rattle.repack.proofs.Outcome.{answered, loose, repacked-length, repack-short, repack-done}
+use Rattle.repack.proofs.Outcome.{answered, loose, repacked-length, repack_short, repack_done}
 use Rattle.repack.proofs.repack_table.Statement.{statement}
 use Rattle.repack.proofs.repack_table.Tie as tie
 
@@ -37,7 +37,7 @@ add-size c = let k = known c.before.before.before in omega (arith, k.few, k.ener
 add-size-2 : tie.Need-overflow-add-size-2
 add-size-2 c = let k = known c.before.before.before in omega (arith, k.few, k.energies, c.energies-total.ensures)
 
-zero : (s : tie.Start) → looseRefusal s.args.file.now (layout s.args.file.now) (tableOf s.args.file.now (layout s.args.file.now)) ≡ 0
+zero : (s : tie.Start) → loose_refusal s.args.file.now (layout s.args.file.now) (table_of s.args.file.now (layout s.args.file.now)) ≡ 0
 zero s = rw s.requires.0 at s.requires.1
 
 returns : tie.Need-returns
@@ -46,7 +46,7 @@ returns c =
     let f = s.args.file.now in
     let len = repacked-length f s.args.t (known s) in
     let short = lt-leb (length (repacked f s.args.t)) (length s.args.output.now) (omega (arith, len, c.before.energies-total.ensures, c.if1.true)) in
-    (refl, sym (repack-short f s.args.output.now (zero s) (rw s.requires.0 at short)))
+    (refl, sym (repack_short f s.args.output.now (zero s) (rw s.requires.0 at short)))
 
 rows-moved-requires : tie.Need-rows-moved-requires
 rows-moved-requires c κs = let k = known c.before.before.before.before in (omega (arith, k.rows, k.energies), k.few)
@@ -64,7 +64,7 @@ returns-2 c =
     let t = s.args.t in
     let len = repacked-length f t (known s) in
     let room = le-leb (length (repacked f t)) (length s.args.output.now) (omega (arith, len, e.energies-total.ensures, r.before.if1.false)) in
-    let done = repack-done f s.args.output.now (zero s) (rw s.requires.0 at room) in
+    let done = repack_done f s.args.output.now (zero s) (rw s.requires.0 at room) in
     (refl, rw (c.before.before.put-packed.ensures, r.rows-moved.ensures, done, ← s.requires.0, len, e.energies-total.ensures))
 
 pub repack-table-spec : {M : Type 1} → statement M

@@ -1,10 +1,10 @@
-use Rattle.rows.specs.Rows.{resolutionAt}
+use Rattle.rows.specs.Rows.{resolution_at}
 use borrow.Author.Rules.{rules}
 use Rattle.rows.proofs.resolution_at.Statement.{statement}
 use Rattle.rows.proofs.resolution_at.Tie as tie
 
 returns : tie.Need-returns
-unfolding resolutionAt
+unfolding resolution_at
 returns c = rw (c.resolution-of.ensures, c.before.before.before.byte_at.ensures, c.before.before.byte-at2.ensures, c.before.word_at.ensures)
 
 pub resolution-at-spec : {M : Type 1} → statement M

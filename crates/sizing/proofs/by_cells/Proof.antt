@@ -4,25 +4,25 @@ use Prim.Native.Nat.{ℕ, ◌+◌, ◌*◌, ◌-◌, ◌≤◌, ◌<◌}
 use native.Mathlib.Omega.{arith}
 use lib.ListN.{length}
 use borrow.Author.Rules.{rules}
-use Rattle.mesh.specs.Levels.{vertexCount, gridSize, cellCount}
-use Rattle.mesh.proofs.Tables.{cells-le}
+use Rattle.mesh.specs.Levels.{vertex_count, grid_size, cell_count}
+use Rattle.mesh.proofs.Tables.{cells_le}
 use Rattle.sizing.proofs.Levels.{none_yet, one_more, sixteen}
-use Rattle.sizing.specs.Sizing.{byLevel}
+use Rattle.sizing.specs.Sizing.{by_level}
 use Rattle.sizing.proofs.by_cells.Statement.{statement}
 use Rattle.sizing.proofs.by_cells.Tie as tie
 
 abbrev invariant-loop : tie.invariant-loop
-invariant-loop levels out₀ m₀ out m = (m ≤ levels) × (out ≡ byLevel m (λ k. cellCount (gridSize (vertexCount k)) + 1))
+invariant-loop levels out₀ m₀ out m = (m ≤ levels) × (out ≡ by_level m (λ k. cell_count (grid_size (vertex_count k)) + 1))
 
 abbrev decreases-loop : tie.decreases-loop
 decreases-loop levels out₀ m₀ out m = levels - m
 
 loop-holds : tie.Need-loop-init invariant-loop decreases-loop
-loop-holds c = (omega arith, none_yet (λ k. cellCount (gridSize (vertexCount k)) + 1))
+loop-holds c = (omega arith, none_yet (λ k. cell_count (grid_size (vertex_count k)) + 1))
 
 -- the number of a level fits
 fits : (c : tie.After-grid-size invariant-loop decreases-loop) → c.grid-size.result * c.grid-size.result ≤ 160000
-fits c = rw c.grid-size.ensures (cells-le c.before.before.loop.m (omega arith)).0
+fits c = rw c.grid-size.ensures (cells_le c.before.before.loop.m (omega arith)).0
 
 mul-out : tie.Need-overflow-mul-out invariant-loop decreases-loop
 mul-out c = omega (arith, fits c)
@@ -35,12 +35,12 @@ add-out c = omega (arith, fits c)
 
 array-write-out : tie.Need-array-write-out invariant-loop decreases-loop
 array-write-out c = let l = c.before.before.loop in
-    omega (arith, ap length l.invariant.1 ∙ sixteen (λ k. cellCount (gridSize (vertexCount k)) + 1) l.m (omega arith))
+    omega (arith, ap length l.invariant.1 ∙ sixteen (λ k. cell_count (grid_size (vertex_count k)) + 1) l.m (omega arith))
 
 loop-again : tie.Need-loop-preserved invariant-loop decreases-loop
-unfolding cellCount
+unfolding cell_count
 loop-again c = let l = c.before.before.loop in
-    (omega arith, rw c.grid-size.ensures (one_more (λ k. cellCount (gridSize (vertexCount k)) + 1) l.m l.out l.invariant.1 (omega arith)))
+    (omega arith, rw c.grid-size.ensures (one_more (λ k. cell_count (grid_size (vertex_count k)) + 1) l.m l.out l.invariant.1 (omega arith)))
 
 returns : tie.Need-returns invariant-loop decreases-loop
 returns c = let full : c.before.loop.m ≡ c.before.before.args.levels = omega arith in rw full at c.before.loop.invariant.1

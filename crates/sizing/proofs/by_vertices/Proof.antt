@@ -5,25 +5,25 @@ use native.Mathlib.Omega.{arith}
 use lib.ListN.{length}
 use borrow.Author.Rules.{rules}
 use native.Mathlib.Nat.{mul-le-mul}
-use Rattle.mesh.specs.Levels.{vertexCount}
-use Rattle.mesh.proofs.Laws.{count-le}
+use Rattle.mesh.specs.Levels.{vertex_count}
+use Rattle.mesh.proofs.Laws.{count_le}
 use Rattle.sizing.proofs.Levels.{none_yet, one_more, sixteen}
-use Rattle.sizing.specs.Sizing.{byLevel}
+use Rattle.sizing.specs.Sizing.{by_level}
 use Rattle.sizing.proofs.by_vertices.Statement.{statement}
 use Rattle.sizing.proofs.by_vertices.Tie as tie
 
 abbrev invariant-loop : tie.invariant-loop
-invariant-loop levels times more out₀ m₀ out m = (m ≤ levels) × (out ≡ byLevel m (λ k. times * vertexCount k + more))
+invariant-loop levels times more out₀ m₀ out m = (m ≤ levels) × (out ≡ by_level m (λ k. times * vertex_count k + more))
 
 abbrev decreases-loop : tie.decreases-loop
 decreases-loop levels times more out₀ m₀ out m = levels - m
 
 loop-holds : tie.Need-loop-init invariant-loop decreases-loop
-loop-holds c = (omega arith, none_yet (λ k. c.args.times * vertexCount k + c.args.more))
+loop-holds c = (omega arith, none_yet (λ k. c.args.times * vertex_count k + c.args.more))
 
 -- the number of a level fits
 fits : (c : tie.After-vertex-count invariant-loop decreases-loop) → c.before.before.before.args.times * c.vertex-count.result ≤ 45 * 2562
-fits c = let s = c.before.before.before in rw c.vertex-count.ensures (mul-le-mul s.requires.1 (count-le c.before.before.loop.m 16 (omega arith)))
+fits c = let s = c.before.before.before in rw c.vertex-count.ensures (mul-le-mul s.requires.1 (count_le c.before.before.loop.m 16 (omega arith)))
 
 mul-out : tie.Need-overflow-mul-out invariant-loop decreases-loop
 mul-out c = omega (arith, fits c)
@@ -33,11 +33,11 @@ add-out c = omega (arith, fits c)
 
 array-write-out : tie.Need-array-write-out invariant-loop decreases-loop
 array-write-out c = let s = c.before.before.before.args in let l = c.before.before.loop in
-    omega (arith, ap length l.invariant.1 ∙ sixteen (λ k. s.times * vertexCount k + s.more) l.m (omega arith))
+    omega (arith, ap length l.invariant.1 ∙ sixteen (λ k. s.times * vertex_count k + s.more) l.m (omega arith))
 
 loop-again : tie.Need-loop-preserved invariant-loop decreases-loop
 loop-again c = let s = c.before.before.before.args in let l = c.before.before.loop in
-    (omega arith, rw c.vertex-count.ensures (one_more (λ k. s.times * vertexCount k + s.more) l.m l.out l.invariant.1 (omega arith)))
+    (omega arith, rw c.vertex-count.ensures (one_more (λ k. s.times * vertex_count k + s.more) l.m l.out l.invariant.1 (omega arith)))
 
 returns : tie.Need-returns invariant-loop decreases-loop
 returns c = let full : c.before.loop.m ≡ c.before.before.args.levels = omega arith in rw full at c.before.loop.invariant.1

@@ -1,11 +1,11 @@
 -- `no_size` meets its contract. Assumes nothing.
 use mathlib.Core.Path.{refl}
-use Rattle.sizing.specs.Sizing.{noSize}
+use Rattle.sizing.specs.Sizing.{no_size}
 use Rattle.sizing.proofs.no_size.Statement.{statement}
 use Rattle.sizing.proofs.no_size.Tie as tie
 
 returns : tie.Need-returns
-unfolding noSize
+unfolding no_size
 returns c = refl
 
 pub no-size-spec : {M : Type 1} → statement M

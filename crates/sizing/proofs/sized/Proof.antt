@@ -4,9 +4,9 @@ use Prim.Native.Nat.{suc, ◌+◌, ◌*◌}
 use native.Mathlib.Numerals.{add-one}
 use native.Mathlib.Omega.{arith}
 use borrow.Author.Rules.{rules}
-use Rattle.mesh.specs.Levels.{vertexCount}
+use Rattle.mesh.specs.Levels.{vertex_count}
 use Rattle.sizing.specs.Sizing.{sized}
-use Rattle.sizing.proofs.Levels.{same-levels}
+use Rattle.sizing.proofs.Levels.{same_levels}
 use Rattle.sizing.proofs.sized.Statement.{statement}
 use Rattle.sizing.proofs.sized.Tie as tie
 
@@ -33,9 +33,9 @@ returns c =
       c.before.by-vertices3.ensures,
       c.by-neighbours.ensures,
       add-one,
-      same-levels (λ m. 27 * vertexCount m + 0) (λ m. 27 * vertexCount m) (λ m. omega arith) (suc s.top),
-      same-levels (λ m. 1 * vertexCount m + 1) (λ m. vertexCount m + 1) (λ m. omega arith) (suc s.top),
-      same-levels (λ m. 45 * vertexCount m + 0) (λ m. 45 * vertexCount m) (λ m. omega arith) (suc s.top),
+      same_levels (λ m. 27 * vertex_count m + 0) (λ m. 27 * vertex_count m) (λ m. omega arith) (suc s.top),
+      same_levels (λ m. 1 * vertex_count m + 1) (λ m. vertex_count m + 1) (λ m. omega arith) (suc s.top),
+      same_levels (λ m. 45 * vertex_count m + 0) (λ m. 45 * vertex_count m) (λ m. omega arith) (suc s.top),
     )
 
 pub sized-spec : {M : Type 1} → statement M

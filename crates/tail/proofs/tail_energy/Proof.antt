@@ -8,24 +8,24 @@ use lib.Ieee.{is_nan}
 use borrow.Author.Rules.{rules}
 use borrow.Author.Tests.{leb-true}
 use Rattle.lists.proofs.Counting.{yes, no}
-use Rattle.float.proofs.Tests.{nan-test}
-use Rattle.tail.proofs.Laws.{no_distance, no-terms, no_bytes, summed}
+use Rattle.float.proofs.Tests.{nan_test}
+use Rattle.tail.proofs.Laws.{no_distance_lem, no_terms_lem, no_bytes, summed}
 use Rattle.tail.proofs.tail_energy.Statement.{statement}
 use Rattle.tail.proofs.tail_energy.Tie as tie
 
 -- past the test for a NaN
 number : (c : tie.Else1) → is_nan c.before.before.args.r ≡ false
-number c = sym (nan-test c.before.before.args.r) ∙ c.if1.false
+number c = sym (nan_test c.before.before.args.r) ∙ c.if1.false
 
 returns : tie.Need-returns
 returns c =
     let a = c.before.before.args in
-    (refl, sym (no_distance a.file.now a.t a.r (sym (nan-test a.r) ∙ c.if1.true)))
+    (refl, sym (no_distance_lem a.file.now a.t a.r (sym (nan_test a.r) ∙ c.if1.true)))
 
 returns-2 : tie.Need-returns-2
 returns-2 c =
     let a = c.before.before.before.args in
-    (refl, sym (no-terms a.file.now a.t a.r (number c.before) c.if2.true))
+    (refl, sym (no_terms_lem a.file.now a.t a.r (number c.before) c.if2.true))
 
 returns-3 : tie.Need-returns-3
 returns-3 c =

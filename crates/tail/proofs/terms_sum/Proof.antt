@@ -5,14 +5,14 @@ use native.Mathlib.Omega.{arith}
 use lib.ListN.{length}
 use lib.Ieee.{binary64, of_bits, neg}
 use Rattle.table.specs.Bytes.{items}
-use Rattle.table.specs.Tail.{termOf}
-use Rattle.tail.specs.Rule.{sumFrom}
-use Rattle.tail.proofs.Laws.{sum-next, sum-end}
+use Rattle.table.specs.Tail.{term_of}
+use Rattle.tail.specs.Rule.{sum_from}
+use Rattle.tail.proofs.Laws.{sum_next, sum_end}
 use Rattle.tail.proofs.terms_sum.Statement.{statement}
 use Rattle.tail.proofs.terms_sum.Tie as tie
 
 abbrev invariant-loop : tie.invariant-loop
-invariant-loop file start terms r at₀ left₀ sum₀ at left sum = (at + left * 20 ≤ length file) × (sumFrom r sum (items termOf 20 file at left) ≡ sumFrom r (of_bits binary64 0x8000_0000_0000_0000) (items termOf 20 file start terms))
+invariant-loop file start terms r at₀ left₀ sum₀ at left sum = (at + left * 20 ≤ length file) × (sum_from r sum (items term_of 20 file at left) ≡ sum_from r (of_bits binary64 0x8000_0000_0000_0000) (items term_of 20 file start terms))
 
 abbrev decreases-loop : tie.decreases-loop
 decreases-loop file start terms r at₀ left₀ sum₀ at left sum = left
@@ -25,13 +25,13 @@ loop-again : tie.Need-loop-preserved invariant-loop decreases-loop
 loop-again c =
     let l = c.before.before in
     let a = l.before.before.args in
-    (omega arith, rw c.term-energy.ensures (sym (sum-next a.r a.file.now l.loop.sum l.loop.at l.loop.left (omega arith)) ∙ l.loop.invariant.1))
+    (omega arith, rw c.term-energy.ensures (sym (sum_next a.r a.file.now l.loop.sum l.loop.at l.loop.left (omega arith)) ∙ l.loop.invariant.1))
 
 returns : tie.Need-returns invariant-loop decreases-loop
 returns c =
     let l = c.before in
     let a = l.before.before.args in
-    sym (sum-end a.r a.file.now l.loop.sum l.loop.at l.loop.left (omega arith)) ∙ l.loop.invariant.1
+    sym (sum_end a.r a.file.now l.loop.sum l.loop.at l.loop.left (omega arith)) ∙ l.loop.invariant.1
 
 pub terms-sum-spec : {M : Type 1} → statement M
 terms-sum-spec =

@@ -1,11 +1,11 @@
 -- `move_long` meets its contract. Assumes nothing.
 use mathlib.Core.Path.{refl}
-use Rattle.rows.specs.Rows.{rowRoom}
+use Rattle.rows.specs.Rows.{row_room}
 use Rattle.words.proofs.move_long.Statement.{statement}
 use Rattle.words.proofs.move_long.Tie as tie
 
 returns : tie.Need-returns
-unfolding rowRoom
+unfolding row_room
 returns c = refl
 
 pub move-long-spec : {M : Type 1} → statement M

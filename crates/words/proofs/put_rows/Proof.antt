@@ -6,21 +6,21 @@ use native.Mathlib.Omega.{arith}
 use lib.ListN.{length, take, length-set}
 use borrow.Author.Rules.{rules}
 use Rattle.lists.specs.Lists.{put}
-use Rattle.lists.proofs.Loops.{mapped-turn}
-use Rattle.lists.proofs.Written.{put-nil}
-use Rattle.rows.specs.Words.{wordKind, wordLevel, wordValue, wordRows}
+use Rattle.lists.proofs.Loops.{mapped_turn}
+use Rattle.lists.proofs.Written.{put_nil}
+use Rattle.rows.specs.Words.{word_kind, word_level, word_value, word_rows}
 use Rattle.words.proofs.Zipped.{kind_fits}
 use Rattle.words.proofs.put_rows.Statement.{statement}
 use Rattle.words.proofs.put_rows.Tie as tie
 
 abbrev invariant-loop : tie.invariant-loop
-invariant-loop n words kinds₀ levels₀ values₀ end i₀ kinds levels values i = (i ≤ n) × (length kinds ≡ length kinds₀) × (length levels ≡ length levels₀) × (length values ≡ length values₀) × (kinds ≡ put kinds₀ 0 (map wordKind (take i words))) × (levels ≡ put levels₀ 0 (map wordLevel (take i words))) × (values ≡ put values₀ 0 (map wordValue (take i words)))
+invariant-loop n words kinds₀ levels₀ values₀ end i₀ kinds levels values i = (i ≤ n) × (length kinds ≡ length kinds₀) × (length levels ≡ length levels₀) × (length values ≡ length values₀) × (kinds ≡ put kinds₀ 0 (map word_kind (take i words))) × (levels ≡ put levels₀ 0 (map word_level (take i words))) × (values ≡ put values₀ 0 (map word_value (take i words)))
 
 abbrev decreases-loop : tie.decreases-loop
 decreases-loop n words kinds₀ levels₀ values₀ end i₀ kinds levels values i = n - i
 
 loop-holds : tie.Need-loop-init invariant-loop decreases-loop
-loop-holds c = (omega arith, refl, refl, refl, sym (put-nil _ 0), sym (put-nil _ 0), sym (put-nil _ 0))
+loop-holds c = (omega arith, refl, refl, refl, sym (put_nil _ 0), sym (put_nil _ 0), sym (put_nil _ 0))
 
 -- place i is inside all four lists, and its word has no rest
 inside-words : tie.Need-shared-slice-read-w invariant-loop decreases-loop
@@ -57,13 +57,13 @@ loop-again c =
       simp length-set l.loop.invariant.1,
       simp length-set l.loop.invariant.2,
       simp length-set l.loop.invariant.3,
-      rw c.before.before.word-kind.ensures (mapped-turn wordKind a.kinds.now a.words.now l.loop.kinds i 0 l.loop.invariant.4 (omega (arith, s.requires.1)) (omega (arith, s.requires.0))),
-      rw c.before.word-level.ensures (mapped-turn wordLevel a.levels.now a.words.now l.loop.levels i 0 l.loop.invariant.5 (omega (arith, s.requires.2)) (omega (arith, s.requires.0))),
-      rw c.word_value.ensures (mapped-turn wordValue a.values.now a.words.now l.loop.values i 0 l.loop.invariant.6 (omega (arith, s.requires.3)) (omega (arith, s.requires.0))),
+      rw c.before.before.word-kind.ensures (mapped_turn word_kind a.kinds.now a.words.now l.loop.kinds i 0 l.loop.invariant.4 (omega (arith, s.requires.1)) (omega (arith, s.requires.0))),
+      rw c.before.word-level.ensures (mapped_turn word_level a.levels.now a.words.now l.loop.levels i 0 l.loop.invariant.5 (omega (arith, s.requires.2)) (omega (arith, s.requires.0))),
+      rw c.word_value.ensures (mapped_turn word_value a.values.now a.words.now l.loop.values i 0 l.loop.invariant.6 (omega (arith, s.requires.3)) (omega (arith, s.requires.0))),
     )
 
 returns : tie.Need-returns invariant-loop decreases-loop
-unfolding wordRows
+unfolding word_rows
 returns c =
     let l = c.before in
     let a = l.before.before.before.before.before.args in

@@ -6,7 +6,7 @@ use lib.ListN.{length, length-set}
 use lib.Seq.{paste, paste-zero}
 use borrow.Author.Rules.{rules}
 use Rattle.words.specs.Moves.{words_of}
-use Rattle.words.proofs.Zipped.{words-turn, words-end}
+use Rattle.words.proofs.Zipped.{words_turn, words_end}
 use Rattle.words.proofs.put_words.Statement.{statement}
 use Rattle.words.proofs.put_words.Tie as tie
 
@@ -44,7 +44,7 @@ loop-again c =
       omega arith,
       simp length-set l.loop.invariant.1,
       rw c.word_of.ensures
-          (words-turn a.kinds.now a.levels.now a.values.now a.words.now l.loop.words l.loop.i l.loop.invariant.2
+          (words_turn a.kinds.now a.levels.now a.values.now a.words.now l.loop.words l.loop.i l.loop.invariant.2
           (omega (arith, s.requires.3)) (omega (arith, s.requires.0)) (omega (arith, s.requires.1)) (omega (arith, s.requires.2))),
     )
 
@@ -54,7 +54,7 @@ returns c =
     let s = l.before.before.before.before.before in
     let a = s.args in
     let full : l.loop.i ≡ a.n = omega arith in
-    l.loop.invariant.2 ∙ rw full (words-end a.kinds.now a.levels.now a.values.now a.words.now a.n s.requires.0 s.requires.1 s.requires.2)
+    l.loop.invariant.2 ∙ rw full (words_end a.kinds.now a.levels.now a.values.now a.words.now a.n s.requires.0 s.requires.1 s.requires.2)
 
 pub put-words-spec : {M : Type 1} → statement M
 put-words-spec =

@@ -5,8 +5,8 @@ use lib.ListN.{length}
 use borrow.Author.Rules.{rules}
 use Rattle.lists.proofs.Counting.{yes, no}
 use Rattle.rows.specs.Rows.{Rows, rows_of}
-use Rattle.words.specs.Moves.{moveRoom}
-use Rattle.words.proofs.Back.{rows_short, rows-rest, rows-done, roomy}
+use Rattle.words.specs.Moves.{move_room}
+use Rattle.words.proofs.Back.{rows_short, rows-rest, rows_done, roomy}
 use Rattle.words.proofs.words_to_rows.Statement.{statement}
 use Rattle.words.proofs.words_to_rows.Tie as tie
 
@@ -20,7 +20,7 @@ returns c =
     sym (rows_short s.args.rows (lists s) s.args.words.now (no c.before.move-long.ensures c.if1.true))
 
 -- all of them are long enough
-long : (c : tie.Else1) → let s = c.before.before.before.before.before.before in moveRoom s.args.rows (lists s) s.args.words.now ≡ true
+long : (c : tie.Else1) → let s = c.before.before.before.before.before.before in move_room s.args.rows (lists s) s.args.words.now ≡ true
 long c = yes c.before.move-long.ensures c.if1.false
 
 returns-2 : tie.Need-returns-2
@@ -38,7 +38,7 @@ returns-3 : tie.Need-returns-3
 returns-3 c =
     let e = c.before.before.before.before.before.before.before.before.before.before.before.before in
     let s = e.before.before.before.before.before.before in
-    rw (c.before.before.before.before.before.before.put-rows.ensures, rows-done s.args.rows (lists s) s.args.words.now (long e) (yes c.before.before.before.before.before.before.before.before.before.before.before.rests-clear.ensures c.before.before.before.before.before.before.before.before.before.before.if2.false))
+    rw (c.before.before.before.before.before.before.put-rows.ensures, rows_done s.args.rows (lists s) s.args.words.now (long e) (yes c.before.before.before.before.before.before.before.before.before.before.before.rests-clear.ensures c.before.before.before.before.before.before.before.before.before.before.if2.false))
 
 pub words-to-rows-spec : {M : Type 1} → statement M
 words-to-rows-spec =

@@ -3,32 +3,32 @@ use mathlib.Core.Path.{sym, ◌∙◌}
 use native.Mathlib.Omega.{arith}
 use borrow.Author.Tests.{eq-eqb, ne_eqb}
 use Rattle.lists.specs.Questions.{ask, first}
-use Rattle.grid.proofs.Laws.{slab-energies-le}
-use Rattle.builder.specs.Atom.{atomRoom, atomSetQuestion}
-use Rattle.builder.proofs.Laws.{AtomAsked, atom-asked}
+use Rattle.grid.proofs.Laws.{slab_energies_le}
+use Rattle.builder.specs.Atom.{atom_room, atom_set_question}
+use Rattle.builder.proofs.Laws.{AtomAsked, atom_asked}
 use borrow.Author.Rules.{rules}
 use Rattle.builder.proofs.atom.atom_set_refusal.Statement.{statement}
 use Rattle.builder.proofs.atom.atom_set_refusal.Tie as tie
 
 -- 1 to 5 were answered yes
 held : (c : tie.Else1) → let a = c.before.before.before.before.args in AtomAsked a.b.grid a.b.top a.b.level
-held c = atom-asked _ _ _ (sym c.before.atom-question.ensures ∙ c.if1.false)
+held c = atom_asked _ _ _ (sym c.before.atom-question.ensures ∙ c.if1.false)
 
 returns : tie.Need-returns
 unfolding ask first
 returns c = rw (← c.before.atom-question.ensures, ne_eqb _ _ c.if1.true)
 
 cast-vertex-count : tie.Need-overflow-cast-vertex-count
-cast-vertex-count c = let a = held c in omega (arith, a.top-le)
+cast-vertex-count c = let a = held c in omega (arith, a.top_le)
 
 cast-vertex-count-2 : tie.Need-overflow-cast-vertex-count-2
-cast-vertex-count-2 c = let a = held c.before in omega (arith, a.top-le, a.level-le)
+cast-vertex-count-2 c = let a = held c.before in omega (arith, a.top_le, a.level_le)
 
 set-question-requires : tie.Need-set-question-requires
-set-question-requires c κs = let a = held c.before.before in rw c.before.vertex-count.ensures (omega (arith, slab-energies-le _ _ a.rs a.top-le))
+set-question-requires c κs = let a = held c.before.before in rw c.before.vertex-count.ensures (omega (arith, slab_energies_le _ _ a.rs a.top_le))
 
 returns-2 : tie.Need-returns-2
-unfolding ask first atomRoom atomSetQuestion
+unfolding ask first atom_room atom_set_question
 returns-2 c =
     let d = c.before.before.before in
     rw (← d.before.atom-question.ensures, eq-eqb _ _ d.if1.false, c.set-question.ensures, c.before.vertex-count2.ensures, c.before.before.vertex-count.ensures)

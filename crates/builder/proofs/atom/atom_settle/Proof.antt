@@ -2,44 +2,44 @@
 use mathlib.Core.Path.{refl, sym, ◌∙◌}
 use native.Mathlib.Omega.{arith}
 use borrow.Author.Tests.{eq-eqb, ne_eqb}
-use Rattle.mesh.specs.Mesh.{Mesh, meshOf}
+use Rattle.mesh.specs.Mesh.{Mesh, mesh_of}
 use Rattle.builder.specs.BuilderLists.{BuilderLists, lists_of}
-use Rattle.builder.specs.Atom.{atomSettleOut}
-use Rattle.builder.proofs.Accepted.{atom-ready, atom-settle-is}
+use Rattle.builder.specs.Atom.{atom_settle_out}
+use Rattle.builder.proofs.Accepted.{atom_ready, atom_settle_is}
 use borrow.Author.Rules.{rules}
 use Rattle.builder.proofs.atom.atom_settle.Statement.{statement}
 use Rattle.builder.proofs.atom.atom_settle.Tie as tie
 
 returns : tie.Need-returns
-unfolding atomSettleOut
+unfolding atom_settle_out
 returns c = (rw (ne_eqb _ _ c.if1.true), rw (← c.before.atom-settle-refusal.ensures, ne_eqb _ _ c.if1.true))
 
 atom-settle-slab-requires : tie.Need-atom-settle-slab-requires
 atom-settle-slab-requires c κs =
     let a = c.before.before.before.before.before.before.before.before.before.before.before.before.before.before.before.before.args in
-    let m : Mesh = meshOf a.vertices.now a.counts.now a.neighbours.now a.angles.now in
+    let m : Mesh = mesh_of a.vertices.now a.counts.now a.neighbours.now a.angles.now in
     let l : BuilderLists = lists_of a.store.now a.kinds.now a.levels.now a.values.now in
     let e = c.before.before.before in
-    (atom-ready a.b m l a.ri (sym e.before.atom-settle-refusal.ensures ∙ e.if1.false)).0
+    (atom_ready a.b m l a.ri (sym e.before.atom-settle-refusal.ensures ∙ e.if1.false)).0
 
 atom-compared-requires : tie.Need-atom-compared-requires
 atom-compared-requires c κs =
     let a = c.before.before.before.before.before.before.before.before.before.before.before.before.before.before.before.before.before.before.before.before.before.before.before.before.args in
-    let m : Mesh = meshOf a.vertices.now a.counts.now a.neighbours.now a.angles.now in
+    let m : Mesh = mesh_of a.vertices.now a.counts.now a.neighbours.now a.angles.now in
     let l : BuilderLists = lists_of a.store.now a.kinds.now a.levels.now a.values.now in
     let e = c.before.before.before.before.before.before.before.before.before.before.before in
-    let r = (atom-ready a.b m l a.ri (sym e.before.atom-settle-refusal.ensures ∙ e.if1.false)).0 in
-    omega (arith, r.top-le, r.level-le)
+    let r = (atom_ready a.b m l a.ri (sym e.before.atom-settle-refusal.ensures ∙ e.if1.false)).0 in
+    omega (arith, r.top_le, r.level_le)
 
 returns-2 : tie.Need-returns-2
-unfolding atomSettleOut
+unfolding atom_settle_out
 returns-2 c =
     let a = c.before.before.before.before.before.before.before.before.before.before.before.before.before.before.before.before.before.before.before.before.before.before.before.before.before.before.args in
-    let m : Mesh = meshOf a.vertices.now a.counts.now a.neighbours.now a.angles.now in
+    let m : Mesh = mesh_of a.vertices.now a.counts.now a.neighbours.now a.angles.now in
     let l : BuilderLists = lists_of a.store.now a.kinds.now a.levels.now a.values.now in
     let e = c.before.before.before.before.before.before.before.before.before.before.before.before.before in
-    let held = (atom-ready a.b m l a.ri (sym e.before.atom-settle-refusal.ensures ∙ e.if1.false)).1 in
-    (refl, rw (← e.before.atom-settle-refusal.ensures, eq-eqb _ _ e.if1.false, c.atom-level.ensures, c.before.atom-compared.ensures) (atom-settle-is a.b m l a.ri _ _ held c.before.before.before.before.before.before.before.before.before.atom-settle-slab.ensures))
+    let held = (atom_ready a.b m l a.ri (sym e.before.atom-settle-refusal.ensures ∙ e.if1.false)).1 in
+    (refl, rw (← e.before.atom-settle-refusal.ensures, eq-eqb _ _ e.if1.false, c.atom-level.ensures, c.before.atom-compared.ensures) (atom_settle_is a.b m l a.ri _ _ held c.before.before.before.before.before.before.before.before.before.atom-settle-slab.ensures))
 
 pub atom-settle-spec : {M : Type 1} → statement M
 atom-settle-spec =

@@ -1,6 +1,6 @@
 -- `atom_clear_slabs` meets its contract. Assumes nothing.
 use native.Mathlib.Omega.{arith}
-use Rattle.builder.specs.Calls.{filledSlabs}
+use Rattle.builder.specs.Calls.{filled_slabs}
 use borrow.Author.Rules.{rules}
 use Rattle.builder.proofs.copies.atom_clear_slabs.Statement.{statement}
 use Rattle.builder.proofs.copies.atom_clear_slabs.Tie as tie
@@ -15,7 +15,7 @@ clear-rows-requires : tie.Need-clear-rows-requires
 clear-rows-requires c κs = let p = c.before.before.before.before.before.before.before.before.before.before.before.requires in (p.1, p.2, p.3)
 
 returns : tie.Need-returns
-unfolding filledSlabs
+unfolding filled_slabs
 returns c =
     let w = c.before.before.before.before.before.before.clear-rows.ensures in
     rw (c.before.before.before.before.before.before.before.before.before.before.before.before.clear-store.ensures, w.0, w.1, w.2)

@@ -5,8 +5,8 @@ use native.Mathlib.Omega.{arith}
 use lib.ListN.{length, replicate, length-set}
 use borrow.Author.Rules.{rules}
 use Rattle.lists.specs.Lists.{put}
-use Rattle.lists.proofs.Written.{put-nil}
-use Rattle.lists.proofs.Loops.{fill-turn}
+use Rattle.lists.proofs.Written.{put_nil}
+use Rattle.lists.proofs.Loops.{fill_turn}
 use Rattle.builder.proofs.copies.clear_rows.Statement.{statement}
 use Rattle.builder.proofs.copies.clear_rows.Tie as tie
 
@@ -18,7 +18,7 @@ abbrev decreases-loop : tie.decreases-loop
 decreases-loop kinds₀ levels₀ values₀ n i₀ kinds levels values i = n - i
 
 loop-holds : tie.Need-loop-init invariant-loop decreases-loop
-loop-holds c = (search rules, refl, refl, refl, sym (put-nil c.args.kinds.now 0), sym (put-nil c.args.levels.now 0), sym (put-nil c.args.values.now 0))
+loop-holds c = (search rules, refl, refl, refl, sym (put_nil c.args.kinds.now 0), sym (put_nil c.args.levels.now 0), sym (put_nil c.args.values.now 0))
 
 slice-write-kinds : tie.Need-slice-write-kinds invariant-loop decreases-loop
 slice-write-kinds c = omega arith
@@ -47,9 +47,9 @@ loop-again c =
       simp length-set v.1,
       simp length-set v.2,
       simp length-set v.3,
-      fill-turn a.kinds.now 0 l.loop.kinds l.loop.i v.4 (omega arith),
-      fill-turn a.levels.now 0 l.loop.levels l.loop.i v.5 (omega arith),
-      fill-turn a.values.now 0 l.loop.values l.loop.i v.6 (omega arith),
+      fill_turn a.kinds.now 0 l.loop.kinds l.loop.i v.4 (omega arith),
+      fill_turn a.levels.now 0 l.loop.levels l.loop.i v.5 (omega arith),
+      fill_turn a.values.now 0 l.loop.values l.loop.i v.6 (omega arith),
     )
 
 returns : tie.Need-returns invariant-loop decreases-loop

@@ -1,6 +1,6 @@
 -- `clear_slabs` meets its contract. Assumes nothing.
 use native.Mathlib.Omega.{arith}
-use Rattle.builder.proofs.Laws.{filled-words}
+use Rattle.builder.proofs.Laws.{filled_words}
 use borrow.Author.Rules.{rules}
 use Rattle.builder.proofs.copies.clear_slabs.Statement.{statement}
 use Rattle.builder.proofs.copies.clear_slabs.Tie as tie
@@ -17,7 +17,7 @@ clear-words-requires c κs = c.before.before.before.before.before.before.before.
 returns : tie.Need-returns
 returns c =
     let a = c.before.before.before.before.before.before.before.before.before.before.args in
-    rw (c.before.before.before.before.before.before.clear-store.ensures, c.before.before.clear-words.ensures) (filled-words a.n a.z a.store.now a.words.now)
+    rw (c.before.before.before.before.before.before.clear-store.ensures, c.before.before.clear-words.ensures) (filled_words a.n a.z a.store.now a.words.now)
 
 pub clear-slabs-spec : {M : Type 1} → statement M
 clear-slabs-spec = tie.close

@@ -5,9 +5,9 @@ use native.Mathlib.Omega.{arith}
 use lib.ListN.{length, replicate, length-set}
 use borrow.Author.Rules.{rules}
 use Rattle.lists.specs.Lists.{put}
-use Rattle.lists.proofs.Written.{put-nil}
+use Rattle.lists.proofs.Written.{put_nil}
 use Rattle.settling.specs.Gradient.{zero}
-use Rattle.lists.proofs.Loops.{fill-turn}
+use Rattle.lists.proofs.Loops.{fill_turn}
 use Rattle.builder.proofs.copies.clear_store.Statement.{statement}
 use Rattle.builder.proofs.copies.clear_store.Tie as tie
 
@@ -18,7 +18,7 @@ abbrev decreases-loop : tie.decreases-loop
 decreases-loop store₀ n i₀ store i = n - i
 
 loop-holds : tie.Need-loop-init invariant-loop decreases-loop
-loop-holds c = (search rules, refl, sym (put-nil c.args.store.now 0))
+loop-holds c = (search rules, refl, sym (put_nil c.args.store.now 0))
 
 mul-store : tie.Need-overflow-mul-store invariant-loop decreases-loop
 mul-store c = omega arith
@@ -36,7 +36,7 @@ loop-again : tie.Need-loop-preserved invariant-loop decreases-loop
 loop-again c =
     let l = c.before in
     let a = l.before.args in
-    (omega arith, simp length-set l.loop.invariant.1, fill-turn a.store.now zero l.loop.store l.loop.i l.loop.invariant.2 (omega arith))
+    (omega arith, simp length-set l.loop.invariant.1, fill_turn a.store.now zero l.loop.store l.loop.i l.loop.invariant.2 (omega arith))
 
 returns : tie.Need-returns invariant-loop decreases-loop
 returns c =

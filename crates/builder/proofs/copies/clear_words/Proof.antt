@@ -5,8 +5,8 @@ use native.Mathlib.Omega.{arith}
 use lib.ListN.{length, replicate, length-set}
 use borrow.Author.Rules.{rules}
 use Rattle.lists.specs.Lists.{put}
-use Rattle.lists.proofs.Written.{put-nil}
-use Rattle.lists.proofs.Loops.{fill-turn}
+use Rattle.lists.proofs.Written.{put_nil}
+use Rattle.lists.proofs.Loops.{fill_turn}
 use Rattle.builder.proofs.copies.clear_words.Statement.{statement}
 use Rattle.builder.proofs.copies.clear_words.Tie as tie
 
@@ -17,7 +17,7 @@ abbrev decreases-loop : tie.decreases-loop
 decreases-loop words₀ n i₀ words i = n - i
 
 loop-holds : tie.Need-loop-init invariant-loop decreases-loop
-loop-holds c = (search rules, refl, sym (put-nil c.args.words.now 0))
+loop-holds c = (search rules, refl, sym (put_nil c.args.words.now 0))
 
 mul_words : tie.Need-overflow-mul-words invariant-loop decreases-loop
 mul_words c = omega arith
@@ -35,7 +35,7 @@ loop-again : tie.Need-loop-preserved invariant-loop decreases-loop
 loop-again c =
     let l = c.before in
     let a = l.before.args in
-    (omega arith, simp length-set l.loop.invariant.1, fill-turn a.words.now 0 l.loop.words l.loop.i l.loop.invariant.2 (omega arith))
+    (omega arith, simp length-set l.loop.invariant.1, fill_turn a.words.now 0 l.loop.words l.loop.i l.loop.invariant.2 (omega arith))
 
 returns : tie.Need-returns invariant-loop decreases-loop
 returns c =

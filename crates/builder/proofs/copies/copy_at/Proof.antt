@@ -6,7 +6,7 @@ use lib.ListN.{length, length-set}
 use lib.Seq.{paste, paste-zero}
 use lib.Ieee.{nan}
 use borrow.Author.Rules.{rules}
-use Rattle.lists.proofs.Loops.{copy-turn, copy-all}
+use Rattle.lists.proofs.Loops.{copy_turn, copy_all}
 use Rattle.builder.proofs.copies.copy_at.Statement.{statement}
 use Rattle.builder.proofs.copies.copy_at.Tie as tie
 
@@ -38,14 +38,14 @@ loop-again : tie.Need-loop-preserved invariant-loop decreases-loop
 loop-again c =
     let l = c.before.before in
     let a = l.before.args in
-    (omega arith, simp length-set l.loop.invariant.1, copy-turn a.dst.now a.at a.src.now l.loop.dst l.loop.j nan l.loop.invariant.2 (omega arith) (omega arith))
+    (omega arith, simp length-set l.loop.invariant.1, copy_turn a.dst.now a.at a.src.now l.loop.dst l.loop.j nan l.loop.invariant.2 (omega arith) (omega arith))
 
 returns : tie.Need-returns invariant-loop decreases-loop
 returns c =
     let l = c.before in
     let a = l.before.args in
     let full : l.loop.j ≡ length a.src.now = omega arith in
-    l.loop.invariant.2 ∙ rw full (copy-all a.dst.now a.at a.src.now)
+    l.loop.invariant.2 ∙ rw full (copy_all a.dst.now a.at a.src.now)
 
 pub copy-at-spec : {M : Type 1} → statement M
 copy-at-spec =

@@ -1,6 +1,6 @@
 -- `set_slab` meets its contract. Assumes nothing.
 use native.Mathlib.Omega.{arith}
-use Rattle.builder.specs.Calls.{slabSet}
+use Rattle.builder.specs.Calls.{slab_set}
 use borrow.Author.Rules.{rules}
 use Rattle.builder.proofs.copies.set_slab.Statement.{statement}
 use Rattle.builder.proofs.copies.set_slab.Tie as tie
@@ -12,7 +12,7 @@ copy-at-requires : tie.Need-copy-at-requires
 copy-at-requires c κs = c.before.before.before.before.requires
 
 returns : tie.Need-returns
-unfolding slabSet
+unfolding slab_set
 returns c = rw (c.before.before.before.before.before.before.copy_at.ensures, c.before.before.replace-in.ensures)
 
 pub set-slab-spec : {M : Type 1} → statement M

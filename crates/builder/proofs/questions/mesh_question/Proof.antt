@@ -1,7 +1,7 @@
 -- `mesh_question` meets its contract. Assumes nothing.
 use Rattle.lists.proofs.Counting.{yes, no}
 use Rattle.lists.specs.Questions.{ask}
-use Rattle.builder.proofs.Laws.{second-yes, second-no}
+use Rattle.builder.proofs.Laws.{second_yes, second_no}
 use borrow.Author.Rules.{rules}
 use Rattle.builder.proofs.questions.mesh_question.Statement.{statement}
 use Rattle.builder.proofs.questions.mesh_question.Tie as tie
@@ -25,7 +25,7 @@ returns-3 c =
     let e = c.before.before in
     let d = e.before.before in
     let m = yes e.before.meshes-room.ensures e.if2.false in
-    rw (yes d.before.slab-room.ensures d.if1.false, m, second-no c.before.meshes-keep.ensures m c.if3.true)
+    rw (yes d.before.slab-room.ensures d.if1.false, m, second_no c.before.meshes-keep.ensures m c.if3.true)
 
 returns-4 : tie.Need-returns-4
 unfolding ask
@@ -33,7 +33,7 @@ returns-4 c =
     let e = c.before.before in
     let d = e.before.before in
     let m = yes e.before.meshes-room.ensures e.if2.false in
-    rw (yes d.before.slab-room.ensures d.if1.false, m, second-yes c.before.meshes-keep.ensures m c.if3.false)
+    rw (yes d.before.slab-room.ensures d.if1.false, m, second_yes c.before.meshes-keep.ensures m c.if3.false)
 
 pub mesh-question-spec : {M : Type 1} → statement M
 mesh-question-spec =

@@ -4,7 +4,7 @@ use native.Mathlib.Nat.{mul-le-mul}
 use native.Mathlib.Omega.{arith}
 use borrow.Author.Tests.{eq-eqb, ne_eqb}
 use Rattle.lists.specs.Questions.{ask, first}
-use Rattle.builder.specs.BuilderLists.{listRoom}
+use Rattle.builder.specs.BuilderLists.{list_room}
 use Rattle.builder.proofs.Laws.{Asked, asked}
 use borrow.Author.Rules.{rules}
 use Rattle.builder.proofs.questions.meshed_refusal.Statement.{statement}
@@ -22,13 +22,13 @@ mul-mesh-question : tie.Need-overflow-mul-mesh-question
 mul-mesh-question c = let a = held c in omega (arith, mul-le-mul a.rs a.omegas)
 
 cast-per-level : tie.Need-overflow-cast-per-level
-cast-per-level c = let a = held c in omega (arith, a.top-le)
+cast-per-level c = let a = held c in omega (arith, a.top_le)
 
 mesh-question-requires : tie.Need-mesh-question-requires
-mesh-question-requires c κs = let a = held c.before in (rw c.per-level.ensures (omega (arith, a.few)), a.top-le)
+mesh-question-requires c κs = let a = held c.before in (rw c.per-level.ensures (omega (arith, a.few)), a.top_le)
 
 returns-2 : tie.Need-returns-2
-unfolding ask first listRoom
+unfolding ask first list_room
 returns-2 c =
     let d = c.before.before in
     rw (← d.before.question.ensures, eq-eqb _ _ d.if1.false, c.mesh-question.ensures, c.before.per-level.ensures)

@@ -7,7 +7,7 @@ use lib.ListN.{length, drop}
 use lib.Ieee.{nan, is_nan}
 use borrow.Author.Rules.{rules}
 use Rattle.lists.specs.Lists.{every}
-use Rattle.lists.proofs.Loops.{every-turn, every-all}
+use Rattle.lists.proofs.Loops.{every_turn, every-all}
 use Rattle.builder.proofs.questions.no_nan.Statement.{statement}
 use Rattle.builder.proofs.questions.no_nan.Tie as tie
 
@@ -30,7 +30,7 @@ loop-again : tie.Need-loop-preserved invariant-loop decreases-loop
 loop-again c =
     let l = c.before.before.before in
     let e = l.before.before.args.e.now in
-    every-turn (λ x. not (is_nan x)) e l.loop.i nan l.loop.held c.is_number.result (omega arith) c.is_number.ensures ∙ l.loop.invariant
+    every_turn (λ x. not (is_nan x)) e l.loop.i nan l.loop.held c.is_number.result (omega arith) c.is_number.ensures ∙ l.loop.invariant
 
 returns : tie.Need-returns invariant-loop decreases-loop
 returns c =

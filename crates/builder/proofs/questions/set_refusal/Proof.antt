@@ -8,9 +8,9 @@ use lib.ListN.{length}
 use borrow.Author.Tests.{ne_eqb}
 use Rattle.lists.specs.Questions.{ask, first}
 use Rattle.lists.proofs.Counting.{yes, no}
-use Rattle.builder.specs.BuilderLists.{listRoom}
-use Rattle.builder.specs.Refusals.{builderQuestion, setQuestion}
-use Rattle.builder.proofs.Laws.{Asked, asked, Set, accepted, chain-no, chain-yes}
+use Rattle.builder.specs.BuilderLists.{list_room}
+use Rattle.builder.specs.Refusals.{builder_question, set_question}
+use Rattle.builder.proofs.Laws.{Asked, asked, Set, accepted, chain_no, chain_yes}
 use borrow.Author.Rules.{rules}
 use Rattle.builder.proofs.questions.set_refusal.Statement.{statement}
 use Rattle.builder.proofs.questions.set_refusal.Tie as tie
@@ -21,18 +21,18 @@ held c = asked _ _ _ (sym c.before.question.ensures ∙ c.if1.false)
 
 -- 6 and 8 to 10
 answered : (c : tie.After-set-question) → let a = c.before.before.before.before.before.before.before.before.args in
-    c.set-question.result ≡ ask (listRoom a.b.grid a.b.top a.store (length a.words.now) (length a.words.now) (length a.words.now)) 6 (setQuestion a.b.grid a.b.level a.ri a.oi a.energies.now)
-unfolding listRoom setQuestion
+    c.set-question.result ≡ ask (list_room a.b.grid a.b.top a.store (length a.words.now) (length a.words.now) (length a.words.now)) 6 (set_question a.b.grid a.b.level a.ri a.oi a.energies.now)
+unfolding list_room set_question
 answered c = rw (c.set-question.ensures, c.before.per-level2.ensures, c.before.before.per-level.ensures)
 
 -- where they were answered yes, 15 is left
 left : (c : tie.Else2) (k : ℕ) → let a = c.before.before.before.before.before.before.before.before.before.args in
-    first (builderQuestion a.b)
-    (ask (listRoom a.b.grid a.b.top a.store (length a.words.now) (length a.words.now) (length a.words.now)) 6
-    (first (setQuestion a.b.grid a.b.level a.ri a.oi a.energies.now) k)) ≡ k
+    first (builder_question a.b)
+    (ask (list_room a.b.grid a.b.top a.store (length a.words.now) (length a.words.now) (length a.words.now)) 6
+    (first (set_question a.b.grid a.b.level a.ri a.oi a.energies.now) k)) ≡ k
 left c k =
     let d = c.before.before.before.before in
-    chain-yes _ _ _ k _ (sym d.before.question.ensures ∙ d.if1.false) (answered c.before) c.if2.false
+    chain_yes _ _ _ k _ (sym d.before.question.ensures ∙ d.if1.false) (answered c.before) c.if2.false
 
 facts : (c : tie.Else2) → let a = c.before.before.before.before.before.before.before.before.before.args in
     Set a.b a.ri a.oi a.energies.now a.store (length a.words.now) (length a.words.now) (length a.words.now)
@@ -54,10 +54,10 @@ mul-set-question : tie.Need-overflow-mul-set-question
 mul-set-question c = let a = held c in omega (arith, mul-le-mul a.rs a.omegas)
 
 cast-per-level : tie.Need-overflow-cast-per-level
-cast-per-level c = let a = held c in omega (arith, a.top-le)
+cast-per-level c = let a = held c in omega (arith, a.top_le)
 
 cast-per-level-2 : tie.Need-overflow-cast-per-level-2
-cast-per-level-2 c = let a = held c.before in omega (arith, a.top-le, a.level-le)
+cast-per-level-2 c = let a = held c.before in omega (arith, a.top_le, a.level_le)
 
 set-question-requires : tie.Need-set-question-requires
 set-question-requires c κs = let a = held c.before.before in rw c.before.per-level.ensures (omega (arith, a.few))
@@ -65,7 +65,7 @@ set-question-requires c κs = let a = held c.before.before in rw c.before.per-le
 returns-2 : tie.Need-returns-2
 returns-2 c =
     let d = c.before.before.before.before in
-    chain-no _ _ _ _ _ (sym d.before.question.ensures ∙ d.if1.false) (answered c.before) c.if2.true
+    chain_no _ _ _ _ _ (sym d.before.question.ensures ∙ d.if1.false) (answered c.before) c.if2.true
 
 mul-known-in : tie.Need-overflow-mul-known-in
 mul-known-in c = let f = facts c in omega (arith, f.row, mul-le-mul f.asked.rs f.asked.omegas)

@@ -6,8 +6,8 @@ use native.Mathlib.Omega.{arith}
 use borrow.Author.Tests.{lt-ltb, le-ltb}
 use Rattle.lists.specs.Questions.{ask}
 use Rattle.lists.proofs.Counting.{yes, no}
-use Rattle.builder.specs.BuilderLists.{rowsKnown}
-use Rattle.builder.specs.Internal.{settleQuestion}
+use Rattle.builder.specs.BuilderLists.{rows_known}
+use Rattle.builder.specs.Internal.{settle_question}
 use Rattle.builder.proofs.questions.settle_question.Statement.{statement}
 use Rattle.builder.proofs.questions.settle_question.Tie as tie
 
@@ -22,7 +22,7 @@ flat : (c : tie.Else1) → let a = c.before.before.args in a.ri * a.n + 0 ≡ a.
 flat c = omega arith
 
 returns : tie.Need-returns
-unfolding settleQuestion ask rowsKnown
+unfolding settle_question ask rows_known
 returns c = rw (le-ltb _ _ c.if1.true)
 
 mul-s : tie.Need-overflow-mul-s
@@ -32,7 +32,7 @@ rows-known-requires : tie.Need-rows-known-requires
 rows-known-requires c κs = (omega (arith, small c), c.before.before.requires.1)
 
 returns-2 : tie.Need-returns-2
-unfolding settleQuestion ask rowsKnown
+unfolding settle_question ask rows_known
 returns-2 c =
     let d = c.before.before in
     rw (lt-ltb _ _ d.if1.false, flat d, no c.before.rows-known.ensures c.if2.true)
@@ -41,14 +41,14 @@ rows-from-level-requires : tie.Need-rows-from-level-requires
 rows-from-level-requires c κs = (omega (arith, small c.before.before), c.before.before.before.before.requires.1)
 
 returns-3 : tie.Need-returns-3
-unfolding settleQuestion ask rowsKnown
+unfolding settle_question ask rows_known
 returns-3 c =
     let e = c.before.before in
     let d = e.before.before in
     rw (lt-ltb _ _ d.if1.false, flat d, yes e.before.rows-known.ensures e.if2.false, no c.before.rows-from-level.ensures c.if3.true)
 
 returns-4 : tie.Need-returns-4
-unfolding settleQuestion ask rowsKnown
+unfolding settle_question ask rows_known
 returns-4 c =
     let e = c.before.before in
     let d = e.before.before in

@@ -1,7 +1,7 @@
 -- `slab_room` meets its contract. Assumes nothing.
 use mathlib.Core.Path.{refl}
 use native.Mathlib.Omega.{arith}
-use Rattle.rows.specs.Rows.{rowRoom}
+use Rattle.rows.specs.Rows.{row_room}
 use Rattle.builder.proofs.questions.slab_room.Statement.{statement}
 use Rattle.builder.proofs.questions.slab_room.Tie as tie
 
@@ -9,7 +9,7 @@ mul-result : tie.Need-overflow-mul-result
 mul-result c = omega (arith, c.requires)
 
 returns : tie.Need-returns
-unfolding rowRoom
+unfolding row_room
 returns c = refl
 
 pub slab-room-spec : {M : Type 1} → statement M

@@ -3,7 +3,7 @@ use Prim.Native.Nat.{◌*◌, ◌≤◌}
 use native.Mathlib.Nat.{mul-le-mul}
 use native.Mathlib.Omega.{arith}
 use borrow.Author.Rules.{rules}
-use Rattle.mesh.proofs.Laws.{count-le}
+use Rattle.mesh.proofs.Laws.{count_le}
 use Rattle.builder.proofs.slices.compared.Statement.{statement}
 use Rattle.builder.proofs.slices.compared.Tie as tie
 
@@ -11,7 +11,7 @@ use Rattle.builder.proofs.slices.compared.Tie as tie
 small : (c : tie.After-neighbour-total) → (c.before.vertex-count.result ≤ 2562) × (c.neighbour-total.result ≤ 15372)
 small c =
     let s = c.before.before.before.before in
-    let n = count-le s.args.b.level 16 (omega (arith, s.requires.0)) in
+    let n = count_le s.args.b.level 16 (omega (arith, s.requires.0)) in
     (rw c.before.vertex-count.ensures n, rw c.neighbour-total.ensures (omega (arith, n, s.requires.2)))
 
 pairs : (c : tie.After-neighbour-total) → 2 * c.before.vertex-count.result * c.neighbour-total.result ≤ 5124 * 15372

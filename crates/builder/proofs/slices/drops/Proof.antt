@@ -1,11 +1,11 @@
 -- `drops` meets its contract. Assumes nothing.
-use Rattle.builder.specs.Internal.{dropsBy}
+use Rattle.builder.specs.Internal.{drops_by}
 use borrow.Author.Rules.{rules}
 use Rattle.builder.proofs.slices.drops.Statement.{statement}
 use Rattle.builder.proofs.slices.drops.Tie as tie
 
 returns : tie.Need-returns
-unfolding dropsBy
+unfolding drops_by
 returns c = search rules
 
 pub drops-spec : {M : Type 1} → statement M

@@ -7,22 +7,22 @@ use mathlib.Core.List.{List, []}
 use lib.ListN.{take, drop}
 use lib.Ieee.{Float}
 use borrow.Author.Tests.{le-leb}
-use Rattle.mesh.specs.Levels.{vertexCount}
-use Rattle.mesh.specs.Mesh.{Mesh, meshOf}
-use Rattle.rows.specs.Rows.{Rows, resolutionAt, rowWith}
-use Rattle.rows.specs.Words.{wordRows}
-use Rattle.settling.specs.Settling.{verdictOf}
+use Rattle.mesh.specs.Levels.{vertex_count}
+use Rattle.mesh.specs.Mesh.{Mesh, mesh_of}
+use Rattle.rows.specs.Rows.{Rows, resolution_at, row_with}
+use Rattle.rows.specs.Words.{word_rows}
+use Rattle.settling.specs.Settling.{verdict_of}
 use Rattle.settling.specs.Internal.{tallied}
-use Rattle.mesh.proofs.Laws.{count-le}
-use Rattle.lists.proofs.Loops.{part-is}
-use Rattle.settling.proofs.Changes.{row-clear, same-packed, row-packed}
+use Rattle.mesh.proofs.Laws.{count_le}
+use Rattle.lists.proofs.Loops.{part_is}
+use Rattle.settling.proofs.Changes.{row_clear, same-packed, row_packed}
 use borrow.Author.Rules.{rules}
 use Rattle.builder.proofs.slices.settle_slab.Statement.{statement}
 use Rattle.builder.proofs.slices.settle_slab.Tie as tie
 
 -- a level that a builder holds is small
-small : (c : tie.After-vertex-count) → vertexCount c.before.before.before.before.before.before.before.before.args.level ≤ 2562
-small c = let s = c.before.before.before.before.before.before.before.before in count-le s.args.level 16 (omega (arith, s.requires.0))
+small : (c : tie.After-vertex-count) → vertex_count c.before.before.before.before.before.before.before.before.args.level ≤ 2562
+small c = let s = c.before.before.before.before.before.before.before.before in count_le s.args.level 16 (omega (arith, s.requires.0))
 
 mul-end : tie.Need-overflow-mul-end
 mul-end c = rw c.vertex-count.ensures (omega (arith, mul-le-mul (small c) (small c)))
@@ -37,17 +37,17 @@ returns : tie.Need-returns
 unfolding tallied
 returns c =
     let a = c.before.before.before.before.before.before.before.before.before.before.before.before.before.before.before.args in
-    let n = vertexCount a.level in
+    let n = vertex_count a.level in
     let e : List Float = take (n * n) (drop a.at a.store.now) in
-    let rows : Rows = wordRows a.words.now in
-    let x = resolutionAt rows a.s in
-    let m : Mesh = meshOf [] a.counts.now a.neighbours.now a.angles.now in
-    let v = verdictOf a.threshold a.beta m n (rowWith x e) in
+    let rows : Rows = word_rows a.words.now in
+    let x = resolution_at rows a.s in
+    let m : Mesh = mesh_of [] a.counts.now a.neighbours.now a.angles.now in
+    let v = verdict_of a.threshold a.beta m n (row_with x e) in
     let pre = c.before.before.before.before.before.before.before.before.before.before.before.before.before.before.before.requires in
     let found : c.before.before.before.before.before.verdict-of.result ≡ v =
-    rw (c.before.before.before.before.before.before.before.vertex-count.ensures, part-is a.store.now a.at (n * n), c.before.before.before.before.before.before.before.before.resolution-in.ensures) at c.before.before.before.before.before.verdict-of.ensures
+    rw (c.before.before.before.before.before.before.before.vertex-count.ensures, part_is a.store.now a.at (n * n), c.before.before.before.before.before.before.before.before.resolution-in.ensures) at c.before.before.before.before.before.verdict-of.ensures
     ∙ rw (le-leb a.level 15 pre.0) in
-    (c.tallied.ensures ∙ rw (c.before.before.before.before.before.before.before.before.resolution-in.ensures, found, row-clear x e a.level v, same-packed x e, row-packed x e a.level v), c.before.before.before.replace-word-by.ensures ∙ rw found)
+    (c.tallied.ensures ∙ rw (c.before.before.before.before.before.before.before.before.resolution-in.ensures, found, row_clear x e a.level v, same-packed x e, row_packed x e a.level v), c.before.before.before.replace-word-by.ensures ∙ rw found)
 
 pub settle-slab-spec : {M : Type 1} → statement M
 settle-slab-spec =

@@ -2,7 +2,7 @@
 use mathlib.Core.Path.{◌≡◌}
 use Prim.Native.Nat.{suc, ◌+◌, ◌≤◌}
 use native.Mathlib.Omega.{arith}
-use Rattle.mesh.specs.Levels.{verticesBelow}
+use Rattle.mesh.specs.Levels.{vertices_below}
 use Rattle.builder.proofs.Cut.{total, few, cut}
 use borrow.Author.Rules.{rules}
 use Rattle.builder.proofs.slices.settle_slice.Statement.{statement}
@@ -10,15 +10,15 @@ use Rattle.builder.proofs.slices.settle_slice.Tie as tie
 
 -- where the level's part ends
 ends : (c : tie.After-vertex-count) → let m = c.before.before.before.before.before.before.before.before.args.b.level in
-    (c.before.vertices-below.result + c.vertex-count.result ≡ verticesBelow (suc m)) × (c.before.vertices-below.result + c.vertex-count.result ≤ 56252672)
+    (c.before.vertices-below.result + c.vertex-count.result ≡ vertices_below (suc m)) × (c.before.vertices-below.result + c.vertex-count.result ≤ 56252672)
 ends c =
     let s = c.before.before.before.before.before.before.before.before in
     let f = c.before.vertices-below.ensures in
     let k = c.vertex-count.ensures in
-    (total s.args.b.level _ _ f k, few s.args.b.level _ _ f k (omega (arith, s.requires.ready.top-le, s.requires.ready.level-le)))
+    (total s.args.b.level _ _ f k, few s.args.b.level _ _ f k (omega (arith, s.requires.ready.top_le, s.requires.ready.level_le)))
 
 cast-level : tie.Need-overflow-cast-level
-cast-level c = let s = c.before.before.before.before.before.before in omega (arith, s.requires.ready.top-le, s.requires.ready.level-le)
+cast-level c = let s = c.before.before.before.before.before.before in omega (arith, s.requires.ready.top_le, s.requires.ready.level_le)
 
 add-e : tie.Need-overflow-add-e
 add-e c = omega (arith, (ends c).0, (ends c).1)
@@ -30,19 +30,19 @@ mul-e6 : tie.Need-overflow-mul-e6
 mul-e6 c = omega (arith, (ends c).0, (ends c).1)
 
 part-settle-rows-end : tie.Need-slice-bounds-settle-rows-end
-part-settle-rows-end c = omega (arith, (ends c).0, (ends c).1, c.before.before.before.before.before.before.before.before.requires.linked.counts-le)
+part-settle-rows-end c = omega (arith, (ends c).0, (ends c).1, c.before.before.before.before.before.before.before.before.requires.linked.counts_le)
 
 mul-settle-rows : tie.Need-overflow-mul-settle-rows
 mul-settle-rows c = omega (arith, (ends c.before).0, (ends c.before).1)
 
 part-settle-rows-end-2 : tie.Need-slice-bounds-settle-rows-end-2
-part-settle-rows-end-2 c = omega (arith, (ends c.before).0, (ends c.before).1, c.before.before.before.before.before.before.before.before.before.requires.linked.neighbours-le)
+part-settle-rows-end-2 c = omega (arith, (ends c.before).0, (ends c.before).1, c.before.before.before.before.before.before.before.before.before.requires.linked.neighbours_le)
 
 mul-settle-rows-2 : tie.Need-overflow-mul-settle-rows-2
 mul-settle-rows-2 c = omega (arith, (ends c.before.before).0, (ends c.before.before).1)
 
 part-settle-rows-end-3 : tie.Need-slice-bounds-settle-rows-end-3
-part-settle-rows-end-3 c = omega (arith, (ends c.before.before).0, (ends c.before.before).1, c.before.before.before.before.before.before.before.before.before.before.requires.linked.angles-le)
+part-settle-rows-end-3 c = omega (arith, (ends c.before.before).0, (ends c.before.before).1, c.before.before.before.before.before.before.before.before.before.before.requires.linked.angles_le)
 
 settle-rows-requires : tie.Need-settle-rows-requires
 settle-rows-requires c κs =

@@ -1,11 +1,11 @@
 -- `atom_count_valid` meets its contract. Assumes nothing.
-use Rattle.grid.specs.Atom.{atomCountValid}
+use Rattle.grid.specs.Atom.{atom_count_valid}
 use borrow.Author.Rules.{rules}
 use Rattle.grid.proofs.atom.atom_count_valid.Statement.{statement}
 use Rattle.grid.proofs.atom.atom_count_valid.Tie as tie
 
 returns : tie.Need-returns
-unfolding atomCountValid
+unfolding atom_count_valid
 returns c = rw (c.before.bin-count.ensures, c.distance-count.ensures)
 
 pub atom-count-valid-spec : {M : Type 1} → statement M

@@ -1,11 +1,11 @@
 -- `atom_counted` meets its contract. Assumes nothing.
-use Rattle.grid.specs.Atom.{atomCounted}
+use Rattle.grid.specs.Atom.{atom_counted}
 use borrow.Author.Rules.{rules}
 use Rattle.grid.proofs.atom.atom_counted.Statement.{statement}
 use Rattle.grid.proofs.atom.atom_counted.Tie as tie
 
 returns : tie.Need-returns
-unfolding atomCounted
+unfolding atom_counted
 returns c = rw c.distance-count.ensures
 
 pub atom-counted-spec : {M : Type 1} → statement M

@@ -6,7 +6,7 @@ use Rattle.grid.proofs.atom.atom_grid_range.Tie as tie
 returns : tie.Need-returns
 returns c =
     let b = c.before.before in
-    rw (c.own-count.ensures, c.before.bin-count.ensures, b.positive.ensures, b.before.is_finite.ensures)
+    rw (c.own_count.ensures, c.before.bin-count.ensures, b.positive.ensures, b.before.is_finite.ensures)
 
 pub atom-grid-range-spec : {M : Type 1} → statement M
 atom-grid-range-spec =

@@ -1,15 +1,15 @@
 -- `atom_settle_answer` meets its contract. Assumes nothing.
-use Rattle.icotable.specs.AtomAnswers.{atomSettledIn}
+use Rattle.icotable.specs.AtomAnswers.{atom_settled_in}
 use borrow.Author.Rules.{rules}
 use Rattle.icotable.proofs.atom.atom_settle_answer.Statement.{statement}
 use Rattle.icotable.proofs.atom.atom_settle_answer.Tie as tie
 
 returns : tie.Need-returns
-unfolding atomSettledIn
+unfolding atom_settled_in
 returns c = rw c.before.a.given.1
 
 returns-2 : tie.Need-returns-2
-unfolding atomSettledIn
+unfolding atom_settled_in
 returns-2 c = rw c.before.a2.given.1
 
 pub atom-settle-answer-spec : {M : Type 1} → statement M

@@ -1,15 +1,15 @@
 -- `energy_answer` meets its contract. Assumes nothing.
-use Rattle.icotable.specs.AtomAnswers.{energyIn}
+use Rattle.icotable.specs.AtomAnswers.{energy_in}
 use borrow.Author.Rules.{rules}
 use Rattle.icotable.proofs.atom.energy_answer.Statement.{statement}
 use Rattle.icotable.proofs.atom.energy_answer.Tie as tie
 
 returns : tie.Need-returns
-unfolding energyIn
+unfolding energy_in
 returns c = rw c.before.a.given.1
 
 returns-2 : tie.Need-returns-2
-unfolding energyIn
+unfolding energy_in
 returns-2 c = rw c.before.a2.given.1
 
 pub energy-answer-spec : {M : Type 1} → statement M

@@ -40,10 +40,10 @@ use denote.Triple.Table.{entered, cited}
 use denote.Triple.Walked.{says, Stays, stay_none, stay_none_slice, walk_of, AllGo, stay_none_ref, Goes-none_ref, Goes-none, Goes-none_slice, Walks, ends_at, walked, walk_Meets}
 use denote.Exit.{yes}
 use denote.Struct.Laws as LL
-use Rattle.search.specs.Search.{locatorOf}
+use Rattle.search.specs.Search.{locator_of}
 use Rattle.reading.specs.Resolve.{linear}
-use Rattle.reading.specs.Atom.{atomReadingBy}
-use Rattle.icotable.specs.AtomAnswers.{energyIn, atomTableFrom}
+use Rattle.reading.specs.Atom.{atom_reading_by}
+use Rattle.icotable.specs.AtomAnswers.{energy_in, atom_table_from}
 use Rattle.icotable.specs.declared.atom.AtomTableAnswer.{AtomTableAnswer}
 use Rattle.icotable.specs.contracts.atom.AtomTableAnswer as T
 use Rattle.icotable.proofs.atom.AtomTableAnswer.TheLaws as T'
@@ -136,7 +136,7 @@ module _ {M : Type 1} {𝓤 : Ura M} (𝓛 : Logic 𝓤) (at_mem : Memory → SP
 
   -- what is ensured
   abbrev Said : EnergyAnswer → Type 0
-  Said z = energyIn z ≡ atomReadingBy file.now (atomTableFrom table.now) vertices.now (locatorOf cell-offsets.now cell-vertices.now face-offsets.now faces.now) linear (record { r = r; d = record { x = dx; y = dy; z = dz } })
+  Said z = energy_in z ≡ atom_reading_by file.now (atom_table_from table.now) vertices.now (locator_of cell-offsets.now cell-vertices.now face-offsets.now faces.now) linear (record { r = r; d = record { x = dx; y = dy; z = dz } })
 
   exits : (z : EnergyAnswer) → Said z → Is N.the_row z (mach-N z ∷ []) → ent 𝓤 (⋆ 𝓛 Left) (Post (mach-N z))
   exits z e g =
@@ -168,7 +168,7 @@ module _ {M : Type 1} {𝓤 : Ura M} (𝓛 : Logic 𝓤) (at_mem : Memory → SP
 
   -- what it ensures
   abbrev callee-said : EnergyAnswer → Type 0
-  callee-said z = energyIn z ≡ atomReadingBy file.now (atomTableFrom table.now) vertices.now (locatorOf cell-offsets.now cell-vertices.now face-offsets.now faces.now) linear (record { r = r; d = record { x = dx; y = dy; z = dz } })
+  callee-said z = energy_in z ≡ atom_reading_by file.now (atom_table_from table.now) vertices.now (locator_of cell-offsets.now cell-vertices.now face-offsets.now faces.now) linear (record { r = r; d = record { x = dx; y = dy; z = dz } })
 
   module _ (𝓣 : Tables 𝓤 H) (Callee-Known : Triple 𝓤 (𝓣.C #icotable·atom-reading-of) (Callee 𝓛 at_mem run)) where
     walk : ent 𝓤 (on_entry 𝓛 fn.signature (κ, (κ1, (κ2, (κ3, (κ4, (κ5, (κ6, tt))))))) (q, (q1, (q2, (q3, (q4, (q5, (q6, tt))))))) a at) (WpFn 𝓤 H 𝓣.C 𝓣.Λ code.function (vptr table.ptr.0 table.ptr.1 ∷ v-file ∷ v-vertices ∷ v-cell-offsets ∷ v-cell-vertices ∷ v-face-offsets ∷ v-faces ∷ vfloat binary64 r ∷ vfloat binary64 dx ∷ vfloat binary64 dy ∷ vfloat binary64 dz ∷ []) Post)

@@ -4,7 +4,7 @@ use Rattle.icotable.proofs.atom.icotable_atom_write.Statement.{statement}
 use Rattle.icotable.proofs.atom.icotable_atom_write.Tie as tie
 
 returns : tie.Need-returns
-returns c = rw c.write-answer.ensures c.before.before.before.atom-write.ensures.1
+returns c = rw c.write_answer.ensures c.before.before.before.atom-write.ensures.1
 
 pub icotable-atom-write-spec : {M : Type 1} → statement M
 icotable-atom-write-spec = tie.close

@@ -40,9 +40,9 @@ use denote.Triple.Table.{entered, cited}
 use denote.Triple.Walked.{says, Stays, stay_none_slice, gave_slice, walk_of, AllGo, stay_none_ref, Goes-none_ref, Goes-none_slice, Goes-gave_slice, Walks, ends_at, walked, walk_Meets}
 use denote.Exit.{yes}
 use denote.Struct.Laws as LL
-use Rattle.search.specs.Search.{locatorOf}
-use Rattle.reading.specs.Poses.{wayBy, ReadingsOut, readingsOut}
-use Rattle.icotable.specs.Answers.{tableFrom}
+use Rattle.search.specs.Search.{locator_of}
+use Rattle.reading.specs.Poses.{way_by, ReadingsOut, readings_out}
+use Rattle.icotable.specs.Answers.{table_from}
 use Rattle.icotable.specs.declared.TableAnswer.{TableAnswer}
 use Rattle.icotable.specs.contracts.TableAnswer as T
 use Rattle.icotable.proofs.TableAnswer.TheLaws as T'
@@ -153,7 +153,7 @@ module _ {M : Type 1} {𝓤 : Ura M} (𝓛 : Logic 𝓤) (at_mem : Memory → SP
 
   -- what is ensured
   abbrev Said : ℕ → List ℕ → List Float → Type 0
-  Said r z-numbers z-answers = ◌≡◌ {A = ReadingsOut} (record { count = r; numbers = z-numbers; answers = z-answers }) (readingsOut file.now (tableFrom table.now) vertices.now (locatorOf cell-offsets.now cell-vertices.now face-offsets.now faces.now) (wayBy beta.now) poses.now numbers.now answers.now)
+  Said r z-numbers z-answers = ◌≡◌ {A = ReadingsOut} (record { count = r; numbers = z-numbers; answers = z-answers }) (readings_out file.now (table_from table.now) vertices.now (locator_of cell-offsets.now cell-vertices.now face-offsets.now faces.now) (way_by beta.now) poses.now numbers.now answers.now)
 
   exits : (r : ℕ) (z-numbers : List ℕ) (z-answers : List Float) → Said r z-numbers z-answers → length z-numbers ≡ length numbers.now → length z-answers ≡ length answers.now → r < 2 ^ 64 → ent 𝓤 (⋆ 𝓛 (Left z-numbers z-answers)) (Post (vint w64 r))
   exits r z-numbers z-answers e l-numbers l-answers g =
@@ -183,7 +183,7 @@ module _ {M : Type 1} {𝓤 : Ura M} (𝓛 : Logic 𝓤) (at_mem : Memory → SP
 
   -- what it ensures
   abbrev callee-said : ℕ → List ℕ → List Float → Type 0
-  callee-said r z-numbers z-answers = ◌≡◌ {A = ReadingsOut} (record { count = r; numbers = z-numbers; answers = z-answers }) (readingsOut file.now (tableFrom table.now) vertices.now (locatorOf cell-offsets.now cell-vertices.now face-offsets.now faces.now) (wayBy beta.now) poses.now numbers.now answers.now)
+  callee-said r z-numbers z-answers = ◌≡◌ {A = ReadingsOut} (record { count = r; numbers = z-numbers; answers = z-answers }) (readings_out file.now (table_from table.now) vertices.now (locator_of cell-offsets.now cell-vertices.now face-offsets.now faces.now) (way_by beta.now) poses.now numbers.now answers.now)
 
   module _ (𝓣 : Tables 𝓤 H) (Callee-Known : Triple 𝓤 (𝓣.C #icotable·readings-of) (Callee 𝓛 at_mem run)) where
     walk : ent 𝓤 (on_entry 𝓛 fn.signature (κ, (κ1, (κ2, (κ3, (κ4, (κ5, (κ6, (κ7, (κ8, (κ9, (κ10, tt))))))))))) (q, (q1, (q2, (q3, (q4, (q5, (q6, (q7, (q8, (q9, (q10, tt))))))))))) a at) (WpFn 𝓤 H 𝓣.C 𝓣.Λ code.function (vptr table.ptr.0 table.ptr.1 ∷ v-file ∷ v-vertices ∷ v-cell-offsets ∷ v-cell-vertices ∷ v-face-offsets ∷ v-faces ∷ v-poses ∷ v-beta ∷ v-numbers ∷ v-answers ∷ []) Post)

@@ -1,15 +1,15 @@
 -- `repack_answer` meets its contract. Assumes nothing.
-use Rattle.icotable.specs.RepackAnswers.{repackedIn}
+use Rattle.icotable.specs.RepackAnswers.{repacked_in}
 use borrow.Author.Rules.{rules}
 use Rattle.icotable.proofs.repacks.repack_answer.Statement.{statement}
 use Rattle.icotable.proofs.repacks.repack_answer.Tie as tie
 
 returns : tie.Need-returns
-unfolding repackedIn
+unfolding repacked_in
 returns c = rw c.before.a.given.1
 
 returns-2 : tie.Need-returns-2
-unfolding repackedIn
+unfolding repacked_in
 returns-2 c = rw c.before.a2.given.1
 
 pub repack-answer-spec : {M : Type 1} → statement M

@@ -40,9 +40,9 @@ use denote.Triple.Table.{entered, cited}
 use denote.Triple.Walked.{says, Stays, stay_none, stay_none_slice, walk_of, AllGo, stay_none_ref, Goes-none_ref, Goes-none, Goes-none_slice, Walks, ends_at, walked, walk_Meets}
 use denote.Exit.{yes}
 use denote.Struct.Laws as LL
-use Rattle.span.specs.Spans.{spanOut}
-use Rattle.icotable.specs.Answers.{tableFrom}
-use Rattle.icotable.specs.SpanAnswers.{spannedIn}
+use Rattle.span.specs.Spans.{span_out}
+use Rattle.icotable.specs.Answers.{table_from}
+use Rattle.icotable.specs.SpanAnswers.{spanned_in}
 use Rattle.icotable.specs.declared.TableAnswer.{TableAnswer}
 use Rattle.icotable.specs.contracts.TableAnswer as T
 use Rattle.icotable.proofs.TableAnswer.TheLaws as T'
@@ -105,7 +105,7 @@ module _ {M : Type 1} {𝓤 : Ura M} (𝓛 : Logic 𝓤) (at_mem : Memory → SP
 
   -- what is ensured
   abbrev Said : SpannedAnswer → Type 0
-  Said z = spannedIn z ≡ spanOut file.now (tableFrom table.now) low high omega
+  Said z = spanned_in z ≡ span_out file.now (table_from table.now) low high omega
 
   exits : (z : SpannedAnswer) → Said z → Is N.the_row z (mach-N z ∷ []) → ent 𝓤 (⋆ 𝓛 Left) (Post (mach-N z))
   exits z e g =
@@ -134,7 +134,7 @@ module _ {M : Type 1} {𝓤 : Ura M} (𝓛 : Logic 𝓤) (at_mem : Memory → SP
 
   -- what it ensures
   abbrev callee-said : SpannedAnswer → Type 0
-  callee-said z = spannedIn z ≡ spanOut file.now (tableFrom table.now) low high omega
+  callee-said z = spanned_in z ≡ span_out file.now (table_from table.now) low high omega
 
   module _ (𝓣 : Tables 𝓤 H) (Callee-Known : Triple 𝓤 (𝓣.C #icotable·span-of) (Callee 𝓛 at_mem run)) where
     walk : ent 𝓤 (on_entry 𝓛 fn.signature (κ, (κ1, tt)) (q, (q1, tt)) a at) (WpFn 𝓤 H 𝓣.C 𝓣.Λ code.function (vptr table.ptr.0 table.ptr.1 ∷ v-file ∷ vfloat binary64 low ∷ vfloat binary64 high ∷ vfloat binary64 omega ∷ []) Post)

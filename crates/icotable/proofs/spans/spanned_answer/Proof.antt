@@ -1,15 +1,15 @@
 -- `spanned_answer` meets its contract. Assumes nothing.
-use Rattle.icotable.specs.SpanAnswers.{spannedIn}
+use Rattle.icotable.specs.SpanAnswers.{spanned_in}
 use borrow.Author.Rules.{rules}
 use Rattle.icotable.proofs.spans.spanned_answer.Statement.{statement}
 use Rattle.icotable.proofs.spans.spanned_answer.Tie as tie
 
 returns : tie.Need-returns
-unfolding spannedIn
+unfolding spanned_in
 returns c = rw c.before.a.given.1
 
 returns-2 : tie.Need-returns-2
-unfolding spannedIn
+unfolding spanned_in
 returns-2 c = rw c.before.a2.given.1
 
 pub spanned-answer-spec : {M : Type 1} → statement M

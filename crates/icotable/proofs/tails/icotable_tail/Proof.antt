@@ -40,8 +40,8 @@ use denote.Triple.Table.{entered, cited}
 use denote.Triple.Walked.{says, Stays, stay_none, stay_none_slice, walk_of, AllGo, stay_none_ref, Goes-none_ref, Goes-none, Goes-none_slice, Walks, ends_at, walked, walk_Meets}
 use denote.Exit.{yes}
 use denote.Struct.Laws as LL
-use Rattle.tail.specs.Reading.{tailOut}
-use Rattle.icotable.specs.Answers.{valueIn, tailShown, tableFrom}
+use Rattle.tail.specs.Reading.{tail_out}
+use Rattle.icotable.specs.Answers.{value_in, tail_shown, table_from}
 use Rattle.icotable.specs.declared.TableAnswer.{TableAnswer}
 use Rattle.icotable.specs.contracts.TableAnswer as T
 use Rattle.icotable.proofs.TableAnswer.TheLaws as T'
@@ -104,7 +104,7 @@ module _ {M : Type 1} {𝓤 : Ura M} (𝓛 : Logic 𝓤) (at_mem : Memory → SP
 
   -- what is ensured
   abbrev Said : ValueAnswer → Type 0
-  Said z = valueIn z ≡ tailShown (tailOut file.now (tableFrom table.now) r)
+  Said z = value_in z ≡ tail_shown (tail_out file.now (table_from table.now) r)
 
   exits : (z : ValueAnswer) → Said z → Is N.the_row z (mach-N z ∷ []) → ent 𝓤 (⋆ 𝓛 Left) (Post (mach-N z))
   exits z e g =
@@ -131,7 +131,7 @@ module _ {M : Type 1} {𝓤 : Ura M} (𝓛 : Logic 𝓤) (at_mem : Memory → SP
 
   -- what it ensures
   abbrev callee-said : ValueAnswer → Type 0
-  callee-said z = valueIn z ≡ tailShown (tailOut file.now (tableFrom table.now) r)
+  callee-said z = value_in z ≡ tail_shown (tail_out file.now (table_from table.now) r)
 
   module _ (𝓣 : Tables 𝓤 H) (Callee-Known : Triple 𝓤 (𝓣.C #icotable·tail-of) (Callee 𝓛 at_mem run)) where
     walk : ent 𝓤 (on_entry 𝓛 fn.signature (κ, (κ1, tt)) (q, (q1, tt)) a at) (WpFn 𝓤 H 𝓣.C 𝓣.Λ code.function (vptr table.ptr.0 table.ptr.1 ∷ v-file ∷ vfloat binary64 r ∷ []) Post)

@@ -1,15 +1,15 @@
 -- `tail_answer` meets its contract. Assumes nothing.
-use Rattle.icotable.specs.Answers.{valueIn, tailShown}
+use Rattle.icotable.specs.Answers.{value_in, tail_shown}
 use borrow.Author.Rules.{rules}
 use Rattle.icotable.proofs.tails.tail_answer.Statement.{statement}
 use Rattle.icotable.proofs.tails.tail_answer.Tie as tie
 
 returns : tie.Need-returns
-unfolding valueIn tailShown
+unfolding value_in tail_shown
 returns c = rw c.before.a.given.1
 
 returns-2 : tie.Need-returns-2
-unfolding valueIn tailShown
+unfolding value_in tail_shown
 returns-2 c = rw c.before.a2.given.1
 
 pub tail-answer-spec : {M : Type 1} → statement M

@@ -1,7 +1,7 @@
 -- `cut_off` meets its contract. Assumes nothing.
 use Rattle.std.proofs.Common.{◌≡◌, ◌-◌, ◌*◌, ◌%◌, ◌^◌, ◌<◌, ◌≤◌, sym, subst, lt_of_lt_of_le, lt_of_le_of_lt, mod-eq_of_lt, arith, lit<, lit≤, rules}
 use lib.Count.{count_leading_zeros, leading_le}
-use Rattle.ieee.proofs.Halves.{Moved, moved, cut-normal, cut-subnormal}
+use Rattle.ieee.proofs.Halves.{Moved, moved, cut_normal, cut_subnormal}
 use Rattle.ieee.proofs.cases.cut_off.Statement.{statement}
 use Rattle.ieee.proofs.cases.cut_off.Tie as tie
 
@@ -28,13 +28,13 @@ returns : tie.Need-returns
 returns c =
     let s = c.before.before in
     let z = count_leading_zeros 64 s.args.sig in
-    cut-normal s.args.sig s.args.exp z (s.args.sig * 2 ^ (z - 2) % 2 ^ 64) c.by-half.result (subst (Moved s.args.sig z) (sym (same s)) (up s)) (same s) s.requires.1 s.requires.2 c.before.if1.true c.by-half.ensures
+    cut_normal s.args.sig s.args.exp z (s.args.sig * 2 ^ (z - 2) % 2 ^ 64) c.by-half.result (subst (Moved s.args.sig z) (sym (same s)) (up s)) (same s) s.requires.1 s.requires.2 c.before.if1.true c.by-half.ensures
 
 returns-2 : tie.Need-returns-2
 returns-2 c =
     let s = c.before.before.before in
     let z = count_leading_zeros 64 s.args.sig in
-    cut-subnormal s.args.sig s.args.exp z (s.args.sig * 2 ^ (z - 2) % 2 ^ 64) c.before.capped.result c.by-half2.result (subst (Moved s.args.sig z) (sym (same s)) (up s)) (same s) c.before.before.if1.false c.before.capped.ensures c.by-half2.ensures
+    cut_subnormal s.args.sig s.args.exp z (s.args.sig * 2 ^ (z - 2) % 2 ^ 64) c.before.capped.result c.by-half2.result (subst (Moved s.args.sig z) (sym (same s)) (up s)) (same s) c.before.before.if1.false c.before.capped.ensures c.by-half2.ensures
 
 pub cut-off-spec : {M : Type 1} → statement M
 cut-off-spec =

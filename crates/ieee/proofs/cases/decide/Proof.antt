@@ -1,10 +1,10 @@
 -- `decide` meets its contract. Assumes nothing.
-use Rattle.ieee.proofs.Halves.{within-finite, decided}
+use Rattle.ieee.proofs.Halves.{within_finite, decided}
 use Rattle.ieee.proofs.cases.decide.Statement.{statement}
 use Rattle.ieee.proofs.cases.decide.Tie as tie
 
 unpack-requires : tie.Need-unpack-requires
-unpack-requires c κs = within-finite c.args.x c.requires
+unpack-requires c κs = within_finite c.args.x c.requires
 
 cut-off-requires : tie.Need-cut-off-requires
 cut-off-requires c κs = let u = c.unpack.ensures in (u.digits, u.scale, u.zero)

@@ -2,7 +2,7 @@
 use Rattle.std.proofs.Common.{ℕ, ◌+◌, ◌*◌, ◌^◌, sym, refl, ap, ◌∙◌, inl, zero-add, zero-mul, mul-one, arith, lit<, rules}
 use lib.Ieee.{binary64, sum}
 use Rattle.ieee.specs.Internal.{wide}
-use Rattle.ieee.proofs.Terms.{factors-zero, factors-some, sum-exact, sum-swap}
+use Rattle.ieee.proofs.Terms.{factors_zero, factors_some, sum-exact, sum_swap}
 use Rattle.ieee.proofs.fused.aligned_far.Statement.{statement}
 use Rattle.ieee.proofs.fused.aligned_far.Tie as tie
 
@@ -18,7 +18,7 @@ returns c =
       some = lit< tt;
       fine = inl (mul-one (wide 0 k));
       same = sum-exact binary64 s.args.sp s.args.sc 0 (wide 0 k) (s.args.m * s.args.n * 2 ^ e) (k * 2 ^ g) g 5170
-          (zero-mul (2 ^ g) ∙ sym (ap (λ (x : ℕ). x * 2 ^ e) (factors-zero s.args.m s.args.n c.if1.true) ∙ zero-mul (2 ^ e)))
+          (zero-mul (2 ^ g) ∙ sym (ap (λ (x : ℕ). x * 2 ^ e) (factors_zero s.args.m s.args.n c.if1.true) ∙ zero-mul (2 ^ e)))
           (ap (λ (x : ℕ). x * 2 ^ g) (zero-add k));
       first = omega arith;
       second = omega arith;
@@ -46,7 +46,7 @@ returns-2 c =
 product-term-requires : tie.Need-product-term-requires
 product-term-requires c κs =
     let s = c.before.before in
-    let f = factors-some s.args.m s.args.n c.before.if1.false in
+    let f = factors_some s.args.m s.args.n c.before.if1.false in
     (f.0, s.requires.0, f.1, s.requires.1, s.requires.2)
 
 returns-3 : tie.Need-returns-3
@@ -82,7 +82,7 @@ returns-4 c =
       same = a.same
           ∙ ap (λ (x : ℕ). sum binary64 s.args.sc x s.args.sp (wide p.product_term.result.hi p.product_term.result.lo * 2 ^ p.product_term.result.t) (2 ^ 5170)) q.addend-term.ensures.value
           ∙ ap (λ (x : ℕ). sum binary64 s.args.sc (s.args.k * 2 ^ (s.args.g + 4096)) s.args.sp x (2 ^ 5170)) p.product_term.ensures.value
-          ∙ sum-swap binary64 s.args.sc s.args.sp (s.args.k * 2 ^ (s.args.g + 4096)) (s.args.m * s.args.n * 2 ^ (s.args.e + 3022)) (2 ^ 5170);
+          ∙ sum_swap binary64 s.args.sc s.args.sp (s.args.k * 2 ^ (s.args.g + 4096)) (s.args.m * s.args.n * 2 ^ (s.args.e + 3022)) (2 ^ 5170);
       first = a.first;
       second = a.second;
       places = a.places;

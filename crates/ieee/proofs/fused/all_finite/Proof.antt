@@ -1,14 +1,14 @@
 -- `all_finite` meets its contract. Assumes nothing.
 use Rattle.std.proofs.Common.{Bool, ◌&&◌, sym, ap, ◌∙◌, rules}
 use lib.Ieee.Scale.{finite}
-use Rattle.ieee.proofs.Fields.{finite-sum}
+use Rattle.ieee.proofs.Fields.{finite_sum}
 use Rattle.ieee.proofs.fused.all_finite.Statement.{statement}
 use Rattle.ieee.proofs.fused.all_finite.Tie as tie
 
 returns : tie.Need-returns
 returns c =
     let s = c.before.before in
-    sym (finite-sum s.args.x s.args.y s.args.z (sym c.before.is_finite.ensures ∙ c.if1.true))
+    sym (finite_sum s.args.x s.args.y s.args.z (sym c.before.is_finite.ensures ∙ c.if1.true))
 
 returns-2 : tie.Need-returns-2
 returns-2 c =

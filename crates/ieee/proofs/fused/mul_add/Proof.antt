@@ -2,7 +2,7 @@
 use Rattle.std.proofs.Common.{◌≡◌, ◌+◌, ◌*◌, ◌^◌, Bool, true, ◌&&◌, sym, refl, ap, ◌∙◌, pow_pos, rules}
 use mathlib.Core.Bool.{and-eq-true_iff}
 use lib.Ieee.Scale.{finite}
-use Rattle.ieee.proofs.Terms.{fused-outside, fused-addend, fused-finite, scale-product, scale-addend}
+use Rattle.ieee.proofs.Terms.{fused-outside, fused_addend, fused_finite, scale_product, scale_addend}
 use Rattle.ieee.proofs.fused.mul_add.Statement.{statement}
 use Rattle.ieee.proofs.fused.mul_add.Tie as tie
 
@@ -36,16 +36,16 @@ returns c =
     let Y = v.unpack2.result in
     let Z = w.unpack3.result in
     c.fused-finite.ensures
-    ∙ fused-finite a.x a.y a.z X.neg Y.neg Z.neg (X.sig * 2 ^ X.exp) (Y.sig * 2 ^ Y.exp) (Z.sig * 2 ^ Z.exp) (2 ^ 1074)
+    ∙ fused_finite a.x a.y a.z X.neg Y.neg Z.neg (X.sig * 2 ^ X.exp) (Y.sig * 2 ^ Y.exp) (Z.sig * 2 ^ Z.exp) (2 ^ 1074)
     (X.sig * Y.sig * 2 ^ (X.exp + Y.exp + 3022)) (Z.sig * 2 ^ (Z.exp + 4096)) (2 ^ 5170) u.unpack.ensures.value v.unpack2.ensures.value w.unpack3.ensures.value (pow_pos 1074) (pow_pos 5170)
-    (scale-product X.sig Y.sig X.exp Y.exp 3022 1074 5170 refl) (scale-addend Z.sig Z.exp 4096 1074 5170 refl)
+    (scale_product X.sig Y.sig X.exp Y.exp 3022 1074 5170 refl) (scale_addend Z.sig Z.exp 4096 1074 5170 refl)
 
 returns-2 : tie.Need-returns-2
 returns-2 c =
     let f = c.before in
     let l = f.before.before in
     let a = l.before.before.args in
-    fused-addend a.x a.y a.z (sym (factors f) ∙ c.if2.true) (sym l.before.all-finite.ensures ∙ l.if1.false)
+    fused_addend a.x a.y a.z (sym (factors f) ∙ c.if2.true) (sym l.before.all-finite.ensures ∙ l.if1.false)
 
 returns-3 : tie.Need-returns-3
 returns-3 c =

@@ -1,7 +1,7 @@
 -- `product_term` meets its contract. Assumes nothing.
 use Rattle.std.proofs.Common.{ℕ, ◌+◌, ◌-◌, ◌*◌, ◌%◌, ◌^◌, ◌<◌, ◌≤◌, sym, subst, suc-le-suc, lt_of_lt_of_le, lt_of_le_of_lt, mod-eq_of_lt, arith, lit<, lit≤, rules}
 use lib.Count.{count_leading_zeros, leading_le}
-use Rattle.ieee.proofs.Terms.{normal, product-placed}
+use Rattle.ieee.proofs.Terms.{normal, product_placed}
 use Rattle.ieee.proofs.fused.product_term.Statement.{statement}
 use Rattle.ieee.proofs.fused.product_term.Tie as tie
 use Rattle.ieee.proofs.Steps.{Lead}
@@ -51,7 +51,7 @@ sub-t10 c = (rest c.before.args.e (count_leading_zeros 64 c.before.args.m - 1) (
 returns : tie.Need-returns
 returns c =
     let k = c.before in
-    product-placed k.args.m k.args.n k.args.e (count_leading_zeros 64 k.args.m - 1) (count_leading_zeros 64 k.args.n - 1) c.product.result.hi c.product.result.lo (norm-m k).1 (norm-n k).1 (norm-m k).2 (norm-n k).2 k.requires.4 (low c) c.product.ensures.0
+    product_placed k.args.m k.args.n k.args.e (count_leading_zeros 64 k.args.m - 1) (count_leading_zeros 64 k.args.n - 1) c.product.result.hi c.product.result.lo (norm-m k).1 (norm-n k).1 (norm-m k).2 (norm-n k).2 k.requires.4 (low c) c.product.ensures.0
 
 pub product-term-spec : {M : Type 1} → statement M
 product-term-spec =

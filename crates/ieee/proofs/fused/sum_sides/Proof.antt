@@ -2,8 +2,8 @@
 use Rattle.std.proofs.Common.{◌≡◌, ℕ, ◌+◌, ◌-◌, ◌*◌, ◌^◌, Bool, cond, not, ◌&&◌, eqb, ap, ◌∙◌, rules}
 use mathlib.Core.Bool.{beq}
 use lib.Ieee.{binary64, round}
-use Rattle.ieee.specs.Internal.{wide, sumSize, sumSign}
-use Rattle.ieee.proofs.Sums.{summed, sign-is}
+use Rattle.ieee.specs.Internal.{wide, sum_size, sum_sign}
+use Rattle.ieee.proofs.Sums.{summed, sign_is}
 use Rattle.ieee.proofs.fused.sum_sides.Statement.{statement}
 use Rattle.ieee.proofs.fused.sum_sides.Tie as tie
 
@@ -18,11 +18,11 @@ returns c =
     let hi = j.joined.result.hi in
     let lo = j.joined.result.lo in
     let like = beq g.sa g.sb in
-    let size : wide hi lo ≡ sumSize g.sa a g.sb b = j.joined.ensures ∙ ap (λ (x : Bool). cond like (a + b) (cond x (b - a) (a - b))) u.less.ensures in
+    let size : wide hi lo ≡ sum_size g.sa a g.sb b = j.joined.ensures ∙ ap (λ (x : Bool). cond like (a + b) (cond x (b - a) (a - b))) u.less.ensures in
     c.round-wide.ensures
     ∙ ap (λ (x : Bool). round binary64 x (wide hi lo * 2 ^ g.t) (2 ^ 5170))
-    (c.before.sign.ensures ∙ ap (λ (x : Bool). cond like g.sa (cond x g.sb (g.sa && not (eqb hi 0 && eqb lo 0)))) u.less.ensures ∙ sign-is g.sa g.sb a b hi lo size)
-    ∙ ap (λ (x : ℕ). round binary64 (sumSign g.sa a g.sb b) (x * 2 ^ g.t) (2 ^ 5170)) size
+    (c.before.sign.ensures ∙ ap (λ (x : Bool). cond like g.sa (cond x g.sb (g.sa && not (eqb hi 0 && eqb lo 0)))) u.less.ensures ∙ sign_is g.sa g.sb a b hi lo size)
+    ∙ ap (λ (x : ℕ). round binary64 (sum_sign g.sa a g.sb b) (x * 2 ^ g.t) (2 ^ 5170)) size
     ∙ summed binary64 a B b m g.t 5170 M ad g.sa g.sb
 
 pub sum-sides-spec : {M : Type 1} → statement M

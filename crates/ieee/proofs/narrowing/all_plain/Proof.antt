@@ -2,7 +2,7 @@
 use Rattle.std.proofs.Common.{◌≡◌, ◌-◌, ◌&&◌, length, drop, refl, ◌∙◌, arith, rules}
 use lib.Ieee.{nan}
 use Rattle.lists.specs.Lists.{every}
-use Rattle.lists.proofs.Loops.{every-turn, every-all}
+use Rattle.lists.proofs.Loops.{every_turn, every-all}
 use Rattle.ieee.specs.Internal.{plain}
 use Rattle.ieee.proofs.narrowing.all_plain.Statement.{statement}
 use Rattle.ieee.proofs.narrowing.all_plain.Tie as tie
@@ -25,7 +25,7 @@ loop-less c = omega arith
 loop-again : tie.Need-loop-preserved invariant-loop decreases-loop
 loop-again c =
     let l = c.before.before.before in
-    every-turn plain l.before.before.args.list.now l.loop.i nan l.loop.held c.is_plain.result (omega arith) c.is_plain.ensures ∙ l.loop.invariant
+    every_turn plain l.before.before.args.list.now l.loop.i nan l.loop.held c.is_plain.result (omega arith) c.is_plain.ensures ∙ l.loop.invariant
 
 returns : tie.Need-returns invariant-loop decreases-loop
 returns c = every-all plain c.before.before.before.args.list.now c.before.loop.i nan c.before.loop.held c.loop-test.false ∙ c.before.loop.invariant

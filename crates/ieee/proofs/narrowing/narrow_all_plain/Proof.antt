@@ -2,8 +2,8 @@
 use Rattle.std.proofs.Common.{◌≡◌, ◌-◌, ◌≤◌, List, map, length, take, sym, refl, ap, ◌∙◌, arith, length-set, take_all, rules}
 use lib.Ieee.{Float, nan}
 use Rattle.lists.specs.Lists.{put}
-use Rattle.lists.proofs.Loops.{mapped-turn, every-at}
-use Rattle.lists.proofs.Written.{put-nil}
+use Rattle.lists.proofs.Loops.{mapped_turn, every_at}
+use Rattle.lists.proofs.Written.{put_nil}
 use Rattle.ieee.specs.Narrow.{narrowed}
 use Rattle.ieee.specs.Internal.{plain}
 use Rattle.ieee.proofs.narrowing.narrow_all_plain.Statement.{statement}
@@ -16,13 +16,13 @@ abbrev decreases-loop : tie.decreases-loop
 decreases-loop from to₀ i₀ to i = length from - i
 
 loop-holds : tie.Need-loop-init invariant-loop decreases-loop
-loop-holds c = (omega arith, refl, sym (put-nil _ 0))
+loop-holds c = (omega arith, refl, sym (put_nil _ 0))
 
 narrow-plain-requires : tie.Need-narrow-plain-requires invariant-loop decreases-loop
 narrow-plain-requires c κs =
     let l = c.before.before in
     let s = l.before.before.before in
-    every-at plain s.args.from.now l.loop.i nan s.requires.1 (search rules)
+    every_at plain s.args.from.now l.loop.i nan s.requires.1 (search rules)
 
 slice-write-to : tie.Need-slice-write-to invariant-loop decreases-loop
 slice-write-to c = let l = c.before.before.before in let s = l.before.before.before in omega (arith, s.requires.0, l.loop.invariant.1)
@@ -39,7 +39,7 @@ loop-again c =
     let s = l.before.before.before in (
       omega arith,
       simp length-set l.loop.invariant.1,
-      rw c.narrow-plain.ensures (mapped-turn narrowed s.args.to.now s.args.from.now l.loop.to l.loop.i nan l.loop.invariant.2 (omega (arith, s.requires.0)) (search rules)),
+      rw c.narrow-plain.ensures (mapped_turn narrowed s.args.to.now s.args.from.now l.loop.to l.loop.i nan l.loop.invariant.2 (omega (arith, s.requires.0)) (search rules)),
     )
 
 same_length : tie.Need-same-length invariant-loop decreases-loop

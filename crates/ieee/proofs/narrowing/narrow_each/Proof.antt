@@ -2,8 +2,8 @@
 use Rattle.std.proofs.Common.{◌≡◌, ◌-◌, ◌≤◌, List, map, length, take, sym, refl, ap, ◌∙◌, arith, length-set, take_all, rules}
 use lib.Ieee.{Float, nan}
 use Rattle.lists.specs.Lists.{put}
-use Rattle.lists.proofs.Loops.{mapped-turn}
-use Rattle.lists.proofs.Written.{put-nil}
+use Rattle.lists.proofs.Loops.{mapped_turn}
+use Rattle.lists.proofs.Written.{put_nil}
 use Rattle.ieee.specs.Narrow.{narrowed}
 use Rattle.ieee.proofs.narrowing.narrow_each.Statement.{statement}
 use Rattle.ieee.proofs.narrowing.narrow_each.Tie as tie
@@ -15,7 +15,7 @@ abbrev decreases-loop : tie.decreases-loop
 decreases-loop from to₀ i₀ to i = length from - i
 
 loop-holds : tie.Need-loop-init invariant-loop decreases-loop
-loop-holds c = (omega arith, refl, sym (put-nil _ 0))
+loop-holds c = (omega arith, refl, sym (put_nil _ 0))
 
 slice-write-to : tie.Need-slice-write-to invariant-loop decreases-loop
 slice-write-to c = let l = c.before.before.before in let s = l.before.before.before in omega (arith, s.requires, l.loop.invariant.1)
@@ -32,7 +32,7 @@ loop-again c =
     let s = l.before.before.before in (
       omega arith,
       simp length-set l.loop.invariant.1,
-      rw c.narrow.ensures (mapped-turn narrowed s.args.to.now s.args.from.now l.loop.to l.loop.i nan l.loop.invariant.2 (omega (arith, s.requires)) (search rules)),
+      rw c.narrow.ensures (mapped_turn narrowed s.args.to.now s.args.from.now l.loop.to l.loop.i nan l.loop.invariant.2 (omega (arith, s.requires)) (search rules)),
     )
 
 same_length : tie.Need-same-length invariant-loop decreases-loop

@@ -2,7 +2,7 @@
 use Rattle.std.proofs.Common.{List, map, length, ap, ◌∙◌, rules}
 use lib.Ieee.{Float}
 use Rattle.lists.specs.Lists.{put}
-use Rattle.lists.proofs.Loops.{part-least}
+use Rattle.lists.proofs.Loops.{part_least}
 use Rattle.ieee.specs.Narrow.{narrowed}
 use Rattle.ieee.proofs.narrowing.narrow_list.Statement.{statement}
 use Rattle.ieee.proofs.narrowing.narrow_list.Tie as tie
@@ -11,7 +11,7 @@ returns : tie.Need-returns
 returns c =
     let s = c.before.before.before.before.before.before.before.before in
     c.before.before.narrow-all.ensures
-    ∙ ap (λ (y : List Float). put s.args.to.now 0 (map narrowed y)) (part-least s.args.from.now (length s.args.to.now) _ c.before.before.before.before.before.least.ensures)
+    ∙ ap (λ (y : List Float). put s.args.to.now 0 (map narrowed y)) (part_least s.args.from.now (length s.args.to.now) _ c.before.before.before.before.before.least.ensures)
 
 pub narrow-list-spec : {M : Type 1} → statement M
 narrow-list-spec =

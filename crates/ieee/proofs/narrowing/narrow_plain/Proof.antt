@@ -4,16 +4,16 @@ use lib.Ieee.{Float, binary32, binary64, to_bits, of_bits, fits, is_nan}
 use lib.Ieee.Fits.{and_i}
 use denote.Floats.{passes}
 use Rattle.ieee.specs.Narrow.{narrowed}
-use Rattle.ieee.proofs.Fields.{finite-no-nan, no-nan-bits, narrowed-fits}
-use Rattle.ieee.proofs.Plain.{rounded, plain-finite, plain-room, plain-narrowed, plain-number}
+use Rattle.ieee.proofs.Fields.{finite_no_nan, no_nan_bits, narrowed_fits}
+use Rattle.ieee.proofs.Plain.{rounded, plain_finite, plain_room, plain-narrowed, plain-number}
 use Rattle.ieee.proofs.narrowing.narrow_plain.Statement.{statement}
 use Rattle.ieee.proofs.narrowing.narrow_plain.Tie as tie
 
 float-to-bits-b : tie.Need-float-to-bits-b
-float-to-bits-b c = finite-no-nan c.args.x (plain-finite c.args.x c.requires)
+float-to-bits-b c = finite_no_nan c.args.x (plain_finite c.args.x c.requires)
 
 room : (c : tie.Start) → to_bits binary64 c.args.x + 2 ^ 52 ≤ 2 ^ 64
-room c = plain-room c.args.x (passes _ c.well-formed.0.1) c.requires
+room c = plain_room c.args.x (passes _ c.well-formed.0.1) c.requires
 
 add_kept : tie.Need-overflow-add-kept
 add_kept c = omega (arith, room c)
@@ -28,12 +28,12 @@ is : (c : tie.Start) → of_bits binary64 (rounded (to_bits binary64 c.args.x)) 
 is c = plain-narrowed c.args.x (passes _ c.well-formed.0.1) c.requires
 
 float-from-bits-result : tie.Need-float-from-bits-result
-float-from-bits-result c = no-nan-bits binary64 _ _ (is c) (plain-number c.args.x c.requires)
+float-from-bits-result c = no_nan_bits binary64 _ _ (is c) (plain-number c.args.x c.requires)
 
 float-to-float-result : tie.Need-float-to-float-result
 float-to-float-result c =
     let s = c.before in
-    subst (λ (y : Float). T (fits binary32 y && not (is_nan y))) (sym (is s)) (and_i (fits binary32 (narrowed s.args.x)) (not (is_nan (narrowed s.args.x))) (narrowed-fits s.args.x) (plain-number s.args.x s.requires))
+    subst (λ (y : Float). T (fits binary32 y && not (is_nan y))) (sym (is s)) (and_i (fits binary32 (narrowed s.args.x)) (not (is_nan (narrowed s.args.x))) (narrowed_fits s.args.x) (plain-number s.args.x s.requires))
 
 returns : tie.Need-returns
 returns c = is c.before

@@ -1,7 +1,7 @@
 -- `near` meets its contract. Assumes nothing.
 use Rattle.std.proofs.Common.{◌+◌, ◌-◌, ◌*◌, ◌^◌, ◌<◌, ◌≤◌, ltb, leb, arith, rules}
 use mir.Val.{bool_byte}
-use Rattle.ieee.proofs.Steps.{flag-le}
+use Rattle.ieee.proofs.Steps.{flag_le}
 use Rattle.ieee.specs.Internal.{NearestRoot}
 use Rattle.ieee.proofs.RootSteps.{scaled_fits, high_le, shortfall, beside}
 use Rattle.ieee.proofs.roots.near.Statement.{statement}
@@ -37,7 +37,7 @@ add-if2 c = omega (arith, w_fits c.before.before.before.before)
 add-result : tie.Need-overflow-add-result
 add-result c =
     let p = c.before.before.before.before.before in
-    omega (arith, p.before.seed.ensures.1, flag-le (ltb ((p.part.result.high + 8 - p.before.before.args.m * (1 + p.before.before.args.odd)) * 2 ^ 52 + p.part.result.low) (2 ^ 55)))
+    omega (arith, p.before.seed.ensures.1, flag_le (ltb ((p.part.result.high + 8 - p.before.before.args.m * (1 + p.before.before.args.odd)) * 2 ^ 52 + p.part.result.low) (2 ^ 55)))
 
 sub-result : tie.Need-overflow-sub-result
 sub-result c = (settled c).0

@@ -1,7 +1,7 @@
 -- `raised` meets its contract. Assumes nothing.
 use Rattle.std.proofs.Common.{◌≡◌, ℕ, ◌+◌, ◌-◌, ◌*◌, ◌%◌, ◌^◌, ◌<◌, ◌≤◌, sym, ap, ◌∙◌, subst, lt_of_lt_of_le, lt_of_le_of_lt, mod-eq_of_lt, arith, lit<, lit≤, rules}
 use lib.Count.{count_leading_zeros, leading_le}
-use Rattle.ieee.proofs.RootSteps.{raised-scale}
+use Rattle.ieee.proofs.RootSteps.{raised_scale}
 use Rattle.ieee.proofs.roots.raised.Statement.{statement}
 use Rattle.ieee.proofs.roots.raised.Tie as tie
 use Rattle.ieee.proofs.Steps.{Lead, lead}
@@ -33,7 +33,7 @@ returns c =
       subst (λ (y : ℕ). 2 ^ 52 ≤ y) (sym (whole c)) r.low,
       subst (λ (y : ℕ). y < 2 ^ 53) (sym (whole c)) r.high,
       omega (arith, c.requires.2),
-      ap (λ (y : ℕ). y * 2 ^ (exp + 1022 - z + 54)) (whole c) ∙ raised-scale sig exp z r.room,
+      ap (λ (y : ℕ). y * 2 ^ (exp + 1022 - z + 54)) (whole c) ∙ raised_scale sig exp z r.room,
     )
 
 pub raised-spec : {M : Type 1} → statement M

@@ -2,8 +2,8 @@
 use Rattle.std.proofs.Common.{◌≡◌, ◌*◌, ◌^◌, ◌<◌, Bool, false, sym, ap, ◌∙◌, subst, pow_pos, rules}
 use lib.Ieee.{of_bits, div}
 use lib.Ieee.Exact.{HasValue}
-use Rattle.ieee.specs.Root.{rootOf}
-use Rattle.ieee.proofs.RootSteps.{above_zero, root-unbounded, root-zero, root_none, root-positive, factor-pos}
+use Rattle.ieee.specs.Root.{root_of}
+use Rattle.ieee.proofs.RootSteps.{above_zero, root_unbounded, root-zero, root_none, root_positive, factor_pos}
 use Rattle.ieee.proofs.roots.root.Statement.{statement}
 use Rattle.ieee.proofs.roots.root.Tie as tie
 
@@ -16,7 +16,7 @@ raised-requires : tie.Need-raised-requires
 raised-requires c κs =
     let r = c.unpack.result in
     let u = c.unpack.ensures in
-    (factor-pos r.sig (2 ^ r.exp) (above c).1, u.digits, u.scale)
+    (factor_pos r.sig (2 ^ r.exp) (above c).1, u.digits, u.scale)
 
 returns : tie.Need-returns
 returns c =
@@ -25,11 +25,11 @@ returns c =
     let r = u.unpack.result in
     let x = u.before.before.before.before.args.x in
     let a = r.sig * 2 ^ r.exp in
-    c.finish.ensures ∙ ap rootOf v.raised.ensures.3 ∙ root-positive x a (subst (λ (b : Bool). HasValue x b a (2 ^ 1074)) (above u).0 u.unpack.ensures.value) (above u).1
+    c.finish.ensures ∙ ap root_of v.raised.ensures.3 ∙ root_positive x a (subst (λ (b : Bool). HasValue x b a (2 ^ 1074)) (above u).0 u.unpack.ensures.value) (above u).1
 
 returns-2 : tie.Need-returns-2
 unfolding of_bits
-returns-2 c = root-unbounded c.before.before.before.args.x c.before.before.if1.true (sym c.before.is_finite.ensures ∙ c.if2.false)
+returns-2 c = root_unbounded c.before.before.before.args.x c.before.before.if1.true (sym c.before.is_finite.ensures ∙ c.if2.false)
 
 returns-3 : tie.Need-returns-3
 unfolding of_bits

@@ -2,12 +2,12 @@
 use Rattle.std.proofs.Common.{ℕ, ◌*◌, ◌%◌, ◌^◌, ◌≤◌, sym, ap, ◌∙◌, subst, suc-le-suc, lt_of_le_of_lt, mod-eq_of_lt, pos_of_ne-zero, zero-mul, arith, lit<, pow_pos, rules}
 use lib.Count.{count_leading_zeros, leading_le}
 use lib.Ieee.Fits.{two-le_pos}
-use Rattle.ieee.proofs.Steps.{Lead, normal-form, pattern-zero, pattern-lead}
+use Rattle.ieee.proofs.Steps.{Lead, normal_form, pattern-zero, pattern_lead}
 use Rattle.ieee.proofs.rounding.pattern_of.Statement.{statement}
 use Rattle.ieee.proofs.rounding.pattern_of.Tie as tie
 
 norm : (c : tie.Else1) → Lead c.before.args.w 0 (count_leading_zeros 64 c.before.args.w)
-norm c = normal-form c.before.args.w (pos_of_ne-zero c.if1.false) c.before.ranges.w.fits
+norm c = normal_form c.before.args.w (pos_of_ne-zero c.if1.false) c.before.ranges.w.fits
 
 returns : tie.Need-returns
 returns c =
@@ -30,7 +30,7 @@ returns-2 : tie.Need-returns-2
 returns-2 c =
     let s = c.before.before in
     let z = count_leading_zeros 64 s.args.w in
-    c.pattern-top.ensures ∙ pattern-lead s.args.p s.args.w s.args.e z (s.args.w * 2 ^ z % 2 ^ 64) (norm c.before).room (mod-eq_of_lt (norm c.before).high)
+    c.pattern-top.ensures ∙ pattern_lead s.args.p s.args.w s.args.e z (s.args.w * 2 ^ z % 2 ^ 64) (norm c.before).room (mod-eq_of_lt (norm c.before).high)
 
 pub pattern-of-spec : {M : Type 1} → statement M
 pattern-of-spec =

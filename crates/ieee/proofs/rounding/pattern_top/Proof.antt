@@ -1,7 +1,7 @@
 -- `pattern_top` meets its contract. Assumes nothing.
 use Rattle.std.proofs.Common.{◌+◌, ◌-◌, ◌*◌, ◌^◌, ◌<◌, ◌≤◌, arith, rules}
 use mir.Val.{bool_byte}
-use Rattle.ieee.proofs.Steps.{doubled, top-none, top-low, top-high, packed-fits}
+use Rattle.ieee.proofs.Steps.{doubled, top_none, top_low, top_high, packed_fits}
 use Rattle.ieee.proofs.rounding.pattern_top.Statement.{statement}
 use Rattle.ieee.proofs.rounding.pattern_top.Tie as tie
 
@@ -11,22 +11,22 @@ size c = doubled c.args.n c.args.some c.requires.0 c.ranges.n.fits
 add-result : tie.Need-overflow-add-result
 add-result c =
     let s = c.before.before in
-    record { fits = packed-fits s.args.p (s.args.t - s.args.p - 4096) (2 * s.args.n + bool_byte s.args.some) c.cut.result s.requires.2 s.requires.3 (omega arith) (size s).1 c.cut.ensures }
+    record { fits = packed_fits s.args.p (s.args.t - s.args.p - 4096) (2 * s.args.n + bool_byte s.args.some) c.cut.result s.requires.2 s.requires.3 (omega arith) (size s).1 c.cut.ensures }
 
 returns : tie.Need-returns
 returns c =
     let s = c.before.before in
-    top-high s.args.p (2 * s.args.n + bool_byte s.args.some) s.args.t (size s).0 (size s).1 s.requires.2 s.requires.3 c.cut.result c.before.if1.true s.requires.1 c.cut.ensures
+    top_high s.args.p (2 * s.args.n + bool_byte s.args.some) s.args.t (size s).0 (size s).1 s.requires.2 s.requires.3 c.cut.result c.before.if1.true s.requires.1 c.cut.ensures
 
 returns-2 : tie.Need-returns-2
 returns-2 c =
     let s = c.before.before in
-    top-none s.args.p (2 * s.args.n + bool_byte s.args.some) s.args.t (size s).0 (size s).1 s.requires.2 s.requires.3 c.if2.true
+    top_none s.args.p (2 * s.args.n + bool_byte s.args.some) s.args.t (size s).0 (size s).1 s.requires.2 s.requires.3 c.if2.true
 
 returns-3 : tie.Need-returns-3
 returns-3 c =
     let s = c.before.before.before in
-    top-low s.args.p (2 * s.args.n + bool_byte s.args.some) s.args.t (size s).0 (size s).1 s.requires.2 s.requires.3 c.cut2.result c.before.if2.false c.before.before.if1.false c.cut2.ensures
+    top_low s.args.p (2 * s.args.n + bool_byte s.args.some) s.args.t (size s).0 (size s).1 s.requires.2 s.requires.3 c.cut2.result c.before.if2.false c.before.before.if1.false c.cut2.ensures
 
 pub pattern-top-spec : {M : Type 1} → statement M
 pattern-top-spec =

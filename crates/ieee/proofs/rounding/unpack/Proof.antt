@@ -3,7 +3,7 @@ use Rattle.std.proofs.Common.{◌≡◌, ℕ, ◌+◌, ◌-◌, ◌*◌, ◌/◌
 use lib.Ieee.{Float, binary64, to_bits, of_fields, fits}
 use lib.Ieee.Exact.{HasValue}
 use denote.Floats.{passes}
-use Rattle.ieee.proofs.Fields.{finite-no-nan, finite-field, as_fields, at_low, at_mid}
+use Rattle.ieee.proofs.Fields.{finite_no_nan, finite_field, as_fields, at_low, at_mid}
 use Rattle.ieee.proofs.rounding.unpack.Statement.{statement}
 use Rattle.ieee.proofs.rounding.unpack.Tie as tie
 
@@ -27,7 +27,7 @@ field-le : (b : ℕ) → (b / 2 ^ 52 % 2048 ≡ 2047 → ⊥) → b / 2 ^ 52 % 2
 field-le b h = omega arith
 
 float-to-bits-b : tie.Need-float-to-bits-b
-float-to-bits-b c = finite-no-nan c.args.x c.requires
+float-to-bits-b c = finite_no_nan c.args.x c.requires
 
 returns : tie.Need-returns
 returns c =
@@ -49,7 +49,7 @@ returns-2 c =
     let s = leb (2 ^ 63) b in
     let t = b % 2 ^ 52 in
     let f = b / 2 ^ 52 % 2048 in
-    let last : f ≡ 2047 → ⊥ = λ (e : f ≡ 2047). finite-field binary64 x (held c.before) c.before.requires (sym (field_is b) ∙ e) in
+    let last : f ≡ 2047 → ⊥ = λ (e : f ≡ 2047). finite_field binary64 x (held c.before) c.before.requires (sym (field_is b) ∙ e) in
     record {
       value = subst (λ (y : Float). HasValue y s ((2 ^ 52 + t) * 2 ^ (f - 1)) (2 ^ 1074)) (sym (as_fields binary64 x (held c.before) ∙ ap (λ (y : ℕ). of_fields binary64 s y t) (sym (field_is b)))) (at_mid binary64 s f t c.if1.false last);
       digits = lead-lt b;

@@ -1,8 +1,8 @@
 -- `combined` meets its contract. Assumes nothing.
 use Rattle.std.proofs.Common.{◌^◌, ◌<◌, not, ltb, arith, rules}
 use mir.Val.{bool_byte}
-use Rattle.ieee.proofs.Steps.{flag-le}
-use Rattle.ieee.proofs.Words.{combined-is}
+use Rattle.ieee.proofs.Steps.{flag_le}
+use Rattle.ieee.proofs.Words.{combined_is}
 use Rattle.ieee.proofs.wide.combined.Statement.{statement}
 use Rattle.ieee.proofs.wide.combined.Tie as tie
 
@@ -17,7 +17,7 @@ add-carry c =
     let l = c.wrapping-add-u642.result in
     let s = c.before.wrapping-add-u64.result in
     let f = c.before.before.before in
-    omega (arith, flag-le (ltb s f.flip.result), flag-le (ltb l (bool_byte (not f.before.args.like))))
+    omega (arith, flag_le (ltb s f.flip.result), flag_le (ltb l (bool_byte (not f.before.args.like))))
 
 returns : tie.Need-returns
 returns c =
@@ -28,7 +28,7 @@ returns c =
     let x = y.before in
     let a = x.before.args in
     rw (c.wrapping-add-u644.ensures, g.wrapping-add-u643.ensures, l.wrapping-add-u642.ensures, s.wrapping-add-u64.ensures, y.flip2.ensures, x.flip.ensures)
-    (combined-is a.like a.a.hi a.a.lo a.b.hi a.b.lo x.before.requires.0 (low-a x.before) x.before.requires.1 (low-b x.before) x.before.requires.2)
+    (combined_is a.like a.a.hi a.a.lo a.b.hi a.b.lo x.before.requires.0 (low-a x.before) x.before.requires.1 (low-b x.before) x.before.requires.2)
 
 pub combined-spec : {M : Type 1} → statement M
 combined-spec =

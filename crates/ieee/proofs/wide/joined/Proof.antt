@@ -1,7 +1,7 @@
 -- `joined` meets its contract. Assumes nothing.
 use Rattle.std.proofs.Common.{◌≡◌, ℕ, ◌+◌, ◌-◌, ◌^◌, ◌≤◌, cond, sym, ap, ◌∙◌, subst, rules}
 use Rattle.ieee.specs.Internal.{wide}
-use Rattle.ieee.proofs.Words.{picked-wide, picked-lt, picked-le, picked-size}
+use Rattle.ieee.proofs.Words.{picked-wide, picked_lt, picked_le, picked-size}
 use Rattle.ieee.proofs.wide.joined.Statement.{statement}
 use Rattle.ieee.proofs.wide.joined.Tie as tie
 
@@ -26,9 +26,9 @@ combined-requires c κs =
     let p = c.before in
     let s = p.before in
     let u = s.args.under in (
-      picked-lt u s.args.b.hi s.args.a.hi p.pick.result.hi (2 ^ 63) p.pick.ensures.0 s.requires.1 s.requires.0,
-      picked-lt u s.args.a.hi s.args.b.hi c.pick2.result.hi (2 ^ 63) c.pick2.ensures.0 s.requires.0 s.requires.1,
-      subst (λ (x : ℕ). x ≤ wide p.pick.result.hi p.pick.result.lo) (sym (smaller c)) (subst (λ (x : ℕ). cond u (A s) (B s) ≤ x) (sym (larger p)) (picked-le u (A s) (B s) s.requires.2)),
+      picked_lt u s.args.b.hi s.args.a.hi p.pick.result.hi (2 ^ 63) p.pick.ensures.0 s.requires.1 s.requires.0,
+      picked_lt u s.args.a.hi s.args.b.hi c.pick2.result.hi (2 ^ 63) c.pick2.ensures.0 s.requires.0 s.requires.1,
+      subst (λ (x : ℕ). x ≤ wide p.pick.result.hi p.pick.result.lo) (sym (smaller c)) (subst (λ (x : ℕ). cond u (A s) (B s) ≤ x) (sym (larger p)) (picked_le u (A s) (B s) s.requires.2)),
     )
 
 returns : tie.Need-returns

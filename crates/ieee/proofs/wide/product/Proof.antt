@@ -1,11 +1,11 @@
 -- `product` meets its contract. Assumes nothing.
 use Rattle.std.proofs.Common.{rules}
-use Rattle.ieee.proofs.Words.{HalvesFit, halves-fit, product_is, product_high}
+use Rattle.ieee.proofs.Words.{HalvesFit, halves_fit, product_is, product_high}
 use Rattle.ieee.proofs.wide.product.Statement.{statement}
 use Rattle.ieee.proofs.wide.product.Tie as tie
 
 all : (c : tie.Start) → HalvesFit c.args.a c.args.b
-all c = halves-fit c.args.a c.args.b c.requires.0 c.requires.1
+all c = halves_fit c.args.a c.args.b c.requires.0 c.requires.1
 
 mul_low : tie.Need-overflow-mul-low
 mul_low c = record { fits = (all c).low }

@@ -4,8 +4,8 @@ use mir.Val.{bool_byte}
 use lib.Count.{count_leading_zeros, leading_le}
 use lib.Ieee.{binary64, round}
 use Rattle.ieee.specs.Internal.{wide}
-use Rattle.ieee.proofs.Steps.{float-law}
-use Rattle.ieee.proofs.Words.{lead-room, lead-fits, lead-top, wide-round}
+use Rattle.ieee.proofs.Steps.{float_law}
+use Rattle.ieee.proofs.Words.{lead_room, lead_fits, lead_top, wide_round}
 use Rattle.ieee.proofs.wide.round_wide.Statement.{statement}
 use Rattle.ieee.proofs.wide.round_wide.Tie as tie
 
@@ -19,7 +19,7 @@ some : (c : tie.Else1) → 0 < c.before.args.w.hi
 some c = pos_of_ne-zero c.if1.false
 
 room : (c : tie.Else1) → count_leading_zeros 64 c.before.args.w.hi < 64
-room c = lead-room c.before.args.w.hi c.before.args.w.lo (some c) (high c.before) (low c.before)
+room c = lead_room c.before.args.w.hi c.before.args.w.lo (some c) (high c.before) (low c.before)
 
 returns : tie.Need-returns
 returns c =
@@ -37,7 +37,7 @@ sub-n : tie.Need-overflow-sub-n
 sub-n c = omega (arith, room c)
 
 add-n : tie.Need-overflow-add-n
-add-n c = record { fits = lead-fits c.before.args.w.hi c.before.args.w.lo (some c) (high c.before) (low c.before) }
+add-n c = record { fits = lead_fits c.before.args.w.hi c.before.args.w.lo (some c) (high c.before) (low c.before) }
 
 shl-pattern-top : tie.Need-overflow-shl-pattern-top
 shl-pattern-top c = room c
@@ -46,7 +46,7 @@ sub-pattern-top : tie.Need-overflow-sub-pattern-top
 sub-pattern-top c = omega (arith, room c)
 
 pattern-top-requires : tie.Need-pattern-top-requires
-pattern-top-requires c κs = (lead-top c.before.args.w.hi c.before.args.w.lo (some c) (high c.before) (low c.before), omega arith, lit≤ tt, lit≤ tt)
+pattern-top-requires c κs = (lead_top c.before.args.w.hi c.before.args.w.lo (some c) (high c.before) (low c.before), omega arith, lit≤ tt, lit≤ tt)
 
 returns-2 : tie.Need-returns-2
 returns-2 c =
@@ -57,8 +57,8 @@ returns-2 c =
     let z = count_leading_zeros 64 hi in
     let t = s.args.t in
     c.signed64.ensures
-    ∙ float-law binary64 s.args.neg ((2 * (hi * 2 ^ z % 2 ^ 64 + lo / 2 / 2 ^ (63 - z)) + bool_byte (not (eqb (lo * 2 ^ z % 2 ^ 64) 0))) * 2 ^ (t + 128 - z)) 4161 c.before.pattern-top.result c.before.pattern-top.ensures
-    ∙ wide-round hi lo (some e) (high s) (low s) binary64 s.args.neg t 5170 (lit≤ tt)
+    ∙ float_law binary64 s.args.neg ((2 * (hi * 2 ^ z % 2 ^ 64 + lo / 2 / 2 ^ (63 - z)) + bool_byte (not (eqb (lo * 2 ^ z % 2 ^ 64) 0))) * 2 ^ (t + 128 - z)) 4161 c.before.pattern-top.result c.before.pattern-top.ensures
+    ∙ wide_round hi lo (some e) (high s) (low s) binary64 s.args.neg t 5170 (lit≤ tt)
 
 pub round-wide-spec : {M : Type 1} → statement M
 round-wide-spec =

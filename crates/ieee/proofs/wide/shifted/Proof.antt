@@ -1,6 +1,6 @@
 -- `shifted` meets its contract. Assumes nothing.
 use Rattle.std.proofs.Common.{ℕ, ◌*◌, ◌^◌, sym, ap, ◌∙◌, mul_assoc, mul_comm, arith, pow-add, rules}
-use Rattle.ieee.proofs.Words.{shifted-is, shifted-high}
+use Rattle.ieee.proofs.Words.{shifted_is, shifted_high}
 use Rattle.ieee.proofs.wide.shifted.Statement.{statement}
 use Rattle.ieee.proofs.wide.shifted.Tie as tie
 
@@ -8,7 +8,7 @@ returns : tie.Need-returns
 returns c =
     let k = c.args.k in
     let t = c.args.t in
-    (shifted-is (k * 2048) t (omega arith) ∙ mul_assoc k 2048 (2 ^ t) ∙ ap (λ (x : ℕ). k * x) (mul_comm 2048 (2 ^ t) ∙ sym (pow-add 2 t 11)), shifted-high (k * 2048) t (omega arith) c.requires.1)
+    (shifted_is (k * 2048) t (omega arith) ∙ mul_assoc k 2048 (2 ^ t) ∙ ap (λ (x : ℕ). k * x) (mul_comm 2048 (2 ^ t) ∙ sym (pow-add 2 t 11)), shifted_high (k * 2048) t (omega arith) c.requires.1)
 
 pub shifted-spec : {M : Type 1} → statement M
 shifted-spec = tie.close

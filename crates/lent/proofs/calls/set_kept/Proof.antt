@@ -1,13 +1,13 @@
 -- `set_kept` meets its contract. Assumes nothing.
 use mathlib.Core.Path.{ap}
-use Rattle.lent.specs.Calls.{setLeft, setLent}
+use Rattle.lent.specs.Calls.{set_left, set_lent}
 use borrow.Author.Rules.{rules}
 use Rattle.lent.proofs.calls.set_kept.Statement.{statement}
 use Rattle.lent.proofs.calls.set_kept.Tie as tie
 
 returns : tie.Need-returns
-unfolding setLent
-returns c = rw (c.set-done.ensures.0, c.set-done.ensures.1) (ap setLeft c.before.before.before.before.before.set.ensures.1)
+unfolding set_lent
+returns c = rw (c.set-done.ensures.0, c.set-done.ensures.1) (ap set_left c.before.before.before.before.before.set.ensures.1)
 
 pub set-kept-spec : {M : Type 1} → statement M
 set-kept-spec =

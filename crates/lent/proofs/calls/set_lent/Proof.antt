@@ -43,8 +43,8 @@ use denote.Triple.Table.{entered, cited}
 use denote.Triple.Walked.{says, Stays, stay_ref, stay_none, stay_none_slice, gave_slice, walk_of, AllGo, Goes-ref, Goes-none, Goes-none_slice, Goes-gave_slice, Walks, ends_at, walked, walk_Meets}
 use denote.Exit.{yes}
 use denote.Struct.Laws as LL
-use Rattle.builder.specs.BuilderLists.{wordLists}
-use Rattle.lent.specs.Calls.{LentOut, setLent}
+use Rattle.builder.specs.BuilderLists.{word_lists}
+use Rattle.lent.specs.Calls.{LentOut, set_lent}
 use Rattle.builder.specs.declared.Builder.{Builder}
 use Rattle.builder.specs.contracts.Builder as T
 use Rattle.builder.proofs.Builder.TheLaws as T'
@@ -119,7 +119,7 @@ module _ {M : Type 1} {𝓤 : Ura M} (𝓛 : Logic 𝓤) (at_mem : Memory → SP
 
   -- what is ensured
   abbrev Said : ℕ → Builder → List Float → List ℕ → Type 0
-  Said r z-b z-store z-words = ◌≡◌ {A = LentOut ℕ} (record { answer = r; builder = z-b; lists = wordLists z-store z-words }) (setLent b.now (wordLists store.now words.now) ri oi energies.now)
+  Said r z-b z-store z-words = ◌≡◌ {A = LentOut ℕ} (record { answer = r; builder = z-b; lists = word_lists z-store z-words }) (set_lent b.now (word_lists store.now words.now) ri oi energies.now)
 
   exits : (r : ℕ) (z-b : Builder) (z-store : List Float) (z-words : List ℕ) → Said r z-b z-store z-words → length z-store ≡ length store.now → length z-words ≡ length words.now → r < 2 ^ 64 → ent 𝓤 (⋆ 𝓛 (Left z-b z-store z-words)) (Post (vint w64 r))
   exits r z-b z-store z-words e l-store l-words g =
@@ -148,7 +148,7 @@ module _ {M : Type 1} {𝓤 : Ura M} (𝓛 : Logic 𝓤) (at_mem : Memory → SP
 
   -- what it ensures
   abbrev callee-said : SetDone → List Float → List ℕ → Type 0
-  callee-said r z-store z-words = ◌≡◌ {A = LentOut ℕ} (record { answer = r.number; builder = r.builder; lists = wordLists z-store z-words }) (setLent b.now (wordLists store.now words.now) ri oi energies.now)
+  callee-said r z-store z-words = ◌≡◌ {A = LentOut ℕ} (record { answer = r.number; builder = r.builder; lists = word_lists z-store z-words }) (set_lent b.now (word_lists store.now words.now) ri oi energies.now)
 
   module _ (𝓣 : Tables 𝓤 H) (Callee-Known : Triple 𝓤 (𝓣.C #lent·set-kept) (Callee 𝓛 at_mem run)) where
     walk : ent 𝓤 (on_entry 𝓛 fn.signature (κ, (κ1, (κ2, (κ3, tt)))) (q, (q1, (q2, (q3, tt)))) a at) (WpFn 𝓤 H 𝓣.C 𝓣.Λ code.function (vptr b.ptr.0 b.ptr.1 ∷ v-store ∷ v-words ∷ vint w64 ri ∷ vint w64 oi ∷ v-energies ∷ []) Post)

@@ -51,9 +51,9 @@ use denote.Triple.Table.{entered, cited}
 use denote.Triple.Walked.{says, Stays, stay_slice, stay_none_slice, walk_of, AllGo, Goes-slice, Goes-none_slice, Walks, ends_at, walked, walk_Meets}
 use denote.Exit.{yes}
 use denote.Struct.Laws as LL
-use Rattle.rows.specs.Words.{wordRows}
-use Rattle.lent.specs.Records.{recordAt, gatherNumber, taken, gathered, copied}
-use Rattle.lent.proofs.Entries.{none, place-fits, next_fits, gather-fits, gather-low, gather-clear, copied_none, copied_more, length-copied}
+use Rattle.rows.specs.Words.{word_rows}
+use Rattle.lent.specs.Records.{record_at, gather_number, taken, gathered, copied}
+use Rattle.lent.proofs.Entries.{none, place_fits, next_fits, gather_fits, gather_low, gather_clear, copied_none, copied_more, length-copied}
 use Rattle.lent.specs.declared.RowRecord.{RowRecord}
 use Rattle.lent.specs.contracts.RowRecord as T
 use Rattle.lent.proofs.RowRecord.TheLaws as T'
@@ -133,7 +133,7 @@ module _ {M : Type 1} {𝓤 : Ura M} (𝓛 : Logic 𝓤) (at_mem : Memory → SP
 
   -- what is ensured
   abbrev Said : ℕ → List RowRecord → Type 0
-  Said r z-rows = (r ≡ gatherNumber (length rows.now) words.now) × (z-rows ≡ gathered words.now rows.now)
+  Said r z-rows = (r ≡ gather_number (length rows.now) words.now) × (z-rows ≡ gathered words.now rows.now)
 
   exits : (r : ℕ) (z-rows : List RowRecord) → Said r z-rows → length z-rows ≡ length rows.now → r < 2 ^ 64 → ent 𝓤 (⋆ 𝓛 (Left z-rows)) (Post (vint w64 r))
   exits r z-rows e l-rows g =
@@ -144,24 +144,24 @@ module _ {M : Type 1} {𝓤 : Ura M} (𝓛 : Logic 𝓤) (at_mem : Memory → SP
 
   -- the question's answer
   abbrev number : ℕ
-  number = gatherNumber (length rows.now) words.now
+  number = gather_number (length rows.now) words.now
 
   number_fits : number < 2 ^ 64
-  number_fits = gather-fits (length rows.now) words.now
+  number_fits = gather_fits (length rows.now) words.now
 
   -- how many entries are taken over
   abbrev m : ℕ
   m = taken number (length rows.now)
 
   low : (m ≤ length rows.now) × (m ≤ length words.now)
-  low = gather-low (length rows.now) words.now
+  low = gather_low (length rows.now) words.now
 
   m-fits : m < 2 ^ 64
   m-fits = lt_of_le_of_lt low.0 g-rows.0
 
   -- what `rows` gets at i, and the list after i turns
   abbrev for-rows : ℕ → RowRecord
-  for-rows i = recordAt (wordRows words.now) i
+  for-rows i = record_at (word_rows words.now) i
 
   abbrev upto-rows : ℕ → List RowRecord
   upto-rows i = copied i for-rows rows.now
@@ -186,7 +186,7 @@ module _ {M : Type 1} {𝓤 : Ura M} (𝓛 : Logic 𝓤) (at_mem : Memory → SP
 
   -- what it ensures
   abbrev question-said : ℕ → Type 0
-  question-said r = r ≡ gatherNumber (length rows.now) words.now
+  question-said r = r ≡ gather_number (length rows.now) words.now
 
   -- what goes to `taken`
   abbrev count-args : ℕ × (ℕ × (Unit {0}))
@@ -218,12 +218,12 @@ module _ {M : Type 1} {𝓤 : Ura M} (𝓛 : Logic 𝓤) (at_mem : Memory → SP
   into-element : (i : ℕ) → i < m → ent 𝓤 (⋆ 𝓛 (Toks ∷ ‵ element-lists ∷ [])) ((Element 𝓛 at_mem run).pre (to-element i))
   into-element i l =
       qed 𝓛 (Toks ∷ ‵ element-lists ∷ []) ∵
-      says ! (lt_of_lt_of_le l low.1, gather-clear (length rows.now) words.now i l) $ nothing ! $ owned ! usize (Is usize) (uint_Makes 𝓛 w64) i _ (refl, lt_of_le_of_lt (le_of_lt l) m-fits) $
+      says ! (lt_of_lt_of_le l low.1, gather_clear (length rows.now) words.now i l) $ nothing ! $ owned ! usize (Is usize) (uint_Makes 𝓛 w64) i _ (refl, lt_of_le_of_lt (le_of_lt l) m-fits) $
       fjoin ! $ move ! (2 ∷ 0 ∷ []) $ fjoin ! $ move ! (1 ∷ 0 ∷ []) $ join ! $ done !
 
   -- what it ensures
   abbrev element-said : ℕ → RowRecord → Type 0
-  element-said i r = r ≡ recordAt (wordRows words.now) i
+  element-said i r = r ≡ record_at (word_rows words.now) i
 
   abbrev Upto : Type 0
   Upto = (i : ℕ) × (i ≤ m)
@@ -266,7 +266,7 @@ module _ {M : Type 1} {𝓤 : Ura M} (𝓛 : Logic 𝓤) (at_mem : Memory → SP
         land ! (from ! (stop !)) (init ! 13 refl ((LL.lawful T.the_type T'.the_laws 𝓛).typed r _ is).0) $
         rewrite ! 13 (λ (u : Val). ‵ (fat full_share T'.mir m7 0 u)) (ap only (LL.tells T.the_type T'.the_laws r (w ∷ []) is)) refl $ drop ! $
         let known : Is T.the_row r (mach r ∷ []) = subst (λ (us : List Val). Is T.the_row r us) (LL.tells T.the_type T'.the_laws r (w ∷ []) is) is in
-        assigns ! (bin ! (load ! (from ! (stop !)) (look ! 14 refl)) (lit ! tt) (record { fits = place-fits g-rows.1 below_rows })) (from ! (stop !)) (init ! 8 refl (tt, record { fits = place-fits g-rows.1 below_rows })) $
+        assigns ! (bin ! (load ! (from ! (stop !)) (look ! 14 refl)) (lit ! tt) (record { fits = place_fits g-rows.1 below_rows })) (from ! (stop !)) (init ! 8 refl (tt, record { fits = place_fits g-rows.1 below_rows })) $
         assigns ! (bin ! (load ! (from ! (fld ! refl (stop !))) (look_in ! 24 (sub ! 0 refl (whole !)))) (load ! (from ! (stop !)) (look ! 8 refl)) tt) (from ! (stop !)) (init ! 6 refl (tt, tt)) $
         rewrite ! 6 (λ (p : ℕ). ‵ (fat full_share ty_ptr m10 0 (vptr rows.ptr.0 p))) (sym (place_is 8 rows.ptr.1 i.0)) refl $ move ! (2 ∷ []) $
         elem_out ! T.the_row (Is T.the_row) (shows 𝓛 T.the_row) (LL.vals T.the_type T'.the_laws) (LL.tells T.the_type T'.the_laws) full_share (upto-rows i.0) i.0 none rows.ptr.0 rows.ptr.1 within-rows (λ _.

@@ -42,7 +42,7 @@ use denote.Triple.Table.{entered}
 use denote.Triple.Walked.{says, Stays, stay_none, stay_slice, walk_of, AllGo, Goes-none, Goes-slice, Walks, ends_at, walked, walk_Meets}
 use denote.Exit.{yes}
 use denote.Struct.Laws as LL
-use Rattle.lent.proofs.Entries.{none, place-fits, inside, outside, kept}
+use Rattle.lent.proofs.Entries.{none, place_fits, inside, outside, kept}
 use Rattle.lent.specs.declared.RowRecord.{RowRecord}
 use Rattle.lent.specs.contracts.RowRecord as T
 use Rattle.lent.proofs.RowRecord.TheLaws as T'
@@ -120,7 +120,7 @@ module _ {M : Type 1} {𝓤 : Ura M} (𝓛 : Logic 𝓤) (at_mem : Memory → SP
     parts =
         first ! $ branches ! (load ! (from ! (stop !)) (look ! 10 refl))
         (λ h. let l = ltb→lt s (length rows.now) h in
-        assigns ! (bin ! (load ! (from ! (stop !)) (look ! 16 refl)) (lit ! tt) (record { fits = place-fits g-rows.1 l })) (from ! (stop !)) (init ! 6 refl (tt, record { fits = place-fits g-rows.1 l })) $
+        assigns ! (bin ! (load ! (from ! (stop !)) (look ! 16 refl)) (lit ! tt) (record { fits = place_fits g-rows.1 l })) (from ! (stop !)) (init ! 6 refl (tt, record { fits = place_fits g-rows.1 l })) $
         assigns ! (bin ! (load ! (from ! (fld ! refl (stop !))) (look_in ! 18 (sub ! 0 refl (whole !)))) (load ! (from ! (stop !)) (look ! 6 refl)) tt) (from ! (stop !)) (init ! 4 refl (tt, tt)) $
         rewrite ! 4 (λ (p : ℕ). ‵ (fat full_share ty_ptr m8 0 (vptr rows.ref_ptr.0 p))) (sym (place_is 8 rows.ref_ptr.1 s)) refl $ opens_slice ! tt T.the_row rows.now rows.ref_ptr.0 rows.ref_ptr.1 $
         elem_out ! T.the_row (Is T.the_row) (shows 𝓛 T.the_row) (LL.vals T.the_type T'.the_laws) (LL.tells T.the_type T'.the_laws) full_share rows.now s none rows.ref_ptr.0 rows.ref_ptr.1 l (λ _.

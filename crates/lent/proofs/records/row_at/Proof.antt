@@ -39,8 +39,8 @@ use denote.Triple.Table.{entered}
 use denote.Triple.Walked.{says, Stays, stay_none, stay_none_slice, walk_of, AllGo, Goes-none, Goes-none_slice, Walks, ends_at, walked, walk_Meets}
 use denote.Exit.{yes}
 use denote.Struct.Laws as LL
-use Rattle.lent.specs.Records.{columns, recordAt}
-use Rattle.lent.proofs.Entries.{none, place-fits, read, read-beyond}
+use Rattle.lent.specs.Records.{columns, record_at}
+use Rattle.lent.proofs.Entries.{none, place_fits, read, read_beyond}
 use Rattle.lent.specs.declared.RowRecord.{RowRecord}
 use Rattle.lent.specs.contracts.RowRecord as T
 use Rattle.lent.proofs.RowRecord.TheLaws as T'
@@ -93,7 +93,7 @@ module _ {M : Type 1} {𝓤 : Ura M} (𝓛 : Logic 𝓤) (at_mem : Memory → SP
 
   -- what is ensured
   abbrev Said : RowRecord → Type 0
-  Said r = r ≡ recordAt (columns rows.now) s
+  Said r = r ≡ record_at (columns rows.now) s
 
   exits : (r : RowRecord) → Said r → Is T.the_row r (mach r ∷ []) → ent 𝓤 (⋆ 𝓛 Left) (Post (mach r))
   exits r e g =
@@ -126,7 +126,7 @@ module _ {M : Type 1} {𝓤 : Ura M} (𝓛 : Logic 𝓤) (at_mem : Memory → SP
     parts =
         first ! $ branches ! (load ! (from ! (stop !)) (look ! 11 refl))
         (λ h. let l = ltb→lt s (length rows.now) h in
-        assigns ! (bin ! (load ! (from ! (stop !)) (look ! 15 refl)) (lit ! tt) (record { fits = place-fits g-rows.1 l })) (from ! (stop !)) (init ! 7 refl (tt, record { fits = place-fits g-rows.1 l })) $
+        assigns ! (bin ! (load ! (from ! (stop !)) (look ! 15 refl)) (lit ! tt) (record { fits = place_fits g-rows.1 l })) (from ! (stop !)) (init ! 7 refl (tt, record { fits = place_fits g-rows.1 l })) $
         assigns ! (bin ! (load ! (from ! (fld ! refl (stop !))) (look_in ! 17 (sub ! 0 refl (whole !)))) (load ! (from ! (stop !)) (look ! 7 refl)) tt) (from ! (stop !)) (init ! 5 refl (tt, tt)) $
         rewrite ! 5 (λ (p : ℕ). ‵ (fat full_share ty_ptr m7 0 (vptr rows.ptr.0 p))) (sym (place_is 8 rows.ptr.1 s)) refl $ move ! (2 ∷ []) $ fsplit ! $ move ! (1 ∷ []) $ fsplit ! $ move ! (1 ∷ 3 ∷ []) $
         looks_slice ! tt T.the_row (Is T.the_row) (shows 𝓛 T.the_row) (LL.vals T.the_type T'.the_laws) (LL.tells T.the_type T'.the_laws) (LL.copy T.the_type T'.the_copy 𝓛) rows.now rows.ref_ptr.0 rows.ref_ptr.1 (λ q'.
@@ -138,7 +138,7 @@ module _ {M : Type 1} {𝓤 : Ura M} (𝓛 : Logic 𝓤) (at_mem : Memory → SP
         move ! (1 ∷ 2 ∷ 0 ∷ []) $ leaves element (read rows.now s) g)))
         (λ h.
         assigns_last ! (agg ! (and_then ! (lit ! tt) (and_then ! (lit ! tt) (and_then ! (lit ! tt) (no_more !))))) (from ! (stop !)) (init ! 9 refl ((LL.lawful T.the_type T'.the_laws 𝓛).typed none _ zeros).0) $
-        exec ! 𝓣.C 𝓣.Λ E mir.t-4 (at_ret E Post) $ leaves none (read-beyond rows.now s h) zeros)
+        exec ! 𝓣.C 𝓣.Λ E mir.t-4 (at_ret E Post) $ leaves none (read_beyond rows.now s h) zeros)
 
   module _ (𝓣 : Tables 𝓤 H) where
     walk : ent 𝓤 (on_entry 𝓛 fn.signature (κ, tt) (q, tt) a at) (WpFn 𝓤 H 𝓣.C 𝓣.Λ code.function (v-rows ∷ vint w64 s ∷ []) Post)

@@ -51,8 +51,8 @@ use denote.Triple.Table.{entered, cited}
 use denote.Triple.Walked.{says, Stays, stay_slice, stay_none_slice, walk_of, AllGo, Goes-slice, Goes-none_slice, Walks, ends_at, walked, walk_Meets}
 use denote.Exit.{yes}
 use denote.Struct.Laws as LL
-use Rattle.lent.specs.Records.{wordIn, spreadNumber, taken, SpreadOut, spreadOut, words_in, copied}
-use Rattle.lent.proofs.Entries.{none, place-fits, next_fits, spread-fits, spread-low, copied_none, copied_more, length-copied, word_read}
+use Rattle.lent.specs.Records.{word_in, spread_number, taken, SpreadOut, spread_out, words_in, copied}
+use Rattle.lent.proofs.Entries.{none, place_fits, next_fits, spread_fits, spread_low, copied_none, copied_more, length-copied, word_read}
 use Rattle.lent.specs.declared.RowRecord.{RowRecord}
 use Rattle.lent.specs.contracts.RowRecord as T
 use Rattle.lent.proofs.RowRecord.TheLaws as T'
@@ -132,7 +132,7 @@ module _ {M : Type 1} {𝓤 : Ura M} (𝓛 : Logic 𝓤) (at_mem : Memory → SP
 
   -- what is ensured
   abbrev Said : ℕ → List ℕ → Type 0
-  Said r z-words = ◌≡◌ {A = SpreadOut} (record { number = r; words = z-words }) (spreadOut rows.now words.now)
+  Said r z-words = ◌≡◌ {A = SpreadOut} (record { number = r; words = z-words }) (spread_out rows.now words.now)
 
   exits : (r : ℕ) (z-words : List ℕ) → Said r z-words → length z-words ≡ length words.now → r < 2 ^ 64 → ent 𝓤 (⋆ 𝓛 (Left z-words)) (Post (vint w64 r))
   exits r z-words e l-words g =
@@ -144,17 +144,17 @@ module _ {M : Type 1} {𝓤 : Ura M} (𝓛 : Logic 𝓤) (at_mem : Memory → SP
 
   -- the question's answer
   abbrev number : ℕ
-  number = spreadNumber (length rows.now) (length words.now)
+  number = spread_number (length rows.now) (length words.now)
 
   number_fits : number < 2 ^ 64
-  number_fits = spread-fits (length rows.now) (length words.now)
+  number_fits = spread_fits (length rows.now) (length words.now)
 
   -- how many entries are taken over
   abbrev m : ℕ
   m = taken number (length rows.now)
 
   low : (m ≤ length rows.now) × (m ≤ length words.now)
-  low = spread-low (length rows.now) (length words.now)
+  low = spread_low (length rows.now) (length words.now)
 
   m-fits : m < 2 ^ 64
   m-fits = lt_of_le_of_lt low.0 g-rows.0
@@ -188,7 +188,7 @@ module _ {M : Type 1} {𝓤 : Ura M} (𝓛 : Logic 𝓤) (at_mem : Memory → SP
 
   -- what it ensures
   abbrev question-said : ℕ → Type 0
-  question-said r = r ≡ spreadNumber (length rows.now) (length words.now)
+  question-said r = r ≡ spread_number (length rows.now) (length words.now)
 
   -- what goes to `taken`
   abbrev count-args : ℕ × (ℕ × (Unit {0}))
@@ -221,7 +221,7 @@ module _ {M : Type 1} {𝓤 : Ura M} (𝓛 : Logic 𝓤) (at_mem : Memory → SP
 
   -- what it ensures
   abbrev word-said : ℕ → ℕ → Type 0
-  word-said i x = x ≡ wordIn (element i)
+  word-said i x = x ≡ word_in (element i)
 
   abbrev Upto : Type 0
   Upto = (i : ℕ) × (i ≤ m)
@@ -255,7 +255,7 @@ module _ {M : Type 1} {𝓤 : Ura M} (𝓛 : Logic 𝓤) (at_mem : Memory → SP
         assigns ! (bin ! (load ! (from ! (stop !)) (look ! 22 refl)) (load ! (from ! (stop !)) (look ! 24 refl)) tt) (from ! (stop !)) (init ! 14 refl (tt, tt)) $
         rewrite ! 14 (λ (t : Bool). ‵ (fat full_share ty_bool m10 0 (vbool t))) e refl $ stays ! (load ! (from ! (stop !)) (look ! 14 refl)) $
         -- the row is copied
-        assigns ! (bin ! (load ! (from ! (stop !)) (look ! 22 refl)) (lit ! tt) (record { fits = place-fits g-rows.1 below_rows })) (from ! (stop !)) (init ! 12 refl (tt, record { fits = place-fits g-rows.1 below_rows })) $
+        assigns ! (bin ! (load ! (from ! (stop !)) (look ! 22 refl)) (lit ! tt) (record { fits = place_fits g-rows.1 below_rows })) (from ! (stop !)) (init ! 12 refl (tt, record { fits = place_fits g-rows.1 below_rows })) $
         assigns ! (bin ! (load ! (from ! (fld ! refl (stop !))) (look_in ! 32 (sub ! 0 refl (whole !)))) (load ! (from ! (stop !)) (look ! 12 refl)) tt) (from ! (stop !)) (init ! 10 refl (tt, tt)) $
         rewrite ! 10 (λ (p : ℕ). ‵ (fat full_share ty_ptr m12 0 (vptr rows.ptr.0 p))) (sym (place_is 8 rows.ptr.1 i.0)) refl $ move ! (5 ∷ []) $ fsplit ! $ move ! (1 ∷ []) $ fsplit ! $
         move ! (1 ∷ 7 ∷ []) $
@@ -272,7 +272,7 @@ module _ {M : Type 1} {𝓤 : Ura M} (𝓛 : Logic 𝓤) (at_mem : Memory → SP
         split ! $ move ! (1 ∷ []) $ use1 𝓛 (some (λ (zs : Unit {0} × (Unit {0})). ‵ (lasts word.ended tt (word-args i.0) zs) ⊛ raw (fact 𝓤 (word-said i.0 x)))) (id⊢ 𝓤 _) $ pick ! (λ zs. split ! $
         move ! (1 ∷ []) $ heard ! (word-said i.0 x) (λ e. drop ! $ split ! $ move ! (1 ∷ []) $ peeks ! u64 (Is u64) (shows 𝓛 u64) x (w ∷ []) (λ is. move ! (1 ∷ []) $ drop ! $
         land ! (from ! (stop !)) (init ! 19 refl ((uint_Lawful 𝓛 w64).typed x _ is).0) $ rewrite ! 19 (λ (u : Val). ‵ (fat full_share (ty_int w64) m8 0 u)) (ap only is.0) refl $ drop ! $
-        assigns ! (bin ! (load ! (from ! (stop !)) (look ! 22 refl)) (lit ! tt) (record { fits = place-fits g-words.1 below-words })) (from ! (stop !)) (store ! 12 refl (tt, record { fits = place-fits g-words.1 below-words })) $
+        assigns ! (bin ! (load ! (from ! (stop !)) (look ! 22 refl)) (lit ! tt) (record { fits = place_fits g-words.1 below-words })) (from ! (stop !)) (store ! 12 refl (tt, record { fits = place_fits g-words.1 below-words })) $
         assigns ! (bin ! (load ! (from ! (fld ! refl (stop !))) (look_in ! 30 (sub ! 0 refl (whole !)))) (load ! (from ! (stop !)) (look ! 12 refl)) tt) (from ! (stop !)) (init ! 6 refl (tt, tt)) $
         rewrite ! 6 (λ (p : ℕ). ‵ (fat full_share ty_ptr m14 0 (vptr words.ptr.0 p))) (sym (place_is 8 words.ptr.1 i.0)) refl $ move ! (2 ∷ []) $
         elem_out ! u64 (Is u64) (shows 𝓛 u64) (uint_vals w64) (uint_Tells w64) full_share (upto-words i.0) i.0 0 words.ptr.0 words.ptr.1 within-words (λ _.

@@ -6,18 +6,18 @@ use native.Mathlib.Omega.{arith}
 use lib.ListN.{length, take, drop}
 use borrow.Author.Rules.{rules}
 use Rattle.lists.specs.Lists.{joined, starts}
-use Rattle.lists.proofs.Written.{Written, nothing, pushed, chunk, joined-more, joined-le, next_fits, starts_more}
+use Rattle.lists.proofs.Written.{Written, nothing, pushed, chunk, joined-more, joined_le, next_fits, starts_more}
 use Rattle.search.specs.Cells.{cell}
-use Rattle.locator.specs.Internal.{Keyed, cellsOut}
+use Rattle.locator.specs.Internal.{Keyed, cells_out}
 use Rattle.locator.proofs.Keys.{spots, same-face}
-use Rattle.locator.proofs.Rows.{faceRow, keyed-row, keyed-column, row_below, same_row}
+use Rattle.locator.proofs.Rows.{face_row, keyed_row, keyed_column, row_below, same_row}
 use Rattle.locator.proofs.cells.fill_cells.Statement.{statement}
 use Rattle.locator.proofs.cells.fill_cells.Tie as tie
 
 abbrev invariant-loop : tie.invariant-loop
 invariant-loop vertices n g m keys₀ row₀ offsets₀ out₀ a held₀ to₀ c₀ keys row offsets out held to c =
     (c ≤ m) × (length keys ≡ length keys₀) × (length row ≡ length row₀) × (held ≤ length row₀) × (drop n keys ≡ drop n keys₀)
-    × (0 < c % (g * g) → Keyed vertices n g (c / (g * g)) keys) × (0 < c % (g * g) % g → take held row ≡ faceRow vertices n g (c / (g * g)) (c % (g * g) / g))
+    × (0 < c % (g * g) → Keyed vertices n g (c / (g * g)) keys) × (0 < c % (g * g) % g → take held row ≡ face_row vertices n g (c / (g * g)) (c % (g * g) / g))
     × Written offsets₀ 0 (starts c (cell vertices n g)) offsets c × Written out₀ 0 (joined c (cell vertices n g)) out to
 
 abbrev decreases-loop : tie.decreases-loop
@@ -27,7 +27,7 @@ decreases-loop vertices n g m keys₀ row₀ offsets₀ out₀ a held₀ to₀ c
 so_far : (l : tie.At-loop invariant-loop decreases-loop) → l.loop.to ≤ 4294967295
 so_far l =
     let a = l.before.before.before.before.before.before.args in
-    omega (arith, l.loop.invariant.8.next, joined-le l.loop.c a.m (cell a.vertices.now a.n a.g) (omega arith))
+    omega (arith, l.loop.invariant.8.next, joined_le l.loop.c a.m (cell a.vertices.now a.n a.g) (omega arith))
 
 -- a cell more fits
 more : (c : tie.In-loop invariant-loop decreases-loop) → let l = c.before in let a = l.before.before.before.before.before.before.args in
@@ -65,7 +65,7 @@ fresh-row-requires c κs = let l = c.before.before.before.before.before.before.b
       omega arith,
       omega arith,
       omega (arith, l.loop.invariant.2, l.loop.invariant.3),
-      (λ p. l.loop.invariant.6 p ∙ sym (keyed-row a.vertices.now a.n a.g (k / (a.g * a.g)) (k % (a.g * a.g) / a.g) _ f.ensures.0)),
+      (λ p. l.loop.invariant.6 p ∙ sym (keyed_row a.vertices.now a.n a.g (k / (a.g * a.g)) (k % (a.g * a.g) / a.g) _ f.ensures.0)),
     )
 
 cast-offsets : tie.Need-overflow-cast-offsets invariant-loop decreases-loop
@@ -83,7 +83,7 @@ cast-put-cell c = let l = c.before.before.before.before.before.before.before.bef
 put-cell-requires : tie.Need-put-cell-requires invariant-loop decreases-loop
 put-cell-requires c κs = let t = c.before.before.before.before.before.before.before.before.before.before.before.before in let l = t.before in let a = l.before.before.before.before.before.before.args in let k = l.loop.c in
     let f = c.before.before.before.before.before.before.before.before.before.before.fresh-keys in let r = c.before.before.before.before.before.fresh-row in
-    let e = keyed-column a.vertices.now a.n a.g k _ _ (omega arith) (omega arith) f.ensures.0 r.ensures.1 in (
+    let e = keyed_column a.vertices.now a.n a.g k _ _ (omega arith) (omega arith) f.ensures.0 r.ensures.1 in (
       r.ensures.0,
       rw r.ensures.1 (row_below _ a.n (k % (a.g * a.g) / a.g) _ (omega (arith, f.auto.1.1.1.1.0, l.loop.invariant.1))),
       omega (arith, spots a.g k (omega arith)),
@@ -94,7 +94,7 @@ loop-again : tie.Need-loop-preserved invariant-loop decreases-loop
 loop-again c = let t = c.before.before.before.before.before.before.before.before.before.before.before.before.before.before.before in let l = t.before in let a = l.before.before.before.before.before.before.args in let g = a.g in let k = l.loop.c in
     let f = c.before.before.before.before.before.before.before.before.before.before.before.before.before.fresh-keys in let r = c.before.before.before.before.before.before.before.before.fresh-row in let p = c.before.before.put-cell in
     let cells = cell a.vertices.now a.n g in
-    let e = keyed-column a.vertices.now a.n g k _ _ (omega arith) (omega arith) f.ensures.0 r.ensures.1 in
+    let e = keyed_column a.vertices.now a.n g k _ _ (omega arith) (omega arith) f.ensures.0 r.ensures.1 in
     let h = rw e at p.ensures in
     let u : l.loop.to ≡ length (joined k cells) = omega (arith, l.loop.invariant.8.next) in (
       omega arith,
@@ -103,7 +103,7 @@ loop-again c = let t = c.before.before.before.before.before.before.before.before
       omega (arith, r.ensures.0, r.auto.1.1.1.1.1.0, l.loop.invariant.2),
       f.ensures.1 ∙ l.loop.invariant.4,
       (λ z. rw (same-face (g * g) k (mul-pos {m = g} {n = g} (omega arith) (omega arith)) z) f.ensures.0),
-      (λ z. let q = same_row g k (omega arith) z in rw (q.0, q.1) (r.ensures.1 ∙ keyed-row a.vertices.now a.n g (k / (g * g)) (k % (g * g) / g) _ f.ensures.0)),
+      (λ z. let q = same_row g k (omega arith) z in rw (q.0, q.1) (r.ensures.1 ∙ keyed_row a.vertices.now a.n g (k / (g * g)) (k % (g * g) / g) _ f.ensures.0)),
       rw (starts_more k cells, ← u) (pushed l.loop.to l.loop.invariant.7 (omega arith)),
       rw (joined-more k cells) (chunk (cells k) _ p.result l.loop.invariant.8 (omega (arith, more t)) h.0 h.1),
     )
@@ -112,7 +112,7 @@ cast-offsets-2 : tie.Need-overflow-cast-offsets-2 invariant-loop decreases-loop
 cast-offsets-2 c = omega (arith, so_far c.before)
 
 returns : tie.Need-returns invariant-loop decreases-loop
-unfolding cellsOut
+unfolding cells_out
 returns c = let l = c.before in let a = l.before.before.before.before.before.before.args in let f = cell a.vertices.now a.n a.g in
     let full : l.loop.c ≡ a.m = omega arith in
     let o = rw full at l.loop.invariant.7 in

@@ -6,13 +6,13 @@ use native.Mathlib.Omega.{arith}
 use lib.ListN.{length, get_or, drop, length-set}
 use lib.Seq.{drop-set-lt}
 use borrow.Author.Rules.{rules}
-use Rattle.locator.specs.Internal.{vertexKey}
+use Rattle.locator.specs.Internal.{vertex_key}
 use Rattle.locator.proofs.Keys.{one_more}
 use Rattle.locator.proofs.cells.fresh_keys.Statement.{statement}
 use Rattle.locator.proofs.cells.fresh_keys.Tie as tie
 
 abbrev invariant-loop : tie.invariant-loop
-invariant-loop vertices n g c keys₀ a face v₀ keys v = (v ≤ n) × (length keys ≡ length keys₀) × (drop n keys ≡ drop n keys₀) × ((k : ℕ) → k < v → get_or keys k 0 ≡ vertexKey vertices g face k)
+invariant-loop vertices n g c keys₀ a face v₀ keys v = (v ≤ n) × (length keys ≡ length keys₀) × (drop n keys ≡ drop n keys₀) × ((k : ℕ) → k < v → get_or keys k 0 ≡ vertex_key vertices g face k)
 
 abbrev decreases-loop : tie.decreases-loop
 decreases-loop vertices n g c keys₀ a face v₀ keys v = n - v

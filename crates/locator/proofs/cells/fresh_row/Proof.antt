@@ -8,14 +8,14 @@ use lib.ListN.{get_or}
 use borrow.Author.Rules.{rules}
 use Rattle.lists.specs.Lists.{filter, below}
 use Rattle.lists.proofs.Written.{Written, nothing, kept, passed}
-use Rattle.locator.specs.Internal.{nearKept, keyRow}
+use Rattle.locator.specs.Internal.{near_kept, key_row}
 use Rattle.locator.proofs.Keys.{spots}
 use Rattle.locator.proofs.Rows.{front}
 use Rattle.locator.proofs.cells.fresh_row.Statement.{statement}
 use Rattle.locator.proofs.cells.fresh_row.Tie as tie
 
 abbrev invariant-loop : tie.invariant-loop
-invariant-loop keys n g c held row₀ a k i to₀ v₀ row to v = (v ≤ n) × (to ≤ v) × Written row₀ 0 (filter (λ v. nearKept (get_or keys v 0 / 65536) i) (below v)) row to
+invariant-loop keys n g c held row₀ a k i to₀ v₀ row to v = (v ≤ n) × (to ≤ v) × Written row₀ 0 (filter (λ v. near_kept (get_or keys v 0 / 65536) i) (below v)) row to
 
 abbrev decreases-loop : tie.decreases-loop
 decreases-loop keys n g c held row₀ a k i to₀ v₀ row to v = n - v
@@ -47,7 +47,7 @@ loop-again c = let l = c.before.before.before.before in let h = l.loop.invariant
     c.if2.branch
 
 returns-2 : tie.Need-returns-2 invariant-loop decreases-loop
-unfolding keyRow
+unfolding key_row
 returns-2 c = let l = c.before in
     let full : l.loop.v ≡ l.before.before.before.before.args.n = omega arith in
     (omega (arith, l.loop.invariant.2), front (rw full at l.loop.invariant.2))

@@ -7,23 +7,23 @@ use lib.ListN.{length, get_or, take}
 use borrow.Author.Rules.{rules}
 use Rattle.lists.specs.Lists.{filter}
 use Rattle.lists.proofs.Written.{Written, nothing}
-use Rattle.locator.specs.Internal.{nearKept, inColumn}
-use Rattle.locator.proofs.Rows.{entry-below, entry-fits, entry_kept, entry-passed}
+use Rattle.locator.specs.Internal.{near_kept, in_column}
+use Rattle.locator.proofs.Rows.{entry-below, entry_fits, entry_kept, entry_passed}
 use Rattle.locator.proofs.cells.put_cell.Statement.{statement}
 use Rattle.locator.proofs.cells.put_cell.Tie as tie
 
 abbrev invariant-loop : tie.invariant-loop
-invariant-loop keys row held j out₀ at to₀ k₀ out to k = (k ≤ held) × Written out₀ at (filter (λ v. nearKept (get_or keys v 0 % 65536) j) (take k row)) out to
+invariant-loop keys row held j out₀ at to₀ k₀ out to k = (k ≤ held) × Written out₀ at (filter (λ v. near_kept (get_or keys v 0 % 65536) j) (take k row)) out to
 
 abbrev decreases-loop : tie.decreases-loop
 decreases-loop keys row held j out₀ at to₀ k₀ out to k = held - k
 
 -- there is room for the vertex that is in the cell
 fits : (c : tie.Then1 invariant-loop decreases-loop) → c.before.before.before.before.before.loop.to < length c.before.before.before.before.before.before.before.before.before.args.out.now
-unfolding inColumn
+unfolding in_column
 fits c =
     let l = c.before.before.before.before.before in let s = l.before.before.before.before in
-    entry-fits _ s.args.row.now l.loop.k l.loop.invariant.1 (omega arith) s.args.held (sym c.before.near-kept.ensures ∙ c.if1.true) (omega arith) s.requires.3
+    entry_fits _ s.args.row.now l.loop.k l.loop.invariant.1 (omega arith) s.args.held (sym c.before.near-kept.ensures ∙ c.if1.true) (omega arith) s.requires.3
 
 loop-holds : tie.Need-loop-init invariant-loop decreases-loop
 unfolding filter
@@ -56,11 +56,11 @@ loop-again : tie.Need-loop-preserved invariant-loop decreases-loop
 loop-again c = let l = c.before.before.before.before.before in let r = l.before.before.before.before.args.row.now in let h = l.loop.invariant.1 in
     ⊎_elim
     (λ w. rw (w.1, w.2) (omega arith, entry_kept _ r l.loop.k h (omega arith) (sym c.before.near-kept.ensures ∙ w.0.taken) (fits (record { before = c.before; if1 = w.0 }))))
-    (λ w. rw (w.1, w.2) (omega arith, entry-passed _ r l.loop.k h (omega arith) (sym c.before.near-kept.ensures ∙ w.0.left)))
+    (λ w. rw (w.1, w.2) (omega arith, entry_passed _ r l.loop.k h (omega arith) (sym c.before.near-kept.ensures ∙ w.0.left)))
     c.if1.branch
 
 returns : tie.Need-returns invariant-loop decreases-loop
-unfolding inColumn
+unfolding in_column
 returns c = let l = c.before in
     let full : l.loop.k ≡ l.before.before.before.before.args.held = omega arith in
     let h = rw full at l.loop.invariant.1 in (h.next, h.is)

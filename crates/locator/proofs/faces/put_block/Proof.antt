@@ -6,7 +6,7 @@ use lib.ListN.{length}
 use borrow.Author.Rules.{rules}
 use Rattle.lists.specs.Lists.{joined}
 use Rattle.mesh.specs.Internal.{links}
-use Rattle.lists.proofs.Written.{Written, nothing, put-nil, next_fits}
+use Rattle.lists.proofs.Written.{Written, nothing, put_nil, next_fits}
 use Rattle.lists.proofs.Counting.{no}
 use Rattle.search.specs.Cells.{flat}
 use Rattle.locator.proofs.Blocks.{block_row, untouched, more-flat, come, block-rows}
@@ -31,7 +31,7 @@ fits c =
 
 returns : tie.Need-returns invariant-loop decreases-loop
 unfolding flat
-returns c = rw (untouched _ _ _ (no c.before.touches.ensures c.if1.true)) (omega arith, sym (put-nil _ _))
+returns c = rw (untouched _ _ _ (no c.before.touches.ensures c.if1.true)) (omega arith, sym (put_nil _ _))
 
 loop-holds : tie.Need-loop-init invariant-loop decreases-loop
 unfolding joined flat

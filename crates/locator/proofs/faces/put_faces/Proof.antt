@@ -6,15 +6,15 @@ use lib.ListN.{length}
 use borrow.Author.Rules.{rules}
 use Rattle.lists.specs.Lists.{joined, starts}
 use Rattle.mesh.specs.Internal.{links}
-use Rattle.lists.proofs.Written.{Written, nothing, pushed, joined-le, next_fits, starts_more}
-use Rattle.search.specs.Cells.{facesOf, flat}
-use Rattle.locator.specs.Internal.{facesOut}
+use Rattle.lists.proofs.Written.{Written, nothing, pushed, joined_le, next_fits, starts_more}
+use Rattle.search.specs.Cells.{faces_of, flat}
+use Rattle.locator.specs.Internal.{faces_out}
 use Rattle.locator.proofs.Blocks.{come, more-flat}
 use Rattle.locator.proofs.faces.put_faces.Statement.{statement}
 use Rattle.locator.proofs.faces.put_faces.Tie as tie
 
 abbrev invariant-loop : tie.invariant-loop
-invariant-loop counts neighbours n offsets₀ out₀ end to₀ v₀ offsets out to v = (v ≤ n) × Written offsets₀ 0 (starts v (facesOf (links counts neighbours) n)) offsets v × Written out₀ (3 * 0) (flat (joined v (facesOf (links counts neighbours) n))) out (3 * to)
+invariant-loop counts neighbours n offsets₀ out₀ end to₀ v₀ offsets out to v = (v ≤ n) × Written offsets₀ 0 (starts v (faces_of (links counts neighbours) n)) offsets v × Written out₀ (3 * 0) (flat (joined v (faces_of (links counts neighbours) n))) out (3 * to)
 
 abbrev decreases-loop : tie.decreases-loop
 decreases-loop counts neighbours n offsets₀ out₀ end to₀ v₀ offsets out to v = n - v
@@ -23,15 +23,15 @@ decreases-loop counts neighbours n offsets₀ out₀ end to₀ v₀ offsets out 
 so_far : (l : tie.At-loop invariant-loop decreases-loop) → l.loop.to ≤ 4294967295
 so_far l =
     let a = l.before.before.before.before.before.args in
-    let f = facesOf (links a.counts.now a.neighbours.now) a.n in
-    omega (arith, l.before.before.before.before.before.requires.3, come 0 l.loop.to (joined l.loop.v f) l.loop.invariant.2, joined-le l.loop.v a.n f (omega arith))
+    let f = faces_of (links a.counts.now a.neighbours.now) a.n in
+    omega (arith, l.before.before.before.before.before.requires.3, come 0 l.loop.to (joined l.loop.v f) l.loop.invariant.2, joined_le l.loop.v a.n f (omega arith))
 
 fits : (c : tie.In-loop invariant-loop decreases-loop) →
     let l = c.before in let a = l.before.before.before.before.before.args in
-    3 * (l.loop.to + length (facesOf (links a.counts.now a.neighbours.now) a.n l.loop.v)) ≤ length a.out.now
+    3 * (l.loop.to + length (faces_of (links a.counts.now a.neighbours.now) a.n l.loop.v)) ≤ length a.out.now
 fits c =
     let l = c.before in let a = l.before.before.before.before.before.args in
-    let f = facesOf (links a.counts.now a.neighbours.now) a.n in
+    let f = faces_of (links a.counts.now a.neighbours.now) a.n in
     omega (arith, l.before.before.before.before.before.requires.2, come 0 l.loop.to (joined l.loop.v f) l.loop.invariant.2, next_fits l.loop.v a.n f c.loop-test.true)
 
 loop-holds : tie.Need-loop-init invariant-loop decreases-loop
@@ -57,7 +57,7 @@ loop-less : tie.Need-loop-smaller invariant-loop decreases-loop
 loop-less c = omega arith
 
 loop-again : tie.Need-loop-preserved invariant-loop decreases-loop
-loop-again c = let t = c.before.before.before.before in let l = t.before in let a = l.before.before.before.before.before.args in let f = facesOf (links a.counts.now a.neighbours.now) a.n in let v = l.loop.v in
+loop-again c = let t = c.before.before.before.before in let l = t.before in let a = l.before.before.before.before.before.args in let f = faces_of (links a.counts.now a.neighbours.now) a.n in let v = l.loop.v in
     let p = c.before.before.put-faces-of in
     let e : l.loop.to ≡ length (joined v f) = omega (arith, come 0 l.loop.to (joined v f) l.loop.invariant.2) in (
       omega arith,
@@ -75,8 +75,8 @@ slice-write-offsets-2 : tie.Need-slice-write-offsets-2 invariant-loop decreases-
 slice-write-offsets-2 c = omega arith
 
 returns : tie.Need-returns invariant-loop decreases-loop
-unfolding facesOut
-returns c = let l = c.before in let a = l.before.before.before.before.before.args in let f = facesOf (links a.counts.now a.neighbours.now) a.n in
+unfolding faces_out
+returns c = let l = c.before in let a = l.before.before.before.before.before.args in let f = faces_of (links a.counts.now a.neighbours.now) a.n in
     let full : l.loop.v ≡ a.n = omega arith in
     let o = rw full at l.loop.invariant.1 in
     let w = rw full at l.loop.invariant.2 in

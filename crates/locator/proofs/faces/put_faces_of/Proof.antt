@@ -10,7 +10,7 @@ use Rattle.mesh.specs.Internal.{links}
 use Rattle.lists.proofs.Written.{Written, nothing, next_fits}
 use Rattle.search.specs.Cells.{flat}
 use Rattle.locator.specs.Internal.{block, Next}
-use Rattle.locator.proofs.Blocks.{come, more-flat, faces-of-is, joined-skip, untouched, block-above}
+use Rattle.locator.proofs.Blocks.{come, more-flat, faces_of_is, joined_skip, untouched, block-above}
 use Rattle.locator.proofs.faces.put_faces_of.Statement.{statement}
 use Rattle.locator.proofs.faces.put_faces_of.Tie as tie
 
@@ -35,12 +35,12 @@ fits c =
       l.before.before.before.before.before.requires.2,
       come a.at l.loop.to (joined l.loop.i f) l.loop.invariant.1,
       next_fits l.loop.i a.n f (inside c),
-      ap length (faces-of-is (links a.counts.now a.neighbours.now) a.n a.v),
+      ap length (faces_of_is (links a.counts.now a.neighbours.now) a.n a.v),
     )
 
 -- up to the next vertex that touches v there are no faces of v
 skipped : (g : Mesh) (n v at r : ℕ) → Next g n v at r → joined r (block g v) ≡ joined at (block g v)
-skipped g n v at r h = joined-skip (block g v) at r h.from (λ i p q. untouched g v i (h.none i p q))
+skipped g n v at r h = joined_skip (block g v) at r h.from (λ i p q. untouched g v i (h.none i p q))
 
 next-requires : tie.Need-next-requires invariant-loop decreases-loop
 next-requires c κs = let s = c.before.before.before in (s.requires.0, s.requires.1, omega arith)
@@ -71,9 +71,9 @@ loop-again c = let t = c.before.before.before.before.before in let l = t.before 
 returns : tie.Need-returns invariant-loop decreases-loop
 returns c = let l = c.before in let a = l.before.before.before.before.before.args in
     let g : Mesh = links a.counts.now a.neighbours.now in
-    let full = joined-skip (block g a.v) l.loop.i a.n l.loop.invariant.0 (λ i p q. block-above g a.v i (omega (arith, c.loop-test.false))) in
+    let full = joined_skip (block g a.v) l.loop.i a.n l.loop.invariant.0 (λ i p q. block-above g a.v i (omega (arith, c.loop-test.false))) in
     let h = rw (← full) at l.loop.invariant.1 in
-    rw (faces-of-is g a.n a.v) (come a.at l.loop.to (joined a.n (block g a.v)) h, h.is)
+    rw (faces_of_is g a.n a.v) (come a.at l.loop.to (joined a.n (block g a.v)) h, h.is)
 
 pub put-faces-of-spec : {M : Type 1} → statement M
 put-faces-of-spec =

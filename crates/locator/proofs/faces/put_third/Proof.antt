@@ -9,9 +9,9 @@ use borrow.Author.Tests.{ltb-true}
 use borrow.Author.Rules.{rules}
 use Rattle.lists.specs.Lists.{joined}
 use Rattle.mesh.specs.Internal.{links}
-use Rattle.lists.proofs.Written.{Written, nothing, put-nil, next_fits}
+use Rattle.lists.proofs.Written.{Written, nothing, put_nil, next_fits}
 use Rattle.search.specs.Cells.{flat}
-use Rattle.locator.proofs.Blocks.{third, thirds-are, no-thirds, not-above, unwanted, more-flat, come}
+use Rattle.locator.proofs.Blocks.{third, thirds_are, no_thirds, not_above, unwanted, more-flat, come}
 use Rattle.locator.proofs.faces.put_third.Statement.{statement}
 use Rattle.locator.proofs.faces.put_third.Tie as tie
 
@@ -29,11 +29,11 @@ fits c =
     let l = c.before in let s = l.before.before.before.before.before.before in let a = s.args in
     let m = links a.counts.now a.neighbours.now in
     let f = third m a.v a.i a.j in
-    omega (arith, s.requires.3, come a.at l.loop.to (joined l.loop.y f) l.loop.invariant.1, next_fits l.loop.y a.c f c.loop-test.true, ap length (thirds-are m a.v a.i a.c a.j))
+    omega (arith, s.requires.3, come a.at l.loop.to (joined l.loop.y f) l.loop.invariant.1, next_fits l.loop.y a.c f c.loop-test.true, ap length (thirds_are m a.v a.i a.c a.j))
 
 returns : tie.Need-returns invariant-loop decreases-loop
 unfolding flat
-returns c = rw (no-thirds _ _ _ _ _ (λ k. not-above _ _ _ k _ c.if1.true)) (omega arith, sym (put-nil _ _))
+returns c = rw (no_thirds _ _ _ _ _ (λ k. not_above _ _ _ k _ c.if1.true)) (omega arith, sym (put_nil _ _))
 
 -- where i is below v, v is j or behind it
 returns-2 : tie.Need-returns-2 invariant-loop decreases-loop
@@ -42,7 +42,7 @@ returns-2 c = let a = c.before.before.before.before.before.args in
     let t = (and-eq-true_iff (ltb a.i a.v) (ltb a.v a.j)).0 c.if2.true in
     let low = ltb-true a.i a.v t.0 in
     let high = ltb-true a.v a.j t.1 in
-    rw (no-thirds _ _ _ _ _ (λ k. unwanted _ a.i a.j k a.v (λ e. absurd (omega arith)) (λ p e. absurd (omega arith)) (λ p r e. absurd (omega arith)))) (omega arith, sym (put-nil _ _))
+    rw (no_thirds _ _ _ _ _ (λ k. unwanted _ a.i a.j k a.v (λ e. absurd (omega arith)) (λ p e. absurd (omega arith)) (λ p r e. absurd (omega arith)))) (omega arith, sym (put_nil _ _))
 
 loop-holds : tie.Need-loop-init invariant-loop decreases-loop
 unfolding joined flat
@@ -68,7 +68,7 @@ returns-3 c = let l = c.before in let a = l.before.before.before.before.before.b
     let m = links a.counts.now a.neighbours.now in
     let full : l.loop.y ≡ a.c = omega arith in
     let h = rw full at l.loop.invariant.1 in
-    rw (thirds-are m a.v a.i a.c a.j) (come a.at l.loop.to (joined a.c (third m a.v a.i a.j)) h, h.is)
+    rw (thirds_are m a.v a.i a.c a.j) (come a.at l.loop.to (joined a.c (third m a.v a.i a.j)) h, h.is)
 
 pub put-third-spec : {M : Type 1} → statement M
 put-third-spec =

@@ -2,7 +2,7 @@
 use mathlib.Core.Path.{refl, sym}
 use native.Mathlib.Omega.{arith}
 use borrow.Author.Rules.{rules}
-use Rattle.lists.proofs.Written.{put-nil}
+use Rattle.lists.proofs.Written.{put_nil}
 use Rattle.lists.proofs.Counting.{yes, no}
 use Rattle.search.specs.Cells.{flat}
 use Rattle.locator.proofs.faces.put_wanted.Statement.{statement}
@@ -10,7 +10,7 @@ use Rattle.locator.proofs.faces.put_wanted.Tie as tie
 
 returns : tie.Need-returns
 unfolding flat
-returns c = rw (no c.before.wanted.ensures c.if1.true) (omega arith, sym (put-nil _ _))
+returns c = rw (no c.before.wanted.ensures c.if1.true) (omega arith, sym (put_nil _ _))
 
 put-face-requires : tie.Need-put-face-requires
 put-face-requires c κs = let s = c.before.before.before.before.before.before in

@@ -3,13 +3,13 @@ use mathlib.Core.Path.{refl}
 use Prim.Native.Nat.{◌+◌, ◌*◌, ◌≤◌}
 use native.Mathlib.Omega.{arith}
 use borrow.Author.Rules.{rules}
-use Rattle.mesh.specs.Levels.{vertexCount}
-use Rattle.mesh.proofs.Laws.{next-square}
+use Rattle.mesh.specs.Levels.{vertex_count}
+use Rattle.mesh.proofs.Laws.{next_square}
 use Rattle.mesh.proofs.levels.vertex_count.Statement.{statement}
 use Rattle.mesh.proofs.levels.vertex_count.Tie as tie
 
 small : (c : tie.Start) → (let k = c.args.level + 1 in k * k ≤ 256 * 256)
-small c = next-square c.args.level 256 (omega arith)
+small c = next_square c.args.level 256 (omega arith)
 
 mul-result : tie.Need-overflow-mul-result
 mul-result c = omega (arith, small c)
@@ -21,7 +21,7 @@ add-result : tie.Need-overflow-add-result
 add-result c = omega (arith, small c)
 
 returns : tie.Need-returns
-unfolding vertexCount
+unfolding vertex_count
 returns c = refl
 
 pub vertex-count-spec : {M : Type 1} → statement M

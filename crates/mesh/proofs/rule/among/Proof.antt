@@ -7,19 +7,19 @@ use lib.ListN.{get_or}
 use lib.Dec.{eqb}
 use borrow.Author.Tests.{eq-eqb, ne_eqb}
 use borrow.Author.Rules.{rules}
-use Rattle.lists.specs.Lists.{anyUpTo}
-use Rattle.lists.proofs.Counting.{any-turn, any_found}
+use Rattle.lists.specs.Lists.{any_up_to}
+use Rattle.lists.proofs.Counting.{any_turn, any_found}
 use Rattle.mesh.proofs.rule.among.Statement.{statement}
 use Rattle.mesh.proofs.rule.among.Tie as tie
 
 abbrev invariant-loop : tie.invariant-loop
-invariant-loop neighbours at k w j₀ j = (j ≤ k) × (anyUpTo j (λ i. eqb (get_or neighbours (at + i) 0) w) ≡ false)
+invariant-loop neighbours at k w j₀ j = (j ≤ k) × (any_up_to j (λ i. eqb (get_or neighbours (at + i) 0) w) ≡ false)
 
 abbrev decreases-loop : tie.decreases-loop
 decreases-loop neighbours at k w j₀ j = k - j
 
 loop-holds : tie.Need-loop-init invariant-loop decreases-loop
-unfolding anyUpTo
+unfolding any_up_to
 loop-holds c = (omega arith, refl)
 
 cast-if1 : tie.Need-overflow-cast-if1 invariant-loop decreases-loop
@@ -31,7 +31,7 @@ returns c = let l = c.before.before.before in let a = l.before.args in
 
 loop-again : tie.Need-loop-preserved invariant-loop decreases-loop
 loop-again c = let l = c.before.before.before in let a = l.before.args in
-    (omega arith, any-turn (λ i. eqb (get_or a.neighbours.now (a.at + i) 0) a.w) l.loop.j l.loop.invariant.1 (ne_eqb _ _ c.if1.false))
+    (omega arith, any_turn (λ i. eqb (get_or a.neighbours.now (a.at + i) 0) a.w) l.loop.j l.loop.invariant.1 (ne_eqb _ _ c.if1.false))
 
 returns-2 : tie.Need-returns-2 invariant-loop decreases-loop
 returns-2 c = let l = c.before in

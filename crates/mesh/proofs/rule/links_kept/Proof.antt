@@ -4,34 +4,34 @@ use mathlib.Core.Bool.{true}
 use Prim.Native.Nat.{◌-◌, ◌≤◌}
 use native.Mathlib.Omega.{arith}
 use borrow.Author.Rules.{rules}
-use Rattle.lists.specs.Lists.{allUpTo}
-use Rattle.mesh.specs.Mesh.{vertexLinked, linksKept}
+use Rattle.lists.specs.Lists.{all_up_to}
+use Rattle.mesh.specs.Mesh.{vertex_linked, links_kept}
 use Rattle.mesh.specs.Internal.{links}
-use Rattle.lists.proofs.Counting.{all-turn, all-fails, yes, no}
+use Rattle.lists.proofs.Counting.{all_turn, all_fails, yes, no}
 use Rattle.mesh.proofs.rule.links_kept.Statement.{statement}
 use Rattle.mesh.proofs.rule.links_kept.Tie as tie
 
 abbrev invariant-loop : tie.invariant-loop
-invariant-loop n counts neighbours v₀ v = (v ≤ n) × (allUpTo v (vertexLinked n (links counts neighbours)) ≡ true)
+invariant-loop n counts neighbours v₀ v = (v ≤ n) × (all_up_to v (vertex_linked n (links counts neighbours)) ≡ true)
 
 abbrev decreases-loop : tie.decreases-loop
 decreases-loop n counts neighbours v₀ v = n - v
 
 loop-holds : tie.Need-loop-init invariant-loop decreases-loop
-unfolding allUpTo
+unfolding all_up_to
 loop-holds c = (omega arith, refl)
 
 returns : tie.Need-returns invariant-loop decreases-loop
-unfolding linksKept
+unfolding links_kept
 returns c = let l = c.before.before.before in let a = l.before.before.before.args in
-    sym (all-fails (vertexLinked a.n (links a.counts.now a.neighbours.now)) l.loop.v a.n (omega arith) (no c.before.vertex-linked.ensures c.if1.true))
+    sym (all_fails (vertex_linked a.n (links a.counts.now a.neighbours.now)) l.loop.v a.n (omega arith) (no c.before.vertex-linked.ensures c.if1.true))
 
 loop-again : tie.Need-loop-preserved invariant-loop decreases-loop
 loop-again c = let l = c.before.before.before in let a = l.before.before.before.args in
-    (omega arith, all-turn (vertexLinked a.n (links a.counts.now a.neighbours.now)) l.loop.v l.loop.invariant.1 (yes c.before.vertex-linked.ensures c.if1.false))
+    (omega arith, all_turn (vertex_linked a.n (links a.counts.now a.neighbours.now)) l.loop.v l.loop.invariant.1 (yes c.before.vertex-linked.ensures c.if1.false))
 
 returns-2 : tie.Need-returns-2 invariant-loop decreases-loop
-unfolding linksKept
+unfolding links_kept
 returns-2 c = let l = c.before in
     let full : l.loop.v ≡ l.before.before.before.args.n = omega arith in sym (rw full at l.loop.invariant.1)
 

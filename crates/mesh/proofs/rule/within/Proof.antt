@@ -8,10 +8,10 @@ use lib.ListN.{get_or}
 use lib.Dec.{eqb}
 use borrow.Author.Tests.{eq-eqb, ne_eqb}
 use borrow.Author.Rules.{rules}
-use Rattle.lists.specs.Lists.{anyUpTo}
+use Rattle.lists.specs.Lists.{any_up_to}
 use Rattle.mesh.specs.Mesh.{within}
 use Rattle.mesh.specs.Internal.{links}
-use Rattle.lists.proofs.Counting.{any-turn, any_found}
+use Rattle.lists.proofs.Counting.{any_turn, any_found}
 use Rattle.mesh.proofs.rule.within.Statement.{statement}
 use Rattle.mesh.proofs.rule.within.Tie as tie
 
@@ -26,7 +26,7 @@ unfolding within
 returns c = c.among.ensures
 
 loop-holds : tie.Need-loop-init invariant-loop decreases-loop
-unfolding within anyUpTo
+unfolding within any_up_to
 loop-holds c = (omega arith, refl)
 
 returns-2 : tie.Need-returns-2 invariant-loop decreases-loop
@@ -37,7 +37,7 @@ returns-2 c = let l = c.before.before.before in let a = l.before.before.before.a
 loop-again : tie.Need-loop-preserved invariant-loop decreases-loop
 unfolding within
 loop-again c = let l = c.before.before.before in let a = l.before.before.before.args in
-    (omega arith, any-turn (λ j. eqb (get_or a.neighbours.now (6 * a.v + j) 0) a.w) l.loop.j l.loop.invariant.1 (ne_eqb _ _ (λ e. c.if2.false (c.before.neighbour.ensures ∙ e))))
+    (omega arith, any_turn (λ j. eqb (get_or a.neighbours.now (6 * a.v + j) 0) a.w) l.loop.j l.loop.invariant.1 (ne_eqb _ _ (λ e. c.if2.false (c.before.neighbour.ensures ∙ e))))
 
 returns-3 : tie.Need-returns-3 invariant-loop decreases-loop
 returns-3 c = let l = c.before in

@@ -3,60 +3,60 @@ use mathlib.Core.Path.{◌≡◌}
 use Prim.Native.Nat.{suc, ◌+◌, ◌*◌}
 use native.Mathlib.Omega.{arith}
 use borrow.Author.Rules.{rules}
-use Rattle.mesh.specs.Levels.{vertexCount, verticesBelow}
-use Rattle.mesh.specs.Mesh.{levelPart}
-use Rattle.mesh.proofs.Laws.{below_more, below-few}
+use Rattle.mesh.specs.Levels.{vertex_count, vertices_below}
+use Rattle.mesh.specs.Mesh.{level_part}
+use Rattle.mesh.proofs.Laws.{below_more, below_few}
 use Rattle.lists.proofs.Written.{part}
 use Rattle.mesh.proofs.several.level_keeps.Statement.{statement}
 use Rattle.mesh.proofs.several.level_keeps.Tie as tie
 
 add-b : tie.Need-overflow-add-b
-add-b c = omega (arith, below_more c.before.before.before.before.before.before.args.level, below-few (suc c.before.before.before.before.before.before.args.level) (omega arith))
+add-b c = omega (arith, below_more c.before.before.before.before.before.before.args.level, below_few (suc c.before.before.before.before.before.before.args.level) (omega arith))
 
 mul-a3 : tie.Need-overflow-mul-a3
-mul-a3 c = omega (arith, below_more c.before.before.before.before.before.before.args.level, below-few (suc c.before.before.before.before.before.before.args.level) (omega arith))
+mul-a3 c = omega (arith, below_more c.before.before.before.before.before.before.args.level, below_few (suc c.before.before.before.before.before.before.args.level) (omega arith))
 
 mul-b3 : tie.Need-overflow-mul-b3
-mul-b3 c = omega (arith, below_more c.before.before.before.before.before.before.args.level, below-few (suc c.before.before.before.before.before.before.args.level) (omega arith))
+mul-b3 c = omega (arith, below_more c.before.before.before.before.before.before.args.level, below_few (suc c.before.before.before.before.before.before.args.level) (omega arith))
 
 mul-a6 : tie.Need-overflow-mul-a6
-mul-a6 c = omega (arith, below_more c.before.before.before.before.before.before.args.level, below-few (suc c.before.before.before.before.before.before.args.level) (omega arith))
+mul-a6 c = omega (arith, below_more c.before.before.before.before.before.before.args.level, below_few (suc c.before.before.before.before.before.before.args.level) (omega arith))
 
 mul-b6 : tie.Need-overflow-mul-b6
-mul-b6 c = omega (arith, below_more c.before.before.before.before.before.before.args.level, below-few (suc c.before.before.before.before.before.before.args.level) (omega arith))
+mul-b6 c = omega (arith, below_more c.before.before.before.before.before.before.args.level, below_few (suc c.before.before.before.before.before.before.args.level) (omega arith))
 
 cast-keeps-rule : tie.Need-overflow-cast-keeps-rule
-cast-keeps-rule c = omega (arith, below_more c.before.before.before.before.before.before.args.level, below-few (suc c.before.before.before.before.before.before.args.level) (omega arith))
+cast-keeps-rule c = omega (arith, below_more c.before.before.before.before.before.before.args.level, below_few (suc c.before.before.before.before.before.before.args.level) (omega arith))
 
 mul-keeps-rule : tie.Need-overflow-mul-keeps-rule
-mul-keeps-rule c = omega (arith, below_more c.before.before.before.before.before.before.args.level, below-few (suc c.before.before.before.before.before.before.args.level) (omega arith))
+mul-keeps-rule c = omega (arith, below_more c.before.before.before.before.before.before.args.level, below_few (suc c.before.before.before.before.before.before.args.level) (omega arith))
 
 part-keeps-rule-end : tie.Need-slice-bounds-keeps-rule-end
-part-keeps-rule-end c = omega (arith, below_more c.before.before.before.before.before.before.args.level, below-few (suc c.before.before.before.before.before.before.args.level) (omega arith))
+part-keeps-rule-end c = omega (arith, below_more c.before.before.before.before.before.before.args.level, below_few (suc c.before.before.before.before.before.before.args.level) (omega arith))
 
 part-keeps-rule-end-2 : tie.Need-slice-bounds-keeps-rule-end-2
-part-keeps-rule-end-2 c = omega (arith, below_more c.before.before.before.before.before.before.before.args.level, below-few (suc c.before.before.before.before.before.before.before.args.level) (omega arith))
+part-keeps-rule-end-2 c = omega (arith, below_more c.before.before.before.before.before.before.before.args.level, below_few (suc c.before.before.before.before.before.before.before.args.level) (omega arith))
 
 mul-keeps-rule-2 : tie.Need-overflow-mul-keeps-rule-2
-mul-keeps-rule-2 c = omega (arith, below_more c.before.before.before.before.before.before.before.before.args.level, below-few (suc c.before.before.before.before.before.before.before.before.args.level) (omega arith))
+mul-keeps-rule-2 c = omega (arith, below_more c.before.before.before.before.before.before.before.before.args.level, below_few (suc c.before.before.before.before.before.before.before.before.args.level) (omega arith))
 
 part-keeps-rule-end-3 : tie.Need-slice-bounds-keeps-rule-end-3
-part-keeps-rule-end-3 c = omega (arith, below_more c.before.before.before.before.before.before.before.before.args.level, below-few (suc c.before.before.before.before.before.before.before.before.args.level) (omega arith))
+part-keeps-rule-end-3 c = omega (arith, below_more c.before.before.before.before.before.before.before.before.args.level, below_few (suc c.before.before.before.before.before.before.before.before.args.level) (omega arith))
 
 mul-keeps-rule-3 : tie.Need-overflow-mul-keeps-rule-3
-mul-keeps-rule-3 c = omega (arith, below_more c.before.before.before.before.before.before.before.before.before.args.level, below-few (suc c.before.before.before.before.before.before.before.before.before.args.level) (omega arith))
+mul-keeps-rule-3 c = omega (arith, below_more c.before.before.before.before.before.before.before.before.before.args.level, below_few (suc c.before.before.before.before.before.before.before.before.before.args.level) (omega arith))
 
 part-keeps-rule-end-4 : tie.Need-slice-bounds-keeps-rule-end-4
-part-keeps-rule-end-4 c = omega (arith, below_more c.before.before.before.before.before.before.before.before.before.args.level, below-few (suc c.before.before.before.before.before.before.before.before.before.args.level) (omega arith))
+part-keeps-rule-end-4 c = omega (arith, below_more c.before.before.before.before.before.before.before.before.before.args.level, below_few (suc c.before.before.before.before.before.before.before.before.before.args.level) (omega arith))
 
 returns : tie.Need-returns
-unfolding levelPart
+unfolding level_part
 returns c =
     let g = c.before.before.before.before.before.before.before.before.before.before.before.args in
     let p = c.before.before.before.before.before.before.before.before.before.before.before.requires in
-    let a = verticesBelow g.level in
-    let b = verticesBelow g.level + vertexCount g.level in
-    let e : b ≡ verticesBelow (suc g.level) = omega (arith, below_more g.level) in
+    let a = vertices_below g.level in
+    let b = vertices_below g.level + vertex_count g.level in
+    let e : b ≡ vertices_below (suc g.level) = omega (arith, below_more g.level) in
     rw (
       c.keeps-rule.ensures,
       c.before.before.before.before.before.before.vertex-count.ensures,

@@ -7,16 +7,16 @@ use lib.Dec.{ltb}
 use borrow.Author.Tests.{ltb-true}
 use Rattle.lists.specs.Lists.{joined}
 use Rattle.mesh.specs.Internal.{links}
-use Rattle.search.specs.Search.{noFit, fitFrom}
+use Rattle.search.specs.Search.{no_fit, fit_from}
 use Rattle.locator.specs.Internal.{block}
-use Rattle.locator.proofs.Blocks.{faces-of-is, joined-skip, block-above}
-use Rattle.mesh_search.proofs.Choices.{behind-end}
-use Rattle.mesh_search.proofs.Folds.{fit-turn}
+use Rattle.locator.proofs.Blocks.{faces_of_is, joined_skip, block-above}
+use Rattle.mesh_search.proofs.Choices.{behind_end}
+use Rattle.mesh_search.proofs.Folds.{fit_turn}
 use Rattle.mesh_search.proofs.faces.best_face.Statement.{statement}
 use Rattle.mesh_search.proofs.faces.best_face.Tie as tie
 
 abbrev invariant-loop : tie.invariant-loop
-invariant-loop counts neighbours vertices n p v best₀ i₀ best i = (i ≤ n) × (best ≡ fitFrom vertices p noFit (joined i (block (links counts neighbours) v)))
+invariant-loop counts neighbours vertices n p v best₀ i₀ best i = (i ≤ n) × (best ≡ fit_from vertices p no_fit (joined i (block (links counts neighbours) v)))
 
 abbrev decreases-loop : tie.decreases-loop
 decreases-loop counts neighbours vertices n p v best₀ i₀ best i = n - i
@@ -28,7 +28,7 @@ inside c =
     ltb-true _ _ ((and-eq-true_iff (ltb l.loop.i a.n) _).0 c.loop-test.true).0
 
 loop-holds : tie.Need-loop-init invariant-loop decreases-loop
-unfolding fitFrom joined
+unfolding fit_from joined
 loop-holds c = (omega arith, c.no-fit.ensures)
 
 add-i : tie.Need-overflow-add-i invariant-loop decreases-loop
@@ -42,15 +42,15 @@ loop-again c =
     let l = c.before.before in
     let a = l.before.before.before.before.before.args in
     let e = rw l.loop.invariant.1 at c.with-block.ensures in
-    (omega (arith, inside c.before), e ∙ sym (fit-turn a.vertices.now a.p noFit (block (links a.counts.now a.neighbours.now) a.v) l.loop.i))
+    (omega (arith, inside c.before), e ∙ sym (fit_turn a.vertices.now a.p no_fit (block (links a.counts.now a.neighbours.now) a.v) l.loop.i))
 
 returns : tie.Need-returns invariant-loop decreases-loop
 returns c =
     let l = c.before in
     let a = l.before.before.before.before.before.args in
     let m = links a.counts.now a.neighbours.now in
-    let full = joined-skip (block m a.v) l.loop.i a.n l.loop.invariant.0 (λ k p q. block-above m a.v k (behind-end l.loop.i a.n a.v k c.loop-test.false p q)) in
-    rw (faces-of-is m a.n a.v, full) l.loop.invariant.1
+    let full = joined_skip (block m a.v) l.loop.i a.n l.loop.invariant.0 (λ k p q. block-above m a.v k (behind_end l.loop.i a.n a.v k c.loop-test.false p q)) in
+    rw (faces_of_is m a.n a.v, full) l.loop.invariant.1
 
 pub best-face-spec : {M : Type 1} → statement M
 best-face-spec =

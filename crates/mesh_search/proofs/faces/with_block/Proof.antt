@@ -6,24 +6,24 @@ use borrow.Author.Rules.{rules}
 use Rattle.lists.specs.Lists.{joined}
 use Rattle.lists.proofs.Counting.{no}
 use Rattle.mesh.specs.Internal.{links}
-use Rattle.search.specs.Search.{fitFrom}
+use Rattle.search.specs.Search.{fit_from}
 use Rattle.locator.proofs.Blocks.{block_row, block-rows, untouched}
-use Rattle.mesh_search.proofs.Folds.{fit-turn}
+use Rattle.mesh_search.proofs.Folds.{fit_turn}
 use Rattle.mesh_search.proofs.faces.with_block.Statement.{statement}
 use Rattle.mesh_search.proofs.faces.with_block.Tie as tie
 
 abbrev invariant-loop : tie.invariant-loop
-invariant-loop counts neighbours vertices p v i c best₀ x₀ best x = (x ≤ c) × (best ≡ fitFrom vertices p best₀ (joined x (block_row (links counts neighbours) v i c)))
+invariant-loop counts neighbours vertices p v i c best₀ x₀ best x = (x ≤ c) × (best ≡ fit_from vertices p best₀ (joined x (block_row (links counts neighbours) v i c)))
 
 abbrev decreases-loop : tie.decreases-loop
 decreases-loop counts neighbours vertices p v i c best₀ x₀ best x = c - x
 
 returns : tie.Need-returns invariant-loop decreases-loop
-unfolding fitFrom
+unfolding fit_from
 returns c = rw (untouched _ _ _ (no c.before.touches.ensures c.if1.true))
 
 loop-holds : tie.Need-loop-init invariant-loop decreases-loop
-unfolding fitFrom joined
+unfolding fit_from joined
 loop-holds c = (omega arith, refl)
 
 loop-again : tie.Need-loop-preserved invariant-loop decreases-loop
@@ -32,7 +32,7 @@ loop-again c =
     let l = j.before.before in
     let a = l.before.before.before.before.before.before.before.args in
     let e = rw (j.neighbour.ensures, l.loop.invariant.1) at c.with-thirds.ensures in
-    (omega arith, e ∙ sym (fit-turn a.vertices.now a.p a.before (block_row (links a.counts.now a.neighbours.now) a.v a.i l.before.degree.result) l.loop.x))
+    (omega arith, e ∙ sym (fit_turn a.vertices.now a.p a.before (block_row (links a.counts.now a.neighbours.now) a.v a.i l.before.degree.result) l.loop.x))
 
 returns-2 : tie.Need-returns-2 invariant-loop decreases-loop
 returns-2 c =

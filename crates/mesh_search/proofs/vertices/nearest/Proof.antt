@@ -5,15 +5,15 @@ use native.Mathlib.Nat.{mul-le-mul, mul-pos, mod-lt, div-le_self}
 use native.Mathlib.Omega.{arith}
 use borrow.Author.Rules.{rules}
 use Rattle.lists.specs.Lists.{below, filter}
-use Rattle.search.specs.Geometry.{vertexAt, cubeFaceProject}
-use Rattle.search.specs.Cells.{nearCell, inCell, cell}
-use Rattle.search.specs.Search.{notNearest, nearestFrom, nearestAmong}
-use Rattle.mesh_search.proofs.Folds.{nearest-turn, turn_low}
+use Rattle.search.specs.Geometry.{vertex_at, cube_face_project}
+use Rattle.search.specs.Cells.{near_cell, in_cell, cell}
+use Rattle.search.specs.Search.{not_nearest, nearest_from, nearest_among}
+use Rattle.mesh_search.proofs.Folds.{nearest_turn, turn_low}
 use Rattle.mesh_search.proofs.vertices.nearest.Statement.{statement}
 use Rattle.mesh_search.proofs.vertices.nearest.Tie as tie
 
 abbrev invariant-loop : tie.invariant-loop
-invariant-loop vertices n g c p a face k i j best₀ v₀ best v = (v ≤ n) × (best ≡ nearestFrom vertices p (notNearest 20) (filter (inCell vertices g c) (below v))) × (best.vertex ≤ n)
+invariant-loop vertices n g c p a face k i j best₀ v₀ best v = (v ≤ n) × (best ≡ nearest_from vertices p (not_nearest 20) (filter (in_cell vertices g c) (below v))) × (best.vertex ≤ n)
 
 abbrev decreases-loop : tie.decreases-loop
 decreases-loop vertices n g c p a face k i j best₀ v₀ best v = n - v
@@ -50,24 +50,24 @@ cast-j c =
     omega (arith, s.requires.1, mod-lt (s.args.c % (g * g)) {m = g} s.requires.0)
 
 loop-holds : tie.Need-loop-init invariant-loop decreases-loop
-unfolding nearestFrom filter below
+unfolding nearest_from filter below
 loop-holds c = rw c.not-nearest.ensures (omega arith, refl, omega arith)
 
 loop-again : tie.Need-loop-preserved invariant-loop decreases-loop
-unfolding inCell
+unfolding in_cell
 loop-again c =
     let l = c.before.before in
     let s = l.before.before.before in
     let a = s.args in
-    let t = nearCell a.g (a.c % (a.g * a.g) / a.g) (a.c % (a.g * a.g) % a.g) (cubeFaceProject (a.c / (a.g * a.g)) (vertexAt a.vertices.now l.loop.v)) in
+    let t = near_cell a.g (a.c % (a.g * a.g) / a.g) (a.c % (a.g * a.g) % a.g) (cube_face_project (a.c / (a.g * a.g)) (vertex_at a.vertices.now l.loop.v)) in
     rw c.tested.ensures (
       omega arith,
-      rw l.loop.invariant.1 (sym (nearest-turn a.vertices.now a.p (notNearest 20) (inCell a.vertices.now a.g a.c) l.loop.v)),
+      rw l.loop.invariant.1 (sym (nearest_turn a.vertices.now a.p (not_nearest 20) (in_cell a.vertices.now a.g a.c) l.loop.v)),
       turn_low a.vertices.now a.p l.loop.best t a.n l.loop.v (omega arith) l.loop.invariant.2,
     )
 
 returns : tie.Need-returns invariant-loop decreases-loop
-unfolding nearestAmong cell
+unfolding nearest_among cell
 returns c =
     let l = c.before in
     let a = l.before.before.before.args in

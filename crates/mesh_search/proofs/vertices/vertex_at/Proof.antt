@@ -1,11 +1,11 @@
 -- `vertex_at` meets its contract. Assumes nothing.
 use borrow.Author.Rules.{rules}
-use Rattle.search.specs.Geometry.{vertexAt}
+use Rattle.search.specs.Geometry.{vertex_at}
 use Rattle.mesh_search.proofs.vertices.vertex_at.Statement.{statement}
 use Rattle.mesh_search.proofs.vertices.vertex_at.Tie as tie
 
 returns : tie.Need-returns
-unfolding vertexAt
+unfolding vertex_at
 returns c = rw (c.entry3.ensures, c.before.entry2.ensures, c.before.before.entry.ensures)
 
 pub vertex-at-spec : {M : Type 1} → statement M

@@ -7,70 +7,70 @@ use native.Mathlib.Omega.{arith}
 use lib.ListN.{length}
 use lib.Ieee.{of_bits, lt}
 use Rattle.lists.proofs.Counting.{yes, no}
-use Rattle.search.specs.Search.{Locator, locatorOf}
-use Rattle.reading.specs.Resolve.{linear, wayValid, outside}
-use Rattle.reading.specs.Atom.{AtomQuery, atomQueryValid, asGrid}
+use Rattle.search.specs.Search.{Locator, locator_of}
+use Rattle.reading.specs.Resolve.{linear, way_valid, outside}
+use Rattle.reading.specs.Atom.{AtomQuery, atom_query_valid, as_grid}
 use Rattle.reading.proofs.Parts.{whole}
-use Rattle.reading.proofs.AtomStages.{refused-18, beyond-out, row-none, row-bytes, scalar-row, mesh-row}
+use Rattle.reading.proofs.AtomStages.{refused_18, beyond_out, row_none, row_bytes_lem, scalar_row, mesh_row}
 use Rattle.reading.proofs.atom.atom_lookup.Statement.{statement}
 use Rattle.reading.proofs.atom.atom_lookup.Tie as tie
 
 abbrev lists : tie.Start → Locator
-lists s = locatorOf s.args.cell-offsets.now s.args.cell-vertices.now s.args.face-offsets.now s.args.faces.now
+lists s = locator_of s.args.cell-offsets.now s.args.cell-vertices.now s.args.face-offsets.now s.args.faces.now
 
 abbrev query : tie.Start → AtomQuery
 query s = record { r = s.args.r; d = s.args.d }
 
-asked : (c : tie.Else1) → atomQueryValid (query c.before.before.before.before.before.before.before.before.before) ≡ true
+asked : (c : tie.Else1) → atom_query_valid (query c.before.before.before.before.before.before.before.before.before) ≡ true
 asked c = yes c.before.atom-query-valid.ensures c.if1.false
 
-inner : (c : tie.Else2) → (let s = c.before.before.before.before.before.before.before.before.before.before.before in outside (asGrid s.args.t.grid) s.args.r ≡ false)
+inner : (c : tie.Else2) → (let s = c.before.before.before.before.before.before.before.before.before.before.before in outside (as_grid s.args.t.grid) s.args.r ≡ false)
 inner c = sym c.before.atom-outside.ensures ∙ c.if2.false
 
 fits : (c : tie.Else3) → c.before.atom-row-place.result + 10 ≤ length c.before.before.before.before.before.before.before.before.before.before.before.before.before.args.file.now
-fits c = let s = c.before.before.before.before.before.before.before.before.before.before.before.before.before in row-bytes s.args.file.now s.args.t s.args.r c.before.atom-row-place.result c.before.atom-row-place.ensures (omega (arith, c.if3.false))
+fits c = let s = c.before.before.before.before.before.before.before.before.before.before.before.before.before in row_bytes_lem s.args.file.now s.args.t s.args.r c.before.atom-row-place.result c.before.atom-row-place.ensures (omega (arith, c.if3.false))
 
 returns : tie.Need-returns
-returns c = let s = c.before.before.before.before.before.before.before.before.before in refused-18 s.args.file.now s.args.t s.args.vertices.now (lists s) linear (query s) (no c.before.atom-query-valid.ensures c.if1.true)
+returns c = let s = c.before.before.before.before.before.before.before.before.before in refused_18 s.args.file.now s.args.t s.args.vertices.now (lists s) linear (query s) (no c.before.atom-query-valid.ensures c.if1.true)
 
 returns-2 : tie.Need-returns-2
-unfolding wayValid
+unfolding way_valid
 returns-2 c =
     let s = c.before.before.before.before.before.before.before.before.before.before.before in
-    beyond-out s.args.file.now s.args.t s.args.vertices.now (lists s) linear (query s) (asked c.before.before) refl (sym c.before.atom-outside.ensures ∙ c.if2.true)
+    beyond_out s.args.file.now s.args.t s.args.vertices.now (lists s) linear (query s) (asked c.before.before) refl (sym c.before.atom-outside.ensures ∙ c.if2.true)
 
 returns-3 : tie.Need-returns-3
-unfolding wayValid
+unfolding way_valid
 returns-3 c =
     let p = c.before in
     let e = p.before in
     let s = e.before.before.before.before.before.before.before.before.before.before.before in
-    row-none s.args.file.now s.args.t s.args.vertices.now (lists s) linear (query s) (asked e.before.before) refl (inner e) p.atom-row-place.result p.atom-row-place.ensures c.if3.true
+    row_none s.args.file.now s.args.t s.args.vertices.now (lists s) linear (query s) (asked e.before.before) refl (inner e) p.atom-row-place.result p.atom-row-place.ensures c.if3.true
 
 u32-inside-requires : tie.Need-u32-inside-requires
 u32-inside-requires c κs = omega (arith, fits c.before.before)
 
 returns-4 : tie.Need-returns-4
-unfolding wayValid
+unfolding way_valid
 returns-4 c =
     let f = c.before.before.before.before in
     let p = f.before in
     let e = p.before in
     let s = e.before.before.before.before.before.before.before.before.before.before.before in
     rw (c.widened.ensures, c.before.u32-inside.ensures)
-    (scalar-row s.args.file.now s.args.t s.args.vertices.now (lists s) linear (query s) (asked e.before.before) refl (inner e) p.atom-row-place.result p.atom-row-place.ensures (omega (arith, f.if3.false)) c.before.before.if4.true)
+    (scalar_row s.args.file.now s.args.t s.args.vertices.now (lists s) linear (query s) (asked e.before.before) refl (inner e) p.atom-row-place.result p.atom-row-place.ensures (omega (arith, f.if3.false)) c.before.before.if4.true)
 
 read-atom-row-requires : tie.Need-read-atom-row-requires
 read-atom-row-requires c κs = let f = c.before.before.before.before.before.before.before.before in rw (whole f.before.before.before.before.before.before.before.before.before.before.before.before.before.args.file.now 0) (fits f)
 
 returns-5 : tie.Need-returns-5
-unfolding wayValid of_bits lt
+unfolding way_valid of_bits lt
 returns-5 c =
     let f = c.before.before.before.before.before.before.before.before.before in
     let p = f.before in
     let e = p.before in
     let s = e.before.before.before.before.before.before.before.before.before.before.before in
-    mesh-row s.args.file.now s.args.t s.args.vertices.now (lists s) linear (query s) (asked e.before.before) refl (inner e) p.atom-row-place.result p.atom-row-place.ensures (omega (arith, f.if3.false)) _
+    mesh_row s.args.file.now s.args.t s.args.vertices.now (lists s) linear (query s) (asked e.before.before) refl (inner e) p.atom-row-place.result p.atom-row-place.ensures (omega (arith, f.if3.false)) _
     (rw (whole s.args.file.now 0, whole s.args.vertices.now 0, whole s.args.cell-offsets.now 0, whole s.args.cell-vertices.now 0, whole s.args.face-offsets.now 0, whole s.args.faces.now 0) at c.read-atom-row.ensures)
 
 pub atom-lookup-spec : {M : Type 1} → statement M

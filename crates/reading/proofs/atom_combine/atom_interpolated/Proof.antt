@@ -5,14 +5,14 @@ use native.Mathlib.Omega.{arith}
 use mathlib.Core.Path.{◌≡◌, refl}
 use mathlib.Core.Bool.{true}
 use Rattle.lists.proofs.Counting.{yes, no}
-use Rattle.reading.specs.Atom.{atomCombined}
-use Rattle.reading.specs.Internal.{way_of, placesBelow, PlaceInside}
-use Rattle.reading.proofs.AtomPicked.{corners-none, corners-out, corners-fit, corners-in, corners-weighted}
+use Rattle.reading.specs.Atom.{atom_combined}
+use Rattle.reading.specs.Internal.{way_of, places_below, PlaceInside}
+use Rattle.reading.proofs.AtomPicked.{corners_none, corners_out, corners_fit, corners_in, corners_weighted}
 use Rattle.reading.proofs.atom_combine.atom_interpolated.Statement.{statement}
 use Rattle.reading.proofs.atom_combine.atom_interpolated.Tie as tie
 
 returns : tie.Need-returns
-returns c = let a = c.before.before.before.before.args in corners-none a.file.now a.t (atomCombined (way_of a.beta) true) a.offset a.x c.if1.true
+returns c = let a = c.before.before.before.before.args in corners_none a.file.now a.t (atom_combined (way_of a.beta) true) a.offset a.x c.if1.true
 
 places-below-requires : tie.Need-places-below-requires
 places-below-requires c κs = let s = c.before.before.before.before.before in (s.requires.0, omega arith, s.requires.1 c.before.if1.false)
@@ -21,17 +21,17 @@ returns-2 : tie.Need-returns-2
 returns-2 c =
     let h = c.before.before in
     let a = h.before.before.before.before.before.args in
-    corners-out a.file.now a.t h.items-inside.result h.items-inside.ensures a.offset a.x h.before.if1.false (atomCombined (way_of a.beta) true) (no c.before.places-below.ensures c.if2.true)
+    corners_out a.file.now a.t h.items-inside.result h.items-inside.ensures a.offset a.x h.before.if1.false (atom_combined (way_of a.beta) true) (no c.before.places-below.ensures c.if2.true)
 
 -- all three energies are inside
-inside : (c : tie.Else2) → (let h = c.before.before in let a = h.before.before.before.before.before.args in placesBelow h.items-inside.result a.offset 0 a.x.face ≡ true)
+inside : (c : tie.Else2) → (let h = c.before.before in let a = h.before.before.before.before.before.args in places_below h.items-inside.result a.offset 0 a.x.face ≡ true)
 inside c = yes c.before.places-below.ensures c.if2.false
 
 fits : (c : tie.Else2) → (let a = c.before.before.before.before.before.before.before.args in let start = a.t.energies_start in PlaceInside a.file.now start (a.offset + a.x.face.a) × PlaceInside a.file.now start (a.offset + a.x.face.b) × PlaceInside a.file.now start (a.offset + a.x.face.c))
 fits c =
     let h = c.before.before in
     let a = h.before.before.before.before.before.args in
-    corners-fit a.file.now a.t h.items-inside.result h.items-inside.ensures a.offset a.x h.before.if1.false (inside c)
+    corners_fit a.file.now a.t h.items-inside.result h.items-inside.ensures a.offset a.x h.before.if1.false (inside c)
 
 add-energy : tie.Need-overflow-add-energy
 add-energy c = let s = c.before.before.before.before.before.before.before.before in omega (arith, s.requires.0, (s.requires.1 c.before.before.before.before.if1.false).0)
@@ -59,7 +59,7 @@ returns-3 c =
     let e = z.before.before in
     let h = e.before.before in
     let a = h.before.before.before.before.before.args in
-    rw (c.before.if3.true, c.three-average.ensures, x.energy3.ensures, y.energy2.ensures, z.energy.ensures) (corners-weighted a.file.now a.t h.items-inside.result h.items-inside.ensures a.offset a.x h.before.if1.false a.beta (inside e))
+    rw (c.before.if3.true, c.three-average.ensures, x.energy3.ensures, y.energy2.ensures, z.energy.ensures) (corners_weighted a.file.now a.t h.items-inside.result h.items-inside.ensures a.offset a.x h.before.if1.false a.beta (inside e))
 
 returns-4 : tie.Need-returns-4
 returns-4 c =
@@ -69,7 +69,7 @@ returns-4 c =
     let e = z.before.before in
     let h = e.before.before in
     let a = h.before.before.before.before.before.args in
-    rw (c.before.if3.false, c.three-terms.ensures, x.energy3.ensures, y.energy2.ensures, z.energy.ensures) (corners-in a.file.now a.t h.items-inside.result h.items-inside.ensures a.offset a.x h.before.if1.false (inside e))
+    rw (c.before.if3.false, c.three-terms.ensures, x.energy3.ensures, y.energy2.ensures, z.energy.ensures) (corners_in a.file.now a.t h.items-inside.result h.items-inside.ensures a.offset a.x h.before.if1.false (inside e))
 
 pub atom-interpolated-spec : {M : Type 1} → statement M
 atom-interpolated-spec =

@@ -3,30 +3,30 @@ use borrow.Author.Rules.{rules}
 use native.Mathlib.Omega.{arith}
 use mathlib.Core.Path.{◌∙◌}
 use Prim.Native.Nat.{◌*◌}
-use Rattle.mesh.specs.Levels.{vertexCount, gridSize, verticesBelow, cellOffsetsBelow}
-use Rattle.mesh.proofs.Laws.{below-few, count-le}
-use Rattle.search.specs.Search.{verticesFrom}
-use Rattle.search.proofs.Below.{nearest-below}
+use Rattle.mesh.specs.Levels.{vertex_count, grid_size, vertices_below, cell_offsets_below}
+use Rattle.mesh.proofs.Laws.{below_few, count_le}
+use Rattle.search.specs.Search.{vertices_from}
+use Rattle.search.proofs.Below.{nearest_below}
 use Rattle.reading.specs.Internal.{NearestBelow}
 use Rattle.reading.proofs.Parts.{part}
 use Rattle.reading.proofs.atom_combine.read_atom_nearest.Statement.{statement}
 use Rattle.reading.proofs.atom_combine.read_atom_nearest.Tie as tie
 
 mul-part-from : tie.Need-overflow-mul-part-from
-mul-part-from c = let b = c.before in omega (arith, b.vertices-below.ensures, below-few b.before.before.before.before.before.args.level (omega arith))
+mul-part-from c = let b = c.before in omega (arith, b.vertices-below.ensures, below_few b.before.before.before.before.before.args.level (omega arith))
 
 mul-part-from-2 : tie.Need-overflow-mul-part-from-2
-mul-part-from-2 c = let b = c.before.before in omega (arith, b.vertices-below.ensures, below-few b.before.before.before.before.before.args.level (omega arith))
+mul-part-from-2 c = let b = c.before.before in omega (arith, b.vertices-below.ensures, below_few b.before.before.before.before.before.args.level (omega arith))
 
 atom-nearest-requires : tie.Need-atom-nearest-requires
 atom-nearest-requires c κs =
     let s = c.before.before.before.before.before.before.before.before.before.before.before.before.before in
     let v = s.args.level in
-    let b : NearestBelow (vertexCount v) c.find-nearest-vertex.result = rw c.find-nearest-vertex.ensures (nearest-below _ (vertexCount v) _ _ _ (gridSize (vertexCount v))) in
-    (s.requires.0, λ e. omega (arith, count-le v 256 (omega arith), b e))
+    let b : NearestBelow (vertex_count v) c.find-nearest-vertex.result = rw c.find-nearest-vertex.ensures (nearest_below _ (vertex_count v) _ _ _ (grid_size (vertex_count v))) in
+    (s.requires.0, λ e. omega (arith, count_le v 256 (omega arith), b e))
 
 returns : tie.Need-returns
-unfolding verticesFrom
+unfolding vertices_from
 returns c =
     let x = c.before in
     let u = x.before.before.before.before in
@@ -40,9 +40,9 @@ returns c =
       c.atom-nearest.ensures,
       x.find-nearest-vertex.ensures,
       u.unit.ensures,
-      part a.cell-offsets.now (cellOffsetsBelow a.level) i.part-from.result (i.part-from.ensures.0 ∙ rw s.requires.1),
-      part a.cell-vertices.now (27 * verticesBelow a.level) j.part-from2.result (j.part-from2.ensures.0 ∙ rw b.vertices-below.ensures),
-      part a.vertices.now (3 * verticesBelow a.level) k.part-from3.result (k.part-from3.ensures.0 ∙ rw b.vertices-below.ensures),
+      part a.cell-offsets.now (cell_offsets_below a.level) i.part-from.result (i.part-from.ensures.0 ∙ rw s.requires.1),
+      part a.cell-vertices.now (27 * vertices_below a.level) j.part-from2.result (j.part-from2.ensures.0 ∙ rw b.vertices-below.ensures),
+      part a.vertices.now (3 * vertices_below a.level) k.part-from3.result (k.part-from3.ensures.0 ∙ rw b.vertices-below.ensures),
     )
 
 pub read-atom-nearest-spec : {M : Type 1} → statement M

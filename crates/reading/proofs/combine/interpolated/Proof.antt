@@ -4,8 +4,8 @@ use mathlib.Core.Path.{◌≡◌, sym, ◌∙◌}
 use mathlib.Core.Bool.{true}
 use Rattle.lists.proofs.Counting.{yes, no}
 use Rattle.reading.specs.Resolve.{joint}
-use Rattle.reading.specs.Internal.{way_of, Small, facePlacesBelow}
-use Rattle.reading.proofs.Picked.{both_found, small, face-none, face-out, face-in, face-weighted, face-fits}
+use Rattle.reading.specs.Internal.{way_of, Small, face_places_below}
+use Rattle.reading.proofs.Picked.{both_found, small, face-none, face_out, face_in, face-weighted, face_fits}
 use Rattle.reading.proofs.combine.interpolated.Statement.{statement}
 use Rattle.reading.proofs.combine.interpolated.Tie as tie
 
@@ -30,17 +30,17 @@ returns-2 : tie.Need-returns-2
 returns-2 c =
     let h = c.before.before in
     let a = h.before.before.before.before.before.before.before.before.args in
-    face-out a.file.now a.t h.items-inside.result h.items-inside.ensures a.offset a.n a.x a.y (found h.before) (way_of a.beta) (no c.before.face-places-below.ensures c.if2.true)
+    face_out a.file.now a.t h.items-inside.result h.items-inside.ensures a.offset a.n a.x a.y (found h.before) (way_of a.beta) (no c.before.face-places-below.ensures c.if2.true)
 
 -- all nine energies are inside
-inside : (c : tie.Else2) → (let h = c.before.before in let a = h.before.before.before.before.before.before.before.before.args in facePlacesBelow h.items-inside.result a.offset a.n a.x.face a.y.face ≡ true)
+inside : (c : tie.Else2) → (let h = c.before.before in let a = h.before.before.before.before.before.before.before.before.args in face_places_below h.items-inside.result a.offset a.n a.x.face a.y.face ≡ true)
 inside c = yes c.before.face-places-below.ensures c.if2.false
 
 face-average-requires : tie.Need-face-average-requires
 face-average-requires c κs =
     let h = c.before.before.before in
     let a = h.before.before.before.before.before.before.before.before.args in
-    face-fits a.file.now a.t h.items-inside.result h.items-inside.ensures a.offset a.n a.x.face a.y.face (inside c.before)
+    face_fits a.file.now a.t h.items-inside.result h.items-inside.ensures a.offset a.n a.x.face a.y.face (inside c.before)
 
 returns-3 : tie.Need-returns-3
 returns-3 c =
@@ -53,14 +53,14 @@ face-terms-requires : tie.Need-face-terms-requires
 face-terms-requires c κs =
     let h = c.before.before.before in
     let a = h.before.before.before.before.before.before.before.before.args in
-    face-fits a.file.now a.t h.items-inside.result h.items-inside.ensures a.offset a.n a.x.face a.y.face (inside c.before)
+    face_fits a.file.now a.t h.items-inside.result h.items-inside.ensures a.offset a.n a.x.face a.y.face (inside c.before)
 
 returns-4 : tie.Need-returns-4
 returns-4 c =
     let e = c.before.before in
     let h = e.before.before in
     let a = h.before.before.before.before.before.before.before.before.args in
-    rw (c.before.if3.false, c.face-terms.ensures) (face-in a.file.now a.t h.items-inside.result h.items-inside.ensures a.offset a.n a.x a.y (found h.before) (inside e))
+    rw (c.before.if3.false, c.face-terms.ensures) (face_in a.file.now a.t h.items-inside.result h.items-inside.ensures a.offset a.n a.x a.y (found h.before) (inside e))
 
 pub interpolated-spec : {M : Type 1} → statement M
 interpolated-spec =

@@ -4,7 +4,7 @@ use Prim.Native.Nat.{◌+◌, ◌*◌, ◌≤◌}
 use native.Mathlib.Omega.{arith}
 use mathlib.Core.Path.{◌≡◌, sym, ◌∙◌}
 use Rattle.reading.specs.Resolve.{joint}
-use Rattle.reading.proofs.Picked.{both_found, nearest-none, nearest-out, nearest_in, energy-fits, pair-le}
+use Rattle.reading.proofs.Picked.{both_found, nearest_none, nearest_out, nearest_in_lem, energy_fits, pair_le}
 use Rattle.reading.proofs.combine.nearest.Statement.{statement}
 use Rattle.reading.proofs.combine.nearest.Tie as tie
 
@@ -16,12 +16,12 @@ pair : (c : tie.Else1) → (let a = c.before.before.before.args in a.x.vertex * 
 pair c =
     let s = c.before.before.before in
     let b = both_found s.args.x.number s.args.y.number (found c) in
-    pair-le s.args.x.vertex s.args.y.vertex s.args.n (s.requires.2 b.0) (s.requires.3 b.1) s.requires.1
+    pair_le s.args.x.vertex s.args.y.vertex s.args.n (s.requires.2 b.0) (s.requires.3 b.1) s.requires.1
 
 returns : tie.Need-returns
 returns c =
     let a = c.before.before.before.args in
-    nearest-none a.file.now a.t a.offset a.n a.x a.y c.before.joint.result c.before.joint.ensures c.if1.true
+    nearest_none a.file.now a.t a.offset a.n a.x a.y c.before.joint.result c.before.joint.ensures c.if1.true
 
 mul-k : tie.Need-overflow-mul-k
 mul-k c = omega (arith, pair c)
@@ -36,19 +36,19 @@ returns-2 : tie.Need-returns-2
 returns-2 c =
     let h = c.before in
     let a = h.before.before.before.before.args in
-    nearest-out a.file.now a.t h.items-inside.result h.items-inside.ensures a.offset a.n a.x a.y (found h.before) c.if2.true
+    nearest_out a.file.now a.t h.items-inside.result h.items-inside.ensures a.offset a.n a.x a.y (found h.before) c.if2.true
 
 energy-requires : tie.Need-energy-requires
 energy-requires c κs =
     let h = c.before in
     let a = h.before.before.before.before.args in
-    energy-fits a.file.now a.t h.items-inside.result h.items-inside.ensures _ (omega (arith, c.if2.false))
+    energy_fits a.file.now a.t h.items-inside.result h.items-inside.ensures _ (omega (arith, c.if2.false))
 
 returns-3 : tie.Need-returns-3
 returns-3 c =
     let h = c.before.before in
     let a = h.before.before.before.before.args in
-    rw c.energy.ensures (nearest_in a.file.now a.t h.items-inside.result h.items-inside.ensures a.offset a.n a.x a.y (found h.before) (omega (arith, c.before.if2.false)))
+    rw c.energy.ensures (nearest_in_lem a.file.now a.t h.items-inside.result h.items-inside.ensures a.offset a.n a.x a.y (found h.before) (omega (arith, c.before.if2.false)))
 
 pub nearest-spec : {M : Type 1} → statement M
 nearest-spec =

@@ -1,11 +1,11 @@
 -- `row_weighed` meets its contract. Assumes nothing.
 use borrow.Author.Rules.{rules}
-use Rattle.reading.specs.Internal.{rowCorners}
+use Rattle.reading.specs.Internal.{row_corners}
 use Rattle.reading.proofs.combine.row_weighed.Statement.{statement}
 use Rattle.reading.proofs.combine.row_weighed.Tie as tie
 
 returns : tie.Need-returns
-unfolding rowCorners
+unfolding row_corners
 returns c =
     let e = c.before in
     let d = e.before.before in

@@ -1,11 +1,11 @@
 -- `nine_terms` meets its contract. Assumes nothing.
 use borrow.Author.Rules.{rules}
-use Rattle.reading.specs.Internal.{faceTerms}
+use Rattle.reading.specs.Internal.{face_terms}
 use Rattle.reading.proofs.energies.nine_terms.Statement.{statement}
 use Rattle.reading.proofs.energies.nine_terms.Tie as tie
 
 returns : tie.Need-returns
-unfolding faceTerms
+unfolding face_terms
 returns c = rw (c.row-terms3.ensures, c.before.row-terms2.ensures, c.before.before.row-terms.ensures)
 
 pub nine-terms-spec : {M : Type 1} → statement M

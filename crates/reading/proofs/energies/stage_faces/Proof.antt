@@ -3,10 +3,10 @@ use borrow.Author.Rules.{rules}
 use mathlib.Core.Path.{◌≡◌, sym, ap, ◌∙◌}
 use mathlib.Core.Bool.{true}
 use Rattle.lists.proofs.Counting.{yes, no}
-use Rattle.reading.specs.Resolve.{readingValues, linear, joint}
-use Rattle.reading.specs.Internal.{Small, facePlacesBelow}
-use Rattle.reading.proofs.Picked.{both_found, small, face-none, face-out, face-in, face-fits}
-use Rattle.reading.proofs.Ready.{ready-answer, ready-nine}
+use Rattle.reading.specs.Resolve.{reading_values, linear, joint}
+use Rattle.reading.specs.Internal.{Small, face_places_below}
+use Rattle.reading.proofs.Picked.{both_found, small, face-none, face_out, face_in, face_fits}
+use Rattle.reading.proofs.Ready.{ready_answer, ready_nine}
 use Rattle.reading.proofs.energies.stage_faces.Statement.{statement}
 use Rattle.reading.proofs.energies.stage_faces.Tie as tie
 
@@ -23,8 +23,8 @@ returns : tie.Need-returns
 returns c =
     let a = c.before.before.before.before.before.before.before.before.args in
     let j = c.before.before in
-    ready-answer a.file.now a.t.energies_start _ c.staged.result _ _ _ _ c.staged.ensures
-    (ap readingValues (face-none a.file.now a.t linear a.offset a.n a.x a.y j.joint.result j.joint.ensures c.before.if1.true))
+    ready_answer a.file.now a.t.energies_start _ c.staged.result _ _ _ _ c.staged.ensures
+    (ap reading_values (face-none a.file.now a.t linear a.offset a.n a.x a.y j.joint.result j.joint.ensures c.before.if1.true))
 
 face-places-below-requires : tie.Need-face-places-below-requires
 face-places-below-requires c κs = let s = c.before.before.before.before.before.before.before.before in (s.requires.0, s.requires.1, (smalls c.before).0, (smalls c.before).1)
@@ -33,17 +33,17 @@ returns-2 : tie.Need-returns-2
 returns-2 c =
     let h = c.before.before.before in
     let a = h.before.before.before.before.before.before.before.before.args in
-    ready-answer a.file.now a.t.energies_start _ c.staged2.result _ _ _ _ c.staged2.ensures
-    (ap readingValues (face-out a.file.now a.t h.items-inside.result h.items-inside.ensures a.offset a.n a.x a.y (found h.before) linear (no c.before.before.face-places-below.ensures c.before.if2.true)))
+    ready_answer a.file.now a.t.energies_start _ c.staged2.result _ _ _ _ c.staged2.ensures
+    (ap reading_values (face_out a.file.now a.t h.items-inside.result h.items-inside.ensures a.offset a.n a.x a.y (found h.before) linear (no c.before.before.face-places-below.ensures c.before.if2.true)))
 
 returns-3 : tie.Need-returns-3
 returns-3 c =
     let h = c.before.before in
     let a = h.before.before.before.before.before.before.before.before.args in
-    let i : facePlacesBelow h.items-inside.result a.offset a.n a.x.face a.y.face ≡ true = yes c.before.face-places-below.ensures c.if2.false in
-    ready-nine a.file.now a.t.energies_start _ a.offset a.n a.x.face a.y.face a.x.weights a.y.weights
-    (face-fits a.file.now a.t h.items-inside.result h.items-inside.ensures a.offset a.n a.x.face a.y.face i)
-    (face-in a.file.now a.t h.items-inside.result h.items-inside.ensures a.offset a.n a.x a.y (found h.before) i)
+    let i : face_places_below h.items-inside.result a.offset a.n a.x.face a.y.face ≡ true = yes c.before.face-places-below.ensures c.if2.false in
+    ready_nine a.file.now a.t.energies_start _ a.offset a.n a.x.face a.y.face a.x.weights a.y.weights
+    (face_fits a.file.now a.t h.items-inside.result h.items-inside.ensures a.offset a.n a.x.face a.y.face i)
+    (face_in a.file.now a.t h.items-inside.result h.items-inside.ensures a.offset a.n a.x a.y (found h.before) i)
 
 pub stage-faces-spec : {M : Type 1} → statement M
 stage-faces-spec =

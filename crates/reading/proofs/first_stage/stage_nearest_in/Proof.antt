@@ -1,9 +1,9 @@
 -- `stage_nearest_in` meets its contract. Assumes nothing.
 use borrow.Author.Rules.{rules}
 use native.Mathlib.Omega.{arith}
-use Rattle.mesh.specs.Levels.{vertexCount, gridSize}
-use Rattle.mesh.proofs.Laws.{count-le}
-use Rattle.search.proofs.Below.{nearest-below}
+use Rattle.mesh.specs.Levels.{vertex_count, grid_size}
+use Rattle.mesh.proofs.Laws.{count_le}
+use Rattle.search.proofs.Below.{nearest_below}
 use Rattle.reading.proofs.first_stage.stage_nearest_in.Statement.{statement}
 use Rattle.reading.proofs.first_stage.stage_nearest_in.Tie as tie
 
@@ -14,9 +14,9 @@ stage-pair-requires c κs =
     let s = n.before.before.before.before.before in
     let a = s.args in (
       s.requires,
-      rw n.vertex-count.ensures (count-le a.level 256 (omega arith)),
-      rw (n.vertex-count.ensures, x.find-nearest-vertex.ensures) (nearest-below a.vertices.now (vertexCount a.level) x.before.before.unit.result a.cell-offsets.now a.cell-vertices.now (gridSize (vertexCount a.level))),
-      rw (n.vertex-count.ensures, c.find-nearest-vertex2.ensures) (nearest-below a.vertices.now (vertexCount a.level) x.before.unit2.result a.cell-offsets.now a.cell-vertices.now (gridSize (vertexCount a.level))),
+      rw n.vertex-count.ensures (count_le a.level 256 (omega arith)),
+      rw (n.vertex-count.ensures, x.find-nearest-vertex.ensures) (nearest_below a.vertices.now (vertex_count a.level) x.before.before.unit.result a.cell-offsets.now a.cell-vertices.now (grid_size (vertex_count a.level))),
+      rw (n.vertex-count.ensures, c.find-nearest-vertex2.ensures) (nearest_below a.vertices.now (vertex_count a.level) x.before.unit2.result a.cell-offsets.now a.cell-vertices.now (grid_size (vertex_count a.level))),
     )
 
 returns : tie.Need-returns

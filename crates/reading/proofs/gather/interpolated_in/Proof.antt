@@ -2,18 +2,18 @@
 use borrow.Author.Rules.{rules}
 use Prim.Native.Nat.{ℕ, ◌<◌}
 use native.Mathlib.Omega.{arith}
-use Rattle.mesh.specs.Levels.{vertexCount, gridSize}
-use Rattle.mesh.proofs.Laws.{count-le}
-use Rattle.search.specs.Search.{Locator, locatorOf}
-use Rattle.search.proofs.Below.{located-below}
+use Rattle.mesh.specs.Levels.{vertex_count, grid_size}
+use Rattle.mesh.proofs.Laws.{count_le}
+use Rattle.search.specs.Search.{Locator, locator_of}
+use Rattle.search.proofs.Below.{located_below}
 use Rattle.reading.proofs.gather.interpolated_in.Statement.{statement}
 use Rattle.reading.proofs.gather.interpolated_in.Tie as tie
 
 abbrev lists : tie.Start → Locator
-lists s = locatorOf s.args.cell-offsets.now s.args.cell-vertices.now s.args.face-offsets.now s.args.faces.now
+lists s = locator_of s.args.cell-offsets.now s.args.cell-vertices.now s.args.face-offsets.now s.args.faces.now
 
-some : (m : ℕ) → 0 < vertexCount m
-unfolding vertexCount
+some : (m : ℕ) → 0 < vertex_count m
+unfolding vertex_count
 some m = omega arith
 
 interpolated-requires : tie.Need-interpolated-requires
@@ -23,9 +23,9 @@ interpolated-requires c κs =
     let s = n.before.before.before.before.before.before.before in
     let a = s.args in (
       s.requires,
-      rw n.vertex-count.ensures (count-le a.level 256 (omega arith)),
-      rw (n.vertex-count.ensures, x.locate.ensures) (located-below a.vertices.now (vertexCount a.level) x.before.before.unit.result (some a.level) (lists s) (gridSize (vertexCount a.level))),
-      rw (n.vertex-count.ensures, c.locate2.ensures) (located-below a.vertices.now (vertexCount a.level) x.before.unit2.result (some a.level) (lists s) (gridSize (vertexCount a.level))),
+      rw n.vertex-count.ensures (count_le a.level 256 (omega arith)),
+      rw (n.vertex-count.ensures, x.locate.ensures) (located_below a.vertices.now (vertex_count a.level) x.before.before.unit.result (some a.level) (lists s) (grid_size (vertex_count a.level))),
+      rw (n.vertex-count.ensures, c.locate2.ensures) (located_below a.vertices.now (vertex_count a.level) x.before.unit2.result (some a.level) (lists s) (grid_size (vertex_count a.level))),
     )
 
 returns : tie.Need-returns

@@ -4,19 +4,19 @@ use Prim.Native.Nat.{◌+◌, ◌-◌, ◌*◌, ◌≤◌}
 use native.Mathlib.Omega.{arith}
 use lib.ListN.{length}
 use borrow.Author.Rules.{rules}
-use Rattle.search.specs.Search.{locatorOf}
-use Rattle.reading.specs.Resolve.{readingValues}
-use Rattle.reading.specs.Reading.{readingBy}
-use Rattle.reading.specs.Internal.{poseReading}
-use Rattle.reading.specs.Poses.{poseAt, wayBy, readingsOut}
+use Rattle.search.specs.Search.{locator_of}
+use Rattle.reading.specs.Resolve.{reading_values}
+use Rattle.reading.specs.Reading.{reading_by}
+use Rattle.reading.specs.Internal.{pose_reading}
+use Rattle.reading.specs.Poses.{pose_at, way_by, readings_out}
 use Rattle.reading.proofs.Stored.{held, Answered, answered-none, answered-block, answered-all}
-use Rattle.reading.proofs.Ways.{pose-values}
+use Rattle.reading.proofs.Ways.{pose_values}
 use Rattle.reading.proofs.many.lookup_all.Statement.{statement}
 use Rattle.reading.proofs.many.lookup_all.Tie as tie
 
 abbrev invariant-loop : tie.invariant-loop
 invariant-loop t file vertices cell-offsets cell-vertices face-offsets faces poses betas numbers₀ answers₀ n beta valid i₀ numbers answers i =
-    (i ≤ n) × Answered (λ k. readingValues (poseReading file t vertices (locatorOf cell-offsets cell-vertices face-offsets faces) beta valid poses k)) numbers₀ answers₀ i numbers answers
+    (i ≤ n) × Answered (λ k. reading_values (pose_reading file t vertices (locator_of cell-offsets cell-vertices face-offsets faces) beta valid poses k)) numbers₀ answers₀ i numbers answers
 
 abbrev decreases-loop : tie.decreases-loop
 decreases-loop t file vertices cell-offsets cell-vertices face-offsets faces poses betas numbers₀ answers₀ n beta valid i₀ numbers answers i = n - i
@@ -59,16 +59,16 @@ same-length-2 : tie.Need-same-length-2 invariant-loop decreases-loop
 same-length-2 c = c.before.loop.invariant.1.showing.size
 
 returns : tie.Need-returns invariant-loop decreases-loop
-unfolding readingsOut
+unfolding readings_out
 returns c =
     let l = c.before in
     let w = l.before in
     let n = w.before in
     let a = n.before.before.before.before.before.before.before.before.before.before.before.args in
-    let lists = locatorOf a.cell-offsets.now a.cell-vertices.now a.face-offsets.now a.faces.now in
+    let lists = locator_of a.cell-offsets.now a.cell-vertices.now a.face-offsets.now a.faces.now in
     rw (← n.poses-held.ensures)
-    (answered-all _ _ _ n.poses-held.result l.loop.i (λ k. readingBy a.file.now a.t a.vertices.now lists (wayBy a.beta.now) (poseAt a.poses.now k)) l.loop.invariant.1 (omega (arith, c.loop-test.false, l.loop.invariant.0))
-    (pose-values a.file.now a.t a.vertices.now lists w.weighting.result.beta w.weighting.result.valid a.beta.now a.poses.now w.weighting.ensures.0 w.weighting.ensures.1))
+    (answered-all _ _ _ n.poses-held.result l.loop.i (λ k. reading_by a.file.now a.t a.vertices.now lists (way_by a.beta.now) (pose_at a.poses.now k)) l.loop.invariant.1 (omega (arith, c.loop-test.false, l.loop.invariant.0))
+    (pose_values a.file.now a.t a.vertices.now lists w.weighting.result.beta w.weighting.result.valid a.beta.now a.poses.now w.weighting.ensures.0 w.weighting.ensures.1))
 
 pub lookup-all-spec : {M : Type 1} → statement M
 lookup-all-spec =

@@ -1,12 +1,12 @@
 -- `stage_pose` meets its contract. Assumes nothing.
 use borrow.Author.Rules.{rules}
-use Rattle.reading.specs.Internal.{poseReading}
-use Rattle.reading.specs.Poses.{poseAt}
+use Rattle.reading.specs.Internal.{pose_reading}
+use Rattle.reading.specs.Poses.{pose_at}
 use Rattle.reading.proofs.many.stage_pose.Statement.{statement}
 use Rattle.reading.proofs.many.stage_pose.Tie as tie
 
 returns : tie.Need-returns
-unfolding poseReading poseAt
+unfolding pose_reading pose_at
 returns c = c.stage.ensures
 
 pub stage-pose-spec : {M : Type 1} → statement M

@@ -4,12 +4,12 @@ use native.Mathlib.Omega.{arith}
 use mathlib.Core.Path.{◌≡◌}
 use Prim.Native.Nat.{◌-◌, ◌/◌}
 use native.Mathlib.Nat.{zero-div}
-use Rattle.reading.specs.Internal.{itemsInside}
+use Rattle.reading.specs.Internal.{items_inside}
 use Rattle.reading.proofs.places.items_inside.Statement.{statement}
 use Rattle.reading.proofs.places.items_inside.Tie as tie
 
 returns : tie.Need-returns
-unfolding itemsInside
+unfolding items_inside
 returns c =
     let a = c.before.args in
     let e : a.length - a.start ≡ 0 = omega arith in
@@ -17,11 +17,11 @@ returns c =
     omega (arith, z)
 
 returns-2 : tie.Need-returns-2
-unfolding itemsInside
+unfolding items_inside
 returns-2 c = omega arith
 
 returns-3 : tie.Need-returns-3
-unfolding itemsInside
+unfolding items_inside
 returns-3 c = omega arith
 
 pub items-inside-spec : {M : Type 1} → statement M

@@ -6,7 +6,7 @@ use Prim.Native.Nat.{◌*◌, ◌≤◌}
 use native.Mathlib.Nat.{mul-le-mul}
 use borrow.Author.Tests.{ltb-true}
 use lib.Dec.{ltb}
-use Rattle.reading.proofs.Inside.{not-past, quite-past}
+use Rattle.reading.proofs.Inside.{not_past, quite_past}
 use Rattle.reading.proofs.places.slab_below.Statement.{statement}
 use Rattle.reading.proofs.places.slab_below.Tie as tie
 
@@ -20,16 +20,16 @@ mul-p c =
     omega (arith, z)
 
 returns-4 : tie.Need-returns-4
-returns-4 c = let a = c.before.before.before.args in omega (arith, quite-past a.ri a.n a.oi a.limit c.before.before.before.requires (omega arith) c.if4.true)
+returns-4 c = let a = c.before.before.before.args in omega (arith, quite_past a.ri a.n a.oi a.limit c.before.before.before.requires (omega arith) c.if4.true)
 
 mul-result : tie.Need-overflow-mul-result
-mul-result c = let a = c.before.before.before.args in omega (arith, not-past a.ri a.n a.oi a.limit c.before.before.before.requires (omega arith) (omega arith))
+mul-result c = let a = c.before.before.before.args in omega (arith, not_past a.ri a.n a.oi a.limit c.before.before.before.requires (omega arith) (omega arith))
 
 add-result-2 : tie.Need-overflow-add-result-2
-add-result-2 c = let a = c.before.before.before.args in omega (arith, not-past a.ri a.n a.oi a.limit c.before.before.before.requires (omega arith) (omega arith))
+add-result-2 c = let a = c.before.before.before.args in omega (arith, not_past a.ri a.n a.oi a.limit c.before.before.before.requires (omega arith) (omega arith))
 
 returns-5 : tie.Need-returns-5
-returns-5 c = let a = c.before.before.before.args in omega (arith, not-past a.ri a.n a.oi a.limit c.before.before.before.requires (omega arith) (omega arith))
+returns-5 c = let a = c.before.before.before.args in omega (arith, not_past a.ri a.n a.oi a.limit c.before.before.before.requires (omega arith) (omega arith))
 
 pub slab-below-spec : {M : Type 1} → statement M
 slab-below-spec =

@@ -9,39 +9,39 @@ use lib.Ieee.{binary64, of_bits, lt}
 use borrow.Author.Tests.{not-true, not-false}
 use Rattle.lists.proofs.Counting.{yes, no}
 use Rattle.grid.specs.Settings.{above}
-use Rattle.search.specs.Search.{Locator, locatorOf}
-use Rattle.reading.specs.Resolve.{plain, Query, boltzmann, wayValid, Resolved, unresolved, beyond, slabAt, queryValid, outside, resolve}
-use Rattle.reading.specs.Internal.{slabOf}
-use Rattle.reading.proofs.Inside.{refused-18, refused-21, beyond-out, no-bins, some-bins, bins-some, row-none, row_fits, scalar-row, entry_row, answered, own-way}
+use Rattle.search.specs.Search.{Locator, locator_of}
+use Rattle.reading.specs.Resolve.{plain, Query, boltzmann, way_valid, Resolved, unresolved, beyond, slab_at, query_valid, outside, resolve}
+use Rattle.reading.specs.Internal.{slab_of}
+use Rattle.reading.proofs.Inside.{refused_18, refused_21, beyond_out, no_bins, some_bins, bins_some, row_none, row_fits, scalar_row, entry_row, answered, own_way}
 use Rattle.reading.proofs.Parts.{whole}
 use Rattle.reading.proofs.stages.lookup_boltzmann.Statement.{statement}
 use Rattle.reading.proofs.stages.lookup_boltzmann.Tie as tie
 
 abbrev lists : tie.Start → Locator
-lists s = locatorOf s.args.cell-offsets.now s.args.cell-vertices.now s.args.face-offsets.now s.args.faces.now
+lists s = locator_of s.args.cell-offsets.now s.args.cell-vertices.now s.args.face-offsets.now s.args.faces.now
 
 abbrev query : tie.Start → Query
 query s = record { r = s.args.r; omega = s.args.omega; a = s.args.a; b = s.args.b }
 
-asked : (c : tie.Else1) → queryValid (query c.before.before.before.before.before.before.before.before.before) ≡ true
+asked : (c : tie.Else1) → query_valid (query c.before.before.before.before.before.before.before.before.before) ≡ true
 asked c = yes c.before.query-valid.ensures c.if1.false
 
-weighted : (c : tie.Else2) → wayValid (boltzmann c.before.before.before.before.before.before.before.before.before.before.before.args.beta) ≡ true
-unfolding wayValid above
+weighted : (c : tie.Else2) → way_valid (boltzmann c.before.before.before.before.before.before.before.before.before.before.before.args.beta) ≡ true
+unfolding way_valid above
 weighted c = rw c.before.is_finite.ensures at (not-false (c.before.is_finite.result && lt (of_bits binary64 0) c.before.before.before.before.before.before.before.before.before.before.before.args.beta) c.if2.false)
 
 inner : (c : tie.Else3) → (let s = c.before.before.before.before.before.before.before.before.before.before.before.before.before in outside s.args.t.grid s.args.r ≡ false)
 inner c = sym c.before.outside.ensures ∙ c.if3.false
 
 -- the slab that is resolved
-resolved : (c : tie.Else4) → (let s = c.before.before.before.before.before.before.before.before.before.before.before.before.before.before.before.before in slabAt (slabOf s.args.t.grid s.args.r s.args.omega) ≡ resolve (wayValid (boltzmann s.args.beta)) s.args.t.grid (query s))
+resolved : (c : tie.Else4) → (let s = c.before.before.before.before.before.before.before.before.before.before.before.before.before.before.before.before in slab_at (slab_of s.args.t.grid s.args.r s.args.omega) ≡ resolve (way_valid (boltzmann s.args.beta)) s.args.t.grid (query s))
 resolved c =
     let i = c.before.before.before in
     let s = i.before.before.before.before.before.before.before.before.before.before.before.before.before in
-    some-bins (wayValid (boltzmann s.args.beta)) s.args.t.grid (query s) (asked i.before.before.before.before) (weighted i.before.before) (inner i) c.if4.false
+    some_bins (way_valid (boltzmann s.args.beta)) s.args.t.grid (query s) (asked i.before.before.before.before) (weighted i.before.before) (inner i) c.if4.false
 
 -- its number, or the number of rows held
-slab : (c : tie.After-slab-below) → (let h = c.before in let s = h.before.before.before.before.before.before.before.before.before.before.before.before.before.before.before.before.before.before.before in c.slab-below.result ≡ min (slabOf s.args.t.grid s.args.r s.args.omega) h.items-inside.result)
+slab : (c : tie.After-slab-below) → (let h = c.before in let s = h.before.before.before.before.before.before.before.before.before.before.before.before.before.before.before.before.before.before.before in c.slab-below.result ≡ min (slab_of s.args.t.grid s.args.r s.args.omega) h.items-inside.result)
 slab c = c.slab-below.ensures ∙ rw (c.before.before.dihedral-bin.ensures, c.before.before.before.distance-bin.ensures)
 
 fits : (c : tie.Else5) → (let s = c.before.before.before.before.before.before.before.before.before.before.before.before.before.before.before.before.before.before.before.before.before in s.args.t.rows_start + c.before.slab-below.result * 10 + 10 ≤ length s.args.file.now)
@@ -53,37 +53,37 @@ fits c =
 returns : tie.Need-returns
 returns c =
     let s = c.before.before.before.before.before.before.before.before.before in
-    answered s.args.file.now s.args.t s.args.vertices.now (lists s) (boltzmann s.args.beta) (query s) (unresolved 18) _ (refused-18 (wayValid (boltzmann s.args.beta)) s.args.t.grid (query s) (no c.before.query-valid.ensures c.if1.true)) refl
+    answered s.args.file.now s.args.t s.args.vertices.now (lists s) (boltzmann s.args.beta) (query s) (unresolved 18) _ (refused_18 (way_valid (boltzmann s.args.beta)) s.args.t.grid (query s) (no c.before.query-valid.ensures c.if1.true)) refl
 
 returns-2 : tie.Need-returns-2
-unfolding wayValid above
+unfolding way_valid above
 returns-2 c =
     let s = c.before.before.before.before.before.before.before.before.before.before.before in
-    answered s.args.file.now s.args.t s.args.vertices.now (lists s) (boltzmann s.args.beta) (query s) (unresolved 21) _ (refused-21 (wayValid (boltzmann s.args.beta)) s.args.t.grid (query s) (asked c.before.before) (rw c.before.is_finite.ensures at (not-true (c.before.is_finite.result && lt (of_bits binary64 0) s.args.beta) c.if2.true))) refl
+    answered s.args.file.now s.args.t s.args.vertices.now (lists s) (boltzmann s.args.beta) (query s) (unresolved 21) _ (refused_21 (way_valid (boltzmann s.args.beta)) s.args.t.grid (query s) (asked c.before.before) (rw c.before.is_finite.ensures at (not-true (c.before.is_finite.result && lt (of_bits binary64 0) s.args.beta) c.if2.true))) refl
 
 returns-3 : tie.Need-returns-3
 returns-3 c =
     let s = c.before.before.before.before.before.before.before.before.before.before.before.before.before in
-    answered s.args.file.now s.args.t s.args.vertices.now (lists s) (boltzmann s.args.beta) (query s) beyond _ (beyond-out (wayValid (boltzmann s.args.beta)) s.args.t.grid (query s) (asked c.before.before.before.before) (weighted c.before.before) (sym c.before.outside.ensures ∙ c.if3.true)) refl
+    answered s.args.file.now s.args.t s.args.vertices.now (lists s) (boltzmann s.args.beta) (query s) beyond _ (beyond_out (way_valid (boltzmann s.args.beta)) s.args.t.grid (query s) (asked c.before.before.before.before) (weighted c.before.before) (sym c.before.outside.ensures ∙ c.if3.true)) refl
 
 returns-4 : tie.Need-returns-4
 returns-4 c =
     let i = c.before.before.before in
     let s = i.before.before.before.before.before.before.before.before.before.before.before.before.before in
-    answered s.args.file.now s.args.t s.args.vertices.now (lists s) (boltzmann s.args.beta) (query s) (unresolved 19) _ (no-bins (wayValid (boltzmann s.args.beta)) s.args.t.grid (query s) (asked i.before.before.before.before) (weighted i.before.before) (inner i) c.if4.true) refl
+    answered s.args.file.now s.args.t s.args.vertices.now (lists s) (boltzmann s.args.beta) (query s) (unresolved 19) _ (no_bins (way_valid (boltzmann s.args.beta)) s.args.t.grid (query s) (asked i.before.before.before.before) (weighted i.before.before) (inner i) c.if4.true) refl
 
 slab-below-requires : tie.Need-slab-below-requires
 slab-below-requires c κs =
     let e = c.before.before.before in
     let g = e.before.before.before.before.before.before.before.before.before.before.before.before.before.before.before.before.args.t.grid in
-    (bins-some g.n_r g.n_omega e.if4.false).1
+    (bins_some g.n_r g.n_omega e.if4.false).1
 
 returns-5 : tie.Need-returns-5
 returns-5 c =
     let h = c.before.before in
     let s = h.before.before.before.before.before.before.before.before.before.before.before.before.before.before.before.before.before.before.before in
     answered s.args.file.now s.args.t s.args.vertices.now (lists s) (boltzmann s.args.beta) (query s) _ _ (resolved h.before.before.before)
-    (row-none s.args.file.now s.args.t s.args.vertices.now (lists s) (boltzmann s.args.beta) (query s) (slabOf s.args.t.grid s.args.r s.args.omega) c.before.slab-below.result h.items-inside.result h.items-inside.ensures (slab c.before) c.if5.true)
+    (row_none s.args.file.now s.args.t s.args.vertices.now (lists s) (boltzmann s.args.beta) (query s) (slab_of s.args.t.grid s.args.r s.args.omega) c.before.slab-below.result h.items-inside.result h.items-inside.ensures (slab c.before) c.if5.true)
 
 mul_at : tie.Need-overflow-mul-at
 mul_at c = omega (arith, fits c, c.before.before.before.before.before.before.before.before.before.before.before.before.before.before.before.before.before.before.before.before.before.well-formed.1.0)
@@ -105,9 +105,9 @@ returns-6 c =
     let e = c.before.before.before.before in
     let h = e.before.before in
     let s = h.before.before.before.before.before.before.before.before.before.before.before.before.before.before.before.before.before.before.before in
-    answered s.args.file.now s.args.t s.args.vertices.now (lists s) (boltzmann s.args.beta) (query s) (slabAt (slabOf s.args.t.grid s.args.r s.args.omega)) (plain c.widened.result) (resolved h.before.before.before)
+    answered s.args.file.now s.args.t s.args.vertices.now (lists s) (boltzmann s.args.beta) (query s) (slab_at (slab_of s.args.t.grid s.args.r s.args.omega)) (plain c.widened.result) (resolved h.before.before.before)
     (rw (c.widened.ensures, c.before.u32-inside.ensures)
-    (scalar-row s.args.file.now s.args.t s.args.vertices.now (lists s) (boltzmann s.args.beta) (query s) (slabOf s.args.t.grid s.args.r s.args.omega) e.before.slab-below.result h.items-inside.result h.items-inside.ensures (slab e.before) (omega (arith, e.if5.false)) c.before.before.if6.true))
+    (scalar_row s.args.file.now s.args.t s.args.vertices.now (lists s) (boltzmann s.args.beta) (query s) (slab_of s.args.t.grid s.args.r s.args.omega) e.before.slab-below.result h.items-inside.result h.items-inside.ensures (slab e.before) (omega (arith, e.if5.false)) c.before.before.if6.true))
 
 read-row-requires : tie.Need-read-row-requires
 read-row-requires c κs =
@@ -120,7 +120,7 @@ returns-7 c =
     let h = e.before.before in
     let s = h.before.before.before.before.before.before.before.before.before.before.before.before.before.before.before.before.before.before.before in
     answered s.args.file.now s.args.t s.args.vertices.now (lists s) (boltzmann s.args.beta) (query s) _ _ (resolved h.before.before.before)
-    ((rw (own-way s.args.beta (weighted h.before.before.before.before.before.before.before.before), whole s.args.file.now 0, whole s.args.vertices.now 0, whole s.args.cell-offsets.now 0, whole s.args.cell-vertices.now 0, whole s.args.face-offsets.now 0, whole s.args.faces.now 0) at c.read-row.ensures) ∙ entry_row s.args.file.now s.args.t s.args.vertices.now (lists s) (boltzmann s.args.beta) (query s) (slabOf s.args.t.grid s.args.r s.args.omega) e.before.slab-below.result h.items-inside.result h.items-inside.ensures (slab e.before) (omega (arith, e.if5.false)))
+    ((rw (own_way s.args.beta (weighted h.before.before.before.before.before.before.before.before), whole s.args.file.now 0, whole s.args.vertices.now 0, whole s.args.cell-offsets.now 0, whole s.args.cell-vertices.now 0, whole s.args.face-offsets.now 0, whole s.args.faces.now 0) at c.read-row.ensures) ∙ entry_row s.args.file.now s.args.t s.args.vertices.now (lists s) (boltzmann s.args.beta) (query s) (slab_of s.args.t.grid s.args.r s.args.omega) e.before.slab-below.result h.items-inside.result h.items-inside.ensures (slab e.before) (omega (arith, e.if5.false)))
 
 pub lookup-boltzmann-spec : {M : Type 1} → statement M
 lookup-boltzmann-spec =

@@ -1,21 +1,21 @@
 -- `read_row` meets its contract. Assumes nothing.
 use borrow.Author.Rules.{rules}
-use Rattle.search.specs.Search.{Locator, locatorOf}
-use Rattle.reading.specs.Internal.{way_of, toward, rowsTable}
-use Rattle.table.proofs.Items.{entry_at, entry-at}
-use Rattle.reading.proofs.Inside.{entry-by}
+use Rattle.search.specs.Search.{Locator, locator_of}
+use Rattle.reading.specs.Internal.{way_of, toward, rows_table}
+use Rattle.table.proofs.Items.{entry_at, entry_at_lem}
+use Rattle.reading.proofs.Inside.{entry_by_lem}
 use Rattle.reading.proofs.stages.read_row.Statement.{statement}
 use Rattle.reading.proofs.stages.read_row.Tie as tie
 
 abbrev lists : tie.Start → Locator
-lists s = locatorOf s.args.cell-offsets.now s.args.cell-vertices.now s.args.face-offsets.now s.args.faces.now
+lists s = locator_of s.args.cell-offsets.now s.args.cell-vertices.now s.args.face-offsets.now s.args.faces.now
 
 returns : tie.Need-returns
 returns c =
     let s = c.before.before.before.before.before.before.before.before.before.before.before.before.before in
     let a = s.args in
-    rw (entry-at a.file.now a.at, c.read-resolution.ensures, c.before.rows-table.ensures, c.before.before.resolution-of.ensures, c.before.before.before.u32-inside2.ensures, c.before.before.before.before.u32-inside.ensures)
-    (entry-by a.file.now (rowsTable a.levels a.start a.count) a.vertices.now (lists s) (way_of a.beta) (toward (record { x = a.ax; y = a.ay; z = a.az }) (record { x = a.bx; y = a.by; z = a.bz })) (entry_at a.file.now a.at))
+    rw (entry_at_lem a.file.now a.at, c.read-resolution.ensures, c.before.rows-table.ensures, c.before.before.resolution-of.ensures, c.before.before.before.u32-inside2.ensures, c.before.before.before.before.u32-inside.ensures)
+    (entry_by_lem a.file.now (rows_table a.levels a.start a.count) a.vertices.now (lists s) (way_of a.beta) (toward (record { x = a.ax; y = a.ay; z = a.az }) (record { x = a.bx; y = a.by; z = a.bz })) (entry_at a.file.now a.at))
 
 pub read-row-spec : {M : Type 1} → statement M
 read-row-spec =

@@ -4,7 +4,7 @@ use Prim.Native.Nat.{◌+◌, ◌≤◌}
 use native.Mathlib.Omega.{arith}
 use lib.ListN.{get_or, length, take, drop}
 use Rattle.writer.proofs.Puts.{Left, begun, step, ended}
-use Rattle.repack.proofs.Turns.{taken-cons, taken_none, taken-length, set-one}
+use Rattle.repack.proofs.Turns.{taken_cons, taken_none, taken-length, set-one}
 use Rattle.repack.proofs.bytes.copy.Statement.{statement}
 use Rattle.repack.proofs.bytes.copy.Tie as tie
 
@@ -29,7 +29,7 @@ loop-again : tie.Need-loop-preserved invariant-loop decreases-loop
 loop-again c =
     let l = c.before.before in
     let file = l.before.args.file.now in
-    (omega arith, omega arith, step l.loop.invariant.2 (get_or file l.loop.p 0 ∷ []) _ _ _ (taken-cons file l.loop.p l.loop.left (omega arith) (omega arith)) (set-one _ _ _ (omega (arith, l.loop.invariant.2.size))) (omega arith))
+    (omega arith, omega arith, step l.loop.invariant.2 (get_or file l.loop.p 0 ∷ []) _ _ _ (taken_cons file l.loop.p l.loop.left (omega arith) (omega arith)) (set-one _ _ _ (omega (arith, l.loop.invariant.2.size))) (omega arith))
 
 same_length : tie.Need-same-length invariant-loop decreases-loop
 same_length c = c.before.loop.invariant.2.size

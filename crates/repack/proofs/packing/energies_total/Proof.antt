@@ -6,7 +6,7 @@ use lib.ListN.{length}
 use borrow.Author.Rules.{rules}
 use Rattle.repack.specs.Repack.{total}
 use Rattle.repack.specs.Internal.{rows_at}
-use Rattle.repack.proofs.Turns.{held_at, total-turn, total-end}
+use Rattle.repack.proofs.Turns.{held_at, total_turn, total_end}
 use Rattle.repack.proofs.packing.energies_total.Statement.{statement}
 use Rattle.repack.proofs.packing.energies_total.Tie as tie
 
@@ -24,18 +24,18 @@ add-o c =
     let l = c.before.before.before.before in
     let s = l.before.before in
     let file = s.args.file.now in
-    omega (arith, held_at file l.loop.at _ c.held.ensures, total-turn file l.loop.at l.loop.left (omega arith), l.loop.invariant.1, s.requires.1)
+    omega (arith, held_at file l.loop.at _ c.held.ensures, total_turn file l.loop.at l.loop.left (omega arith), l.loop.invariant.1, s.requires.1)
 
 loop-again : tie.Need-loop-preserved invariant-loop decreases-loop
 loop-again c =
     let l = c.before.before.before.before in
     let file = l.before.before.args.file.now in
-    (omega arith, omega (arith, held_at file l.loop.at _ c.held.ensures, total-turn file l.loop.at l.loop.left (omega arith), l.loop.invariant.1))
+    (omega arith, omega (arith, held_at file l.loop.at _ c.held.ensures, total_turn file l.loop.at l.loop.left (omega arith), l.loop.invariant.1))
 
 returns : tie.Need-returns invariant-loop decreases-loop
 returns c =
     let l = c.before in
-    omega (arith, l.loop.invariant.1, total-end l.before.before.args.file.now l.loop.at l.loop.left (omega arith))
+    omega (arith, l.loop.invariant.1, total_end l.before.before.args.file.now l.loop.at l.loop.left (omega arith))
 
 pub energies-total-spec : {M : Type 1} → statement M
 energies-total-spec =

@@ -6,8 +6,8 @@ use lib.ListN.{length, take, drop, length-drop}
 use lib.Seq.{take_all}
 use borrow.Author.Rules.{rules}
 use Rattle.table.specs.Bytes.{bytes_of}
-use Rattle.table.proofs.Lengths.{bytes-length}
-use Rattle.writer.proofs.Puts.{puts-three}
+use Rattle.table.proofs.Lengths.{bytes_length}
+use Rattle.writer.proofs.Puts.{puts_three}
 use Rattle.repack.specs.Repack.{parts}
 use Rattle.repack.specs.Internal.{rows_at}
 use Rattle.repack.proofs.Turns.{parts-length}
@@ -64,8 +64,8 @@ returns c =
     let end = a.from + a.k * 4 in
     let all : take (length f - end) (drop end f) ≡ drop end f = take_all (length f - end) (drop end f) (omega (arith, length-drop end f)) in
     rw (c.before.before.copy.ensures, w.put-parts.ensures, v.put-u32.ensures, all)
-    (puts-three a.out.now (a.start + a.n * 10) (bytes_of 4 a.e) (parts f a.from rs) (drop end f) a.from (a.from + a.e * 4)
-    (omega (arith, p.rows, bytes-length 4 a.e)) (omega (arith, s.requires.1, parts-length f a.from a.k rs p.energies p.inside)) (omega (arith, s.requires.2)))
+    (puts_three a.out.now (a.start + a.n * 10) (bytes_of 4 a.e) (parts f a.from rs) (drop end f) a.from (a.from + a.e * 4)
+    (omega (arith, p.rows, bytes_length 4 a.e)) (omega (arith, s.requires.1, parts-length f a.from a.k rs p.energies p.inside)) (omega (arith, s.requires.2)))
 
 pub put-after-spec : {M : Type 1} → statement M
 put-after-spec =

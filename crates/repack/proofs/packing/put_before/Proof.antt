@@ -3,7 +3,7 @@ use native.Mathlib.Omega.{arith}
 use lib.ListN.{take}
 use borrow.Author.Rules.{rules}
 use Rattle.writer.proofs.Puts.{puts}
-use Rattle.repack.specs.Repack.{newRows}
+use Rattle.repack.specs.Repack.{new_rows}
 use Rattle.repack.proofs.Turns.{taken-length}
 use Rattle.repack.proofs.packing.put_before.Statement.{statement}
 use Rattle.repack.proofs.packing.put_before.Tie as tie
@@ -20,7 +20,7 @@ returns c =
     let s = w.before.before.before.before in
     let a = s.args in
     rw (c.before.before.put-rows.ensures, w.copy.ensures)
-    (puts a.out.now 0 (take a.start a.file.now) (newRows a.file.now a.start a.n 0) a.start
+    (puts a.out.now 0 (take a.start a.file.now) (new_rows a.file.now a.start a.n 0) a.start
     (omega (arith, taken-length a.file.now 0 a.start (omega (arith, s.requires.0)))) (omega (arith, s.requires.1)))
 
 pub put-before-spec : {M : Type 1} → statement M

@@ -8,7 +8,7 @@ use borrow.Author.Rules.{rules}
 use Rattle.lists.specs.Lists.{put}
 use Rattle.table.specs.Bytes.{bytes_of}
 use Rattle.writer.proofs.Puts.{puts}
-use Rattle.repack.specs.Repack.{newRows, parts}
+use Rattle.repack.specs.Repack.{new_rows, parts}
 use Rattle.repack.specs.Internal.{rows_at}
 use Rattle.repack.proofs.Turns.{taken-length, rows-length}
 use Rattle.repack.proofs.packing.put_packed.Statement.{statement}
@@ -33,7 +33,7 @@ returns c =
     let p = s.requires.0 in
     let f = a.file.now in
     let x = take a.start f in
-    let y = newRows f a.start a.n 0 in
+    let y = new_rows f a.start a.n 0 in
     let z = bytes_of 4 a.e ++ (parts f a.from (rows_at f a.start a.n) ++ drop (a.from + a.k * 4) f) in
     let long : a.start + a.n * 10 ≡ length (x ++ y) =
     omega (arith, length-append x y, taken-length f 0 a.start (omega (arith, p.rows, p.energies)), rows-length f a.start a.n 0 (omega (arith, p.rows, p.energies))) in

@@ -4,7 +4,7 @@ use Prim.Native.Nat.{◌+◌, ◌*◌, ◌<◌}
 use native.Mathlib.Omega.{arith}
 use lib.ListN.{take, drop}
 use borrow.Author.Rules.{rules}
-use Rattle.lists.proofs.Written.{put-nil}
+use Rattle.lists.proofs.Written.{put_nil}
 use Rattle.table.proofs.Accepted.{some}
 use Rattle.repack.proofs.Turns.{taken_none}
 use Rattle.repack.proofs.packing.put_part.Statement.{statement}
@@ -13,7 +13,7 @@ use Rattle.repack.proofs.packing.put_part.Tie as tie
 returns : tie.Need-returns
 returns c =
     let a = c.before.before.before.args in
-    rw (taken_none (drop (a.from + a.offset * 4) a.file.now) (a.e * 4) (omega (arith, c.if1.true))) (sym (put-nil a.out.now a.to))
+    rw (taken_none (drop (a.from + a.offset * 4) a.file.now) (a.e * 4) (omega (arith, c.if1.true))) (sym (put_nil a.out.now a.to))
 
 positive : (c : tie.Else1) → 0 < c.before.before.before.args.e
 positive c = some _ c.if1.false

@@ -8,16 +8,16 @@ use borrow.Author.Rules.{rules}
 use Rattle.lists.specs.Lists.{every}
 use Rattle.table.specs.Bytes.{number_at}
 use Rattle.table.specs.File.{entry_of}
-use Rattle.table.specs.Internal.{endsBelow}
+use Rattle.table.specs.Internal.{ends_below}
 use Rattle.writer.proofs.Puts.{Left, begun, step, ended}
 use Rattle.repack.specs.Repack.{held, total, parts}
 use Rattle.repack.specs.Internal.{rows_at}
-use Rattle.repack.proofs.Turns.{held_at, total-turn, parts-turn, parts-end, inside-turn, row_inside, part-at-length, parts-length}
+use Rattle.repack.proofs.Turns.{held_at, total_turn, parts_turn, parts_end, inside_turn, row_inside_lem, part_at_length, parts-length}
 use Rattle.repack.proofs.packing.put_parts.Statement.{statement}
 use Rattle.repack.proofs.packing.put_parts.Tie as tie
 
 abbrev invariant-loop : tie.invariant-loop
-invariant-loop file start n from k out₀ to at₀ left₀ p₀ out at left p = (at + left * 10 ≤ length file) × (every (endsBelow k) (rows_at file at left) ≡ true) × (p + total (rows_at file at left) * 4 ≤ length out₀)
+invariant-loop file start n from k out₀ to at₀ left₀ p₀ out at left p = (at + left * 10 ≤ length file) × (every (ends_below k) (rows_at file at left) ≡ true) × (p + total (rows_at file at left) * 4 ≤ length out₀)
     × Left out₀ to (parts file from (rows_at file start n)) out p (parts file from (rows_at file at left))
 
 abbrev decreases-loop : tie.decreases-loop
@@ -36,21 +36,21 @@ put-part-requires c κs =
     let s = l.before.before.before in
     let file = s.args.file.now in
     let e = held_at file l.loop.at _ c.before.held.ensures in (
-      λ h. rw c.before.before.u32-inside.ensures (row_inside file s.args.from s.args.k l.loop.at _ s.requires.1 (inside-turn file l.loop.at l.loop.left (omega arith) s.args.k l.loop.invariant.1).0 e h),
-      omega (arith, e, total-turn file l.loop.at l.loop.left (omega arith), l.loop.invariant.2, l.loop.invariant.3.size),
+      λ h. rw c.before.before.u32-inside.ensures (row_inside_lem file s.args.from s.args.k l.loop.at _ s.requires.1 (inside_turn file l.loop.at l.loop.left (omega arith) s.args.k l.loop.invariant.1).0 e h),
+      omega (arith, e, total_turn file l.loop.at l.loop.left (omega arith), l.loop.invariant.2, l.loop.invariant.3.size),
     )
 
 mul-p : tie.Need-overflow-mul-p invariant-loop decreases-loop
 mul-p c =
     let l = c.before.before.before.before.before.before.before.before.before in
     let file = l.before.before.before.args.file.now in
-    omega (arith, held_at file l.loop.at _ c.before.before.before.before.held.ensures, total-turn file l.loop.at l.loop.left (omega arith), l.loop.invariant.2)
+    omega (arith, held_at file l.loop.at _ c.before.before.before.before.held.ensures, total_turn file l.loop.at l.loop.left (omega arith), l.loop.invariant.2)
 
 add-p : tie.Need-overflow-add-p invariant-loop decreases-loop
 add-p c =
     let l = c.before.before.before.before.before.before.before.before.before in
     let file = l.before.before.before.args.file.now in
-    omega (arith, held_at file l.loop.at _ c.before.before.before.before.held.ensures, total-turn file l.loop.at l.loop.left (omega arith), l.loop.invariant.2)
+    omega (arith, held_at file l.loop.at _ c.before.before.before.before.held.ensures, total_turn file l.loop.at l.loop.left (omega arith), l.loop.invariant.2)
 
 loop-again : tie.Need-loop-preserved invariant-loop decreases-loop
 loop-again c =
@@ -58,22 +58,22 @@ loop-again c =
     let s = l.before.before.before in
     let file = s.args.file.now in
     let e = held_at file l.loop.at _ c.before.before.before.before.held.ensures in
-    let i = inside-turn file l.loop.at l.loop.left (omega arith) s.args.k l.loop.invariant.1 in
+    let i = inside_turn file l.loop.at l.loop.left (omega arith) s.args.k l.loop.invariant.1 in
     let x = take (held (entry_of (take 10 (drop l.loop.at file))) * 4) (drop (s.args.from + number_at 4 file (l.loop.at + 2) * 4) file) in (
       omega arith,
       i.1,
-      omega (arith, e, total-turn file l.loop.at l.loop.left (omega arith), l.loop.invariant.2),
+      omega (arith, e, total_turn file l.loop.at l.loop.left (omega arith), l.loop.invariant.2),
       rw e
-          (step l.loop.invariant.3 x _ _ _ (parts-turn file l.loop.at l.loop.left (omega arith) s.args.from)
+          (step l.loop.invariant.3 x _ _ _ (parts_turn file l.loop.at l.loop.left (omega arith) s.args.from)
           (c.before.before.put-part.ensures ∙ rw (e, c.before.before.before.before.before.u32-inside.ensures))
-          (omega (arith, part-at-length file s.args.from s.args.k l.loop.at s.requires.1 i.0))),
+          (omega (arith, part_at_length file s.args.from s.args.k l.loop.at s.requires.1 i.0))),
     )
 
 same_length : tie.Need-same-length invariant-loop decreases-loop
 same_length c = c.before.loop.invariant.3.size
 
 returns : tie.Need-returns invariant-loop decreases-loop
-returns c = let l = c.before in let a = l.before.before.before.args in ended l.loop.invariant.3 (parts-end a.file.now l.loop.at l.loop.left (omega arith) a.from)
+returns c = let l = c.before in let a = l.before.before.before.args in ended l.loop.invariant.3 (parts_end a.file.now l.loop.at l.loop.left (omega arith) a.from)
 
 pub put-parts-spec : {M : Type 1} → statement M
 put-parts-spec =

@@ -5,8 +5,8 @@ use lib.ListN.{take, drop}
 use borrow.Author.Tests.{le-leb, lt-leb}
 use borrow.Author.Rules.{rules}
 use Rattle.table.specs.Bytes.{bytes_of}
-use Rattle.table.proofs.Lengths.{bytes-length}
-use Rattle.writer.proofs.Puts.{puts-three}
+use Rattle.table.proofs.Lengths.{bytes_length}
+use Rattle.writer.proofs.Puts.{puts_three}
 use Rattle.repack.proofs.Turns.{row_stays, row_goes, taken-length}
 use Rattle.repack.proofs.packing.put_row.Statement.{statement}
 use Rattle.repack.proofs.packing.put_row.Tie as tie
@@ -25,8 +25,8 @@ returns-2 c =
     let a = s.args in
     let f = a.file.now in
     rw (row_goes f a.at a.o (lt-leb _ _ e.if1.false), c.before.before.copy3.ensures, w.put-u32.ensures, w.before.before.before.before.copy2.ensures)
-    (puts-three a.out.now a.to (take 2 (drop a.at f)) (bytes_of 4 a.o) (take 4 (drop (a.at + 6) f)) (a.to + 2) (a.to + 6)
-    (omega (arith, taken-length f a.at 2 (omega (arith, s.requires.0)))) (omega (arith, bytes-length 4 a.o)) (omega (arith, s.requires.1)))
+    (puts_three a.out.now a.to (take 2 (drop a.at f)) (bytes_of 4 a.o) (take 4 (drop (a.at + 6) f)) (a.to + 2) (a.to + 6)
+    (omega (arith, taken-length f a.at 2 (omega (arith, s.requires.0)))) (omega (arith, bytes_length 4 a.o)) (omega (arith, s.requires.1)))
 
 pub put-row-spec : {M : Type 1} → statement M
 put-row-spec =

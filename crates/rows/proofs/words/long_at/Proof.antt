@@ -1,10 +1,10 @@
-use Rattle.rows.proofs.Laws.{read-beyond}
+use Rattle.rows.proofs.Laws.{read_beyond}
 use borrow.Author.Rules.{rules}
 use Rattle.rows.proofs.words.long_at.Statement.{statement}
 use Rattle.rows.proofs.words.long_at.Tie as tie
 
 returns : tie.Need-returns
-returns c = read-beyond c.before.args.list.now _ c.if1.true
+returns c = read_beyond c.before.args.list.now _ c.if1.true
 
 pub long-at-spec : {M : Type 1} → statement M
 long-at-spec = tie.close

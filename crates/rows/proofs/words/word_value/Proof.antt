@@ -1,10 +1,10 @@
-use Rattle.rows.specs.Words.{wordValue}
+use Rattle.rows.specs.Words.{word_value}
 use borrow.Author.Rules.{rules}
 use Rattle.rows.proofs.words.word_value.Statement.{statement}
 use Rattle.rows.proofs.words.word_value.Tie as tie
 
 returns : tie.Need-returns
-unfolding wordValue
+unfolding word_value
 returns c = search rules
 
 pub word-value-spec : {M : Type 1} → statement M

@@ -2,8 +2,8 @@
 use mathlib.Core.Path.{sym, ◌∙◌}
 use native.Mathlib.Omega.{arith}
 use borrow.Author.Tests.{not-true, not-false}
-use Rattle.mesh.specs.Levels.{vertexCount, gridSize}
-use Rattle.search.proofs.Laws.{Held, held, cell-not-held, cell-held}
+use Rattle.mesh.specs.Levels.{vertex_count, grid_size}
+use Rattle.search.proofs.Laws.{Held, held, cell_not_held, cell-held}
 use borrow.Author.Rules.{rules}
 use Rattle.search.proofs.cells.find_nearest_vertex.Statement.{statement}
 use Rattle.search.proofs.cells.find_nearest_vertex.Tie as tie
@@ -11,18 +11,18 @@ use Rattle.search.proofs.cells.find_nearest_vertex.Tie as tie
 -- the cell's places are held
 kept : (c : tie.After-vertex-count)
     → (let s = c.before.before in let a = s.before.before.before.before.before.args in
-    Held a.vertices.now (vertexCount a.level) 1 a.cell-offsets.now a.cell-vertices.now s.before.cell-index.result s.Span-of.result)
+    Held a.vertices.now (vertex_count a.level) 1 a.cell-offsets.now a.cell-vertices.now s.before.cell-index.result s.Span-of.result)
 kept c =
     let s = c.before.before in
     let a = s.before.before.before.before.before.args in
-    held a.vertices.now (vertexCount a.level) 1 a.cell-offsets.now a.cell-vertices.now s.before.cell-index.result s.Span-of.result s.Span-of.ensures (not-false _ c.before.if1.false)
+    held a.vertices.now (vertex_count a.level) 1 a.cell-offsets.now a.cell-vertices.now s.before.cell-index.result s.Span-of.result s.Span-of.ensures (not-false _ c.before.if1.false)
 
 returns : tie.Need-returns
 returns c =
     let s = c.before.before in
     let a = s.before.before.before.before.before.args in
     c.not-nearest.ensures
-    ∙ sym (cell-not-held a.cell-offsets.now a.cell-vertices.now a.vertices.now (vertexCount a.level) (gridSize (vertexCount a.level)) a.p s.Span-of.result (rw (← s.before.cell-index.ensures) s.Span-of.ensures) (not-true _ c.before.if1.true))
+    ∙ sym (cell_not_held a.cell-offsets.now a.cell-vertices.now a.vertices.now (vertex_count a.level) (grid_size (vertex_count a.level)) a.p s.Span-of.result (rw (← s.before.cell-index.ensures) s.Span-of.ensures) (not-true _ c.before.if1.true))
 
 mul-nearest-in-cell : tie.Need-overflow-mul-nearest-in-cell
 mul-nearest-in-cell c = omega (arith, kept c)
@@ -42,7 +42,7 @@ returns-2 c =
     let s = k.before.before in
     let a = s.before.before.before.before.before.args in
     rw (c.nearest-in-cell.ensures, k.vertex-count.ensures)
-    (sym (cell-held a.cell-offsets.now a.cell-vertices.now a.vertices.now (vertexCount a.level) (gridSize (vertexCount a.level)) a.p s.Span-of.result (rw (← s.before.cell-index.ensures) s.Span-of.ensures) (not-false _ k.before.if1.false)))
+    (sym (cell-held a.cell-offsets.now a.cell-vertices.now a.vertices.now (vertex_count a.level) (grid_size (vertex_count a.level)) a.p s.Span-of.result (rw (← s.before.cell-index.ensures) s.Span-of.ensures) (not-false _ k.before.if1.false)))
 
 pub find-nearest-vertex-spec : {M : Type 1} → statement M
 find-nearest-vertex-spec =

@@ -8,14 +8,14 @@ use lib.ListN.{length, drop}
 use lib.Dec.{leb, ltb}
 use borrow.Author.Rules.{rules}
 use borrow.Author.Tests.{leb-true}
-use Rattle.search.specs.Search.{notNearest}
-use Rattle.search.specs.Internal.{nearestOver}
-use Rattle.search.proofs.Laws.{nearest-turn, nearest-stop, nearest-end}
+use Rattle.search.specs.Search.{not_nearest}
+use Rattle.search.specs.Internal.{nearest_over}
+use Rattle.search.proofs.Laws.{nearest_turn, nearest_stop, nearest_end}
 use Rattle.search.proofs.cells.nearest_by_order.Statement.{statement}
 use Rattle.search.proofs.cells.nearest_by_order.Tie as tie
 
 abbrev invariant-loop : tie.invariant-loop
-invariant-loop cell vertices n p best₀ i₀ best i = (i ≤ length cell) × (nearestOver vertices n p best (drop i cell) ≡ nearestOver vertices n p best₀ cell)
+invariant-loop cell vertices n p best₀ i₀ best i = (i ≤ length cell) × (nearest_over vertices n p best (drop i cell) ≡ nearest_over vertices n p best₀ cell)
 
 abbrev decreases-loop : tie.decreases-loop
 decreases-loop cell vertices n p best₀ i₀ best i = length cell - i
@@ -23,7 +23,7 @@ decreases-loop cell vertices n p best₀ i₀ best i = length cell - i
 -- the loop starts with 20
 start : (l : tie.At-loop invariant-loop decreases-loop)
     → (let a = l.before.before.before.before.args in
-    nearestOver a.vertices.now a.n a.p l.before.not-nearest.result a.cell.now ≡ nearestOver a.vertices.now a.n a.p (notNearest 20) a.cell.now)
+    nearest_over a.vertices.now a.n a.p l.before.not-nearest.result a.cell.now ≡ nearest_over a.vertices.now a.n a.p (not_nearest 20) a.cell.now)
 start l = rw l.before.not-nearest.ensures
 
 loop-holds : tie.Need-loop-init invariant-loop decreases-loop
@@ -38,7 +38,7 @@ returns c =
     let l = e.before.before.before in
     let a = l.before.before.before.before.args in
     c.not-nearest2.ensures
-    ∙ sym (nearest-stop a.vertices.now a.n a.p a.cell.now l.loop.best l.loop.i e.wide16.result (omega arith) e.wide16.ensures (no c.before.before.inside.ensures c.before.if1.true))
+    ∙ sym (nearest_stop a.vertices.now a.n a.p a.cell.now l.loop.best l.loop.i e.wide16.result (omega arith) e.wide16.ensures (no c.before.before.inside.ensures c.before.if1.true))
     ∙ l.loop.invariant.1 ∙ start l
 
 -- the vertex was found inside what was lent
@@ -59,7 +59,7 @@ loop-again c =
     let a = l.before.before.before.before.args in (
       omega arith,
       rw c.nearer.ensures
-          (sym (nearest-turn a.vertices.now a.n a.p a.cell.now l.loop.best l.loop.i e.wide16.result (omega arith) e.wide16.ensures (yes c.before.before.inside.ensures c.before.if1.false))
+          (sym (nearest_turn a.vertices.now a.n a.p a.cell.now l.loop.best l.loop.i e.wide16.result (omega arith) e.wide16.ensures (yes c.before.before.inside.ensures c.before.if1.false))
           ∙ l.loop.invariant.1),
     )
 
@@ -67,7 +67,7 @@ returns-2 : tie.Need-returns-2 invariant-loop decreases-loop
 returns-2 c =
     let l = c.before in
     let a = l.before.before.before.before.args in
-    sym (nearest-end a.vertices.now a.n a.p a.cell.now l.loop.best l.loop.i (omega arith)) ∙ l.loop.invariant.1 ∙ start l
+    sym (nearest_end a.vertices.now a.n a.p a.cell.now l.loop.best l.loop.i (omega arith)) ∙ l.loop.invariant.1 ∙ start l
 
 pub nearest-by-order-spec : {M : Type 1} → statement M
 nearest-by-order-spec =

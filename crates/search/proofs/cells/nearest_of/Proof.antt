@@ -5,14 +5,14 @@ use native.Mathlib.Omega.{arith}
 use lib.ListN.{length, drop}
 use borrow.Author.Rules.{rules}
 use borrow.Author.Tests.{lt-ltb, le-ltb}
-use Rattle.search.specs.Internal.{nearestOver, Measured}
-use Rattle.search.proofs.Laws.{nearest-turn, nearest-stop, nearest-end}
-use Rattle.search.proofs.Nearness.{stays-measured, below-limit}
+use Rattle.search.specs.Internal.{nearest_over, Measured}
+use Rattle.search.proofs.Laws.{nearest_turn, nearest_stop, nearest_end}
+use Rattle.search.proofs.Nearness.{stays_measured, below_limit}
 use Rattle.search.proofs.cells.nearest_of.Statement.{statement}
 use Rattle.search.proofs.cells.nearest_of.Tie as tie
 
 abbrev invariant-loop : tie.invariant-loop
-invariant-loop list vertices limit p best₀ i₀ best i = (i ≤ length list) × Measured best × (nearestOver vertices limit p best (drop i list) ≡ nearestOver vertices limit p best₀ list)
+invariant-loop list vertices limit p best₀ i₀ best i = (i ≤ length list) × Measured best × (nearest_over vertices limit p best (drop i list) ≡ nearest_over vertices limit p best₀ list)
 
 abbrev decreases-loop : tie.decreases-loop
 decreases-loop list vertices limit p best₀ i₀ best i = length list - i
@@ -27,7 +27,7 @@ returns c =
     let o = l.before.before.before in
     let a = o.args in
     c.not-nearest.ensures
-    ∙ sym (nearest-stop a.vertices.now a.limit a.p a.list.now l.loop.best l.loop.i e.wide16.result (omega arith) e.wide16.ensures (below-limit a.vertices.now a.limit e.wide16.result o.requires.0 ∙ le-ltb _ _ c.before.if1.true))
+    ∙ sym (nearest_stop a.vertices.now a.limit a.p a.list.now l.loop.best l.loop.i e.wide16.result (omega arith) e.wide16.ensures (below_limit a.vertices.now a.limit e.wide16.result o.requires.0 ∙ le-ltb _ _ c.before.if1.true))
     ∙ l.loop.invariant.2
 
 closer-requires : tie.Need-closer-requires invariant-loop decreases-loop
@@ -43,10 +43,10 @@ loop-again c =
     let o = l.before.before.before in
     let a = o.args in (
       omega arith,
-      rw c.closer.ensures (stays-measured a.vertices.now a.p l.loop.best e.wide16.result l.loop.invariant.1),
+      rw c.closer.ensures (stays_measured a.vertices.now a.p l.loop.best e.wide16.result l.loop.invariant.1),
       rw c.closer.ensures
-          (sym (nearest-turn a.vertices.now a.limit a.p a.list.now l.loop.best l.loop.i e.wide16.result (omega arith) e.wide16.ensures
-          (below-limit a.vertices.now a.limit e.wide16.result o.requires.0 ∙ lt-ltb _ _ c.before.if1.false))
+          (sym (nearest_turn a.vertices.now a.limit a.p a.list.now l.loop.best l.loop.i e.wide16.result (omega arith) e.wide16.ensures
+          (below_limit a.vertices.now a.limit e.wide16.result o.requires.0 ∙ lt-ltb _ _ c.before.if1.false))
           ∙ l.loop.invariant.2),
     )
 
@@ -54,7 +54,7 @@ returns-2 : tie.Need-returns-2 invariant-loop decreases-loop
 returns-2 c =
     let l = c.before in
     let a = l.before.before.before.args in
-    sym (nearest-end a.vertices.now a.limit a.p a.list.now l.loop.best l.loop.i (omega arith)) ∙ l.loop.invariant.2
+    sym (nearest_end a.vertices.now a.limit a.p a.list.now l.loop.best l.loop.i (omega arith)) ∙ l.loop.invariant.2
 
 pub nearest-of-spec : {M : Type 1} → statement M
 nearest-of-spec =

@@ -4,7 +4,7 @@ use Prim.Native.Nat.{◌+◌, ◌≤◌}
 use mathlib.Core.Bool.{true, false}
 use native.Mathlib.Omega.{arith}
 use native.Mathlib.Nat.{mul-le-mul}
-use Rattle.search.proofs.Laws.{span-past, span-empty, span-by}
+use Rattle.search.proofs.Laws.{span-past, span-empty, span_by}
 use borrow.Author.Rules.{rules}
 use Rattle.search.proofs.cells.span_of.Statement.{statement}
 use Rattle.search.proofs.cells.span_of.Tie as tie
@@ -45,7 +45,7 @@ returns-4 c =
     let b = c.before.before in
     let a = b.before.before in
     let s = a.before.before.before.before.before.args in
-    sym (span-by s.offsets.now s.w s.places s.i a.wide32.result b.wide322.result a.wide32.ensures b.wide322.ensures (omega arith) true c.before.if3.false c.if4.true)
+    sym (span_by s.offsets.now s.w s.places s.i a.wide32.result b.wide322.result a.wide32.ensures b.wide322.ensures (omega arith) true c.before.if3.false c.if4.true)
 
 returns-5 : tie.Need-returns-5
 returns-5 c =
@@ -53,7 +53,7 @@ returns-5 c =
     let a = b.before.before in
     let s = a.before.before.before.before.before.args in
     c.no-span3.ensures
-    ∙ sym (span-by s.offsets.now s.w s.places s.i a.wide32.result b.wide322.result a.wide32.ensures b.wide322.ensures (omega arith) false c.before.before.if3.false c.before.if4.false)
+    ∙ sym (span_by s.offsets.now s.w s.places s.i a.wide32.result b.wide322.result a.wide32.ensures b.wide322.ensures (omega arith) false c.before.before.if3.false c.before.if4.false)
 
 pub span-of-spec : {M : Type 1} → statement M
 span-of-spec =

@@ -9,22 +9,22 @@ use lib.Dec.{ltb, eqb}
 use lib.Ieee.{of_bits}
 use borrow.Author.Rules.{rules}
 use borrow.Author.Tests.{ltb-false, eqb-false}
-use Rattle.ieee.proofs.Pack.{le-or-lt}
+use Rattle.ieee.proofs.Pack.{le_or_lt}
 use Rattle.search.specs.Search.{better}
-use Rattle.search.specs.Internal.{limitOf, siftOver}
-use Rattle.search.proofs.Nearness.{limit-room}
-use Rattle.search.proofs.Sifting.{told-room, told-inside, told-best}
+use Rattle.search.specs.Internal.{limit_of, sift_over}
+use Rattle.search.proofs.Nearness.{limit_room}
+use Rattle.search.proofs.Sifting.{told_room, told_inside, told_best}
 use Rattle.search.proofs.faces.best_face.Statement.{statement}
 use Rattle.search.proofs.faces.best_face.Tie as tie
 
 sift-requires : tie.Need-sift-requires
 sift-requires c κs =
     let o = c.before.before.before in
-    (o.requires, rw c.limit-of.ensures (limit-room o.args.n (length o.args.vertices.now)))
+    (o.requires, rw c.limit-of.ensures (limit_room o.args.n (length o.args.vertices.now)))
 
 -- what the pass answered
 passed : (c : tie.After-sift) → (let a = c.before.before.before.before.args in
-    c.sift.result ≡ siftOver a.vertices.now (limitOf a.n (length a.vertices.now)) a.p 0 (record { count = 0; at = 0 }) a.faces.now)
+    c.sift.result ≡ sift_over a.vertices.now (limit_of a.n (length a.vertices.now)) a.p 0 (record { count = 0; at = 0 }) a.faces.now)
 passed c = rw (c.sift.ensures, c.before.limit-of.ensures)
 
 neither : (s t : Bool) → (s || t) ≡ false → (s ≡ false) × (t ≡ false)
@@ -41,7 +41,7 @@ some c =
     three (length o.args.faces.now) o.requires (eqb-false (length o.args.faces.now) 0 (neither (ltb 1 c.before.sift.result.count) (eqb (length o.args.faces.now) 0) c.if1.false).1)
   where
     three : (n : ℕ) → n % 3 ≡ 0 → (n ≡ 0 → ⊥) → 3 ≤ n
-    three n m z = by (le-or-lt 3 n)
+    three n m z = by (le_or_lt 3 n)
       where
         by : (3 ≤ n) ⊎ (n < 3) → 3 ≤ n
         by (inl h) = h
@@ -51,7 +51,7 @@ some c =
 room : (c : tie.Else1) → c.before.sift.result.at + 3 ≤ length c.before.before.before.before.before.args.faces.now
 room c =
     let a = c.before.before.before.before.before.args in
-    told-room a.vertices.now a.n a.p a.faces.now c.before.sift.result (passed c.before) (few c) (some c)
+    told_room a.vertices.now a.n a.p a.faces.now c.before.sift.result (passed c.before) (few c) (some c)
 
 mul-wide16 : tie.Need-overflow-mul-wide16
 mul-wide16 c = omega (arith, room c)
@@ -88,7 +88,7 @@ better-requires c κs =
     let e = x.before.before in
     let a = e.before.before.before.before.before.args in
     let w = e.before.sift.result in
-    let in_List = told-inside a.vertices.now a.n a.p a.faces.now w (passed e.before) (few e) in (
+    let in_List = told_inside a.vertices.now a.n a.p a.faces.now w (passed e.before) (few e) in (
       rw x.wide16.ensures (in_List w.at (omega (arith, room e))),
       rw y.wide162.ensures (in_List (w.at + 1) (omega (arith, room e))),
       rw z.wide163.ensures (in_List (w.at + 2) (omega (arith, room e))),
@@ -106,7 +106,7 @@ returns-2 c =
     let a = e.before.before.before.before.before.args in
     let w = e.before.sift.result in
     c.fitted.ensures
-    ∙ told-best a.vertices.now a.n a.p a.faces.now w (passed e.before) (few e) (some e) a.near g.better.result
+    ∙ told_best a.vertices.now a.n a.p a.faces.now w (passed e.before) (few e) (some e) a.near g.better.result
     (rw (g.better.ensures, f.no-fit.ensures, x.wide16.ensures, y.wide162.ensures, z.wide163.ensures)) c.before.if2.true
 
 pub best-face-spec : {M : Type 1} → statement M

@@ -10,14 +10,14 @@ use lib.ListN.{length, drop}
 use lib.Dec.{leb, ltb}
 use borrow.Author.Rules.{rules}
 use borrow.Author.Tests.{leb-true}
-use Rattle.search.specs.Search.{noFit}
-use Rattle.search.specs.Internal.{fitOver}
-use Rattle.search.proofs.Laws.{inside, fit-turn, fit-stop, fit-end}
+use Rattle.search.specs.Search.{no_fit}
+use Rattle.search.specs.Internal.{fit_over}
+use Rattle.search.proofs.Laws.{inside, fit_turn, fit_stop, fit_end}
 use Rattle.search.proofs.faces.best_of_all.Statement.{statement}
 use Rattle.search.proofs.faces.best_of_all.Tie as tie
 
 abbrev invariant-loop : tie.invariant-loop
-invariant-loop faces vertices n p near places best₀ i₀ best i = (i ≤ length faces) × (i % 3 ≡ 0) × (fitOver vertices n p near best (drop i faces) ≡ fitOver vertices n p near best₀ faces)
+invariant-loop faces vertices n p near places best₀ i₀ best i = (i ≤ length faces) × (i % 3 ≡ 0) × (fit_over vertices n p near best (drop i faces) ≡ fit_over vertices n p near best₀ faces)
 
 abbrev decreases-loop : tie.decreases-loop
 decreases-loop faces vertices n p near places best₀ i₀ best i = length faces - i
@@ -25,7 +25,7 @@ decreases-loop faces vertices n p near places best₀ i₀ best i = length faces
 -- the loop starts with no face
 start : (l : tie.At-loop invariant-loop decreases-loop)
     → (let a = l.before.before.before.before.args in
-    fitOver a.vertices.now a.n a.p a.near l.before.no-fit.result a.faces.now ≡ fitOver a.vertices.now a.n a.p a.near noFit a.faces.now)
+    fit_over a.vertices.now a.n a.p a.near l.before.no-fit.result a.faces.now ≡ fit_over a.vertices.now a.n a.p a.near no_fit a.faces.now)
 start l = rw l.before.no-fit.ensures
 
 -- the tests of the three vertices
@@ -71,7 +71,7 @@ returns c =
     let l = x.before.before.before in
     let a = l.before.before.before.before.args in
     c.not-located.ensures
-    ∙ sym (fit-stop a.vertices.now a.n a.p a.near a.faces.now l.loop.best l.loop.i x.wide16.result y.wide162.result z.wide163.result (omega arith) x.wide16.ensures y.wide162.ensures z.wide163.ensures (no (tests i) c.before.if1.true))
+    ∙ sym (fit_stop a.vertices.now a.n a.p a.near a.faces.now l.loop.best l.loop.i x.wide16.result y.wide162.result z.wide163.result (omega arith) x.wide16.ensures y.wide162.ensures z.wide163.ensures (no (tests i) c.before.if1.true))
     ∙ l.loop.invariant.2 ∙ start l
 
 better-requires : tie.Need-better-requires invariant-loop decreases-loop
@@ -103,7 +103,7 @@ loop-again c =
       omega arith,
       omega arith,
       rw c.better.ensures
-          (sym (fit-turn a.vertices.now a.n a.p a.near a.faces.now l.loop.best l.loop.i x.wide16.result y.wide162.result z.wide163.result (omega arith) x.wide16.ensures y.wide162.ensures z.wide163.ensures (yes (tests i) c.before.if1.false))
+          (sym (fit_turn a.vertices.now a.n a.p a.near a.faces.now l.loop.best l.loop.i x.wide16.result y.wide162.result z.wide163.result (omega arith) x.wide16.ensures y.wide162.ensures z.wide163.ensures (yes (tests i) c.before.if1.false))
           ∙ l.loop.invariant.2),
     )
 
@@ -111,7 +111,7 @@ returns-2 : tie.Need-returns-2 invariant-loop decreases-loop
 returns-2 c =
     let l = c.before.before in
     let a = l.before.before.before.before.args in
-    c.fitted.ensures ∙ sym (fit-end a.vertices.now a.n a.p a.near a.faces.now l.loop.best l.loop.i (omega arith)) ∙ l.loop.invariant.2 ∙ start l
+    c.fitted.ensures ∙ sym (fit_end a.vertices.now a.n a.p a.near a.faces.now l.loop.best l.loop.i (omega arith)) ∙ l.loop.invariant.2 ∙ start l
 
 pub best-of-all-spec : {M : Type 1} → statement M
 best-of-all-spec =

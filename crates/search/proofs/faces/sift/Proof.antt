@@ -7,15 +7,15 @@ use lib.ListN.{length, drop}
 use lib.Dec.{ltb}
 use borrow.Author.Rules.{rules}
 use borrow.Author.Tests.{ltb-true, not-true, not-false}
-use Rattle.search.specs.Internal.{siftOver}
+use Rattle.search.specs.Internal.{sift_over}
 use Rattle.search.proofs.Laws.{inside}
-use Rattle.search.proofs.Nearness.{below-limit}
-use Rattle.search.proofs.Sifting.{sift-turn, sift-stop, sift-end}
+use Rattle.search.proofs.Nearness.{below_limit}
+use Rattle.search.proofs.Sifting.{sift_turn, sift_stop, sift_end}
 use Rattle.search.proofs.faces.sift.Statement.{statement}
 use Rattle.search.proofs.faces.sift.Tie as tie
 
 abbrev invariant-loop : tie.invariant-loop
-invariant-loop faces vertices limit p w₀ i₀ w i = (i ≤ length faces) × (i % 3 ≡ 0) × (siftOver vertices limit p i w (drop i faces) ≡ siftOver vertices limit p 0 (record { count = 0; at = 0 }) faces)
+invariant-loop faces vertices limit p w₀ i₀ w i = (i ≤ length faces) × (i % 3 ≡ 0) × (sift_over vertices limit p i w (drop i faces) ≡ sift_over vertices limit p 0 (record { count = 0; at = 0 }) faces)
 
 abbrev decreases-loop : tie.decreases-loop
 decreases-loop faces vertices limit p w₀ i₀ w i = length faces - i
@@ -35,7 +35,7 @@ tests c =
     let vs = o.args.vertices.now in
     let n = o.args.limit in
     let h = o.requires.1 in
-    rw (below-limit vs n x.wide16.result h, below-limit vs n y.wide162.result h, below-limit vs n c.wide163.result h)
+    rw (below_limit vs n x.wide16.result h, below_limit vs n y.wide162.result h, below_limit vs n c.wide163.result h)
 
 returns : tie.Need-returns invariant-loop decreases-loop
 returns c =
@@ -44,7 +44,7 @@ returns c =
     let x = y.before.before in
     let l = x.before.before.before in
     let a = l.before.before.before.args in
-    sym (sift-stop a.vertices.now a.limit a.p a.faces.now l.loop.w l.loop.i x.wide16.result y.wide162.result z.wide163.result (omega arith) x.wide16.ensures y.wide162.ensures z.wide163.ensures (tests z ∙ not-true _ c.if1.true))
+    sym (sift_stop a.vertices.now a.limit a.p a.faces.now l.loop.w l.loop.i x.wide16.result y.wide162.result z.wide163.result (omega arith) x.wide16.ensures y.wide162.ensures z.wide163.ensures (tests z ∙ not-true _ c.if1.true))
     ∙ l.loop.invariant.2
 
 sifted-requires : tie.Need-sifted-requires invariant-loop decreases-loop
@@ -68,7 +68,7 @@ loop-again c =
       omega arith,
       omega arith,
       rw c.sifted.ensures
-          (sym (sift-turn a.vertices.now a.limit a.p a.faces.now l.loop.w l.loop.i x.wide16.result y.wide162.result z.wide163.result (omega arith) x.wide16.ensures y.wide162.ensures z.wide163.ensures
+          (sym (sift_turn a.vertices.now a.limit a.p a.faces.now l.loop.w l.loop.i x.wide16.result y.wide162.result z.wide163.result (omega arith) x.wide16.ensures y.wide162.ensures z.wide163.ensures
           (tests z ∙ not-false _ c.before.if1.false))
           ∙ l.loop.invariant.2),
     )
@@ -77,7 +77,7 @@ returns-2 : tie.Need-returns-2 invariant-loop decreases-loop
 returns-2 c =
     let l = c.before in
     let a = l.before.before.before.args in
-    sym (sift-end a.vertices.now a.limit a.p a.faces.now l.loop.w l.loop.i (omega arith)) ∙ l.loop.invariant.2
+    sym (sift_end a.vertices.now a.limit a.p a.faces.now l.loop.w l.loop.i (omega arith)) ∙ l.loop.invariant.2
 
 pub sift-spec : {M : Type 1} → statement M
 sift-spec =

@@ -3,20 +3,20 @@ use mathlib.Core.Path.{◌≡◌, ap}
 use Prim.Native.Nat.{◌*◌, ◌≤◌, ◌<◌}
 use native.Mathlib.Nat.{mul-le-mul}
 use native.Mathlib.Omega.{arith}
-use Rattle.mesh.specs.Levels.{vertexCount}
-use Rattle.mesh.proofs.Tables.{grid-le, grid-ge}
-use Rattle.search.specs.Geometry.{cubeFace, cubeProject, cellIndex}
+use Rattle.mesh.specs.Levels.{vertex_count}
+use Rattle.mesh.proofs.Tables.{grid_le, grid_ge}
+use Rattle.search.specs.Geometry.{cube_face, cube_project, cell_index}
 use Rattle.search.specs.declared.Projected.{Projected}
-use Rattle.search.proofs.Bounds.{coordinate-lt, face-le}
+use Rattle.search.proofs.Bounds.{coordinate_lt, face_le}
 use Rattle.search.proofs.geometry.cell_index.Statement.{statement}
 use Rattle.search.proofs.geometry.cell_index.Tie as tie
 
 -- the grid's size, the face and the coordinates
 size-le : (c : tie.After-grid-size) → (2 ≤ c.grid-size.result) × (c.grid-size.result ≤ 400)
-size-le c = rw c.grid-size.ensures (grid-ge (vertexCount c.before.args.level), grid-le c.before.args.level (omega arith))
+size-le c = rw c.grid-size.ensures (grid_ge (vertex_count c.before.args.level), grid_le c.before.args.level (omega arith))
 
-face-is : (c : tie.After-cube-project) → c.cube-project.result.face ≡ cubeFace c.before.before.args.v
-unfolding cubeProject
+face-is : (c : tie.After-cube-project) → c.cube-project.result.face ≡ cube_face c.before.before.args.v
+unfolding cube_project
 face-is c = ap (λ (p : Projected). p.face) c.cube-project.ensures
 
 small : (c : tie.After-cell-coordinate2)
@@ -27,11 +27,11 @@ small c =
     let s = p.before in
     let g = s.grid-size.result in
     let v = s.before.args.v in
-    let f = face-le v in
+    let f = face_le v in
     let e = face-is p in
     let h = size-le s in
-    let i : c.before.cell-coordinate.result < g = rw c.before.cell-coordinate.ensures (coordinate-lt g p.cube-project.result.u (omega arith) (omega arith)) in
-    let j : c.cell-coordinate2.result < g = rw c.cell-coordinate2.ensures (coordinate-lt g p.cube-project.result.w (omega arith) (omega arith)) in
+    let i : c.before.cell-coordinate.result < g = rw c.before.cell-coordinate.ensures (coordinate_lt g p.cube-project.result.u (omega arith) (omega arith)) in
+    let j : c.cell-coordinate2.result < g = rw c.cell-coordinate2.ensures (coordinate_lt g p.cube-project.result.w (omega arith) (omega arith)) in
     let q : g * g ≤ 400 * 400 = mul-le-mul h.1 h.1 in
     (q, mul-le-mul {n₂ = 5} (omega arith) q, mul-le-mul {n₂ = 400} (omega arith) h.1, omega arith)
 
@@ -51,7 +51,7 @@ add-result-2 : tie.Need-overflow-add-result-2
 add-result-2 c = omega (arith, small c)
 
 returns : tie.Need-returns
-unfolding cellIndex
+unfolding cell_index
 returns c =
     let p = c.before.before in
     rw (c.cell-coordinate2.ensures, c.before.cell-coordinate.ensures, p.cube-project.ensures, p.before.grid-size.ensures)

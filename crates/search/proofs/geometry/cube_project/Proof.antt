@@ -8,7 +8,7 @@ use lib.Dec.{lit<}
 use lib.Ieee.{Float, nan, inf, fin, unlike, neg, div, lt, le}
 use mir.Val.{bool_byte}
 use Rattle.float.specs.Order.{magnitude}
-use Rattle.search.specs.Geometry.{zero, over, cubeFaceProject, cubeFace, cubeProject}
+use Rattle.search.specs.Geometry.{zero, over, cube_face_project, cube_face, cube_project}
 use Rattle.search.specs.declared.Vector3.{Vector3}
 use Rattle.search.specs.declared.Projected.{Projected}
 use Rattle.search.proofs.geometry.cube_project.Statement.{statement}
@@ -42,14 +42,14 @@ seen v s t =
     }
 
 -- the two faces of a pair
-either_side : (v : Vector3) (k : ℕ) (a u w : Float) → cubeFaceProject k v ≡ record { u = u; w = w; d = a } → cubeFaceProject (k + 1) v ≡ record { u = neg u; w = w; d = neg a } → (z : Bool)
+either_side : (v : Vector3) (k : ℕ) (a u w : Float) → cube_face_project k v ≡ record { u = u; w = w; d = a } → cube_face_project (k + 1) v ≡ record { u = neg u; w = w; d = neg a } → (z : Bool)
     → ◌≡◌ {A = Projected} (record { face = k + bool_byte (not z); u = over u a; w = over w (cond z a (neg a)) })
-    (let s = cubeFaceProject (cond z k (k + 1)) v in record { face = cond z k (k + 1); u = over s.u s.d; w = over s.w s.d })
+    (let s = cube_face_project (cond z k (k + 1)) v in record { face = cond z k (k + 1); u = over s.u s.d; w = over s.w s.d })
 either_side v k a u w p q true = rw (p, add-zero k)
 either_side v k a u w p q false = rw (q, turned u a)
 
-as_seen : (v : Vector3) (s t : Bool) → (le (magnitude v.y) (magnitude v.x) && le (magnitude v.z) (magnitude v.x)) ≡ s → le (magnitude v.z) (magnitude v.y) ≡ t → seen v s t ≡ cubeProject v
-unfolding cubeProject cubeFace cubeFaceProject
+as_seen : (v : Vector3) (s t : Bool) → (le (magnitude v.y) (magnitude v.x) && le (magnitude v.z) (magnitude v.x)) ≡ s → le (magnitude v.z) (magnitude v.y) ≡ t → seen v s t ≡ cube_project v
+unfolding cube_project cube_face cube_face_project
 as_seen v true t p q = rw p (either_side v 0 v.x v.y v.z refl refl (lt zero v.x))
 as_seen v false true p q = rw (p, q) (either_side v 2 v.y v.x v.z refl refl (lt zero v.y))
 as_seen v false false p q = rw (p, q) (either_side v 4 v.z v.x v.y refl refl (lt zero v.z))

@@ -7,7 +7,7 @@ use borrow.Author.Tests.{not-true, not-false}
 use denote.Floats.{passes}
 use Rattle.ieee.specs.Fused.{fused}
 use Rattle.search.specs.Geometry.{zero}
-use Rattle.search.proofs.Signs.{not-above, above}
+use Rattle.search.proofs.Signs.{not_above, above}
 use Rattle.search.proofs.triangle.not_above.Statement.{statement}
 use Rattle.search.proofs.triangle.not_above.Tie as tie
 
@@ -25,7 +25,7 @@ returns-2 : tie.Need-returns-2
 unfolding of_bits
 returns-2 c =
     let o = c.before.before in
-    rw (not-false o.args.asked c.before.if1.false, not-above o.args.x o.args.y o.args.m (held o) c.if2.true)
+    rw (not-false o.args.asked c.before.if1.false, not_above o.args.x o.args.y o.args.m (held o) c.if2.true)
 
 returns-3 : tie.Need-returns-3
 unfolding of_bits fits

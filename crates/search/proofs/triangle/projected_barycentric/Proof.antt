@@ -1,13 +1,13 @@
 -- `projected_barycentric` meets its contract. Assumes nothing.
 use mathlib.Core.Path.{◌≡◌, sym, ap, ◌∙◌}
-use Rattle.search.specs.Geometry.{projectedBarycentric}
-use Rattle.search.proofs.Regions.{regions, by-regions}
+use Rattle.search.specs.Geometry.{projected_barycentric}
+use Rattle.search.proofs.Regions.{regions, by_regions}
 use Rattle.search.proofs.triangle.projected_barycentric.Statement.{statement}
 use Rattle.search.proofs.triangle.projected_barycentric.Tie as tie
 
 -- what is to be shown, over the dot products that the code holds
-over-sides : (c : tie.After-sides-of) → projectedBarycentric c.before.args.p c.before.args.a c.before.args.b c.before.args.c ≡ regions c.sides-of.result
-over-sides c = by-regions c.before.args.p c.before.args.a c.before.args.b c.before.args.c ∙ ap regions (sym c.sides-of.ensures)
+over-sides : (c : tie.After-sides-of) → projected_barycentric c.before.args.p c.before.args.a c.before.args.b c.before.args.c ≡ regions c.sides-of.result
+over-sides c = by_regions c.before.args.p c.before.args.a c.before.args.b c.before.args.c ∙ ap regions (sym c.sides-of.ensures)
 
 returns : tie.Need-returns
 returns c = rw (c.weighed.ensures, over-sides c.before.before, c.before.if1.true)

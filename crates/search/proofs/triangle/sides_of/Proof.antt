@@ -1,10 +1,10 @@
 -- `sides_of` meets its contract. Assumes nothing.
-use Rattle.search.specs.Internal.{sidesOf}
+use Rattle.search.specs.Internal.{sides_of}
 use Rattle.search.proofs.triangle.sides_of.Statement.{statement}
 use Rattle.search.proofs.triangle.sides_of.Tie as tie
 
 returns : tie.Need-returns
-unfolding sidesOf
+unfolding sides_of
 returns c =
     let e = c.before in
     let d = e.before in

@@ -2,7 +2,7 @@
 use Rattle.std.proofs.Common.{◌&&◌, ltb, arith, rules, ltb-true}
 use mathlib.Core.Bool.{and-eq-true_iff}
 use lib.Ieee.{lt}
-use Rattle.settling.specs.Settling.{atomLevel}
+use Rattle.settling.specs.Settling.{atom_level}
 use Rattle.settling.proofs.atom.atom_level.Statement.{statement}
 use Rattle.settling.proofs.atom.atom_level.Tie as tie
 
@@ -13,11 +13,11 @@ sub-result c =
     omega (arith, ltb-true 0 a.level ((and-eq-true_iff (lt a.v.gradient a.threshold) (ltb 0 a.level)).0 q).1)
 
 returns : tie.Need-returns
-unfolding atomLevel
+unfolding atom_level
 returns c = rw (← c.before.settles.ensures, c.if1.true)
 
 returns-2 : tie.Need-returns-2
-unfolding atomLevel
+unfolding atom_level
 returns-2 c = rw (← c.before.settles.ensures, c.if1.false)
 
 pub atom-level-spec : {M : Type 1} → statement M

@@ -1,8 +1,8 @@
 -- `along_neighbours` meets its contract. Assumes nothing.
 use Rattle.std.proofs.Common.{◌≡◌, ℕ, ◌+◌, ◌-◌, ◌*◌, ◌≤◌, List, get_or, refl, ◌∙◌, arith, rules}
 use lib.Ieee.{Float, nan}
-use Rattle.lists.specs.Lists.{forEach}
-use Rattle.settling.specs.Gradient.{steeper, alongNeighbours}
+use Rattle.lists.specs.Lists.{for_each}
+use Rattle.settling.specs.Gradient.{steeper, along_neighbours}
 use Rattle.lists.proofs.Loops.{each_turn}
 use Rattle.settling.proofs.Numbers.{Number, steeper-number}
 use Rattle.settling.proofs.gradient.along_neighbours.Statement.{statement}
@@ -13,13 +13,13 @@ abbrev turn : List ℕ → List ℕ → List Float → List Float → ℕ → �
 turn counts neighbours angles weights v k h = steeper (get_or weights v nan) (get_or weights (get_or neighbours (6 * v + k) 0) nan) (get_or angles (6 * v + k) nan) h
 
 abbrev invariant-loop : tie.invariant-loop
-invariant-loop counts neighbours angles weights v g d x h₀ k₀ h k = (k ≤ d) × (h ≡ forEach k (turn counts neighbours angles weights v) g) × Number h
+invariant-loop counts neighbours angles weights v g d x h₀ k₀ h k = (k ≤ d) × (h ≡ for_each k (turn counts neighbours angles weights v) g) × Number h
 
 abbrev decreases-loop : tie.decreases-loop
 decreases-loop counts neighbours angles weights v g d x h₀ k₀ h k = d - k
 
 loop-holds : tie.Need-loop-init invariant-loop decreases-loop
-unfolding forEach
+unfolding for_each
 loop-holds c = (omega arith, refl, search rules)
 
 mul-entry : tie.Need-overflow-mul-entry invariant-loop decreases-loop
@@ -45,7 +45,7 @@ loop-again c =
     )
 
 returns : tie.Need-returns invariant-loop decreases-loop
-unfolding alongNeighbours
+unfolding along_neighbours
 returns c =
     let l = c.before in
     let full : l.loop.k ≡ l.before.before.degree.result = omega arith in

@@ -1,14 +1,14 @@
 -- `columns` meets its contract. Assumes nothing.
 use Rattle.std.proofs.Common.{◌≡◌, ◌-◌, ◌≤◌, [], length, refl, ◌∙◌, arith, rules}
-use Rattle.mesh.specs.Mesh.{meshOf}
-use Rattle.settling.specs.Internal.{columnGradient, firstColumns}
+use Rattle.mesh.specs.Mesh.{mesh_of}
+use Rattle.settling.specs.Internal.{column_gradient, first_columns}
 use Rattle.settling.proofs.Numbers.{columns-number, columns-one}
 use Rattle.settling.proofs.gradient.columns.Statement.{statement}
 use Rattle.settling.proofs.gradient.columns.Tie as tie
 
 abbrev invariant-loop : tie.invariant-loop
 invariant-loop counts neighbours angles energies beta n weights₀ m h₀ t₀ weights h t =
-    (t ≤ n) × (h ≡ firstColumns (meshOf [] counts neighbours angles) n beta energies t) × (length weights ≡ length weights₀)
+    (t ≤ n) × (h ≡ first_columns (mesh_of [] counts neighbours angles) n beta energies t) × (length weights ≡ length weights₀)
 
 abbrev decreases-loop : tie.decreases-loop
 decreases-loop counts neighbours angles energies beta n weights₀ m h₀ t₀ weights h t = n - t
@@ -32,13 +32,13 @@ loop-less : tie.Need-loop-smaller invariant-loop decreases-loop
 loop-less c = omega arith
 
 loop-again : tie.Need-loop-preserved invariant-loop decreases-loop
-unfolding columnGradient
+unfolding column_gradient
 loop-again c =
     let f = c.before.before.line in
     let l = c.before.before.before.before.before.loop in
     let a = c.before.before.before.before.before.before.before.before.before.before.before.before.before.before.before.args in (
       omega arith,
-      rw (f.ensures, l.invariant.1) (columns-one (meshOf [] a.counts.now a.neighbours.now a.angles.now) a.n a.beta a.energies.now l.t),
+      rw (f.ensures, l.invariant.1) (columns-one (mesh_of [] a.counts.now a.neighbours.now a.angles.now) a.n a.beta a.energies.now l.t),
       f.auto.1.1.1.1.1.1.1.1.1.0 ∙ l.invariant.2,
     )
 

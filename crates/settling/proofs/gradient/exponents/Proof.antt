@@ -2,21 +2,21 @@
 use Rattle.std.proofs.Common.{◌≡◌, ◌-◌, ◌≤◌, length, sym, refl, ◌∙◌, arith, length-set, rules}
 use lib.Ieee.{binary64, mul, neg}
 use Rattle.lists.specs.Lists.{put}
-use Rattle.lists.proofs.Written.{put-nil}
-use Rattle.settling.specs.Internal.{line_of, lineExponents}
-use Rattle.settling.proofs.Lines.{line-turn}
+use Rattle.lists.proofs.Written.{put_nil}
+use Rattle.settling.specs.Internal.{line_of, line_exponents}
+use Rattle.settling.proofs.Lines.{line_turn}
 use Rattle.settling.proofs.gradient.exponents.Statement.{statement}
 use Rattle.settling.proofs.gradient.exponents.Tie as tie
 
 abbrev invariant-loop : tie.invariant-loop
-invariant-loop beta energies from step n weights₀ i₀ weights i = (i ≤ n) × (length weights ≡ length weights₀) × (weights ≡ put weights₀ 0 (lineExponents beta energies from step i))
+invariant-loop beta energies from step n weights₀ i₀ weights i = (i ≤ n) × (length weights ≡ length weights₀) × (weights ≡ put weights₀ 0 (line_exponents beta energies from step i))
 
 abbrev decreases-loop : tie.decreases-loop
 decreases-loop beta energies from step n weights₀ i₀ weights i = n - i
 
 loop-holds : tie.Need-loop-init invariant-loop decreases-loop
 unfolding line_of
-loop-holds c = (search rules, refl, sym (put-nil c.before.before.args.weights.now 0))
+loop-holds c = (search rules, refl, sym (put_nil c.before.before.args.weights.now 0))
 
 exponent-at-requires : tie.Need-exponent-at-requires invariant-loop decreases-loop
 exponent-at-requires c κs = (search rules, search rules, omega arith)
@@ -39,7 +39,7 @@ loop-again c =
     let a = l.before.before.before.args in (
       omega arith,
       simp length-set l.loop.invariant.1,
-      rw c.exponent-at.ensures (line-turn (mul binary64 (neg a.beta)) a.energies.now a.from a.step a.weights.now l.loop.weights l.loop.i l.loop.invariant.2 (omega arith)),
+      rw c.exponent-at.ensures (line_turn (mul binary64 (neg a.beta)) a.energies.now a.from a.step a.weights.now l.loop.weights l.loop.i l.loop.invariant.2 (omega arith)),
     )
 
 returns : tie.Need-returns invariant-loop decreases-loop

@@ -2,19 +2,19 @@
 use Rattle.std.proofs.Common.{◌≡◌, ◌+◌, ◌-◌, ◌≤◌, length, sym, refl, ◌∙◌, arith, length-set, rules}
 use lib.Ieee.{binary64, mul, neg}
 use Rattle.lists.specs.Lists.{put}
-use Rattle.lists.proofs.Written.{put-nil}
-use Rattle.settling.specs.Internal.{line_of, lineExponents}
-use Rattle.settling.proofs.Lines.{line-turn}
+use Rattle.lists.proofs.Written.{put_nil}
+use Rattle.settling.specs.Internal.{line_of, line_exponents}
+use Rattle.settling.proofs.Lines.{line_turn}
 use Rattle.settling.proofs.gradient.exponents_four.Statement.{statement}
 use Rattle.settling.proofs.gradient.exponents_four.Tie as tie
 
 abbrev invariant-loop : tie.invariant-loop
 invariant-loop beta energies from step n first₀ second₀ third₀ fourth₀ i₀ first second third fourth i =
     (i ≤ n) × (length first ≡ length first₀) × (length second ≡ length second₀) × (length third ≡ length third₀) × (length fourth ≡ length fourth₀)
-    × (first ≡ put first₀ 0 (lineExponents beta energies from step i))
-    × (second ≡ put second₀ 0 (lineExponents beta energies (from + 1) step i))
-    × (third ≡ put third₀ 0 (lineExponents beta energies (from + 2) step i))
-    × (fourth ≡ put fourth₀ 0 (lineExponents beta energies (from + 3) step i))
+    × (first ≡ put first₀ 0 (line_exponents beta energies from step i))
+    × (second ≡ put second₀ 0 (line_exponents beta energies (from + 1) step i))
+    × (third ≡ put third₀ 0 (line_exponents beta energies (from + 2) step i))
+    × (fourth ≡ put fourth₀ 0 (line_exponents beta energies (from + 3) step i))
 
 abbrev decreases-loop : tie.decreases-loop
 decreases-loop beta energies from step n first₀ second₀ third₀ fourth₀ i₀ first second third fourth i = n - i
@@ -28,10 +28,10 @@ loop-holds c =
       refl,
       refl,
       refl,
-      sym (put-nil a.first.now 0),
-      sym (put-nil a.second.now 0),
-      sym (put-nil a.third.now 0),
-      sym (put-nil a.fourth.now 0),
+      sym (put_nil a.first.now 0),
+      sym (put_nil a.second.now 0),
+      sym (put_nil a.third.now 0),
+      sym (put_nil a.fourth.now 0),
     )
 
 exponent-at-requires : tie.Need-exponent-at-requires invariant-loop decreases-loop
@@ -94,10 +94,10 @@ loop-again c =
       simp length-set l.loop.invariant.2,
       simp length-set l.loop.invariant.3,
       simp length-set l.loop.invariant.4,
-      rw c.before.before.before.exponent-at.ensures (line-turn (mul binary64 (neg a.beta)) a.energies.now a.from a.step a.first.now l.loop.first l.loop.i l.loop.invariant.5 (omega arith)),
-      rw c.before.before.exponent-at2.ensures (line-turn (mul binary64 (neg a.beta)) a.energies.now (a.from + 1) a.step a.second.now l.loop.second l.loop.i l.loop.invariant.6 (omega arith)),
-      rw c.before.exponent-at3.ensures (line-turn (mul binary64 (neg a.beta)) a.energies.now (a.from + 2) a.step a.third.now l.loop.third l.loop.i l.loop.invariant.7 (omega arith)),
-      rw c.exponent-at4.ensures (line-turn (mul binary64 (neg a.beta)) a.energies.now (a.from + 3) a.step a.fourth.now l.loop.fourth l.loop.i l.loop.invariant.8 (omega arith)),
+      rw c.before.before.before.exponent-at.ensures (line_turn (mul binary64 (neg a.beta)) a.energies.now a.from a.step a.first.now l.loop.first l.loop.i l.loop.invariant.5 (omega arith)),
+      rw c.before.before.exponent-at2.ensures (line_turn (mul binary64 (neg a.beta)) a.energies.now (a.from + 1) a.step a.second.now l.loop.second l.loop.i l.loop.invariant.6 (omega arith)),
+      rw c.before.exponent-at3.ensures (line_turn (mul binary64 (neg a.beta)) a.energies.now (a.from + 2) a.step a.third.now l.loop.third l.loop.i l.loop.invariant.7 (omega arith)),
+      rw c.exponent-at4.ensures (line_turn (mul binary64 (neg a.beta)) a.energies.now (a.from + 3) a.step a.fourth.now l.loop.fourth l.loop.i l.loop.invariant.8 (omega arith)),
     )
 
 returns : tie.Need-returns invariant-loop decreases-loop

@@ -1,22 +1,22 @@
 -- `fours` meets its contract. Assumes nothing.
 use Rattle.std.proofs.Common.{◌≡◌, ◌+◌, ◌-◌, ◌*◌, ◌/◌, ◌≤◌, [], length, refl, ◌∙◌, arith, rules}
-use Rattle.mesh.specs.Mesh.{meshOf}
-use Rattle.lists.specs.Lists.{forEach}
-use Rattle.settling.specs.Internal.{firstColumns}
+use Rattle.mesh.specs.Mesh.{mesh_of}
+use Rattle.lists.specs.Lists.{for_each}
+use Rattle.settling.specs.Internal.{first_columns}
 use Rattle.settling.proofs.Numbers.{columns-number, columns-four}
 use Rattle.settling.proofs.gradient.fours.Statement.{statement}
 use Rattle.settling.proofs.gradient.fours.Tie as tie
 
 abbrev invariant-loop : tie.invariant-loop
 invariant-loop counts neighbours angles energies beta n first₀ second₀ third₀ fourth₀ h₀ i₀ first second third fourth h i =
-    (i ≤ n / 4) × (h ≡ firstColumns (meshOf [] counts neighbours angles) n beta energies (i * 4)) × (length first ≡ length first₀)
+    (i ≤ n / 4) × (h ≡ first_columns (mesh_of [] counts neighbours angles) n beta energies (i * 4)) × (length first ≡ length first₀)
     × (length second ≡ 2562) × (length third ≡ 2562) × (length fourth ≡ 2562)
 
 abbrev decreases-loop : tie.decreases-loop
 decreases-loop counts neighbours angles energies beta n first₀ second₀ third₀ fourth₀ h₀ i₀ first second third fourth h i = n / 4 - i
 
 loop-holds : tie.Need-loop-init invariant-loop decreases-loop
-unfolding firstColumns forEach
+unfolding first_columns for_each
 loop-holds c = (omega arith, refl, refl, refl, refl, refl)
 
 mul-four-columns : tie.Need-overflow-mul-four-columns invariant-loop decreases-loop
@@ -50,7 +50,7 @@ loop-again c =
     let a = c.before.before.before.before.before.before.before.before.before.before.before.before.before.before.before.before.before.args in
     let e : (l.i + 1) * 4 ≡ l.i * 4 + 4 = omega arith in (
       omega arith,
-      rw (f.ensures, l.invariant.1, e) (columns-four (meshOf [] a.counts.now a.neighbours.now a.angles.now) a.n a.beta a.energies.now (l.i * 4)),
+      rw (f.ensures, l.invariant.1, e) (columns-four (mesh_of [] a.counts.now a.neighbours.now a.angles.now) a.n a.beta a.energies.now (l.i * 4)),
       ◌∙◌ {b = length l.first} f.auto.1.1.1.1.1.1.1.1.0 l.invariant.2,
       ◌∙◌ {b = length l.second} f.auto.1.1.1.1.1.1.1.1.1.0 l.invariant.3,
       ◌∙◌ {b = length l.third} f.auto.1.1.1.1.1.1.1.1.1.1.0 l.invariant.4,

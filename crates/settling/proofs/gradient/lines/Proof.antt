@@ -1,22 +1,22 @@
 -- `lines` meets its contract. Assumes nothing.
 use Rattle.std.proofs.Common.{◌≡◌, ℕ, ◌-◌, ◌*◌, ◌≤◌, List, [], length, refl, ◌∙◌, mul-le-mul, arith, rules}
 use lib.Ieee.{Float}
-use Rattle.mesh.specs.Mesh.{meshOf}
-use Rattle.lists.specs.Lists.{forEach}
-use Rattle.settling.specs.Internal.{lineWeights, lineGradient, linesGradient}
+use Rattle.mesh.specs.Mesh.{mesh_of}
+use Rattle.lists.specs.Lists.{for_each}
+use Rattle.settling.specs.Internal.{line_weights, lineGradient, lines_gradient}
 use Rattle.lists.proofs.Loops.{each_turn}
-use Rattle.settling.proofs.Numbers.{Number, line-number}
+use Rattle.settling.proofs.Numbers.{Number, line_number}
 use Rattle.settling.proofs.gradient.lines.Statement.{statement}
 use Rattle.settling.proofs.gradient.lines.Tie as tie
 
 -- what a turn of the loop makes of the gradient so far
 abbrev turn : List ℕ → List ℕ → List Float → List Float → Float → ℕ → ℕ → ℕ → ℕ → Float → Float
 turn counts neighbours angles energies beta apart step n t =
-    lineGradient (meshOf [] counts neighbours angles) n (lineWeights beta energies (apart * t) step n)
+    lineGradient (mesh_of [] counts neighbours angles) n (line_weights beta energies (apart * t) step n)
 
 abbrev invariant-loop : tie.invariant-loop
 invariant-loop counts neighbours angles energies beta apart step n g weights₀ h₀ t₀ weights h t =
-    (t ≤ n) × (h ≡ forEach t (turn counts neighbours angles energies beta apart step n) g) × Number h × (length weights ≡ length weights₀)
+    (t ≤ n) × (h ≡ for_each t (turn counts neighbours angles energies beta apart step n) g) × Number h × (length weights ≡ length weights₀)
 
 abbrev decreases-loop : tie.decreases-loop
 decreases-loop counts neighbours angles energies beta apart step n g weights₀ h₀ t₀ weights h t = n - t
@@ -29,7 +29,7 @@ place c =
     mul-le-mul a.requires.2 t
 
 loop-holds : tie.Need-loop-init invariant-loop decreases-loop
-unfolding forEach
+unfolding for_each
 loop-holds c = (omega arith, refl, search rules, refl)
 
 mul-line : tie.Need-overflow-mul-line invariant-loop decreases-loop
@@ -55,12 +55,12 @@ loop-again c =
       omega arith,
       rw f.ensures
           (each_turn (turn a.counts.now a.neighbours.now a.angles.now a.energies.now a.beta a.apart a.step a.n) l.t a.g l.h l.invariant.1),
-      rw f.ensures (line-number (meshOf [] a.counts.now a.neighbours.now a.angles.now) a.n (lineWeights a.beta a.energies.now (a.apart * l.t) a.step a.n) l.h l.invariant.2),
+      rw f.ensures (line_number (mesh_of [] a.counts.now a.neighbours.now a.angles.now) a.n (line_weights a.beta a.energies.now (a.apart * l.t) a.step a.n) l.h l.invariant.2),
       f.auto.1.1.1.1.1.1.1.1.1.0 ∙ l.invariant.3,
     )
 
 returns : tie.Need-returns invariant-loop decreases-loop
-unfolding linesGradient
+unfolding lines_gradient
 returns c =
     let l = c.before in
     let full : l.loop.t ≡ l.before.before.before.before.before.before.args.n = omega arith in

@@ -1,8 +1,8 @@
 -- `weighed` meets its contract. Assumes nothing.
 use Rattle.std.proofs.Common.{[], ap, ◌∙◌, rules}
-use Rattle.mesh.specs.Mesh.{Mesh, meshOf}
+use Rattle.mesh.specs.Mesh.{Mesh, mesh_of}
 use Rattle.settling.specs.Internal.{lineGradient}
-use Rattle.settling.proofs.Lines.{weighed-part}
+use Rattle.settling.proofs.Lines.{weighed_part}
 use Rattle.settling.proofs.gradient.weighed.Statement.{statement}
 use Rattle.settling.proofs.gradient.weighed.Tie as tie
 
@@ -11,8 +11,8 @@ returns c =
     let e = c.before.before.before.before.before in
     let s = e.before.before.before.before.before.before in
     let a = s.args in
-    let m : Mesh = meshOf [] a.counts.now a.neighbours.now a.angles.now in
-    c.line-gradient.ensures ∙ ap (λ w. lineGradient m a.n w a.g) (weighed-part a.weights.now _ _ a.n e.exp-list.ensures s.requires.0)
+    let m : Mesh = mesh_of [] a.counts.now a.neighbours.now a.angles.now in
+    c.line-gradient.ensures ∙ ap (λ w. lineGradient m a.n w a.g) (weighed_part a.weights.now _ _ a.n e.exp-list.ensures s.requires.0)
 
 pub weighed-spec : {M : Type 1} → statement M
 weighed-spec =

@@ -3,8 +3,8 @@ use Rattle.std.proofs.Common.{◌≡◌, ◌-◌, length, drop, sym, refl, ◌�
 use Rattle.lists.proofs.Counting.{yes, no}
 use lib.Ieee.{nan}
 use Rattle.lists.specs.Lists.{every}
-use Rattle.settling.specs.Gradient.{repulsive, allRepulsive}
-use Rattle.lists.proofs.Loops.{every-fails, every-next, every-end}
+use Rattle.settling.specs.Gradient.{repulsive, all_repulsive}
+use Rattle.lists.proofs.Loops.{every_fails, every_next, every_end}
 use Rattle.settling.proofs.verdicts.all_repulsive.Statement.{statement}
 use Rattle.settling.proofs.verdicts.all_repulsive.Tie as tie
 
@@ -18,11 +18,11 @@ loop-holds : tie.Need-loop-init invariant-loop decreases-loop
 loop-holds c = refl
 
 returns : tie.Need-returns invariant-loop decreases-loop
-unfolding allRepulsive
+unfolding all_repulsive
 returns c =
     let l = c.before.before.before.before in
     let a = l.before.before.args in
-    sym (every-fails (repulsive a.beta) a.energies.now l.loop.i nan (omega arith) (no c.before.is-repulsive.ensures c.if1.true)) ∙ l.loop.invariant
+    sym (every_fails (repulsive a.beta) a.energies.now l.loop.i nan (omega arith) (no c.before.is-repulsive.ensures c.if1.true)) ∙ l.loop.invariant
 
 add-i : tie.Need-overflow-add-i invariant-loop decreases-loop
 add-i c = omega arith
@@ -34,13 +34,13 @@ loop-again : tie.Need-loop-preserved invariant-loop decreases-loop
 loop-again c =
     let l = c.before.before.before.before in
     let a = l.before.before.args in
-    sym (every-next (repulsive a.beta) a.energies.now l.loop.i nan (omega arith) (yes c.before.is-repulsive.ensures c.if1.false)) ∙ l.loop.invariant
+    sym (every_next (repulsive a.beta) a.energies.now l.loop.i nan (omega arith) (yes c.before.is-repulsive.ensures c.if1.false)) ∙ l.loop.invariant
 
 returns-2 : tie.Need-returns-2 invariant-loop decreases-loop
-unfolding allRepulsive
+unfolding all_repulsive
 returns-2 c =
     let a = c.before.before.before.args in
-    sym (every-end (repulsive a.beta) a.energies.now _ nan c.loop-test.false) ∙ c.before.loop.invariant
+    sym (every_end (repulsive a.beta) a.energies.now _ nan c.loop-test.false) ∙ c.before.loop.invariant
 
 pub all-repulsive-spec : {M : Type 1} → statement M
 all-repulsive-spec =

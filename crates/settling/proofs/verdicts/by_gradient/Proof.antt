@@ -1,19 +1,19 @@
 -- `by_gradient` meets its contract. Assumes nothing.
-use Rattle.settling.specs.Settling.{byGradient}
+use Rattle.settling.specs.Settling.{by_gradient}
 use Rattle.std.proofs.Common.{rules}
 use Rattle.settling.proofs.verdicts.by_gradient.Statement.{statement}
 use Rattle.settling.proofs.verdicts.by_gradient.Tie as tie
 
 returns : tie.Need-returns
-unfolding byGradient
+unfolding by_gradient
 returns c = rw (c.before.if1.true, c.mean-narrowed.ensures)
 
 returns-2 : tie.Need-returns-2
-unfolding byGradient
+unfolding by_gradient
 returns-2 c = rw (c.before.if1.false, c.if2.true)
 
 returns-3 : tie.Need-returns-3
-unfolding byGradient
+unfolding by_gradient
 returns-3 c = rw (c.before.if1.false, c.if2.false)
 
 pub by-gradient-spec : {M : Type 1} → statement M

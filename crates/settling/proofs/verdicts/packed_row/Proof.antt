@@ -1,11 +1,11 @@
 -- `packed_row` meets its contract. Assumes nothing.
 use Rattle.std.proofs.Common.{sym, ap, ◌∙◌, rules}
-use Rattle.settling.specs.Internal.{packedIn}
+use Rattle.settling.specs.Internal.{packed_in}
 use Rattle.settling.proofs.verdicts.packed_row.Statement.{statement}
 use Rattle.settling.proofs.verdicts.packed_row.Tie as tie
 
 returns-2 : tie.Need-returns-2
-returns-2 c = c.per-level.ensures ∙ sym (ap packedIn c.before.before.row.given.1)
+returns-2 c = c.per-level.ensures ∙ sym (ap packed_in c.before.before.row.given.1)
 
 pub packed-row-spec : {M : Type 1} → statement M
 packed-row-spec =

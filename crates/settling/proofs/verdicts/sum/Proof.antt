@@ -1,13 +1,13 @@
 -- `sum` meets its contract. Assumes nothing.
 use Rattle.std.proofs.Common.{◌≡◌, ◌-◌, length, drop, sym, refl, ◌∙◌, arith, rules}
 use lib.Ieee.{binary64, of_bits, neg}
-use Rattle.settling.specs.Gradient.{sumFrom}
-use Rattle.settling.proofs.Sums.{sum-turn, sum-end}
+use Rattle.settling.specs.Gradient.{sum_from}
+use Rattle.settling.proofs.Sums.{sum_turn, sum_end}
 use Rattle.settling.proofs.verdicts.sum.Statement.{statement}
 use Rattle.settling.proofs.verdicts.sum.Tie as tie
 
 abbrev invariant-loop : tie.invariant-loop
-invariant-loop energies x₀ i₀ x i = sumFrom x (drop i energies) ≡ sumFrom (of_bits binary64 0x8000_0000_0000_0000) energies
+invariant-loop energies x₀ i₀ x i = sum_from x (drop i energies) ≡ sum_from (of_bits binary64 0x8000_0000_0000_0000) energies
 
 abbrev decreases-loop : tie.decreases-loop
 decreases-loop energies x₀ i₀ x i = length energies - i
@@ -26,13 +26,13 @@ loop-again : tie.Need-loop-preserved invariant-loop decreases-loop
 loop-again c =
     let l = c.before.before in
     let e = l.before.args.energies.now in
-    sym (sum-turn e l.loop.i l.loop.x (omega arith)) ∙ l.loop.invariant
+    sym (sum_turn e l.loop.i l.loop.x (omega arith)) ∙ l.loop.invariant
 
 returns : tie.Need-returns invariant-loop decreases-loop
 returns c =
     let l = c.before in
     let e = l.before.args.energies.now in
-    sym (sum-end e l.loop.i l.loop.x (omega arith)) ∙ l.loop.invariant
+    sym (sum_end e l.loop.i l.loop.x (omega arith)) ∙ l.loop.invariant
 
 pub sum-spec : {M : Type 1} → statement M
 sum-spec =

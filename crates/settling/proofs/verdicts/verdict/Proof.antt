@@ -1,16 +1,16 @@
 -- `verdict` meets its contract. Assumes nothing.
 use Rattle.std.proofs.Common.{◌≤◌, arith, rules, le-leb}
 use borrow.Author.Tests.{lt-leb}
-use Rattle.mesh.proofs.Laws.{count-le}
+use Rattle.mesh.proofs.Laws.{count_le}
 use Rattle.settling.specs.Settling.{verdict}
-use Rattle.settling.specs.Internal.{byLines}
-use Rattle.settling.proofs.Slopes.{by_lines}
+use Rattle.settling.specs.Internal.{by_lines}
+use Rattle.settling.proofs.Slopes.{by_lines_lem}
 use Rattle.settling.proofs.verdicts.verdict.Statement.{statement}
 use Rattle.settling.proofs.verdicts.verdict.Tie as tie
 
 -- a level that a builder can have is small
 small : (c : tie.After-vertex-count) → c.vertex-count.result ≤ 2562
-small c = rw c.vertex-count.ensures (count-le _ 16 (omega (arith, c.before.before.before.if1.false)))
+small c = rw c.vertex-count.ensures (count_le _ 16 (omega (arith, c.before.before.before.if1.false)))
 
 returns : tie.Need-returns
 returns c = rw (lt-leb _ _ c.if1.true)
@@ -26,9 +26,9 @@ gradient-requires : tie.Need-gradient-requires
 gradient-requires c κs = small c
 
 returns-3 : tie.Need-returns-3
-unfolding verdict byLines
+unfolding verdict by_lines
 returns-3 c =
-    rw (le-leb _ _ c.before.before.before.before.before.if1.false, ← c.before.before.before.before.all-repulsive.ensures, c.before.before.before.if2.false, c.by-gradient.ensures, c.before.gradient.ensures, c.before.before.vertex-count.ensures, by_lines)
+    rw (le-leb _ _ c.before.before.before.before.before.if1.false, ← c.before.before.before.before.all-repulsive.ensures, c.before.before.before.if2.false, c.by-gradient.ensures, c.before.gradient.ensures, c.before.before.vertex-count.ensures, by_lines_lem)
 
 pub verdict-spec : {M : Type 1} → statement M
 verdict-spec =

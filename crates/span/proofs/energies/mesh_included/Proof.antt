@@ -3,7 +3,7 @@ use mathlib.Core.Path.{◌≡◌, refl}
 use Prim.Native.Nat.{ℕ, ◌+◌, ◌-◌, ◌*◌, ◌≤◌}
 use native.Mathlib.Omega.{arith}
 use borrow.Author.Rules.{rules}
-use Rattle.lists.specs.Lists.{forEach}
+use Rattle.lists.specs.Lists.{for_each}
 use Rattle.lists.proofs.Loops.{each_turn}
 use Rattle.table.specs.Bytes.{number_at}
 use Rattle.reading.specs.Resolve.{widened}
@@ -13,13 +13,13 @@ use Rattle.span.proofs.energies.mesh_included.Statement.{statement}
 use Rattle.span.proofs.energies.mesh_included.Tie as tie
 
 abbrev invariant-loop : tie.invariant-loop
-invariant-loop file start offset n y₀ k₀ y k = (k ≤ n) × (y ≡ forEach k (λ j z. included (widened (number_at 4 file (start + (offset + j) * 4))) z) y₀)
+invariant-loop file start offset n y₀ k₀ y k = (k ≤ n) × (y ≡ for_each k (λ j z. included (widened (number_at 4 file (start + (offset + j) * 4))) z) y₀)
 
 abbrev decreases-loop : tie.decreases-loop
 decreases-loop file start offset n y₀ k₀ y k = n - k
 
 loop-holds : tie.Need-loop-init invariant-loop decreases-loop
-unfolding forEach
+unfolding for_each
 loop-holds c = (omega arith, refl)
 
 loop-again : tie.Need-loop-preserved invariant-loop decreases-loop

@@ -7,7 +7,7 @@ use native.Mathlib.Omega.{arith}
 use lib.Dec.{leb}
 use borrow.Author.Rules.{rules}
 use borrow.Author.Tests.{le-leb, lt-leb}
-use Rattle.ieee.proofs.Pack.{le-or-lt}
+use Rattle.ieee.proofs.Pack.{le_or_lt}
 use Rattle.lists.proofs.Counting.{and_no}
 use Rattle.span.proofs.questions.energies_inside.Statement.{statement}
 use Rattle.span.proofs.questions.energies_inside.Tie as tie
@@ -25,7 +25,7 @@ returns-2 c =
     ⊎_elim
     (λ h. rw (le-leb e ((a.length - a.start) / 4) (omega (arith, c.if1.false, h)), le-leb (a.start + e * 4) a.length h))
     (λ h. rw (lt-leb e ((a.length - a.start) / 4) (omega (arith, c.if1.false, h)), lt-leb (a.start + e * 4) a.length h))
-    (le-or-lt (a.start + e * 4) a.length) in
+    (le_or_lt (a.start + e * 4) a.length) in
     ap (λ (x : Bool). leb e a.count && x) same
 
 pub energies-inside-spec : {M : Type 1} → statement M

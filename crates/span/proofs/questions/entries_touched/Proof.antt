@@ -3,15 +3,15 @@ use mathlib.Core.Path.{◌≡◌, sym}
 use Prim.Native.Nat.{ℕ, ◌+◌, ◌-◌, ◌*◌, ◌≤◌}
 use native.Mathlib.Omega.{arith}
 use lib.ListN.{length}
-use Rattle.lists.specs.Lists.{allUpTo}
+use Rattle.lists.specs.Lists.{all_up_to}
 use Rattle.reading.specs.Reading.{entry_at}
-use Rattle.span.specs.Spans.{entryTouched}
+use Rattle.span.specs.Spans.{entry_touched}
 use Rattle.span.proofs.Touched.{all_more, all_none, row_fits}
 use Rattle.span.proofs.questions.entries_touched.Statement.{statement}
 use Rattle.span.proofs.questions.entries_touched.Tie as tie
 
 abbrev invariant-loop : tie.invariant-loop
-invariant-loop t file first count oi n start touched₀ i₀ touched i = (i ≤ count) × (touched ≡ allUpTo i (λ j. entryTouched file t (entry_at file t ((first + j) * t.grid.n_omega + oi))))
+invariant-loop t file first count oi n start touched₀ i₀ touched i = (i ≤ count) × (touched ≡ all_up_to i (λ j. entry_touched file t (entry_at file t ((first + j) * t.grid.n_omega + oi))))
 
 abbrev decreases-loop : tie.decreases-loop
 decreases-loop t file first count oi n start touched₀ i₀ touched i = count - i
@@ -36,7 +36,7 @@ unfolding entry_at
 loop-again c =
     let l = c.before.before in
     let a = l.before.before.before.args in
-    (omega arith, rw (c.entry-touched.ensures, l.loop.invariant.1) (sym (all_more (λ (j : ℕ). entryTouched a.file.now a.t (entry_at a.file.now a.t ((a.first + j) * a.t.grid.n_omega + a.oi))) l.loop.i)))
+    (omega arith, rw (c.entry-touched.ensures, l.loop.invariant.1) (sym (all_more (λ (j : ℕ). entry_touched a.file.now a.t (entry_at a.file.now a.t ((a.first + j) * a.t.grid.n_omega + a.oi))) l.loop.i)))
 
 returns : tie.Need-returns invariant-loop decreases-loop
 returns c =

@@ -8,16 +8,16 @@ use lib.Dec.{leb, ltb}
 use borrow.Author.Rules.{rules}
 use borrow.Author.Tests.{ltb-true, leb-true}
 use Rattle.lists.proofs.Counting.{yes, no}
-use Rattle.reading.specs.Reading.{rowInside}
-use Rattle.span.specs.Spans.{slabIn}
-use Rattle.span.proofs.Touched.{no-bins, no_last, all-inside}
+use Rattle.reading.specs.Reading.{row_inside}
+use Rattle.span.specs.Spans.{slab_in}
+use Rattle.span.proofs.Touched.{no_bins, no_last, all_inside}
 use Rattle.span.proofs.questions.rows_touched.Statement.{statement}
 use Rattle.span.proofs.questions.rows_touched.Tie as tie
 
 returns : tie.Need-returns
 returns c =
     let a = c.before.before.before.args in
-    no-bins a.file.now a.t a.first a.last a.omega (no refl c.if1.true)
+    no_bins a.file.now a.t a.first a.last a.omega (no refl c.if1.true)
 
 slab-inside-requires : tie.Need-slab-inside-requires
 slab-inside-requires c κs =
@@ -26,8 +26,8 @@ slab-inside-requires c κs =
     ltb-true 0 g.n_omega ((and-eq-true_iff (ltb 0 g.n_r) (ltb 0 g.n_omega)).0 (yes refl e.if1.false)).1
 
 -- what was found of the last row
-last_row : (c : tie.After-slab-inside) → (let a = c.before.before.before.before.before.args in c.slab-inside.result ≡ rowInside a.file.now a.t (slabIn a.t.grid a.last a.omega))
-unfolding rowInside
+last_row : (c : tie.After-slab-inside) → (let a = c.before.before.before.before.before.args in c.slab-inside.result ≡ row_inside a.file.now a.t (slab_in a.t.grid a.last a.omega))
+unfolding row_inside
 last_row c = c.slab-inside.ensures ∙ rw c.before.dihedral-bin.ensures
 
 returns-2 : tie.Need-returns-2
@@ -56,7 +56,7 @@ returns-3 c =
     let a = s.args in
     c.entries-touched.ensures
     ∙ rw d.dihedral-bin.ensures
-    (all-inside a.file.now a.t a.first a.last a.omega s.requires.0 (yes refl d.before.if1.false) (a.last - a.first + 1) refl (yes (last_row i.before) i.if2.false))
+    (all_inside a.file.now a.t a.first a.last a.omega s.requires.0 (yes refl d.before.if1.false) (a.last - a.first + 1) refl (yes (last_row i.before) i.if2.false))
 
 pub rows-touched-spec : {M : Type 1} → statement M
 rows-touched-spec =

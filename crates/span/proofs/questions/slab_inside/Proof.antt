@@ -6,7 +6,7 @@ use lib.Dec.{ltb}
 use borrow.Author.Rules.{rules}
 use borrow.Author.Tests.{le-ltb, lt-leb}
 use Rattle.lists.proofs.Counting.{and_no}
-use Rattle.span.proofs.Touched.{slab-fits}
+use Rattle.span.proofs.Touched.{slab_fits}
 use Rattle.span.proofs.questions.slab_inside.Statement.{statement}
 use Rattle.span.proofs.questions.slab_inside.Tie as tie
 
@@ -26,7 +26,7 @@ returns-3 c =
 returns-4 : tie.Need-returns-4
 returns-4 c =
     let a = c.before.before.before.args in
-    slab-fits a.i a.n a.oi (omega arith) a.start a.rows a.length (omega (arith, c.before.before.if1.false)) (omega (arith, c.before.if2.false)) (omega (arith, c.if3.false))
+    slab_fits a.i a.n a.oi (omega arith) a.start a.rows a.length (omega (arith, c.before.before.if1.false)) (omega (arith, c.before.if2.false)) (omega (arith, c.if3.false))
 
 pub slab-inside-spec : {M : Type 1} → statement M
 slab-inside-spec =

@@ -5,9 +5,9 @@ use borrow.Author.Rules.{rules}
 use Rattle.lists.specs.Questions.{ask}
 use Rattle.lists.specs.Lists.{every}
 use Rattle.lists.proofs.Counting.{yes, no}
-use Rattle.table.specs.Read.{rowItems, tableValid, entryValid}
-use Rattle.table.specs.Checks.{slabChecked}
-use Rattle.table.proofs.OfLoose.{counts-held, rows_end}
+use Rattle.table.specs.Read.{row_items, table_valid, entry_valid}
+use Rattle.table.specs.Checks.{slab_checked}
+use Rattle.table.proofs.OfLoose.{counts_held, rows_end}
 use Rattle.table.proofs.loose.loose_question.Statement.{statement}
 use Rattle.table.proofs.loose.loose_question.Tie as tie
 
@@ -19,7 +19,7 @@ unfolding ask
 returns c = rw (no c.before.table-valid.ensures c.if1.true)
 
 -- 14, 15 and 25 were answered yes
-valid : (c : tie.Else1) → let a = c.before.before.before.args in tableValid a.file.now a.t ≡ true
+valid : (c : tie.Else1) → let a = c.before.before.before.args in table_valid a.file.now a.t ≡ true
 valid c = yes c.before.table-valid.ensures c.if1.false
 
 rows-valid-requires : tie.Need-rows-valid-requires
@@ -29,7 +29,7 @@ returns-2 : tie.Need-returns-2
 unfolding ask
 returns-2 c = rw (valid c.before.before, no c.before.rows-valid.ensures c.if2.true)
 
-known : (c : tie.Else2) → let a = c.before.before.before.before.before.args in every (entryValid a.t.levels) (rowItems a.file.now a.t) ≡ true
+known : (c : tie.Else2) → let a = c.before.before.before.before.before.args in every (entry_valid a.t.levels) (row_items a.file.now a.t) ≡ true
 known c = yes c.before.rows-valid.ensures c.if2.false
 
 slabs-inside-requires : tie.Need-slabs-inside-requires
@@ -40,15 +40,15 @@ unfolding ask
 returns-3 c =
     let e = c.before.before in
     let a = e.before.before.before.before.before.args in
-    let z : every (slabChecked a.file.now a.t) (rowItems a.file.now a.t) ≡ false =
-    sym (rows_end a.file.now a.t (counts-held a.file.now a.t (valid e.before.before)) (rowItems a.file.now a.t) (known e)) ∙ no c.before.slabs-inside.ensures c.if3.true in
+    let z : every (slab_checked a.file.now a.t) (row_items a.file.now a.t) ≡ false =
+    sym (rows_end a.file.now a.t (counts_held a.file.now a.t (valid e.before.before)) (row_items a.file.now a.t) (known e)) ∙ no c.before.slabs-inside.ensures c.if3.true in
     rw (valid e.before.before, known e, z)
 
-inside : (c : tie.Else3) → let a = c.before.before.before.before.before.before.before.args in every (slabChecked a.file.now a.t) (rowItems a.file.now a.t) ≡ true
+inside : (c : tie.Else3) → let a = c.before.before.before.before.before.before.before.args in every (slab_checked a.file.now a.t) (row_items a.file.now a.t) ≡ true
 inside c =
     let e = c.before.before in
     let a = e.before.before.before.before.before.args in
-    sym (rows_end a.file.now a.t (counts-held a.file.now a.t (valid e.before.before)) (rowItems a.file.now a.t) (known e)) ∙ yes c.before.slabs-inside.ensures c.if3.false
+    sym (rows_end a.file.now a.t (counts_held a.file.now a.t (valid e.before.before)) (row_items a.file.now a.t) (known e)) ∙ yes c.before.slabs-inside.ensures c.if3.false
 
 energies-valid-requires : tie.Need-energies-valid-requires
 energies-valid-requires c κs = c.before.before.before.before.before.before.before.requires.0.energies

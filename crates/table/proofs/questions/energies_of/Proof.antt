@@ -2,13 +2,13 @@
 use native.Mathlib.Omega.{arith}
 use borrow.Author.Rules.{rules}
 use Rattle.mesh.specs.Levels.{per}
-use Rattle.mesh.proofs.Laws.{per-le}
+use Rattle.mesh.proofs.Laws.{per_le}
 use Rattle.table.proofs.questions.energies_of.Statement.{statement}
 use Rattle.table.proofs.questions.energies_of.Tie as tie
 
 mul-result : tie.Need-overflow-mul-result
 unfolding per
-mul-result c = rw c.before.vertex-count.ensures (omega (arith, per-le c.before.before.args.level 256 (omega arith)))
+mul-result c = rw c.before.vertex-count.ensures (omega (arith, per_le c.before.before.args.level 256 (omega arith)))
 
 returns : tie.Need-returns
 unfolding per

@@ -6,21 +6,21 @@ use native.Mathlib.Omega.{arith}
 use lib.Dec.{eqb}
 use borrow.Author.Rules.{rules}
 use borrow.Author.Tests.{eq-eqb, ne_eqb}
-use Rattle.mesh.specs.Levels.{vertexCount}
-use Rattle.lists.specs.Lists.{allUpTo}
-use Rattle.lists.proofs.Counting.{all-turn, all-fails}
+use Rattle.mesh.specs.Levels.{vertex_count}
+use Rattle.lists.specs.Lists.{all_up_to}
+use Rattle.lists.proofs.Counting.{all_turn, all_fails}
 use Rattle.table.specs.Bytes.{number_at}
 use Rattle.table.proofs.questions.levels_valid.Statement.{statement}
 use Rattle.table.proofs.questions.levels_valid.Tie as tie
 
 abbrev invariant-loop : tie.invariant-loop
-invariant-loop file start levels m₀ m = (m ≤ levels) × (allUpTo m (λ k. eqb (number_at 4 file (start + 4 * k)) (vertexCount k)) ≡ true)
+invariant-loop file start levels m₀ m = (m ≤ levels) × (all_up_to m (λ k. eqb (number_at 4 file (start + 4 * k)) (vertex_count k)) ≡ true)
 
 abbrev decreases-loop : tie.decreases-loop
 decreases-loop file start levels m₀ m = levels - m
 
 loop-holds : tie.Need-loop-init invariant-loop decreases-loop
-unfolding allUpTo
+unfolding all_up_to
 loop-holds c = (omega arith, refl)
 
 mul-u32-in : tie.Need-overflow-mul-u32-in invariant-loop decreases-loop
@@ -39,7 +39,7 @@ returns : tie.Need-returns invariant-loop decreases-loop
 returns c =
     let l = c.before.before.before.before in
     let a = l.before.before.args in
-    sym (all-fails (λ k. eqb (number_at 4 a.file.now (a.start + 4 * k)) (vertexCount k)) l.loop.m a.levels (omega arith) (ne_eqb _ _ (λ e. c.if1.true (c.before.before.u32-in.ensures ∙ e ∙ sym c.before.vertex-count.ensures))))
+    sym (all_fails (λ k. eqb (number_at 4 a.file.now (a.start + 4 * k)) (vertex_count k)) l.loop.m a.levels (omega arith) (ne_eqb _ _ (λ e. c.if1.true (c.before.before.u32-in.ensures ∙ e ∙ sym c.before.vertex-count.ensures))))
 
 add-m : tie.Need-overflow-add-m invariant-loop decreases-loop
 add-m c = omega arith
@@ -51,7 +51,7 @@ loop-again : tie.Need-loop-preserved invariant-loop decreases-loop
 loop-again c =
     let l = c.before.before.before.before in
     let a = l.before.before.args in
-    (omega arith, all-turn (λ k. eqb (number_at 4 a.file.now (a.start + 4 * k)) (vertexCount k)) l.loop.m l.loop.invariant.1 (eq-eqb _ _ (sym c.before.before.u32-in.ensures ∙ c.if1.false ∙ c.before.vertex-count.ensures)))
+    (omega arith, all_turn (λ k. eqb (number_at 4 a.file.now (a.start + 4 * k)) (vertex_count k)) l.loop.m l.loop.invariant.1 (eq-eqb _ _ (sym c.before.before.u32-in.ensures ∙ c.if1.false ∙ c.before.vertex-count.ensures)))
 
 returns-2 : tie.Need-returns-2 invariant-loop decreases-loop
 returns-2 c =

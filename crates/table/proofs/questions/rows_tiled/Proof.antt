@@ -8,13 +8,13 @@ use Rattle.lists.proofs.Counting.{yes, no}
 use Rattle.table.specs.Bytes.{items}
 use Rattle.table.specs.File.{entry_of}
 use Rattle.table.specs.Read.{tiled}
-use Rattle.table.specs.Internal.{eachOf}
-use Rattle.table.proofs.Items.{tiled-stop, tiled-next, tiled-end}
+use Rattle.table.specs.Internal.{each_of}
+use Rattle.table.proofs.Items.{tiled_stop, tiled_next, tiled_end}
 use Rattle.table.proofs.questions.rows_tiled.Statement.{statement}
 use Rattle.table.proofs.questions.rows_tiled.Tie as tie
 
 abbrev invariant-loop : tie.invariant-loop
-invariant-loop file pairs start rows energies at₀ left₀ o₀ at left o = (at + left * 10 ≤ length file) × (o ≤ 433794318339) × (tiled (eachOf pairs) o energies (items entry_of 10 file at left) ≡ tiled (eachOf pairs) 0 energies (items entry_of 10 file start rows))
+invariant-loop file pairs start rows energies at₀ left₀ o₀ at left o = (at + left * 10 ≤ length file) × (o ≤ 433794318339) × (tiled (each_of pairs) o energies (items entry_of 10 file at left) ≡ tiled (each_of pairs) 0 energies (items entry_of 10 file start rows))
 
 abbrev decreases-loop : tie.decreases-loop
 decreases-loop file pairs start rows energies at₀ left₀ o₀ at left o = left
@@ -41,7 +41,7 @@ returns : tie.Need-returns invariant-loop decreases-loop
 returns c =
     let l = c.before.before.before.before.before.before in
     let a = l.before.before.args in
-    sym (tiled-stop (eachOf a.pairs) a.file.now a.energies l.loop.o l.loop.at l.loop.left (omega arith) (no (c.before.placed.ensures ∙ rw c.before.before.u32-in.ensures) c.if1.true)) ∙ l.loop.invariant.2
+    sym (tiled_stop (each_of a.pairs) a.file.now a.energies l.loop.o l.loop.at l.loop.left (omega arith) (no (c.before.placed.ensures ∙ rw c.before.before.u32-in.ensures) c.if1.true)) ∙ l.loop.invariant.2
 
 next-place-requires : tie.Need-next-place-requires invariant-loop decreases-loop
 next-place-requires c κs = c.before.before.before.before.before.before.loop.invariant.1
@@ -60,13 +60,13 @@ loop-again c =
     let l = c.before.before.before.before.before.before.before in
     let a = l.before.before.args in
     let e = c.before.before.before.u32-in.ensures in
-    (omega arith, c.next_place.ensures.1, rw (c.next_place.ensures.0, e) (sym (tiled-next (eachOf a.pairs) a.file.now a.energies l.loop.o l.loop.at l.loop.left (omega arith) (yes (c.before.before.placed.ensures ∙ rw e) c.before.if1.false)) ∙ l.loop.invariant.2))
+    (omega arith, c.next_place.ensures.1, rw (c.next_place.ensures.0, e) (sym (tiled_next (each_of a.pairs) a.file.now a.energies l.loop.o l.loop.at l.loop.left (omega arith) (yes (c.before.before.placed.ensures ∙ rw e) c.before.if1.false)) ∙ l.loop.invariant.2))
 
 returns-2 : tie.Need-returns-2 invariant-loop decreases-loop
 returns-2 c =
     let l = c.before in
     let a = l.before.before.args in
-    sym (tiled-end (eachOf a.pairs) a.file.now a.energies l.loop.o l.loop.at l.loop.left (omega arith)) ∙ l.loop.invariant.2
+    sym (tiled_end (each_of a.pairs) a.file.now a.energies l.loop.o l.loop.at l.loop.left (omega arith)) ∙ l.loop.invariant.2
 
 pub rows-tiled-spec : {M : Type 1} → statement M
 rows-tiled-spec =

@@ -4,9 +4,9 @@ use mathlib.Core.Bool.{true}
 use borrow.Author.Rules.{rules}
 use Rattle.lists.specs.Questions.{ask}
 use Rattle.lists.proofs.Counting.{yes, no}
-use Rattle.table.specs.Read.{tableValid}
+use Rattle.table.specs.Read.{table_valid}
 use Rattle.table.specs.View.{within}
-use Rattle.table.proofs.Accepted.{then-no, then-zero}
+use Rattle.table.proofs.Accepted.{then_no, then-zero}
 use Rattle.table.proofs.questions.table_question.Statement.{statement}
 use Rattle.table.proofs.questions.table_question.Tie as tie
 
@@ -22,7 +22,7 @@ unfolding ask
 returns-2 c = rw (yes c.before.before.before.table-valid.ensures c.before.before.if1.false, no c.before.within.ensures c.if2.true)
 
 -- 14 and 24 were answered yes
-valid : (c : tie.Else2) → let a = c.before.before.before.before.before.args in tableValid a.file.now a.t ≡ true
+valid : (c : tie.Else2) → let a = c.before.before.before.before.before.args in table_valid a.file.now a.t ≡ true
 valid c = yes c.before.before.before.table-valid.ensures c.before.before.if1.false
 
 kept : (c : tie.Else2) → let a = c.before.before.before.before.before.args in within a.bound a.t ≡ true
@@ -33,7 +33,7 @@ rows-question-requires c κs = let p = c.before.before.before.before.before.requ
 
 returns-3 : tie.Need-returns-3
 unfolding ask
-returns-3 c = rw (valid c.before.before, kept c.before.before) (then-no _ _ _ c.before.rows-question.ensures c.if3.true)
+returns-3 c = rw (valid c.before.before, kept c.before.before) (then_no _ _ _ c.before.rows-question.ensures c.if3.true)
 
 tail-valid-requires : tie.Need-tail-valid-requires
 tail-valid-requires c κs = c.before.before.before.before.before.before.before.requires.1

@@ -1,11 +1,11 @@
 -- `table_laid_out` meets its contract. Assumes nothing.
 use borrow.Author.Rules.{rules}
-use Rattle.table.specs.Read.{tableLaidOut}
+use Rattle.table.specs.Read.{table_laid_out}
 use Rattle.table.proofs.walk.table_laid_out.Statement.{statement}
 use Rattle.table.proofs.walk.table_laid_out.Tie as tie
 
 returns : tie.Need-returns
-unfolding tableLaidOut
+unfolding table_laid_out
 returns c = rw (c.ended.ensures, c.before.u32-at2.ensures, c.before.before.u32-at.ensures)
 
 pub table-laid-out-spec : {M : Type 1} → statement M

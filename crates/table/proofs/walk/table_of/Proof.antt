@@ -1,7 +1,7 @@
 -- `table_of` meets its contract. Assumes nothing.
 use native.Mathlib.Omega.{arith}
 use borrow.Author.Rules.{rules}
-use Rattle.table.specs.Read.{tableOf}
+use Rattle.table.specs.Read.{table_of}
 use Rattle.table.proofs.walk.table_of.Statement.{statement}
 use Rattle.table.proofs.walk.table_of.Tie as tie
 
@@ -21,7 +21,7 @@ terms-start-requires : tie.Need-terms-start-requires
 terms-start-requires c κs = c.before.before.before.before.before.before.requires.1
 
 returns : tie.Need-returns
-unfolding tableOf
+unfolding table_of
 returns c = rw (c.terms-start.ensures, c.before.u32-at.ensures, c.before.before.u32-in3.ensures, c.before.before.before.u32-in2.ensures, c.before.before.before.before.u32-in.ensures, c.before.before.before.before.before.grid-of.ensures)
 
 pub table-of-spec : {M : Type 1} → statement M

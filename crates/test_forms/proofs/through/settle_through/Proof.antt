@@ -46,9 +46,9 @@ use denote.Triple.Walked.{says, Stays, stay_none, stay_none_slice, gave_slice, w
 use denote.Exit.{yes}
 use denote.Struct.Laws as LL
 use denote.Enum.Laws as Le
-use Rattle.mesh.specs.Mesh.{meshOf}
-use Rattle.builder.specs.BuilderLists.{wordLists}
-use Rattle.lent.specs.Calls.{LentOut, LentValues, lentValues, lentNumbered, settleLent}
+use Rattle.mesh.specs.Mesh.{mesh_of}
+use Rattle.builder.specs.BuilderLists.{word_lists}
+use Rattle.lent.specs.Calls.{LentOut, LentValues, lent_values, lent_numbered, settle_lent}
 use Rattle.test_forms.proofs.Loans.{lies_in, lies_out}
 use Rattle.builder.specs.declared.Builder.{Builder}
 use Rattle.builder.specs.contracts.Builder as T
@@ -145,7 +145,7 @@ module _ {M : Type 1} {𝓤 : Ura M} (𝓛 : Logic 𝓤) (at_mem : Memory → SP
 
   -- what is ensured
   abbrev Said : SettleLeft → List ℕ → Type 0
-  Said r z-words = (lentNumbered r.answer ≡ true) × ◌≡◌ {A = LentOut LentValues} (record { answer = lentValues r.answer; builder = r.builder; lists = wordLists store.now z-words }) (settleLent b (meshOf vertices.now counts.now neighbours.now angles.now) (wordLists store.now words.now) ri)
+  Said r z-words = (lent_numbered r.answer ≡ true) × ◌≡◌ {A = LentOut LentValues} (record { answer = lent_values r.answer; builder = r.builder; lists = word_lists store.now z-words }) (settle_lent b (mesh_of vertices.now counts.now neighbours.now angles.now) (word_lists store.now words.now) ri)
 
   exits : (r : SettleLeft) (z-words : List ℕ) → Said r z-words → length z-words ≡ length words.now → Is N.the_row r (mach-N r ∷ []) → ent 𝓤 (⋆ 𝓛 (Left z-words)) (Post (mach-N r))
   exits r z-words e l-words g =
@@ -185,7 +185,7 @@ module _ {M : Type 1} {𝓤 : Ura M} (𝓛 : Logic 𝓤) (at_mem : Memory → SP
 
   -- what it ensures
   abbrev callee-said : LentSettled → Builder → List ℕ → Type 0
-  callee-said r z-loan z-words = (lentNumbered r ≡ true) × ◌≡◌ {A = LentOut LentValues} (record { answer = lentValues r; builder = z-loan; lists = wordLists store.now z-words }) (settleLent b (meshOf vertices.now counts.now neighbours.now angles.now) (wordLists store.now words.now) ri)
+  callee-said r z-loan z-words = (lent_numbered r ≡ true) × ◌≡◌ {A = LentOut LentValues} (record { answer = lent_values r; builder = z-loan; lists = word_lists store.now z-words }) (settle_lent b (mesh_of vertices.now counts.now neighbours.now angles.now) (word_lists store.now words.now) ri)
 
   module _ (𝓣 : Tables 𝓤 H) (Callee-Known : Triple 𝓤 (𝓣.C #lent·settle-lent) (Callee 𝓛 at_mem run)) where
     walk : ent 𝓤 (on_entry 𝓛 fn.signature (κ, (κ1, (κ2, (κ3, (κ4, (κ5, tt)))))) (q, (q1, (q2, (q3, (q4, (q5, tt)))))) a at) (WpFn 𝓤 H 𝓣.C 𝓣.Λ code.function (mach b ∷ v-store ∷ v-words ∷ v-vertices ∷ v-counts ∷ v-neighbours ∷ v-angles ∷ vint w64 ri ∷ []) Post)

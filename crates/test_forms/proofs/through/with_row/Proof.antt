@@ -45,7 +45,7 @@ use denote.Triple.Table.{entered, cited}
 use denote.Triple.Walked.{says, Stays, stay_none, walk_of, AllGo, Goes-none, Walks, ends_at, walked, walk_Meets}
 use denote.Exit.{yes}
 use denote.Struct.Laws as LL
-use Rattle.test_forms.proofs.Arrays.{two, R, vals, machs, arrTy, ref_ty, room-two, typed, apart, together}
+use Rattle.test_forms.proofs.Arrays.{two, R, vals, machs, arr_ty, ref_ty, room_two, typed, apart, together}
 use Rattle.lent.specs.declared.RowRecord.{RowRecord}
 use Rattle.lent.specs.contracts.RowRecord as T
 use Rattle.lent.proofs.RowRecord.TheLaws as T'
@@ -143,7 +143,7 @@ module _ {M : Type 1} {𝓤 : Ura M} (𝓛 : Logic 𝓤) (at_mem : Memory → SP
         -- the local is lent for a lifetime α, and the call
         owned ! R (Is R) (Array-Makes 𝓛 T.the_row (LL.makes T.the_type T'.the_plain 𝓛) two) rows _ g-rows $ move ! (7 ∷ 0 ∷ []) $
         use2 𝓛 (‵ (cells (mem T.the_row) rows m4 0)) (apart 𝓛 rows m4) $ lft_new ! tt (λ α. move ! (1 ∷ []) $
-        use1 𝓛 (later (some (λ (γ : GName). ‵ (Loan m4 α γ) ⊛ ‵ (flent (α ∷ []) (Held T.the_row (length rows) m4 0 γ))))) (lends_slice 𝓛 T.the_row (named 0) (α ∷ []) rows m4 0 (room-two rows many-rows)) $
+        use1 𝓛 (later (some (λ (γ : GName). ‵ (Loan m4 α γ) ⊛ ‵ (flent (α ∷ []) (Held T.the_row (length rows) m4 0 γ))))) (lends_slice 𝓛 T.the_row (named 0) (α ∷ []) rows m4 0 (room_two rows many-rows)) $
         await ! tt $ pick ! (λ γ. split ! $ move ! (2 ∷ 18 ∷ []) $ join ! $ use2 𝓛 (raw ((Callee 𝓛 at_mem run).pre (to-callee m4 α γ))) (into-callee m4 α γ) $
         calls_at ! (fm_of 𝓤 H 𝓛.laws 𝓣) (Callee 𝓛 at_mem run) Callee-Known (to-callee m4 α γ) (and_then ! (load ! (from ! (stop !)) (look ! 2 refl)) (and_then ! (load ! (from ! (stop !)) (look ! 11 refl)) (and_then ! (load ! (from ! (stop !)) (look ! 9 refl)) (no_more !)))) (λ w.
         use1 𝓛 (later (some (λ (t : Bool). ((‵ (flft (α ∷ []) full_share) ⊛ Toks) ⊛ ‵ (Boolean.own t (w ∷ []))) ⊛ raw (ensured 𝓛 callee.ended (callee.clauses 𝓛 at_mem run) (α ∷ [], tt) (callee-args m4 α γ) tt t)))) (id⊢ 𝓤 _) $
@@ -155,7 +155,7 @@ module _ {M : Type 1} {𝓤 : Ura M} (𝓛 : Logic 𝓤) (at_mem : Memory → SP
         -- the lifetime is ended, and the local is back
         move ! (1 ∷ []) $ split ! $ lft_end ! tt $ move ! (0 ∷ 4 ∷ 3 ∷ []) $
         use3 𝓛 (later (‵ ((Arr (mem T.the_row) (length rows)).own_at zs.0 m4 0))) (slice_back 𝓛 T.the_row (α ∷ []) γ zs.0 (length rows) m4 0) $ await ! tt $ fsplit ! $ drop ! $
-        use1 𝓛 (‵ (fat full_share arrTy m4 0 (machs zs.0)) ⊛ ‵ (R.own zs.0 (machs zs.0 ∷ []))) (together 𝓛 zs.0 m4 (l-loan ∙ many-rows)) $ split ! $ move ! (1 ∷ []) $
+        use1 𝓛 (‵ (fat full_share arr_ty m4 0 (machs zs.0)) ⊛ ‵ (R.own zs.0 (machs zs.0 ∷ []))) (together 𝓛 zs.0 m4 (l-loan ∙ many-rows)) $ split ! $ move ! (1 ∷ []) $
         peeks ! R (Is R) (shows 𝓛 R) zs.0 (machs zs.0 ∷ []) (λ g. assigns ! (of_opd ! (load ! (from ! (stop !)) (look ! 1 refl))) (from ! (stop !)) (init ! 17 refl (typed 𝓛 zs.0 g)) $
         returns ! (look ! 17 refl) $ forget ! 17 refl $ forget ! 15 refl $ forget ! 13 refl $ forget ! 11 refl $ forget ! 1 refl $ forget ! 8 refl $ forget ! 6 refl $ forget ! 4 refl $ move ! (17 ∷ 18 ∷ []) $
         free1 ! $ move ! (15 ∷ 16 ∷ []) $ free1 ! $ move ! (13 ∷ 14 ∷ []) $ free1 ! $ move ! (11 ∷ 12 ∷ []) $ free1 ! $ move ! (1 ∷ 10 ∷ []) $ free1 ! $ move ! (7 ∷ 8 ∷ []) $ free1 ! $ move ! (5 ∷ 6 ∷ []) $

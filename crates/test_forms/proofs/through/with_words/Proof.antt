@@ -45,8 +45,8 @@ use denote.Triple.Table.{entered, cited}
 use denote.Triple.Walked.{says, Stays, stay_none, stay_none_slice, walk_of, AllGo, Goes-none, Goes-none_slice, Walks, ends_at, walked, walk_Meets}
 use denote.Exit.{yes}
 use denote.Struct.Laws as LL
-use Rattle.lent.specs.Records.{gathered, gatherNumber}
-use Rattle.test_forms.proofs.Arrays.{two, R, vals, machs, arrTy, ref_ty, room-two, typed, apart, together}
+use Rattle.lent.specs.Records.{gathered, gather_number}
+use Rattle.test_forms.proofs.Arrays.{two, R, vals, machs, arr_ty, ref_ty, room_two, typed, apart, together}
 use Rattle.lent.specs.declared.RowRecord.{RowRecord}
 use Rattle.lent.specs.contracts.RowRecord as T
 use Rattle.lent.proofs.RowRecord.TheLaws as T'
@@ -133,7 +133,7 @@ module _ {M : Type 1} {𝓤 : Ura M} (𝓛 : Logic 𝓤) (at_mem : Memory → SP
 
   -- what it ensures
   abbrev callee-said : ℕ → List RowRecord → Type 0
-  callee-said r z-loan = (r ≡ gatherNumber (length rows) words.now) × (z-loan ≡ gathered words.now rows)
+  callee-said r z-loan = (r ≡ gather_number (length rows) words.now) × (z-loan ≡ gathered words.now rows)
 
   module _ (𝓣 : Tables 𝓤 H) (Callee-Known : Triple 𝓤 (𝓣.C #lent·gather) (Callee 𝓛 at_mem run)) where
     walk : ent 𝓤 (on_entry 𝓛 fn.signature (κ, tt) (q, tt) a at) (WpFn 𝓤 H 𝓣.C 𝓣.Λ code.function (machs rows ∷ v-words ∷ []) Post)
@@ -151,7 +151,7 @@ module _ {M : Type 1} {𝓤 : Ura M} (𝓛 : Logic 𝓤) (at_mem : Memory → SP
         -- the local is lent for a lifetime α, and the call
         owned ! R (Is R) (Array-Makes 𝓛 T.the_row (LL.makes T.the_type T'.the_plain 𝓛) two) rows _ g-rows $ move ! (9 ∷ 0 ∷ []) $
         use2 𝓛 (‵ (cells (mem T.the_row) rows m3 0)) (apart 𝓛 rows m3) $ lft_new ! tt (λ α. move ! (1 ∷ []) $
-        use1 𝓛 (later (some (λ (γ : GName). ‵ (Loan m3 α γ) ⊛ ‵ (flent (α ∷ []) (Held T.the_row (length rows) m3 0 γ))))) (lends_slice 𝓛 T.the_row (named 0) (α ∷ []) rows m3 0 (room-two rows many-rows)) $
+        use1 𝓛 (later (some (λ (γ : GName). ‵ (Loan m3 α γ) ⊛ ‵ (flent (α ∷ []) (Held T.the_row (length rows) m3 0 γ))))) (lends_slice 𝓛 T.the_row (named 0) (α ∷ []) rows m3 0 (room_two rows many-rows)) $
         await ! tt $ pick ! (λ γ. split ! $ move ! (2 ∷ 18 ∷ []) $ join ! $ move ! (0 ∷ 1 ∷ 3 ∷ []) $ use3 𝓛 (raw ((Callee 𝓛 at_mem run).pre (to-callee m3 α γ))) (into-callee m3 α γ) $
         calls_at ! (fm_of 𝓤 H 𝓛.laws 𝓣) (Callee 𝓛 at_mem run) Callee-Known (to-callee m3 α γ) (and_then ! (load ! (from ! (stop !)) (look ! 3 refl)) (and_then ! (load ! (from ! (stop !)) (look ! 10 refl)) (no_more !))) (λ w.
         use1 𝓛 (later (some (λ (r : ℕ). ((‵ (flft (α ∷ []) full_share) ⊛ Toks) ⊛ ‵ (u64.own_val r (w ∷ []))) ⊛ raw (ensured 𝓛 callee.ended (callee.clauses 𝓛 at_mem run) (α ∷ [], (κ, tt)) (callee-args m3 α γ) tt r)))) (id⊢ 𝓤 _) $
@@ -163,7 +163,7 @@ module _ {M : Type 1} {𝓤 : Ura M} (𝓛 : Logic 𝓤) (at_mem : Memory → SP
         -- the lifetime is ended, and the local is back
         move ! (1 ∷ []) $ split ! $ lft_end ! tt $ move ! (0 ∷ 4 ∷ 3 ∷ []) $
         use3 𝓛 (later (‵ ((Arr (mem T.the_row) (length rows)).own_at zs.0 m3 0))) (slice_back 𝓛 T.the_row (α ∷ []) γ zs.0 (length rows) m3 0) $ await ! tt $ fsplit ! $ drop ! $
-        use1 𝓛 (‵ (fat full_share arrTy m3 0 (machs zs.0)) ⊛ ‵ (R.own zs.0 (machs zs.0 ∷ []))) (together 𝓛 zs.0 m3 (l-loan ∙ many-rows)) $ split ! $ move ! (1 ∷ []) $
+        use1 𝓛 (‵ (fat full_share arr_ty m3 0 (machs zs.0)) ⊛ ‵ (R.own zs.0 (machs zs.0 ∷ []))) (together 𝓛 zs.0 m3 (l-loan ∙ many-rows)) $ split ! $ move ! (1 ∷ []) $
         peeks ! R (Is R) (shows 𝓛 R) zs.0 (machs zs.0 ∷ []) (λ g. assigns ! (of_opd ! (load ! (from ! (stop !)) (look ! 1 refl))) (from ! (stop !)) (init ! 16 refl (typed 𝓛 zs.0 g)) $
         returns ! (look ! 16 refl) $ forget ! 16 refl $ forget ! 14 refl $ forget ! 12 refl $ forget ! 1 refl $ forget ! 9 refl $ forget ! 7 refl $ forget ! 5 refl $ move ! (16 ∷ 17 ∷ []) $ free1 ! $
         move ! (14 ∷ 15 ∷ []) $ free1 ! $ move ! (12 ∷ 13 ∷ []) $ free1 ! $ move ! (1 ∷ 11 ∷ []) $ free1 ! $ move ! (8 ∷ 9 ∷ []) $ free1 ! $ move ! (6 ∷ 7 ∷ []) $ free1 ! $ move ! (4 ∷ 5 ∷ []) $ free1 ! $

@@ -3,7 +3,7 @@ use Prim.Native.Nat.{◌≤◌, ◌-◌}
 use mathlib.Core.Path.{◌≡◌, ◌∙◌}
 use native.Mathlib.Omega.{arith}
 use borrow.Author.Rules.{rules}
-use Rattle.test_vectors.proofs.Laws.{no_digit, too_large, one_more, at-end}
+use Rattle.test_vectors.proofs.Laws.{no_digit, too_large, one_more, at_end}
 use lib.ListN.{length, drop}
 use Rattle.test_vectors.specs.Hex.{word}
 use Rattle.test_vectors.proofs.line.hex.Statement.{statement}
@@ -38,7 +38,7 @@ loop-again c =
 returns-3 : tie.Need-returns-3 invariant-loop decreases-loop
 returns-3 c =
     let l = c.before in
-    at-end l.before.before.args.text.now l.loop.n l.loop.i (omega arith) ∙ l.loop.invariant.1
+    at_end l.before.before.args.text.now l.loop.n l.loop.i (omega arith) ∙ l.loop.invariant.1
 
 pub hex-spec : {M : Type 1} → statement M
 hex-spec =

@@ -4,12 +4,12 @@ use borrow.Author.Rules.{rules}
 use Rattle.lists.specs.Questions.{ask}
 use Rattle.lists.proofs.Counting.{yes, no}
 use Rattle.rows.specs.Words.{rows_by}
-use Rattle.writer.proofs.Outcome.{first-no, first-zero}
+use Rattle.writer.proofs.Outcome.{first_no, first-zero}
 use Rattle.writer.proofs.atom.atom_write_question.Statement.{statement}
 use Rattle.writer.proofs.atom.atom_write_question.Tie as tie
 
 returns : tie.Need-returns
-returns c = c.before.atom-meshed-refusal.ensures ∙ sym (first-no _ _ (λ z. c.if1.true (c.before.atom-meshed-refusal.ensures ∙ z)))
+returns c = c.before.atom-meshed-refusal.ensures ∙ sym (first_no _ _ (λ z. c.if1.true (c.before.atom-meshed-refusal.ensures ∙ z)))
 
 returns-2 : tie.Need-returns-2
 unfolding ask rows_by

@@ -1,34 +1,34 @@
 -- `write_question` meets its contract. Assumes nothing.
 use mathlib.Core.Path.{◌≡◌, sym, ◌∙◌}
-use Rattle.lists.proofs.Asking.{first-yes}
+use Rattle.lists.proofs.Asking.{first_yes}
 use native.Mathlib.Nat.{mul-le-mul}
 use native.Mathlib.Omega.{arith}
 use borrow.Author.Rules.{rules}
 use Rattle.lists.specs.Questions.{ask}
 use Rattle.lists.proofs.Counting.{yes, no}
-use Rattle.mesh.specs.Mesh.{meshOf}
+use Rattle.mesh.specs.Mesh.{mesh_of}
 use Rattle.rows.specs.Words.{rows_by}
-use Rattle.builder.specs.BuilderLists.{wordLists}
-use Rattle.builder.specs.Refusals.{builderQuestion, meshedRefusal}
+use Rattle.builder.specs.BuilderLists.{word_lists}
+use Rattle.builder.specs.Refusals.{builder_question, meshed_refusal}
 use Rattle.builder.proofs.Laws.{asked}
-use Rattle.writer.proofs.Outcome.{first-no, first-zero, meshed-words}
+use Rattle.writer.proofs.Outcome.{first_no, first-zero, meshed_words}
 use Rattle.writer.proofs.files.write_question.Statement.{statement}
 use Rattle.writer.proofs.files.write_question.Tie as tie
 
 -- the first seven questions' answer
 seven : (c : tie.After-meshed-refusal) → let a = c.before.before.before.before.before.before.before.args in
-    c.meshed-refusal.result ≡ meshedRefusal a.b (meshOf a.vertices.now a.counts.now a.neighbours.now a.angles.now) (wordLists a.store.now a.words.now)
+    c.meshed-refusal.result ≡ meshed_refusal a.b (mesh_of a.vertices.now a.counts.now a.neighbours.now a.angles.now) (word_lists a.store.now a.words.now)
 seven c =
     let a = c.before.before.before.before.before.before.before.args in
-    c.meshed-refusal.ensures ∙ sym (meshed-words a.b (meshOf a.vertices.now a.counts.now a.neighbours.now a.angles.now) a.store.now a.words.now)
+    c.meshed-refusal.ensures ∙ sym (meshed_words a.b (mesh_of a.vertices.now a.counts.now a.neighbours.now a.angles.now) a.store.now a.words.now)
 
 returns : tie.Need-returns
-returns c = let q = seven c.before in q ∙ sym (first-no _ _ (λ z. c.if1.true (q ∙ z)))
+returns c = let q = seven c.before in q ∙ sym (first_no _ _ (λ z. c.if1.true (q ∙ z)))
 
 mul-rows-known : tie.Need-overflow-mul-rows-known
 mul-rows-known c =
     let b = c.before.before.before.before.before.before.before.before.before.before.before.args.b in
-    let q : builderQuestion b ≡ 0 = (first-yes (sym c.before.before.before.before.meshed-refusal.ensures ∙ c.before.before.before.if1.false)).0 in
+    let q : builder_question b ≡ 0 = (first_yes (sym c.before.before.before.before.meshed-refusal.ensures ∙ c.before.before.before.if1.false)).0 in
     let f = asked b.grid b.top b.level q in
     omega (arith, mul-le-mul f.rs f.omegas)
 

@@ -1,7 +1,7 @@
 -- `put_bins` meets its contract. Assumes nothing.
 use borrow.Author.Rules.{rules}
 use Rattle.table.specs.Bytes.{packed, section}
-use Rattle.writer.proofs.Puts.{bins-put}
+use Rattle.writer.proofs.Puts.{bins_put}
 use Rattle.writer.proofs.sections.put_bins.Statement.{statement}
 use Rattle.writer.proofs.sections.put_bins.Tie as tie
 
@@ -11,7 +11,7 @@ returns c =
     let s = c.before.before.before.before.before.before.before.before.before.before.before.before.before in
     let d = s.args.out.now in
     rw (c.before.before.put-u323.ensures, c.before.before.before.before.before.before.put-u322.ensures, c.before.before.before.before.before.before.before.before.before.before.put-u32.ensures)
-    (bins-put d s.args.n s.args.m s.requires)
+    (bins_put d s.args.n s.args.m s.requires)
 
 pub put-bins-spec : {M : Type 1} → statement M
 put-bins-spec =

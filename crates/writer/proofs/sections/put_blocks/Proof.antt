@@ -5,15 +5,15 @@ use Prim.Native.Nat.{◌+◌, ◌-◌, ◌*◌, ◌≤◌, ◌<◌}
 use native.Mathlib.Omega.{arith}
 use lib.ListN.{length, take, drop}
 use borrow.Author.Rules.{rules}
-use Rattle.rows.specs.Rows.{narrowBits}
+use Rattle.rows.specs.Rows.{narrow_bits}
 use Rattle.table.specs.Bytes.{bytes_of, packed}
 use Rattle.writer.proofs.Puts.{Left, begun, step, ended}
-use Rattle.writer.proofs.Filed.{taken-bytes, taken-split, taken-end}
+use Rattle.writer.proofs.Filed.{taken_bytes, taken_split, taken_end}
 use Rattle.writer.proofs.sections.put_blocks.Statement.{statement}
 use Rattle.writer.proofs.sections.put_blocks.Tie as tie
 
 abbrev invariant-loop : tie.invariant-loop
-invariant-loop out₀ at store from n block₀ p₀ left₀ to₀ out block p left to = (to + left * 4 ≤ length out₀) × (p + left ≤ length store) × (length block ≡ length block₀) × Left out₀ at (packed (bytes_of 4) (map narrowBits (take n (drop from store)))) out to (packed (bytes_of 4) (map narrowBits (take left (drop p store))))
+invariant-loop out₀ at store from n block₀ p₀ left₀ to₀ out block p left to = (to + left * 4 ≤ length out₀) × (p + left ≤ length store) × (length block ≡ length block₀) × Left out₀ at (packed (bytes_of 4) (map narrow_bits (take n (drop from store)))) out to (packed (bytes_of 4) (map narrow_bits (take left (drop p store))))
 
 abbrev decreases-loop : tie.decreases-loop
 decreases-loop out₀ at store from n block₀ p₀ left₀ to₀ out block p left to = left
@@ -24,7 +24,7 @@ loop-holds c =
       s.requires.0,
       s.requires.1,
       refl,
-      begun s.args.out.now s.args.at _ (omega (arith, s.requires.0, taken-bytes narrowBits s.args.store.now s.args.from s.args.n s.requires.1)),
+      begun s.args.out.now s.args.at _ (omega (arith, s.requires.0, taken_bytes narrow_bits s.args.store.now s.args.from s.args.n s.requires.1)),
     )
 
 -- a turn takes k energies, of those that are left
@@ -64,8 +64,8 @@ loop-again c =
       omega (arith, t.0, i.0),
       omega (arith, t.0, i.1),
       c.before.before.before.before.put-block.auto.1.1.1.1.1.0 ∙ i.2,
-      step i.3 (packed (bytes_of 4) (map narrowBits (take k (drop l.loop.p store)))) _ _ _ (taken-split narrowBits store l.loop.p l.loop.left k t.0)
-          c.before.before.before.before.put-block.ensures (omega (arith, taken-bytes narrowBits store l.loop.p k (omega (arith, t.0, i.1)))),
+      step i.3 (packed (bytes_of 4) (map narrow_bits (take k (drop l.loop.p store)))) _ _ _ (taken_split narrow_bits store l.loop.p l.loop.left k t.0)
+          c.before.before.before.before.put-block.ensures (omega (arith, taken_bytes narrow_bits store l.loop.p k (omega (arith, t.0, i.1)))),
     )
 
 same_length : tie.Need-same-length invariant-loop decreases-loop
@@ -77,7 +77,7 @@ same-length-2 c = c.before.loop.invariant.2
 returns : tie.Need-returns invariant-loop decreases-loop
 returns c =
     let l = c.before in
-    ended l.loop.invariant.3 (taken-end narrowBits l.before.before.before.before.args.store.now l.loop.p l.loop.left (omega arith))
+    ended l.loop.invariant.3 (taken_end narrow_bits l.before.before.before.before.args.store.now l.loop.p l.loop.left (omega arith))
 
 pub put-blocks-spec : {M : Type 1} → statement M
 put-blocks-spec =

@@ -7,11 +7,11 @@ use borrow.Author.Rules.{rules}
 use Rattle.rows.specs.Rows.{Rows}
 use Rattle.rows.specs.Words.{rows_by}
 use Rattle.table.specs.Bytes.{bytes_of, packed, section}
-use Rattle.table.specs.Internal.{eachOf}
-use Rattle.writer.specs.Internal.{resolutions, energiesFor}
+use Rattle.table.specs.Internal.{each_of}
+use Rattle.writer.specs.Internal.{resolutions, energies_for}
 use Rattle.writer.proofs.Puts.{puts}
-use Rattle.table.proofs.Lengths.{bytes-length}
-use Rattle.writer.proofs.Filed.{energies-length, res-length}
+use Rattle.table.proofs.Lengths.{bytes_length}
+use Rattle.writer.proofs.Filed.{energies_length, res_length}
 use Rattle.writer.proofs.sections.put_energy_section.Statement.{statement}
 use Rattle.writer.proofs.sections.put_energy_section.Tie as tie
 
@@ -22,10 +22,10 @@ returns c =
     let a = s.args in
     let r : Rows = rows_by a.pairs a.words.now a.kinds.now a.levels.now a.values.now in
     let xs = resolutions r 0 a.n in
-    let len : length (energiesFor (eachOf a.pairs) a.z a.store.now 0 xs) ≡ a.e =
-    energies-length (eachOf a.pairs) a.z a.store.now 0 xs s.requires.4 (rw (res-length r 0 a.n) (omega (arith, s.requires.3))) ∙ sym s.requires.2 in
+    let len : length (energies_for (each_of a.pairs) a.z a.store.now 0 xs) ≡ a.e =
+    energies_length (each_of a.pairs) a.z a.store.now 0 xs s.requires.4 (rw (res_length r 0 a.n) (omega (arith, s.requires.3))) ∙ sym s.requires.2 in
     rw (c.before.before.put-slabs.ensures, c.before.before.before.before.before.before.put-u32.ensures, len)
-    (puts a.out.now a.at (bytes_of 4 a.e) (packed (bytes_of 4) (energiesFor (eachOf a.pairs) a.z a.store.now 0 xs)) (a.at + 4) (omega (arith, bytes-length 4 a.e)) (omega (arith, s.requires.0)))
+    (puts a.out.now a.at (bytes_of 4 a.e) (packed (bytes_of 4) (energies_for (each_of a.pairs) a.z a.store.now 0 xs)) (a.at + 4) (omega (arith, bytes_length 4 a.e)) (omega (arith, s.requires.0)))
 
 pub put-energy-section-spec : {M : Type 1} → statement M
 put-energy-section-spec =

@@ -8,8 +8,8 @@ use lib.Ieee.{binary32, nan, to_bits}
 use borrow.Author.Rules.{rules}
 use Rattle.table.specs.Bytes.{bytes_of, packed}
 use Rattle.writer.proofs.Puts.{Left, begun, step, ended}
-use Rattle.table.proofs.Lengths.{bytes-length}
-use Rattle.writer.proofs.Filed.{taken-bytes, taken-turn, taken-end}
+use Rattle.table.proofs.Lengths.{bytes_length}
+use Rattle.writer.proofs.Filed.{taken_bytes, taken_turn, taken_end}
 use Rattle.writer.proofs.sections.put_floats.Statement.{statement}
 use Rattle.writer.proofs.sections.put_floats.Tie as tie
 
@@ -22,7 +22,7 @@ decreases-loop out₀ at list n p₀ left₀ to₀ out p left to = left
 loop-holds : tie.Need-loop-init invariant-loop decreases-loop
 loop-holds c =
     let s = c.before.before in
-    (s.requires.0, omega (arith, s.requires.1), begun s.args.out.now s.args.at _ (omega (arith, s.requires.0, taken-bytes (to_bits binary32) s.args.list.now 0 s.args.n (omega (arith, s.requires.1)))))
+    (s.requires.0, omega (arith, s.requires.1), begun s.args.out.now s.args.at _ (omega (arith, s.requires.0, taken_bytes (to_bits binary32) s.args.list.now 0 s.args.n (omega (arith, s.requires.1)))))
 
 shared-slice-read-bits32 : tie.Need-shared-slice-read-bits32 invariant-loop decreases-loop
 shared-slice-read-bits32 c = omega arith
@@ -49,8 +49,8 @@ loop-again c =
     let x = to_bits binary32 (get_or list l.loop.p nan) in (
       omega arith,
       omega arith,
-      step l.loop.invariant.2 (bytes_of 4 x) _ _ _ (taken-turn (to_bits binary32) list l.loop.p l.loop.left (omega arith) (omega arith))
-          (c.before.before.put-u32.ensures ∙ rw c.before.before.before.bits32.ensures) (omega (arith, bytes-length 4 x)),
+      step l.loop.invariant.2 (bytes_of 4 x) _ _ _ (taken_turn (to_bits binary32) list l.loop.p l.loop.left (omega arith) (omega arith))
+          (c.before.before.put-u32.ensures ∙ rw c.before.before.before.bits32.ensures) (omega (arith, bytes_length 4 x)),
     )
 
 same_length : tie.Need-same-length invariant-loop decreases-loop
@@ -59,7 +59,7 @@ same_length c = c.before.loop.invariant.2.size
 returns : tie.Need-returns invariant-loop decreases-loop
 returns c =
     let l = c.before in
-    ended l.loop.invariant.2 (taken-end (to_bits binary32) l.before.before.before.args.list.now l.loop.p l.loop.left (omega arith))
+    ended l.loop.invariant.2 (taken_end (to_bits binary32) l.before.before.before.args.list.now l.loop.p l.loop.left (omega arith))
 
 pub put-floats-spec : {M : Type 1} → statement M
 put-floats-spec =

@@ -7,12 +7,12 @@ use borrow.Author.Rules.{rules}
 use Rattle.rows.specs.Rows.{Rows}
 use Rattle.rows.specs.Words.{rows_by}
 use Rattle.table.specs.Bytes.{bytes_of, packed, section}
-use Rattle.table.specs.File.{entryBytes}
-use Rattle.table.specs.Internal.{eachOf}
-use Rattle.writer.specs.Internal.{resolutions, entriesFor}
+use Rattle.table.specs.File.{entry_bytes}
+use Rattle.table.specs.Internal.{each_of}
+use Rattle.writer.specs.Internal.{resolutions, entries_for}
 use Rattle.writer.proofs.Puts.{puts}
-use Rattle.table.proofs.Lengths.{bytes-length}
-use Rattle.writer.proofs.Filed.{entriesFor-length, res-length}
+use Rattle.table.proofs.Lengths.{bytes_length}
+use Rattle.writer.proofs.Filed.{entries_for-length, res_length}
 use Rattle.writer.proofs.sections.put_rows.Statement.{statement}
 use Rattle.writer.proofs.sections.put_rows.Tie as tie
 
@@ -23,9 +23,9 @@ returns c =
     let a = s.args in
     let r : Rows = rows_by a.pairs a.words.now a.kinds.now a.levels.now a.values.now in
     let xs = resolutions r 0 a.n in
-    let len : length (entriesFor (eachOf a.pairs) 0 xs) ≡ a.n = entriesFor-length (eachOf a.pairs) 0 xs ∙ res-length r 0 a.n in
+    let len : length (entries_for (each_of a.pairs) 0 xs) ≡ a.n = entries_for-length (each_of a.pairs) 0 xs ∙ res_length r 0 a.n in
     rw (c.before.before.put_entries.ensures, c.before.before.before.before.before.before.put-u32.ensures, len)
-    (puts a.out.now a.at (bytes_of 4 a.n) (packed entryBytes (entriesFor (eachOf a.pairs) 0 xs)) (a.at + 4) (omega (arith, bytes-length 4 a.n)) (omega (arith, s.requires.0)))
+    (puts a.out.now a.at (bytes_of 4 a.n) (packed entry_bytes (entries_for (each_of a.pairs) 0 xs)) (a.at + 4) (omega (arith, bytes_length 4 a.n)) (omega (arith, s.requires.0)))
 
 pub put-rows-spec : {M : Type 1} → statement M
 put-rows-spec =

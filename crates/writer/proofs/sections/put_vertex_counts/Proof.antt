@@ -5,18 +5,18 @@ use Prim.Native.Nat.{◌+◌, ◌-◌, ◌*◌, ◌≤◌}
 use native.Mathlib.Nat.{add-zero}
 use native.Mathlib.Omega.{arith}
 use borrow.Author.Rules.{rules}
-use Rattle.mesh.specs.Levels.{vertexCount}
+use Rattle.mesh.specs.Levels.{vertex_count}
 use Rattle.lists.specs.Lists.{below}
 use Rattle.lists.proofs.Written.{Written, nothing, chunk}
-use Rattle.mesh.proofs.Laws.{count-le}
+use Rattle.mesh.proofs.Laws.{count_le}
 use Rattle.table.specs.Bytes.{bytes_of, packed}
-use Rattle.table.proofs.Lengths.{bytes-length}
-use Rattle.writer.proofs.Filed.{counts-turn}
+use Rattle.table.proofs.Lengths.{bytes_length}
+use Rattle.writer.proofs.Filed.{counts_turn}
 use Rattle.writer.proofs.sections.put_vertex_counts.Statement.{statement}
 use Rattle.writer.proofs.sections.put_vertex_counts.Tie as tie
 
 abbrev invariant-loop : tie.invariant-loop
-invariant-loop out₀ at levels m₀ out m = (m ≤ levels) × Written out₀ at (packed (bytes_of 4) (map vertexCount (below m))) out (at + 4 * m)
+invariant-loop out₀ at levels m₀ out m = (m ≤ levels) × Written out₀ at (packed (bytes_of 4) (map vertex_count (below m))) out (at + 4 * m)
 
 abbrev decreases-loop : tie.decreases-loop
 decreases-loop out₀ at levels m₀ out m = levels - m
@@ -35,7 +35,7 @@ cast-vertex-count : tie.Need-overflow-cast-vertex-count invariant-loop decreases
 cast-vertex-count c = omega arith
 
 cast-put-u32 : tie.Need-overflow-cast-put-u32 invariant-loop decreases-loop
-cast-put-u32 c = omega (arith, c.vertex-count.ensures, count-le c.before.before.before.loop.m 256 (omega arith))
+cast-put-u32 c = omega (arith, c.vertex-count.ensures, count_le c.before.before.before.loop.m 256 (omega arith))
 
 put-u32-requires : tie.Need-put-u32-requires invariant-loop decreases-loop
 put-u32-requires c κs = let l = c.before.before.before in omega (arith, l.loop.invariant.1.size)
@@ -50,7 +50,7 @@ loop-again : tie.Need-loop-preserved invariant-loop decreases-loop
 loop-again c =
     let l = c.before.before.before.before.before.before in
     let m = l.loop.m in
-    (omega arith, rw (counts-turn m) (chunk (bytes_of 4 (vertexCount m)) _ _ l.loop.invariant.1 (omega (arith, bytes-length 4 (vertexCount m))) (omega (arith, bytes-length 4 (vertexCount m))) (c.before.before.put-u32.ensures ∙ rw c.before.before.before.vertex-count.ensures)))
+    (omega arith, rw (counts_turn m) (chunk (bytes_of 4 (vertex_count m)) _ _ l.loop.invariant.1 (omega (arith, bytes_length 4 (vertex_count m))) (omega (arith, bytes_length 4 (vertex_count m))) (c.before.before.put-u32.ensures ∙ rw c.before.before.before.vertex-count.ensures)))
 
 same_length : tie.Need-same-length invariant-loop decreases-loop
 same_length c = c.before.loop.invariant.1.size

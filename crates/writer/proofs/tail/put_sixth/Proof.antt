@@ -4,20 +4,20 @@ use Prim.Native.Nat.{◌+◌, ◌*◌, ◌≤◌, ◌<◌}
 use native.Mathlib.Omega.{arith}
 use lib.ListN.{length}
 use borrow.Author.Rules.{rules}
-use Rattle.lists.proofs.Written.{put-nil}
+use Rattle.lists.proofs.Written.{put_nil}
 use Rattle.table.proofs.Accepted.{some}
-use Rattle.writer.specs.Tailed.{TailLists, tailLists}
+use Rattle.writer.specs.Tailed.{TailLists, tail_lists}
 use Rattle.writer.proofs.OfTail.{sixth-none, sixth-put}
 use Rattle.writer.proofs.tail.put_sixth.Statement.{statement}
 use Rattle.writer.proofs.tail.put_sixth.Tie as tie
 
 abbrev tails : tie.Start → TailLists
-tails s = tailLists s.args.coefficients.now s.args.kappas.now s.args.powers.now s.args.prefactor.now
+tails s = tail_lists s.args.coefficients.now s.args.kappas.now s.args.powers.now s.args.prefactor.now
 
 returns : tie.Need-returns
 returns c =
     let s = c.before.before.before.before.before.before in
-    sym (rw (sixth-none (tails s) (sym s.requires.0 ∙ c.if1.true)) (put-nil s.args.out.now s.args.at))
+    sym (rw (sixth-none (tails s) (sym s.requires.0 ∙ c.if1.true)) (put_nil s.args.out.now s.args.at))
 
 -- there is room for the section, and there is a prefactor
 roomy : (c : tie.Else1) → let a = c.before.before.before.before.before.before.args in (a.at + 12 + a.n * 20 ≤ length a.out.now) × (0 < length a.prefactor.now)

@@ -4,17 +4,17 @@ use native.Mathlib.Omega.{arith}
 use lib.ListN.{length}
 use borrow.Author.Rules.{rules}
 use Rattle.table.specs.Bytes.{packed}
-use Rattle.table.specs.Tail.{termBytes}
+use Rattle.table.specs.Tail.{term_bytes}
 use Rattle.table.proofs.Lengths.{packed-length}
 use Rattle.table.proofs.OfTail.{term-length}
-use Rattle.writer.specs.Tailed.{termAt, termsFrom}
+use Rattle.writer.specs.Tailed.{term_at, terms_from}
 use Rattle.writer.proofs.Puts.{Left, begun, step, ended}
-use Rattle.writer.proofs.OfTail.{terms-many, bytes-turn, bytes-end}
+use Rattle.writer.proofs.OfTail.{terms_many, bytes_turn, bytes_end}
 use Rattle.writer.proofs.tail.put_terms.Statement.{statement}
 use Rattle.writer.proofs.tail.put_terms.Tie as tie
 
 abbrev invariant-loop : tie.invariant-loop
-invariant-loop out₀ at coefficients kappas powers n i₀ left₀ to₀ out i left to = (i + left ≤ length coefficients) × (i + left ≤ length kappas) × (i + left ≤ length powers) × (to + left * 20 ≤ length out₀) × Left out₀ at (packed termBytes (termsFrom coefficients kappas powers 0 n)) out to (packed termBytes (termsFrom coefficients kappas powers i left))
+invariant-loop out₀ at coefficients kappas powers n i₀ left₀ to₀ out i left to = (i + left ≤ length coefficients) × (i + left ≤ length kappas) × (i + left ≤ length powers) × (to + left * 20 ≤ length out₀) × Left out₀ at (packed term_bytes (terms_from coefficients kappas powers 0 n)) out to (packed term_bytes (terms_from coefficients kappas powers i left))
 
 abbrev decreases-loop : tie.decreases-loop
 decreases-loop out₀ at coefficients kappas powers n i₀ left₀ to₀ out i left to = left
@@ -23,8 +23,8 @@ loop-holds : tie.Need-loop-init invariant-loop decreases-loop
 loop-holds c =
     let s = c.before.before.before.before in
     let a = s.args in
-    let ts = termsFrom a.coefficients.now a.kappas.now a.powers.now 0 a.n in
-    (omega (arith, s.requires.1), omega (arith, s.requires.2), omega (arith, s.requires.3), s.requires.0, begun a.out.now a.at _ (omega (arith, s.requires.0, packed-length termBytes 20 term-length ts, terms-many a.coefficients.now a.kappas.now a.powers.now 0 a.n)))
+    let ts = terms_from a.coefficients.now a.kappas.now a.powers.now 0 a.n in
+    (omega (arith, s.requires.1), omega (arith, s.requires.2), omega (arith, s.requires.3), s.requires.0, begun a.out.now a.at _ (omega (arith, s.requires.0, packed-length term_bytes 20 term-length ts, terms_many a.coefficients.now a.kappas.now a.powers.now 0 a.n)))
 
 shared-slice-read-put-term : tie.Need-shared-slice-read-put-term invariant-loop decreases-loop
 shared-slice-read-put-term c = omega arith
@@ -55,12 +55,12 @@ loop-again c =
     let l = c.before.before.before.before.before.before.before.before in
     let a = l.before.before.before.before.before.args in
     let cs = a.coefficients.now in
-    let t = termAt cs a.kappas.now a.powers.now l.loop.i in (
+    let t = term_at cs a.kappas.now a.powers.now l.loop.i in (
       omega arith,
       omega arith,
       omega arith,
       omega arith,
-      step l.loop.invariant.4 (termBytes t) _ _ _ (bytes-turn cs a.kappas.now a.powers.now l.loop.i l.loop.left (omega arith))
+      step l.loop.invariant.4 (term_bytes t) _ _ _ (bytes_turn cs a.kappas.now a.powers.now l.loop.i l.loop.left (omega arith))
           c.before.before.put-term.ensures (omega (arith, term-length t)),
     )
 
@@ -71,7 +71,7 @@ returns : tie.Need-returns invariant-loop decreases-loop
 returns c =
     let l = c.before in
     let a = l.before.before.before.before.before.args in
-    ended l.loop.invariant.4 (bytes-end a.coefficients.now a.kappas.now a.powers.now l.loop.i l.loop.left (omega arith))
+    ended l.loop.invariant.4 (bytes_end a.coefficients.now a.kappas.now a.powers.now l.loop.i l.loop.left (omega arith))
 
 pub put-terms-spec : {M : Type 1} → statement M
 put-terms-spec =
