@@ -1,4 +1,6 @@
 // Floats and their bit patterns, also where the float is a NaN, at which the language's own conversions are undefined.
+#![tactic(auto)]
+
 ghost use Rattle.std.specs.Prelude.{◌≡◌};
 ghost use Rattle.std.specs.Float.{binary32, binary64};
 ghost use Rattle.std.specs.Float.Ieee.{of_bits, to_bits};

@@ -1,4 +1,6 @@
 // The builder of a table, by value; its store, rows and meshes are lent.
+#![tactic(auto)]
+
 ghost use Rattle.std.specs.Prelude.{◌≡◌, true, [], ◌≤◌};
 ghost use Rattle.mesh.specs.Mesh.{mesh_of};
 ghost use Rattle.rows.specs.Rows.{row_with};
@@ -18,7 +20,7 @@ pub use questions::meshed_refusal;
 
 // The settings, the top level, the current one, and the number of packed energies: n·n of the level of each Mesh row.
 #[repr(C)]
-#[derive(Drop)]
+#[derive(Clone, Copy)]
 pub struct Builder {
     pub grid: Grid,
     pub top: u64,
@@ -28,7 +30,7 @@ pub struct Builder {
 
 // The same of a table against an atom.
 #[repr(C)]
-#[derive(Drop)]
+#[derive(Clone, Copy)]
 pub struct AtomBuilder {
     pub grid: AtomGrid,
     pub top: u64,
@@ -36,27 +38,27 @@ pub struct AtomBuilder {
 }
 
 // What fresh and set answer.
-#[derive(Drop)]
+#[derive(Clone, Copy)]
 pub enum Built {
     Accepted(Builder),
     Refused(u64),
 }
 
 // What settle answers: the builder, the largest gradient, and the neighbour comparisons made.
-#[derive(Drop)]
+#[derive(Clone, Copy)]
 pub enum Settled {
     Accepted(Builder, f64, u64),
     Refused(u64),
 }
 
 // The same of a table against an atom; settle's gradient is its slab's.
-#[derive(Drop)]
+#[derive(Clone, Copy)]
 pub enum AtomBuilt {
     Accepted(AtomBuilder),
     Refused(u64),
 }
 
-#[derive(Drop)]
+#[derive(Clone, Copy)]
 pub enum AtomSettled {
     Accepted(AtomBuilder, f64, u64),
     Refused(u64),

@@ -1,6 +1,8 @@
 // The scalar operations on floats that the operators leave open. Each contract equates the result with a definition of
 // specs/, or with one of the logic's account of IEEE 754 (lib.Ieee), where there is one NaN and one type of values for
 // both formats.
+#![tactic(auto)]
+
 ghost use Rattle.std.specs.Prelude.{◌≡◌, ◌+◌, ◌-◌, ◌*◌, ◌/◌, ◌%◌, ◌^◌, ◌<◌, ◌≤◌, false, T, ltb, map, pos, if◌then◌else◌, is_nan, nat_lt, Float};
 ghost use mir.Val.{bool_byte};
 ghost use Rattle.std.specs.Float.{binary64};

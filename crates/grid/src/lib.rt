@@ -1,4 +1,6 @@
 // The settings of a table's grid, the bin counts that they give, and the bins of a reading.
+#![tactic(auto)]
+
 ghost use Rattle.std.specs.Prelude.{◌≡◌, ◌≤◌};
 ghost use Rattle.std.specs.Float.Ieee.{lt};
 ghost use Rattle.grid.specs.Bins.{nearest_bin, distance_count, dihedral_count, table_rmax, distance_bin, dihedral_bin};
@@ -10,7 +12,7 @@ pub use atom::{atom_counted, atom_grid_valid, atom_question};
 
 // The settings beside the bin counts that they give. In a table that was read, rmax is the table's own.
 #[repr(C)]
-#[derive(Drop)]
+#[derive(Clone, Copy)]
 pub struct Grid {
     pub rmin: f64,
     pub rmax: f64,
@@ -24,7 +26,7 @@ pub struct Grid {
 
 // The settings of a table against an atom: it has no dihedral angle.
 #[repr(C)]
-#[derive(Drop)]
+#[derive(Clone, Copy)]
 pub struct AtomGrid {
     pub rmin: f64,
     pub rmax: f64,

@@ -23,14 +23,14 @@ use table::{AtomReadAnswer, AtomTable};
 
 // Of fresh and set.
 #[repr(C)]
-#[derive(Drop)]
+#[derive(Clone, Copy)]
 pub struct AtomBuildAnswer {
     pub number: u64,
     pub builder: AtomBuilder,
 }
 
 #[repr(C)]
-#[derive(Drop)]
+#[derive(Clone, Copy)]
 pub struct AtomSettleAnswer {
     pub number: u64,
     pub gradient: f64,
@@ -40,7 +40,7 @@ pub struct AtomSettleAnswer {
 
 // What a file holds; `start` has the byte after each section's count.
 #[repr(C)]
-#[derive(Drop)]
+#[derive(Clone, Copy)]
 pub struct AtomTableAnswer {
     pub number: u64,
     pub grid: AtomGrid,
@@ -51,7 +51,7 @@ pub struct AtomTableAnswer {
 }
 
 #[repr(C)]
-#[derive(Drop)]
+#[derive(Clone, Copy)]
 pub struct EnergyAnswer {
     pub number: u64,
     pub energy: f64,

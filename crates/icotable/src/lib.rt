@@ -1,4 +1,6 @@
 // The table's operations for a caller in C or Rust: include/icotable.h declares them. Each function calls the operation and turns its answer into a struct whose first field is document 01's number, 0 for accepted.
+#![tactic(auto)]
+
 ghost use Rattle.std.specs.Prelude.{◌≡◌};
 ghost use Rattle.mesh.specs.Mesh.{mesh_of};
 ghost use Rattle.search.specs.Search.{locator_of};
@@ -39,14 +41,14 @@ mod tails;
 
 // Of fresh and set.
 #[repr(C)]
-#[derive(Drop)]
+#[derive(Clone, Copy)]
 pub struct BuildAnswer {
     pub number: u64,
     pub builder: Builder,
 }
 
 #[repr(C)]
-#[derive(Drop)]
+#[derive(Clone, Copy)]
 pub struct SettleAnswer {
     pub number: u64,
     pub gradient: f64,
@@ -55,7 +57,7 @@ pub struct SettleAnswer {
 }
 
 #[repr(C)]
-#[derive(Drop)]
+#[derive(Clone, Copy)]
 pub struct WriteAnswer {
     pub number: u64,
     pub length: u64,
@@ -63,7 +65,7 @@ pub struct WriteAnswer {
 
 // What a file holds; `start` has the byte after each section's count, and for a file without terms its length.
 #[repr(C)]
-#[derive(Drop)]
+#[derive(Clone, Copy)]
 pub struct TableAnswer {
     pub number: u64,
     pub grid: Grid,
@@ -76,7 +78,7 @@ pub struct TableAnswer {
 
 // Of a reading; the distances are squared, and 0.0 but for a nearest reading.
 #[repr(C)]
-#[derive(Drop)]
+#[derive(Clone, Copy)]
 pub struct ValueAnswer {
     pub number: u64,
     pub energy: f64,

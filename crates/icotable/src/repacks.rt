@@ -7,7 +7,7 @@ use repack::Repacked;
 
 // The length of the packed file, and the number of rows whose offset is another.
 #[repr(C)]
-#[derive(Drop)]
+#[derive(Clone, Copy)]
 pub struct RepackAnswer {
     pub number: u64,
     pub length: u64,

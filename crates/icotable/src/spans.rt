@@ -10,7 +10,7 @@ use span::SpanAnswer;
 // The first and the last distance bin of a span, the smallest and largest energy in their rows, and how many of the
 // Scalar rows hold a NaN.
 #[repr(C)]
-#[derive(Drop)]
+#[derive(Clone, Copy)]
 pub struct SpannedAnswer {
     pub number: u64,
     pub first: u64,

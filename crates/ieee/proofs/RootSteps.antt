@@ -201,6 +201,8 @@ size_pos m e = mul-pos (mul-pos (zero-lt-suc m) (up_pos e)) (zero-lt-suc 0)
 -- above zero, and finite
 pub above_zero : (x : Float) (s : Bool) (a c : ℕ) → 0 < c → lt nought x ≡ true → HasValue x s a c → (s ≡ false) × (0 < a)
 unfolding lt
+above_zero nan s a c C l h = elim h [ ]
+above_zero (inf _) s a c C l h = elim h [ ]
 above_zero (fin true m e) s a c C l h = absurd (false≢true l)
 above_zero (fin false m e) s a c C l h = (sym h.0, factor_pos a (down e) (subst (λ (x : ℕ). 0 < x) h.1 (mul-pos (first (0 * 1 * down e) (m * up e) (ltb-true (0 * 1 * down e) (m * up e * 1) l)) C)))
   where
@@ -255,6 +257,8 @@ root_none = neither (λ x. nan ≡ root x) refl refl (λ m e. sym (ap (λ (b : B
 
 pub root_positive : (x : Float) (a : ℕ) → HasValue x false a (2 ^ 1074) → 0 < a → root_of (a * 2 ^ 1076) ≡ root x
 unfolding root
+root_positive nan a h A = elim h [ ]
+root_positive (inf _) a h A = elim h [ ]
 root_positive (fin t zero e) a h A = absurd (ne_of_gt (mul-pos A (down_pos e)) (sym h.1 ∙ none (up e) (2 ^ 1074)))
 root_positive (fin true (suc m) e) a h A = absurd (true≢false h.0)
 root_positive (fin false (suc m) e) a h A =

@@ -198,6 +198,12 @@ fused_addend (fin s m e) (fin t n d) (fin u l g) h k = absurd (true≢false k)
 pub fused_finite : (x y z : Float) (s t u : Bool) (a b k c e g j : ℕ) → HasValue x s a c → HasValue y t b c → HasValue z u k c → 0 < c → 0 < j → e * (c * c) ≡ a * b * j → g * c ≡ k * j
     → sum binary64 (unlike s t) e u g j ≡ fused x y z
 unfolding fused
+fused_finite nan y z s t u a b k c e g j hx hy hz C J E G = elim hx [ ]
+fused_finite (inf _) y z s t u a b k c e g j hx hy hz C J E G = elim hx [ ]
+fused_finite (fin s' m p) nan z s t u a b k c e g j hx hy hz C J E G = elim hy [ ]
+fused_finite (fin s' m p) (inf _) z s t u a b k c e g j hx hy hz C J E G = elim hy [ ]
+fused_finite (fin s' m p) (fin t' n q) nan s t u a b k c e g j hx hy hz C J E G = elim hz [ ]
+fused_finite (fin s' m p) (fin t' n q) (inf _) s t u a b k c e g j hx hy hz C J E G = elim hz [ ]
 fused_finite (fin s' m p) (fin t' n q) (fin u' l o) s t u a b k c e g j hx hy hz C J E G =
     let X = m * up p in
     let Y = n * up q in

@@ -25,7 +25,7 @@ fn by_half(q: u64, r: u64, d: u64) -> u64
     }
 }
 
-#[derive(Drop)]
+#[derive(Clone, Copy)]
 struct Cut {
     pattern: u64,
     part: u64,
@@ -56,7 +56,7 @@ fn cut_off(sig: u64, exp: u64) -> Cut
     }
 }
 
-#[derive(Drop)]
+#[derive(Clone, Copy)]
 pub(crate) struct Decision {
     pub(crate) neg: bool,
     pub(crate) case: u64,

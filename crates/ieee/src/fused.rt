@@ -18,7 +18,7 @@ fn sign(sa: bool, sb: bool, under: bool, zero: bool) -> bool
 }
 
 // Two sides of a sum, a * 2^t and b * 2^t over 2^5170, with their signs.
-#[derive(Drop)]
+#[derive(Clone, Copy)]
 struct Sides {
     sa: bool,
     a: Wide,
@@ -46,7 +46,7 @@ fn sum_sides(s: Sides) -> f64
 }
 
 // A number that is not 0, with its leading digit near the top of two words: hi, lo * 2^t.
-#[derive(Drop)]
+#[derive(Clone, Copy)]
 struct Term {
     hi: u64,
     lo: u64,

@@ -1,5 +1,7 @@
 // IEEE 754's squareRoot, fusedMultiplyAdd and convertFormat to f32, over whole numbers.
 // Each unpacks its operands, makes a whole number that rounds as the exact result does, and hands it to the one rounding core.
+#![tactic(auto)]
+
 mod cases;
 mod fused;
 mod narrowing;

@@ -6,7 +6,7 @@ ghost use Rattle.ieee.specs.Internal.{NearestRoot};
 use crate::rounding::{Parts, is_finite, unpack};
 
 // q * (q + 1) as high * 2^52 + low, by digits of 26 bits.
-#[derive(Drop)]
+#[derive(Clone, Copy)]
 struct Digits {
     high: u64,
     low: u64,
@@ -101,14 +101,14 @@ fn near(m: u64, odd: u64) -> u64
 // The root of m * 2^(e + 54) * 2^-2150.
 fn finish(m: u64, e: u64) -> f64
     requires { (2 ^ 52 ≤ m) × (m < 2 ^ 53) × (e < 3068) }
-    ensures { result ≡ Root.rootOf (m * 2 ^ (e + 54)) }
+    ensures { result ≡ Root.root_of (m * 2 ^ (e + 54)) }
 {
     let q = near(m, e % 2);
     f64::from_bits(e / 2 * 0x10_0000_0000_0000 + q)
 }
 
 // m * 2^(e + 54) * 2^-2150, with m of 53 digits.
-#[derive(Drop)]
+#[derive(Clone, Copy)]
 struct Number {
     m: u64,
     e: u64,

@@ -94,7 +94,7 @@ pub fn is_finite(x: f64) -> bool
 }
 
 // The parts of a finite number: sig * 2^exp / 2^1074 with its sign.
-#[derive(Drop)]
+#[derive(Clone, Copy)]
 pub(crate) struct Parts {
     pub(crate) neg: bool,
     pub(crate) sig: u64,

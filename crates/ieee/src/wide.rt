@@ -6,7 +6,7 @@ ghost use Rattle.ieee.specs.Internal.{wide, stuck, jammed};
 
 use crate::rounding::{pattern_top, round64, signed64};
 
-#[derive(Drop)]
+#[derive(Clone, Copy)]
 pub(crate) struct Wide {
     pub(crate) hi: u64,
     pub(crate) lo: u64,

@@ -1,1 +1,2 @@
 // Definitions and the theorem of demand 3; there is no code here.
+#![tactic(auto)]

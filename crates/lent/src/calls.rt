@@ -9,13 +9,13 @@ use crate::LentSettled;
 use builder::{Builder, Built, Settled};
 
 // What the by-value calls leave: the builder, a refused call's being the one it was handed, and the rest of the answer.
-#[derive(Drop)]
+#[derive(Clone, Copy)]
 struct SetDone {
     builder: Builder,
     number: u64,
 }
 
-#[derive(Drop)]
+#[derive(Clone, Copy)]
 struct SettleDone {
     builder: Builder,
     answer: LentSettled,

@@ -1,4 +1,6 @@
 // The two forms whose proofs are walks by hand: rows as a slice of records, and set and settle with the builder lent to be altered.
+#![tactic(auto)]
+
 mod calls;
 mod records;
 
@@ -7,7 +9,7 @@ pub use records::{gather, record_of, replace_row, resolution_of, row_at, spread}
 
 // A slab's row as a record of its three numbers.
 #[repr(C)]
-#[derive(Drop)]
+#[derive(Clone, Copy)]
 pub struct RowRecord {
     pub kind: u8,
     pub level: u8,
@@ -15,7 +17,7 @@ pub struct RowRecord {
 }
 
 // What settle answers where the builder is lent: the largest gradient, and the neighbour comparisons made.
-#[derive(Drop)]
+#[derive(Clone, Copy)]
 pub enum LentSettled {
     Accepted(f64, u64),
     Refused(u64),

@@ -1,4 +1,6 @@
 // The locator call: the cells of a level's grid and the faces of each vertex, from the level's mesh.
+#![tactic(auto)]
+
 ghost use Rattle.std.specs.Prelude.{◌≡◌, ◌≤◌};
 ghost use Rattle.mesh.specs.Mesh.{mesh_of};
 ghost use Rattle.search.specs.Search.{locator_of};

@@ -1,4 +1,6 @@
 // Meshes: sizes of a level, where each level begins in lists that hold several, and the mesh rule.
+#![tactic(auto)]
+
 mod levels;
 mod rule;
 mod several;
@@ -11,7 +13,7 @@ pub use several::{links_room, meshes_keep, meshes_linked, meshes_room, neighbour
 
 // The vertices of a face, ascending.
 #[repr(C)]
-#[derive(Drop)]
+#[derive(Clone, Copy)]
 pub struct Face {
     pub a: u64,
     pub b: u64,

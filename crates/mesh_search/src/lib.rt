@@ -1,5 +1,7 @@
 // The search of a direction over a mesh, with no locator: for a caller who searches too seldom for one to pay. Vertices are tested in index order for the
 // direction's cell, and the faces of the nearest are found from neighbour lists, so nothing is kept but what fits best so far.
+#![tactic(auto)]
+
 ghost use Rattle.std.specs.Prelude.{◌≡◌, []};
 ghost use Rattle.mesh.specs.Mesh.{mesh_of};
 ghost use Rattle.search.specs.Search.{not_located};

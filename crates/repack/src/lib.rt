@@ -1,4 +1,6 @@
 // A loosely packed table file made a packed one: each Mesh row's energies are copied to its packed place in a second buffer.
+#![tactic(auto)]
+
 ghost use Rattle.std.specs.Prelude.{◌≡◌, true};
 ghost use Rattle.table.specs.Read.{layout, table_of};
 ghost use Rattle.table.specs.Loose.{loose_refusal};
@@ -12,7 +14,7 @@ mod packing;
 use crate::packing::{energies_total, put_packed, rows_moved};
 
 // What repack answers: the length of the packed file, and the number of rows whose offset is another.
-#[derive(Drop)]
+#[derive(Clone, Copy)]
 pub enum Repacked {
     Accepted(u64, u64),
     Refused(u64),

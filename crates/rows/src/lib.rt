@@ -1,4 +1,6 @@
 // A slab's row: an enum, three numbers in lent lists, or a word in one.
+#![tactic(auto)]
+
 ghost use Rattle.std.specs.Prelude.{◌≡◌, get_or, set};
 ghost use Rattle.rows.specs.Rows.{Rows, kind_of, level_of, value_of, resolution_of, resolution_at, replaced, known, rows_of};
 
@@ -11,7 +13,7 @@ pub use words::{
 
 // What is known of a slab: one energy for all directions, a mesh of energies (its level, and whether a reading interpolates), or nothing but
 // that it is strongly repulsive.
-#[derive(Drop)]
+#[derive(Clone, Copy)]
 pub enum SlabResolution {
     Scalar(f32),
     Mesh(u8, bool),

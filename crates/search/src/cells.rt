@@ -21,7 +21,7 @@ fn wide32(x: u32) -> usize
 }
 
 // Places of a list, from `from` on and before `to`; not held where they are not inside what was lent.
-#[derive(Drop)]
+#[derive(Clone, Copy)]
 pub(crate) struct Span {
     pub(crate) held: bool,
     pub(crate) from: usize,

@@ -123,7 +123,7 @@ fn best_of_all(faces: &[u16], vertices: &[f64], n: usize, p: Vector3, near: Near
 
 // Of the faces that are listed those that p is not told to be past: whether there are none, one or more (0, 1, 2), and the
 // place of the last one.
-#[derive(Drop)]
+#[derive(Clone, Copy)]
 struct Within {
     count: usize,
     at: usize,

@@ -1,4 +1,6 @@
 // The search for a direction's nearest vertex and face.
+#![tactic(auto)]
+
 use mesh::Face;
 
 mod cells;
@@ -16,7 +18,7 @@ pub use triangle::projected_barycentric;
 
 // A point, or a direction. (The Rust takes nalgebra's vector of this name.)
 #[repr(C)]
-#[derive(Drop)]
+#[derive(Clone, Copy)]
 pub struct Vector3 {
     pub x: f64,
     pub y: f64,
@@ -24,7 +26,7 @@ pub struct Vector3 {
 }
 
 // A point as a face of the cube sees it: two coordinates, and how far in front of the cube's middle it is.
-#[derive(Drop)]
+#[derive(Clone, Copy)]
 pub struct Seen {
     pub u: f64,
     pub w: f64,
@@ -32,7 +34,7 @@ pub struct Seen {
 }
 
 // The face that a point is in front of, and the point on it.
-#[derive(Drop)]
+#[derive(Clone, Copy)]
 pub struct Projected {
     pub face: u64,
     pub u: f64,
@@ -41,7 +43,7 @@ pub struct Projected {
 
 // Barycentric weights of a face's vertices.
 #[repr(C)]
-#[derive(Drop)]
+#[derive(Clone, Copy)]
 pub struct Weights {
     pub a: f64,
     pub b: f64,
@@ -49,7 +51,7 @@ pub struct Weights {
 }
 
 // The face that fits a direction best so far, and the least of its weights.
-#[derive(Drop)]
+#[derive(Clone, Copy)]
 pub struct Fit {
     pub face: Face,
     pub weights: Weights,
@@ -58,7 +60,7 @@ pub struct Fit {
 
 // The nearest vertex of a cell and the square of its distance: number 0; or 19 or 20, and then nothing else counts.
 #[repr(C)]
-#[derive(Drop)]
+#[derive(Clone, Copy)]
 pub struct Nearest {
     pub number: u64,
     pub vertex: u64,
@@ -68,7 +70,7 @@ pub struct Nearest {
 // The nearest vertex and the square of its distance, its face that fits a direction best, and the direction's weights in
 // it: number 0; or 19 or 20, and then all else is 0.
 #[repr(C)]
-#[derive(Drop)]
+#[derive(Clone, Copy)]
 pub struct Located {
     pub number: u64,
     pub vertex: u64,

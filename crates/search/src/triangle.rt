@@ -29,7 +29,7 @@ fn in_face(va: f64, vb: f64, vc: f64) -> Weights
 }
 
 // The dot products that tell on which side of a triangle's edges and corners a point is.
-#[derive(Drop)]
+#[derive(Clone, Copy)]
 pub(crate) struct Sides {
     pub(crate) d1: f64,
     pub(crate) d2: f64,

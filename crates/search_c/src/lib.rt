@@ -1,4 +1,6 @@
 // The searches and the locator call for a caller in C or Rust. A direction is given by three numbers, and divided by its length here.
+#![tactic(auto)]
+
 ghost use Rattle.std.specs.Prelude.{◌≡◌, []};
 ghost use Rattle.mesh.specs.Mesh.{mesh_of};
 ghost use Rattle.mesh.specs.Levels.{vertex_count, grid_size};

@@ -1,4 +1,6 @@
 // The settling of one slab: its gradient, what settling finds of it, and the row that it leaves.
+#![tactic(auto)]
+
 mod atom;
 mod gradient;
 mod verdicts;
@@ -9,7 +11,7 @@ pub use verdicts::{
 };
 
 // What settling finds of a slab: that its row holds no energies; that it is repulsive; or, by its gradient, that it becomes a scalar, is read at the nearest vertex or stays as it is.
-#[derive(Drop)]
+#[derive(Clone, Copy)]
 pub enum Verdict {
     Empty,
     Blocked,
@@ -19,7 +21,7 @@ pub enum Verdict {
 }
 
 // What settling finds of a slab against an atom, with the slab's gradient; 0 beside a slab that holds no energies or is repulsive.
-#[derive(Drop)]
+#[derive(Clone, Copy)]
 pub struct AtomVerdict {
     pub verdict: Verdict,
     pub gradient: f64,
@@ -27,7 +29,7 @@ pub struct AtomVerdict {
 
 // What a slice adds up to: the largest gradient of slabs left as Mesh, whether some slab was settled, whether no row is Repulsive, the
 // builder's number of packed energies, and how many slabs reached the gradient.
-#[derive(Drop)]
+#[derive(Clone, Copy)]
 pub struct Tally {
     pub gradient: f64,
     pub settled: bool,

@@ -1,4 +1,6 @@
 // What a build needs, from its settings, top level and neighbour lists alone: no slab is sampled, and no vertex or angle is looked at.
+#![tactic(auto)]
+
 ghost use Rattle.std.specs.Prelude.{◌≡◌, ◌+◌, ◌*◌, suc, ◌≤◌};
 ghost use Rattle.mesh.specs.Levels.{vertex_count, grid_size, cell_count};
 ghost use Rattle.mesh.specs.Mesh.{neighbour_total};
@@ -9,7 +11,7 @@ use grid::{AtomGrid, Grid};
 // The lengths of the store and of the longest file, and for each level those of the locator's lists and the comparisons of one settle. Above the top level stands 0, and beside a
 // number that refuses 0 everywhere.
 #[repr(C)]
-#[derive(Drop)]
+#[derive(Clone, Copy)]
 pub struct Size {
     pub number: u64,
     pub store: u64,

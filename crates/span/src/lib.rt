@@ -1,4 +1,6 @@
 // Distances known within a span: the bins that the span touches, and the smallest and largest energy in their rows.
+#![tactic(auto)]
+
 ghost use Rattle.std.specs.Prelude.{◌≡◌, true};
 ghost use Rattle.span.specs.Spans.{span_values, span_numbered, span_out};
 
@@ -10,7 +12,7 @@ mod energies;
 mod questions;
 
 // The energies met so far: NaN twice before the first one. Of the Scalar rows among them, how many are a NaN.
-#[derive(Drop)]
+#[derive(Clone, Copy)]
 pub struct Extremes {
     pub smallest: f64,
     pub largest: f64,
@@ -18,7 +20,7 @@ pub struct Extremes {
 }
 
 // The first and the last distance bin, and the energies in their rows.
-#[derive(Drop)]
+#[derive(Clone, Copy)]
 pub struct Spanned {
     pub first: u64,
     pub last: u64,
@@ -28,7 +30,7 @@ pub struct Spanned {
 }
 
 // What a span answers.
-#[derive(Drop)]
+#[derive(Clone, Copy)]
 pub enum SpanAnswer {
     Accepted(Spanned),
     Refused(u64),

@@ -1,4 +1,6 @@
 // The table file, and read.
+#![tactic(auto)]
+
 use grid::{AtomGrid, Grid};
 
 mod bytes;
@@ -14,7 +16,7 @@ pub use reader::{atom_read, read, read_over, view};
 pub use walk::tail_size;
 
 // Where each section after the first begins, with its count, and where the last one ends.
-#[derive(Drop)]
+#[derive(Clone, Copy)]
 pub struct Layout {
     pub bins: u64,
     pub levels: u64,
@@ -25,7 +27,7 @@ pub struct Layout {
 
 // What a file holds: its grid, the counts of levels, rows, energies and terms, and where each section starts, at the byte after its
 // count. A file without terms has no sixth section: its start is the file's length.
-#[derive(Drop)]
+#[derive(Clone, Copy)]
 pub struct Table {
     pub grid: Grid,
     pub levels: u64,
@@ -41,7 +43,7 @@ pub struct Table {
 }
 
 // What a file of a table against an atom holds; its second section has the distance count alone.
-#[derive(Drop)]
+#[derive(Clone, Copy)]
 pub struct AtomTable {
     pub grid: AtomGrid,
     pub levels: u64,
@@ -55,20 +57,20 @@ pub struct AtomTable {
 }
 
 // How much of a file a reader opens.
-#[derive(Drop)]
+#[derive(Clone, Copy)]
 pub struct Bound {
     pub levels: u64,
     pub rows: u64,
 }
 
 // What read answers.
-#[derive(Drop)]
+#[derive(Clone, Copy)]
 pub enum ReadAnswer {
     Accepted(Table),
     Refused(u64),
 }
 
-#[derive(Drop)]
+#[derive(Clone, Copy)]
 pub enum AtomReadAnswer {
     Accepted(AtomTable),
     Refused(u64),

@@ -1,4 +1,6 @@
 // The long-range tail of a table file: what a host adds beyond rmax.
+#![tactic(auto)]
+
 ghost use Rattle.std.specs.Prelude.{◌≡◌, true, ◌+◌, ◌*◌, ◌≤◌, length, take, drop, leb};
 ghost use Rattle.std.specs.Float.{binary64};
 ghost use Rattle.std.specs.Float.Ieee.{of_bits};
@@ -11,7 +13,7 @@ ghost use Rattle.tail.specs.Reading.{tail_values, tail_numbered, tail_out};
 use table::Table;
 
 // What a reading of the tail answers.
-#[derive(Drop)]
+#[derive(Clone, Copy)]
 pub enum TailAnswer {
     Energy(f64),
     Refused(u64),

@@ -1,4 +1,6 @@
 // A settle with the builder lent, and a record replaced in a lent list of rows, each beside the by-value call over words. `either-form` of `lent` has the rest by proof.
+#![tactic(auto)]
+
 use builder::{Builder, Built, Settled};
 use grid::Grid;
 use lent::{LentSettled, RowRecord};
@@ -9,7 +11,7 @@ mod meshes;
 mod through;
 
 // What a settle answered and left: its number, the gradient's bits, the comparisons, the level, and row 0 as a word.
-#[derive(Drop)]
+#[derive(Clone, Copy)]
 struct Left {
     number: u64,
     gradient: u64,

@@ -9,7 +9,7 @@ use builder::Builder;
 use lent::{LentSettled, RowRecord};
 
 // What is left of a call: the builder, and the rest of the answer.
-#[derive(Drop)]
+#[derive(Clone, Copy)]
 pub(crate) struct SettleLeft {
     pub(crate) builder: Builder,
     pub(crate) answer: LentSettled,

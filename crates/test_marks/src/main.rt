@@ -1,4 +1,6 @@
 // Works out the marks of document 01 with the compiled operations, and prints each beside what the document says.
+#![tactic(auto)]
+
 use libc::STDOUT_FILENO;
 
 // The bits of an f32, by its value as an f64.

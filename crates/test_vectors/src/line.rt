@@ -6,7 +6,7 @@ ghost use Rattle.test_vectors.specs.Hex.{digit as digitOf, word};
 
 use crate::operation;
 
-#[derive(Drop)]
+#[derive(Clone, Copy)]
 pub enum Line {
     Vector {
         op: usize,
@@ -19,7 +19,7 @@ pub enum Line {
 }
 
 // A number, or what is none: another letter, or more digits than 64 bits hold.
-#[derive(Drop)]
+#[derive(Clone, Copy)]
 pub enum Word {
     Number(u64),
     Bad,

@@ -1,6 +1,8 @@
 // Compares the operations of `ieee` and `float` with the vectors on its standard input, one a line: the operation's
 // name, its operands' bits and the bits that it is to give. Writes the first lines that differ, and for each operation
 // how many agree.
+#![tactic(auto)]
+
 ghost use Rattle.std.specs.Prelude.{◌≤◌, length};
 ghost use Rattle.io.specs.Counts.{IsPrefixLen};
 

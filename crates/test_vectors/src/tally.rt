@@ -6,7 +6,7 @@ use libc::STDOUT_FILENO;
 // How many lines that differ or are malformed are written out.
 const SHOWN: u64 = 8;
 
-#[derive(Drop)]
+#[derive(Clone, Copy)]
 pub struct Tally {
     // for each operation
     lines: [u64; COUNT],

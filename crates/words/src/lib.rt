@@ -1,4 +1,6 @@
 // Rows moved between the three lists and words.
+#![tactic(auto)]
+
 ghost use Rattle.std.specs.Prelude.{◌≡◌, true, ◌&&◌, ◌≤◌, length, take, leb};
 ghost use Rattle.lists.specs.Lists.{every, put};
 ghost use Rattle.rows.specs.Rows.{Rows, rows_of, row_room};

@@ -1,4 +1,6 @@
 // Write: a builder's table as a file.
+#![tactic(auto)]
+
 mod atom;
 mod bytes;
 mod files;
@@ -10,7 +12,7 @@ pub use files::write;
 pub use tail::write_tail;
 
 // What write answers: the length of the file.
-#[derive(Drop)]
+#[derive(Clone, Copy)]
 pub enum Written {
     Accepted(u64),
     Refused(u64),

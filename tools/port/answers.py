@@ -1,0 +1,356 @@
+#!/usr/bin/env python3
+"""Turns the Proof.antt of a crate's functions to Invariants.antt and Answers.antt (docs/PORT.md).
+
+In the crate's folder `rt check --generated DIR --old-names` writes DIR/names.json, which says for each function how
+goals and steps were called and how they are called now. A Proof.antt of the form `tie.close (tie.spec ..)` is turned;
+others stay. Names of steps are taken by where they stand, not by their spelling.
+
+usage: tools/port/answers.py CRATE names.json [FUNCTION..]
+"""
+import glob
+import json
+import os
+import re
+import sys
+
+IDENT = r"[A-Za-z_][A-Za-z0-9_'′₀-₉²³+-]*"
+BASE = {"args", "requires", "ranges", "well_formed", "well-formed", "type_inv", "type-inv", "auto", "lifetimes", "utf8"}
+FIELDS = {"type-inv": "type_inv", "well-formed": "well_formed"}
+
+
+def norm(s):
+    return s.replace("-", "_").replace("_lem", "")
+
+
+class Function:
+    def __init__(self, crate, path, info):
+        self.crate, self.path = crate, path
+        self.info = info
+        self.places = {p[0]: p for p in info["places"]}
+        self.new_place = dict(zip([p[0] for p in info["places"]], info["places_by_name"]))
+        self.needs = {}
+        for i, (old, new) in enumerate(info["needs"]):
+            at = info["asked_at"][i][0] if i < len(info["asked_at"]) else None
+            self.needs[old] = (new, at)
+        self.by_norm = {norm(o): o for o in self.needs}
+        self.place_norm = {norm(p): p for p in self.places}
+        self.said = []
+        self.kept = {}
+
+    def need(self, old):
+        for name in (old, re.sub(r"^(overflow|nonzero)-", "", old)):
+            if name in self.needs:
+                return name
+            if norm(name) in self.by_norm:
+                return self.by_norm[norm(name)]
+        return None
+
+    def place(self, old):
+        if old in self.places:
+            return old
+        return self.place_norm.get(norm(old))
+
+    def parent(self, place):
+        return self.places[place][1]
+
+    def chain(self, place):
+        out = []
+        while place:
+            out.append(place)
+            place = self.parent(place)
+        return out
+
+
+def split_decls(text):
+    """the head's lines, and declarations: a comment or signature at column 0 begins one"""
+    lines = text.split("\n")
+    head, decls, i = [], [], 0
+    while i < len(lines) and (lines[i].startswith("use ") or lines[i].startswith("--") or not lines[i].strip()
+                              or lines[i].startswith("  ") and head and head[-1].startswith("use ")):
+        head.append(lines[i])
+        i += 1
+    # a comment that stands right above a declaration belongs to it
+    while head and head[-1].startswith("--") and i < len(lines):
+        head.pop()
+        i -= 1
+    block = []
+    for line in lines[i:]:
+        starts = line and not line[0].isspace()
+        if starts and block and not only_comments(block) and is_signature(line, block):
+            decls.append(block)
+            block = []
+        block.append(line)
+    if block:
+        decls.append(block)
+    # move trailing comments to the next declaration
+    for a, b in zip(decls, decls[1:]):
+        tail = []
+        while a and (a[-1].startswith("--") or not a[-1].strip()):
+            tail.insert(0, a.pop())
+        while tail and not tail[0].strip():
+            tail.pop(0)
+        b[:0] = tail
+    return head, [d for d in decls if any(x.strip() for x in d)]
+
+
+def only_comments(block):
+    return all(x.startswith("--") or not x.strip() for x in block)
+
+
+def is_signature(line, block):
+    if line.startswith("--"):
+        return True
+    m = re.match(r"(?:(?:abbrev|unfoldable|pub) )*(%s) :" % IDENT, line)
+    if m:
+        return True
+    return bool(re.match(r"(module|data|record|pub data|pub record)\b", line))
+
+
+def name_of(block):
+    for line in block:
+        m = re.match(r"(?:(?:abbrev|unfoldable|pub) )*(%s) :" % IDENT, line)
+        if m:
+            return m.group(1)
+    return None
+
+
+def turn_paths(fn, text, scope):
+    """paths from variables at known places: `c.before.before.step.x`"""
+    text = re.sub(r"\blet (%s) = (%s)((?:\.before)*) in" % (IDENT, IDENT),
+                  lambda m: alias(fn, m, scope), text)
+
+    def path(m):
+        var, befores, field = m.group(1), m.group(2), m.group(3)
+        if var not in scope:
+            return m.group(0)
+        place = scope[var]
+        n = befores.count(".before")
+        at = place
+        for _ in range(n):
+            at = fn.parent(at) if at else None
+        if at is None:
+            fn.said.append("no place for %s" % m.group(0))
+            return m.group(0)
+        if field is None:
+            return m.group(0)
+        if field == "before":
+            return m.group(0)
+        own = fn.places[at][2]
+        if field in BASE:
+            new = FIELDS.get(field, field)
+            if at == "Start" or fn.parent(at) is None:
+                return "%s.%s" % (var, new)
+            return "%s.%s" % (var, new)
+        if norm(field) == norm(own[0]) or norm(re.sub(r"\d+$", "", field)) == norm(re.sub(r"\d+$", "", own[0])):
+            return "%s.%s" % (var, own[1])
+        # a step further down that the flat record names
+        for below in fn.chain(at):
+            o = fn.places[below][2]
+            if norm(o[0]) == norm(field):
+                return "%s.%s" % (var, o[1])
+        fn.said.append("%s: step %r is %r at %s" % (m.group(0), field, own[0], at))
+        return "%s.%s" % (var, own[1])
+
+    return re.sub(r"(?<![\w.'-])(%s)((?:\.before)*)(?:\.(%s))?(?![\w'-])" % (IDENT.replace("+-]", "]").replace("-]", "]"), IDENT),
+                  lambda m: path(m) if (m.group(2) or m.group(3)) else m.group(0), text)
+
+
+def named(text):
+    """clauses of the library that have a name now"""
+    return re.sub(r"\.(wrapping_\w+(?:-\w+)?)\.ensures(?![.\w])", r".\1.ensures.value", text)
+
+
+def alias(fn, m, scope):
+    name, var, befores = m.group(1), m.group(2), m.group(3)
+    if var not in scope:
+        return m.group(0)
+    at = scope[var]
+    for _ in range(befores.count(".before")):
+        at = fn.parent(at) if at else None
+    if at:
+        scope[name] = at
+    return m.group(0)
+
+
+def turn(crate, folder, info):
+    proof = os.path.join(folder, "Proof.antt")
+    text = open(proof).read()
+    if "tie.close" not in text:
+        return "by hand"
+    rel = os.path.relpath(folder, "crates/%s/proofs" % crate).replace("/", ".")
+    fn = Function(crate, rel, info)
+    head, decls = split_decls(text)
+    uses = [h for h in head if h.startswith("use ") or h.startswith("  ")]
+    comments = [h for h in head if h.startswith("--")]
+    uses = [u for u in uses if not re.search(r"\.(Statement\.\{statement\}|Tie as tie)$", u)]
+    stem = "Rattle.%s.proofs.%s" % (crate, rel)
+
+    loops = {norm(o): (o, n, vs, fn.info["changed"][i] if i < len(fn.info["changed"]) else [])
+             for i, ((o, n), vs) in enumerate(fn.info["loops"])}
+    invariants, answers = [], []
+    for d in decls:
+        body = "\n".join(d)
+        name = name_of(d)
+        if re.search(r"tie\.close\b", body):
+            continue
+        m = re.search(r"^abbrev (?:pub )?(%s) : tie\.(invariant|decreases)-(%s)" % (IDENT, IDENT), body, re.M)
+        if m:
+            invariants.append(invariant(fn, m, body, loops))
+            continue
+        m = re.search(r"^(?:pub )?(%s) : tie\.Need-(%s)(.*)$" % (IDENT, IDENT), body, re.M)
+        if m:
+            old = fn.need(m.group(2))
+            if not old:
+                fn.said.append("no goal %s" % m.group(2))
+                answers.append("-- LEFT: no goal %s\n%s" % (m.group(2), "\n".join("-- " + x for x in body.split("\n"))))
+                continue
+            new, at = fn.needs[old]
+            answers.append(answer(fn, m, body, new, at, old))
+            continue
+        answers.append(helper(fn, body, stem))
+    return fn, comments, uses, stem, invariants, answers
+
+
+def rest_of(body, m):
+    return body[:m.start()], body[m.end():]
+
+
+def answer(fn, m, body, new, at, old):
+    before, after = rest_of(body, m)
+    local = m.group(1)
+    lines = after.strip("\n").split("\n")
+    out = []
+    for line in lines:
+        out.append(re.sub(r"^%s(?=\s|$)" % re.escape(local), new, line))
+    scope = {}
+    clause = re.search(r"^%s((?: \S+)*?) =" % re.escape(new), "\n".join(out), re.M)
+    if clause:
+        args = clause.group(1).split()
+        if args:
+            scope[args[0]] = at
+            # the other arguments that an answer takes came with the kinds of the callee
+    text = "\n".join(out)
+    text = re.sub(r"^%s (\S+) κs =" % re.escape(new), r"%s \1 =" % new, text, flags=re.M)
+    text = turn_paths(fn, text, scope)
+    text = re.sub(r"(?<![\w.-])%s(?= )" % re.escape(local), new, text) if local != new and "-" in local else text
+    return "%spub %s : goal.%s\n%s" % (before, new, new, text)
+
+
+def helper(fn, body, stem):
+    scope = {}
+    for m in re.finditer(r"\((%s) : tie\.(%s)\)" % (IDENT, IDENT), body):
+        p = fn.place(m.group(2))
+        if p:
+            scope[m.group(1)] = p
+    def place(m):
+        p = fn.place(m.group(1))
+        if p:
+            fn.kept[fn.new_place[p]] = p
+        return fn.new_place[p] if p else m.group(0)
+    # the name of the variable in the clause may differ
+    sig = re.search(r"^(?:pub )?(%s) : .*?\((%s) : tie\." % (IDENT, IDENT), body, re.M)
+    if sig:
+        clause = re.search(r"^%s (%s)" % (re.escape(sig.group(1)), IDENT), body[sig.end():], re.M)
+        if clause and sig.group(2) in scope:
+            scope[clause.group(1)] = scope[sig.group(2)]
+    body = turn_paths(fn, body, scope)
+    body = re.sub(r"tie\.(%s)" % IDENT, place, body)
+    body = re.sub(r"(?: invariant-[\w-]+| decreases-[\w-]+)+(?=\))", "", body)
+    return body
+
+
+def invariant(fn, m, body, loops):
+    before, after = rest_of(body, m)
+    local, kind, loop = m.group(1), m.group(2), m.group(3)
+    key = norm(loop)
+    if key not in loops:
+        fn.said.append("no loop %s" % loop)
+        return "-- LEFT: no loop %s\n" % loop + body
+    old, new, variables, changed = loops[key]
+    clause = re.search(r"^%s((?: [^\s=]+)*) =" % re.escape(local), after, re.M)
+    if not clause:
+        fn.said.append("no clause of %s" % local)
+        return body
+    args = clause.group(1).split()
+    target = []
+    for i, v in enumerate(variables):
+        target.append("l.initial.%s" % v if i < len(changed) and changed[i] else "l.%s" % v)
+    for i, v in enumerate(variables):
+        if i < len(changed) and changed[i]:
+            target.append("l.%s" % v)
+    if len(args) != len(target):
+        fn.said.append("%s takes %d, and the loop has %d: %s / %s" % (local, len(args), len(target), args, target))
+    text = after[clause.end():]
+    table = dict(zip(args, target))
+    table.pop("_", None)
+
+    def word(mm):
+        return table.get(mm.group(0), mm.group(0))
+
+    text = re.sub(r"(?<![\w.'′₀-₉-])%s" % IDENT.replace("+-]", "]"), word, text)
+    new_name = "%s-%s" % (kind, new)
+    pre = after[:clause.start()].strip("\n")
+    return "%sabbrev pub %s : goal.%s\n%s%s l =%s" % (before, new_name, new_name, pre + "\n" if pre else "", new_name,
+                                                     text.rstrip("\n"))
+
+
+def main():
+    crate, names = sys.argv[1], json.load(open(sys.argv[2]))
+    only = sys.argv[3:]
+    for proof in sorted(glob.glob("crates/%s/proofs/**/Proof.antt" % crate, recursive=True)):
+        folder = os.path.dirname(proof)
+        rel = os.path.relpath(folder, "crates/%s/proofs" % crate)
+        if only and rel not in only and os.path.basename(rel) not in only:
+            continue
+        key = "Rattle-%s-proofs.%s.Lts" % (crate, rel.replace("/", "."))
+        if key not in names:
+            print("%s: no names" % rel)
+            continue
+        made = turn(crate, folder, names[key])
+        if made == "by hand":
+            print("%s: by hand" % rel)
+            continue
+        fn, comments, uses, stem, invariants, answers = made
+        for s in fn.said:
+            print("%s: %s" % (rel, s))
+        used = [u for u in uses]
+        if invariants:
+            with open(os.path.join(folder, "Invariants.antt"), "w") as out:
+                out.write("\n".join(imports(used, invariants) + ["use %s.Given as goal" % stem, ""]) + "\n")
+                out.write("\n\n".join(i.strip("\n") for i in invariants) + "\n")
+        if answers:
+            text = named("\n\n".join(a.strip("\n") for a in answers))
+            with open(os.path.join(folder, "Answers.antt"), "w") as out:
+                more = ["use %s.Goals.{%s}" % (stem, ", ".join(fn.kept))] if fn.kept else []
+                out.write("\n".join(imports(used, answers) + ["use %s.Goals as goal" % stem] + more + [""]) + "\n")
+                out.write(text + "\n")
+        os.remove(proof)
+
+
+def imports(uses, blocks):
+    """the `use` lines, cut down to the names that the blocks have"""
+    text = "\n".join(blocks)
+    out = []
+    for u in uses:
+        m = re.match(r"use ([^\s{]+)\.\{([^}]*)\}$", u)
+        if not m:
+            if not u.startswith("use ") or re.search(r"\b%s\b" % re.escape(u.split()[-1].split(".")[-1]), text):
+                out.append(u)
+            continue
+        kept = []
+        for item in m.group(2).split(","):
+            item = item.strip()
+            local = item.split(" as ")[-1]
+            bare = local.strip("◌")
+            if "◌" in local:
+                words = [w for w in local.split("◌") if w]
+                if all(w in text for w in words):
+                    kept.append(item)
+            elif re.search(r"(?<![\w'-])%s(?![\w'-])" % re.escape(bare), text):
+                kept.append(item)
+        if kept:
+            out.append("use %s.{%s}" % (m.group(1), ", ".join(kept)))
+    return out
+
+
+main()
