@@ -431,7 +431,7 @@ def helper(fn, body, stem):
         at = fn.new_place[scope[variables[0]]]
         body = turn_paths(fn, body, {v: scope[v] for v in variables}, at)
     body = re.sub(r"tie\.(%s)" % IDENT, place, body)
-    body = re.sub(r"(?: invariant-[\w-]+| decreases-[\w-]+)+(?=\))", "", body)
+    body = re.sub(r"(?: invariant-[\w-]+| decreases-[\w-]+)+(?=\)| →)", "", body)
     return body
 
 
