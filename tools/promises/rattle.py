@@ -124,4 +124,4 @@ class Source:
         return list(enumerate(self.bare[start:end].split('\n'), first))
 
     def exports(self):
-        return re.findall(r'#\[no_mangle\]\s+pub extern "C" fn (\w+)\(', self.bare)
+        return re.findall(r'#\[unsafe\(no_mangle\)\]\s+pub extern "C" fn (\w+)\(', self.bare)

@@ -15,8 +15,8 @@ class Scope:
         names = list(uses) + (list(own.defined) + list(own.built) if own else [])
         self.operators = {}
         for name in names:
-            if '_' in name and not name.startswith('«'):
-                for part in filter(None, name.split('_')):
+            if '◌' in name:
+                for part in filter(None, name.split('◌')):
                     self.operators.setdefault(part, []).append(name)
 
     def lookup(self, name, place):
