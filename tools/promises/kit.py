@@ -17,6 +17,6 @@ FIELDS = {'now', 'old', 'new'}
 CONSTRUCTORS = {
     'Rattle.std.specs.Prelude.' + name
     for name in 'zero suc true false [] ◌∷◌ none some pos negsuc'.split()
-} | {'Rattle.std.specs.Float.Ieee.' + name for name in 'nan inf fin'.split()}
+} | {'Rattle.std.specs.Float.' + name for name in 'nan inf fin'.split()}
 # .. and those that a pattern may bind anew, as they are no constructors
 HIDDEN = set()
