@@ -1,4 +1,4 @@
--- A list narrowed into another, in the words of `narrowedAll`. Assumes nothing.
+-- A list narrowed into another, in the words of `narrowed_all`. Assumes nothing.
 use Prim.Native.Nat.{ℕ, zero, suc, ◌+◌, ◌-◌, min}
 use native.Mathlib.Omega.{arith}
 use mathlib.Core.Path.{◌≡◌, refl, sym, ap, ◌∙◌}
