@@ -14,9 +14,6 @@ CLAUSE = {'result': 'the logic: result'}
 # fields are numbers
 FIELDS = {'now', 'old', 'new'}
 # of the kit's names, those that a pattern takes apart; any other that a pattern writes is an error
-CONSTRUCTORS = {
-    'Rattle.std.specs.Prelude.' + name
-    for name in 'zero suc true false [] ◌∷◌ none some pos negsuc'.split()
-} | {'Rattle.std.specs.Float.' + name for name in 'nan inf fin'.split()}
+CONSTRUCTORS = set('zero suc true false [] ◌∷◌ none some nan inf fin pos negsuc'.split())
 # .. and those that a pattern may bind anew, as they are no constructors
 HIDDEN = set()

@@ -72,15 +72,17 @@ class Graph:
     def lent(self, source):
         """The scope of a file's contracts: what its `ghost use` lines bring, and what every clause is lent."""
         if source not in self.scopes:
-            uses = {}
+            uses, modules = {}, {}
             for line in source.ghost:
                 path, _, names = line.partition('.{')
                 if not names:
-                    raise Wrong(source.file, '`ghost use %s` is not read by this program' % line)
+                    path, _, name = path.partition(' as ')
+                    modules[name or path.split('.')[-1]] = path.split('.')
+                    continue
                 for item in names.rstrip('}').split(','):
                     name, _, alias = item.strip().partition(' as ')
                     uses[alias or name] = path.split('.') + [name]
-            self.scopes[source] = Scope(self.tree, uses, {}, None, CLAUSE)
+            self.scopes[source] = Scope(self.tree, uses, modules, None, CLAUSE)
         return self.scopes[source]
 
 

@@ -1,6 +1,6 @@
 """The names in a term. A name is bound where it stands, or it is the file's own, or a `use` line brings it, or it is the
 prelude's; anything else is an error."""
-from antt import before, telescope
+from antt import Definition, before, telescope
 from kit import CLAUSE, CONSTRUCTORS, FORMS, HIDDEN, NOTATION, PRELUDE
 from tokens import NUMERAL, RESERVED, Group, grouped, split, tokens_of
 from tree import Constructor, Kit
@@ -61,11 +61,19 @@ class Reader:
         if parts[0] in bound:
             self.fields += [(part, place) for part in parts[1:] if not NUMERAL.match(part)]
             return
+        if len(parts) > 1 and self.is_value(parts[0], place):
+            self.fields += [(part, place) for part in parts[1:] if not NUMERAL.match(part)]
+            parts = parts[:1]
         name = self.scope.spelled(parts[0], place) if len(parts) == 1 else '.'.join(parts)
         found = self.scope.path(parts, place) if len(parts) > 1 else self.scope.lookup(name, place)
         if found is None:
             raise Wrong(place, '`%s` is nothing that is known here' % name)
         self.named.append((name, found))
+
+    def is_value(self, name, place):
+        """Whether a name is of a function or a value, whose fields may be read, and not of a type or a module."""
+        found = None if name in self.scope.modules else self.scope.lookup(name, place)
+        return isinstance(found, Definition) and found.kind == 'function'
 
     def term(self, items, bound):
         """A term, or several with commas between them."""
@@ -172,7 +180,7 @@ class Reader:
         found = self.scope.lookup(name, item.place())
         if len(item.parts) > 1:
             self.refer(item, set())
-        elif isinstance(found, Constructor) or isinstance(found, Kit) and found.path in CONSTRUCTORS:
+        elif isinstance(found, Constructor) or isinstance(found, Kit) and found.path.split('.')[-1] in CONSTRUCTORS:
             self.named.append((name, found))
         elif isinstance(found, Kit) and found.path not in HIDDEN:
             raise Wrong(item.place(), 'a pattern has `%s`: say in kit.py whether it is a constructor' % found.path)
