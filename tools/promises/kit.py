@@ -8,8 +8,8 @@ FORMS = set('λ let in record Type'.split())
 PRELUDE = {
     '⊥': 'Prim.⊥', 'Unit': 'Prim.Unit', 'tt': 'Prim.tt', '¬': 'Prim.¬◌', '¬◌': 'Prim.¬◌', 'absurd': 'Prim.absurd',
 }
-# what every clause of a contract is lent: what the call gives back
-CLAUSE = {'result': 'the logic: result'}
+# what a clause of a contract calls the value that the call gives back
+RESULT = 'result'
 # fields of the kit's records: a lent parameter has its value now, or one before the call and one after it; a tuple's
 # fields are numbers
 FIELDS = {'now', 'old', 'new'}

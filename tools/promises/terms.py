@@ -1,7 +1,7 @@
 """The names in a term. A name is bound where it stands, or it is the file's own, or a `use` line brings it, or it is the
 prelude's; anything else is an error."""
 from antt import Definition, before, telescope
-from kit import CLAUSE, CONSTRUCTORS, FORMS, HIDDEN, NOTATION, PRELUDE
+from kit import CONSTRUCTORS, FORMS, HIDDEN, NOTATION, PRELUDE
 from tokens import NUMERAL, RESERVED, Group, grouped, split, tokens_of
 from tree import Constructor, Kit
 from wrong import Wrong
@@ -10,8 +10,8 @@ from wrong import Wrong
 class Scope:
     """What the names of a file mean there, where nothing nearer binds them."""
 
-    def __init__(self, tree, uses, modules, own=None, lent=()):
-        self.tree, self.uses, self.modules, self.own, self.lent = tree, uses, modules, own, lent
+    def __init__(self, tree, uses, modules, own=None):
+        self.tree, self.uses, self.modules, self.own = tree, uses, modules, own
         names = list(uses) + (list(own.defined) + list(own.built) if own else [])
         self.operators = {}
         for name in names:
@@ -25,8 +25,6 @@ class Scope:
             return self.tree.member(self.own, [name], place)
         if name in self.uses:
             return self.tree.found(self.uses[name], place)
-        if name in self.lent:
-            return Kit(CLAUSE[name])
         return Kit(PRELUDE[name]) if name in PRELUDE else None
 
     def spelled(self, name, place):
