@@ -49,7 +49,7 @@ class Words:
         crate = file.split('/')[1]
         self.means[file] = self.brought(text)
         for path, names in re.findall(r'^(?:pub(?:\(crate\))? )?use (\w+)::([^;]*);', text, re.M):
-            for name in re.findall(r'\w+', names):
+            for name in re.findall(r'\b[A-Z]\w*', names):
                 self.means[file][name] = ('use', path.replace('crate', crate, 1), name)
         for found in re.finditer(r'^(?:pub )?(?:struct|enum) (\w+)\s*(\{[^}]*\}|\([^)]*\))', text, re.M):
             self.means[file][found.group(1)] = file, found.group(1)
