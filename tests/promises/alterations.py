@@ -96,7 +96,7 @@ def expect(holds, message):
 def copied(folder):
     """The sources and the stored promises."""
     for name in ('crates', 'docs'):
-        shutil.copytree(os.path.join(ROOT, name), os.path.join(folder, name))
+        shutil.copytree(os.path.join(ROOT, name), os.path.join(folder, name), ignore=shutil.ignore_patterns('out'))
     shutil.copy(os.path.join(ROOT, 'crates.txt'), folder)
 
 
