@@ -1,4 +1,4 @@
-use Rattle.std.proofs.Common.{◌∙◌}
+use mathlib.Core.Path.{◌∙◌}
 use Rattle.float_c.proofs.Laws.{all-put}
 use Rattle.float_c.proofs.float_narrow_all.Goals as goal
 
