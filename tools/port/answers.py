@@ -27,6 +27,7 @@ class Function:
         self.crate, self.path = crate, path
         self.info = info
         self.places = {p[0]: p for p in info["places"]}
+        self.arms = dict(zip([p[0] for p in info["places"]], info["arms"]))
         self.new_place = dict(zip([p[0] for p in info["places"]], info["places_by_name"]))
         self.needs = {}
         for i, (old, new) in enumerate(info["needs"]):
@@ -43,6 +44,9 @@ class Function:
                 return name
             if norm(name) in self.by_norm:
                 return self.by_norm[norm(name)]
+        for name, (new, _) in self.needs.items():
+            if norm(new) == norm(old):
+                return name
         return None
 
     def place(self, old):
@@ -120,39 +124,51 @@ def turn_paths(fn, text, scope):
                   lambda m: alias(fn, m, scope), text)
 
     def path(m):
-        var, befores, field = m.group(1), m.group(2), m.group(3)
-        if var not in scope:
+        var, befores, rest = m.group(1), m.group(2), [x for x in m.group(3).split(".") if x]
+        if var not in scope or not (befores or rest):
             return m.group(0)
-        place = scope[var]
-        n = befores.count(".before")
-        at = place
-        for _ in range(n):
+        at = scope[var]
+        for _ in range(befores.count(".before")):
             at = fn.parent(at) if at else None
         if at is None:
             fn.said.append("no place for %s" % m.group(0))
             return m.group(0)
-        if field is None:
+        if not rest:
             return m.group(0)
-        if field == "before":
-            return m.group(0)
-        own = fn.places[at][2]
-        if field in BASE:
-            new = FIELDS.get(field, field)
-            if at == "Start" or fn.parent(at) is None:
-                return "%s.%s" % (var, new)
-            return "%s.%s" % (var, new)
-        if norm(field) == norm(own[0]) or norm(re.sub(r"\d+$", "", field)) == norm(re.sub(r"\d+$", "", own[0])):
-            return "%s.%s" % (var, own[1])
-        # a step further down that the flat record names
-        for below in fn.chain(at):
-            o = fn.places[below][2]
-            if norm(o[0]) == norm(field):
-                return "%s.%s" % (var, o[1])
-        fn.said.append("%s: step %r is %r at %s" % (m.group(0), field, own[0], at))
-        return "%s.%s" % (var, own[1])
+        return ".".join([var] + step(fn, at, rest, m.group(0)))
 
-    return re.sub(r"(?<![\w.'-])(%s)((?:\.before)*)(?:\.(%s))?(?![\w'-])" % (IDENT.replace("+-]", "]").replace("-]", "]"), IDENT),
-                  lambda m: path(m) if (m.group(2) or m.group(3)) else m.group(0), text)
+    return re.sub(r"(?<![\w.'-])(%s)((?:\.before(?![\w-]))*)((?:\.(?:%s|\d+))*)(?![\w'-])" % (IDENT.replace("+-]", "-]"), IDENT),
+                  path, text)
+
+
+DEEPER = {"type-inv": "type_inv", "well-formed": "well_formed"}
+
+
+def step(fn, at, rest, whole):
+    """a path from the record of a place, as it is written now"""
+    field, deeper = rest[0], [DEEPER.get(x, x) for x in rest[1:]]
+    if field in BASE:
+        return [FIELDS.get(field, field)] + deeper
+    for below in fn.chain(at):
+        own, arm = fn.places[below][2], fn.arms.get(below)
+        if not same(field, own[0]):
+            continue
+        if arm:
+            fits = [(len(p), new, p) for new, old, p in arm[2] if same(field, old) and p == rest[1:1 + len(p)]]
+            if fits:
+                n, new, p = max(fits)
+                if n or not new.endswith("-own"):
+                    return [arm[0], new] + deeper[n:]
+        if below != at:
+            fn.said.append("%s: step %r is further down" % (whole, field))
+        return [own[1]] + deeper
+    own = fn.places[at][2]
+    fn.said.append("%s: step %r is %r at %s" % (whole, field, own[0], at))
+    return [own[1]] + deeper
+
+
+def same(field, own):
+    return norm(field) == norm(own) or norm(re.sub(r"\d+$", "", field)) == norm(re.sub(r"\d+$", "", own))
 
 
 def named(text):
@@ -187,11 +203,12 @@ def turn(crate, folder, info):
 
     loops = {norm(o): (o, n, vs, fn.info["changed"][i] if i < len(fn.info["changed"]) else [])
              for i, ((o, n), vs) in enumerate(fn.info["loops"])}
-    invariants, answers = [], []
+    invariants, answers, renamed = [], [], {}
     for d in decls:
         body = "\n".join(d)
         name = name_of(d)
         if re.search(r"tie\.close\b", body):
+            answers += inline(fn, body, {name_of(x) for x in decls}, decls)
             continue
         m = re.search(r"^abbrev (?:pub )?(%s) : tie\.(invariant|decreases)-(%s)" % (IDENT, IDENT), body, re.M)
         if m:
@@ -205,10 +222,75 @@ def turn(crate, folder, info):
                 answers.append("-- LEFT: no goal %s\n%s" % (m.group(2), "\n".join("-- " + x for x in body.split("\n"))))
                 continue
             new, at = fn.needs[old]
+            if m.group(1) != new:
+                renamed[m.group(1)] = new
             answers.append(answer(fn, m, body, new, at, old))
             continue
         answers.append(helper(fn, body, stem))
-    return fn, comments, uses, stem, invariants, answers
+    return fn, comments, uses, stem, invariants, [cross(a, renamed) for a in answers]
+
+
+def arguments(text):
+    """what stands after `tie.spec`, part by part"""
+    out, depth, part = [], 0, ""
+    for ch in text:
+        if ch in "([{":
+            depth += 1
+        if ch in ")]}":
+            depth -= 1
+            if depth < 0:
+                break
+        if ch.isspace() and depth == 0:
+            if part:
+                out.append(part)
+            part = ""
+        else:
+            part += ch
+    return out + ([part] if part else [])
+
+
+def inline(fn, body, local, decls):
+    """goals that were answered in the call of `tie.spec` itself, or by a lemma of another name"""
+    m = re.search(r"tie\.spec\b(.*)", body, re.S)
+    if not m:
+        return []
+    parts = arguments(m.group(1))
+    text = "\n".join("\n".join(d) for d in decls)
+    parts = [p for p in parts if not re.match(r"(invariant|decreases)-", p) and
+             not re.search(r"^abbrev (?:pub )?%s : tie\.(invariant|decreases)" % re.escape(p), text, re.M)]
+    needs = fn.info["needs"]
+    if len(parts) != len(needs):
+        left = [p for p in parts if "search rules" not in p and
+                not re.search(r"^(?:pub )?%s : tie\.Need-" % re.escape(p), text, re.M)]
+        if left:
+            fn.said.append("%d arguments, %d goals; left: %s" % (len(parts), len(needs), left))
+        return []
+    out = []
+    for part, (old, new), (at, _) in zip(parts, needs, fn.info["asked_at"]):
+        if re.match(r"\(λ (?:c|_)(?: κs| _)*\. search rules\)$", part):
+            continue
+        if re.search(r"^(?:pub )?%s : tie\.Need-" % re.escape(part), text, re.M):
+            continue
+        m = re.match(r"\(λ (\S+?)(?: κs| _)*\. (.*)\)$", part, re.S)
+        if m:
+            var, term = m.groups()
+        else:
+            var, term = "c", part + " c"
+        term = turn_paths(fn, term, {var: at})
+        out.append("pub %s : goal.%s\n%s %s = %s" % (new, new, new, var, term))
+    return out
+
+
+def cross(text, renamed):
+    """an answer that cites another one of the same file"""
+    head, lines = [], text.split("\n")
+    out = []
+    for line in lines:
+        lead = re.match(r"(?:pub )?%s(?: :|(?: [^\s=]+)* =)" % IDENT, line)
+        start = lead.end() if lead else 0
+        out.append(line[:start] + re.sub(r"(?<![\w.'-])%s" % IDENT.replace("+-]", "-]"),
+                                         lambda m: renamed.get(m.group(0), m.group(0)), line[start:]))
+    return "\n".join(out)
 
 
 def rest_of(body, m):
