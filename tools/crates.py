@@ -13,7 +13,7 @@ def listed():
         for line in lines:
             name, colon, rest = line.split("#")[0].partition(":")
             if colon:
-                needs[name.strip()] = rest.split()
+                needs[name.split()[0]] = rest.split()
     return needs
 
 
