@@ -36,7 +36,7 @@ class Function:
         self.by_norm = {norm(o): o for o in self.needs}
         self.place_norm = {norm(p): p for p in self.places}
         self.said = []
-        self.kept = {}
+        self.kept, self.helpers = {}, {}
 
     def need(self, old):
         for name in (old, re.sub(r"^(overflow|nonzero)-", "", old)):
@@ -118,27 +118,52 @@ def name_of(block):
     return None
 
 
-def turn_paths(fn, text, scope):
-    """paths from variables at known places: `c.before.before.step.x`"""
-    text = re.sub(r"\blet (%s) = (%s)((?:\.before)*) in" % (IDENT, IDENT),
-                  lambda m: alias(fn, m, scope), text)
+def turn_paths(fn, text, scope, root):
+    """paths from variables at known places: `c.before.before.step.x` is `c.step.x` now, since a place's record has the
+    steps before it too; root is the name of the goal or place whose record the clause takes"""
+    first = next(iter(scope), None)
+    text = re.sub(r"\blet (%s) = (%s)((?:\.before(?![\w-]))*) in" % (IDENT, IDENT), lambda m: alias(fn, m, scope), text)
+    helpers = sorted((h for h in fn.helpers if h != root), key=len, reverse=True)
+    if helpers and first:
+        pattern = r"(?<![\w.'-])(%s) (?:(%s)((?:\.before(?![\w-]))*)(?![\w.'-])|\((%s)((?:\.before(?![\w-]))*)\))" % (
+            "|".join(map(re.escape, helpers)), IDENT, IDENT)
+
+        def call(m):
+            var = m.group(2) or m.group(4)
+            if var not in scope:
+                return m.group(0)
+            wanted = fn.helpers[m.group(1)]
+            fn.kept[fn.new_place[wanted]] = wanted
+            if wanted == fn.root_place:
+                return "%s %s" % (m.group(1), first)
+            return "%s (goal.at.%s %s).%s" % (m.group(1), root, first, fn.new_place[wanted])
+
+        fn.root_place = scope[first]
+        text = re.sub(pattern, call, text)
 
     def path(m):
         var, befores, rest = m.group(1), m.group(2), [x for x in m.group(3).split(".") if x]
-        if var not in scope or not (befores or rest):
+        if var not in scope or not rest:
+            return m.group(0)
+        if m.start() >= 8 and text[:m.start()].endswith("goal.at."):
             return m.group(0)
         at = scope[var]
         for _ in range(befores.count(".before")):
-            at = fn.parent(at) if at else None
-        if at is None:
-            fn.said.append("no place for %s" % m.group(0))
-            return m.group(0)
-        if not rest:
-            return m.group(0)
-        return ".".join([var] + step(fn, at, rest, m.group(0)))
+            at = fn.parent(at) or at if at else None
+        return ".".join([first] + step(fn, at, rest, m.group(0)))
 
-    return re.sub(r"(?<![\w.'-])(%s)((?:\.before(?![\w-]))*)((?:\.(?:%s|\d+))*)(?![\w'-])" % (IDENT.replace("+-]", "-]"), IDENT),
-                  path, text)
+    text = re.sub(r"(?<![\w.'-])(%s)((?:\.before(?![\w-]))*)((?:\.(?:%s|\d+))*)(?![\w'-])" % (
+        IDENT.replace("+-]", "-]"), IDENT), path, text)
+    # names of places that nothing cites any more
+    again = True
+    while again:
+        again = False
+        for name in [n for n in scope if n != first]:
+            line = re.search(r"\blet %s = %s(?:\.before)* in[ \n]*" % (re.escape(name), IDENT), text)
+            if line and not re.search(r"(?<![\w.'-])%s(?![\w'-])" % re.escape(name), text[:line.start()] + text[line.end():]):
+                text = text[:line.start()] + text[line.end():]
+                again = True
+    return text
 
 
 DEEPER = {"type-inv": "type_inv", "well-formed": "well_formed"}
@@ -157,8 +182,7 @@ def step(fn, at, rest, whole):
             fits = [(len(p), new, p) for new, old, p in arm[2] if same(field, old) and p == rest[1:1 + len(p)]]
             if fits:
                 n, new, p = max(fits)
-                if n or not new.endswith("-own"):
-                    return [arm[0], new] + deeper[n:]
+                return [arm[0], new] + deeper[n:]
         if below != at:
             fn.said.append("%s: step %r is further down" % (whole, field))
         return [own[1]] + deeper
@@ -172,8 +196,24 @@ def same(field, own):
 
 
 def named(text):
-    """clauses of the library that have a name now"""
+    """clauses of the library that have a name now, and fields of Rattle's own"""
+    text = re.sub(r"\.type-inv\b", ".type_inv", re.sub(r"\.well-formed\b", ".well_formed", text))
+    # a test of `!x` says of x what it says
+    text = re.sub(r"\bnot-(?:true|false) (?:_|[\w.'-]+|\([^()]*\)) (c\.[\w.-]*-not-[\w.-]+)", r"\1", text)
     return re.sub(r"\.(wrapping_\w+(?:-\w+)?)\.ensures(?![.\w])", r".\1.ensures.value", text)
+
+
+def source_words(crate):
+    out = set()
+    for f in glob.glob("crates/%s/src/**/*.rt" % crate, recursive=True):
+        out |= {w for w in re.findall(r"[a-z]\w*", open(f).read()) if "_" in w}
+    return out
+
+
+def of_source(text, words):
+    """names of the sources keep their spelling"""
+    return re.sub(r"\.([a-z]\w*(?:-[a-z0-9]\w*)+)(?![\w'-])",
+                  lambda m: "." + m.group(1).replace("-", "_") if m.group(1).replace("-", "_") in words else m.group(0), text)
 
 
 def alias(fn, m, scope):
@@ -182,9 +222,8 @@ def alias(fn, m, scope):
         return m.group(0)
     at = scope[var]
     for _ in range(befores.count(".before")):
-        at = fn.parent(at) if at else None
-    if at:
-        scope[name] = at
+        at = fn.parent(at) or at
+    scope[name] = at
     return m.group(0)
 
 
@@ -204,6 +243,12 @@ def turn(crate, folder, info):
     loops = {norm(o): (o, n, vs, fn.info["changed"][i] if i < len(fn.info["changed"]) else [])
              for i, ((o, n), vs) in enumerate(fn.info["loops"])}
     invariants, answers, renamed = [], [], {}
+    for d in decls:
+        m = re.search(r"^(?:abbrev )?(?:pub )?(%s) :\s*(?:\(%s : )?tie\.(%s)" % (IDENT, IDENT, IDENT), "\n".join(d), re.M)
+        if m and re.match("(Need|invariant|decreases)-", m.group(2)):
+            m = None
+        if m and fn.place(m.group(2)):
+            fn.helpers[m.group(1)] = fn.place(m.group(2))
     for d in decls:
         body = "\n".join(d)
         name = name_of(d)
@@ -276,7 +321,7 @@ def inline(fn, body, local, decls):
             var, term = m.groups()
         else:
             var, term = "c", part + " c"
-        term = turn_paths(fn, term, {var: at})
+        term = turn_paths(fn, term, {var: at}, new)
         out.append("pub %s : goal.%s\n%s %s = %s" % (new, new, new, var, term))
     return out
 
@@ -313,7 +358,7 @@ def answer(fn, m, body, new, at, old):
             # the other arguments that an answer takes came with the kinds of the callee
     text = "\n".join(out)
     text = re.sub(r"^%s (\S+) κs =" % re.escape(new), r"%s \1 =" % new, text, flags=re.M)
-    text = turn_paths(fn, text, scope)
+    text = turn_paths(fn, text, scope, new)
     text = re.sub(r"(?<![\w.-])%s(?= )" % re.escape(local), new, text) if local != new and "-" in local else text
     return "%spub %s : goal.%s\n%s" % (before, new, new, text)
 
@@ -330,12 +375,16 @@ def helper(fn, body, stem):
             fn.kept[fn.new_place[p]] = p
         return fn.new_place[p] if p else m.group(0)
     # the name of the variable in the clause may differ
-    sig = re.search(r"^(?:pub )?(%s) : .*?\((%s) : tie\." % (IDENT, IDENT), body, re.M)
-    if sig:
+    sig = re.search(r"^(?:abbrev )?(?:pub )?(%s) :\s*(?:\((%s) : )?tie\.(%s)" % (IDENT, IDENT, IDENT), body, re.M)
+    if sig and fn.place(sig.group(3)):
         clause = re.search(r"^%s (%s)" % (re.escape(sig.group(1)), IDENT), body[sig.end():], re.M)
-        if clause and sig.group(2) in scope:
-            scope[clause.group(1)] = scope[sig.group(2)]
-    body = turn_paths(fn, body, scope)
+        if clause:
+            scope[clause.group(1)] = fn.place(sig.group(3))
+    variables = sorted(scope, key=lambda v: not re.search(r"^%s %s\b" % (re.escape(name_of(body.split("\n")) or "?"), re.escape(v)),
+                                                            body, re.M))
+    if variables:
+        at = fn.new_place[scope[variables[0]]]
+        body = turn_paths(fn, body, {v: scope[v] for v in variables}, at)
     body = re.sub(r"tie\.(%s)" % IDENT, place, body)
     body = re.sub(r"(?: invariant-[\w-]+| decreases-[\w-]+)+(?=\))", "", body)
     return body
@@ -379,6 +428,7 @@ def invariant(fn, m, body, loops):
 def main():
     crate, names = sys.argv[1], json.load(open(sys.argv[2]))
     only = sys.argv[3:]
+    words = source_words(crate)
     for proof in sorted(glob.glob("crates/%s/proofs/**/Proof.antt" % crate, recursive=True)):
         folder = os.path.dirname(proof)
         rel = os.path.relpath(folder, "crates/%s/proofs" % crate)
@@ -401,7 +451,7 @@ def main():
                 out.write("\n".join(imports(used, invariants) + ["use %s.Given as goal" % stem, ""]) + "\n")
                 out.write("\n\n".join(i.strip("\n") for i in invariants) + "\n")
         if answers:
-            text = named("\n\n".join(a.strip("\n") for a in answers))
+            text = of_source(named("\n\n".join(a.strip("\n") for a in answers)), words)
             with open(os.path.join(folder, "Answers.antt"), "w") as out:
                 more = ["use %s.Goals.{%s}" % (stem, ", ".join(fn.kept))] if fn.kept else []
                 out.write("\n".join(imports(used, answers) + ["use %s.Goals as goal" % stem] + more + [""]) + "\n")
