@@ -57,6 +57,8 @@ def main():
     for crate, edit in all_edits():
         number += 1
         said = misfits(edit, os.path.join("crates", crate))
+        if "uncounted/" in edit and "expect: BAD EDIT: an 'old:' text" in open(edit, encoding="utf8").read():
+            said = [] if said else ["it fits, and is kept as one that does not"]
         unfit += bool(said)
         for words in said:
             print(f"{edit}: {words}")
