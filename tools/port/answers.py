@@ -36,7 +36,7 @@ class Function:
         self.by_norm = {norm(o): o for o in self.needs}
         self.place_norm = {norm(p): p for p in self.places}
         self.said = []
-        self.kept, self.helpers, self.root = {}, {}, None
+        self.kept, self.helpers, self.root, self.lent = {}, {}, None, []
 
     def need(self, old):
         for name in (old, re.sub(r"^(overflow|nonzero)-", "", old)):
@@ -296,7 +296,28 @@ def turn(crate, folder, info):
             answers.append(answer(fn, m, body, new, at, old))
             continue
         answers.append(helper(fn, body, stem))
-    return fn, comments, uses, stem, invariants, [cross(a, renamed) for a in answers]
+    answers = [cross(a, renamed) for a in answers]
+    return fn, comments, uses, stem, *shared(fn, stem, invariants, answers)
+
+
+def shared(fn, stem, invariants, answers):
+    """what an invariant cites goes with it; the answers import it"""
+    moved = True
+    while moved:
+        moved = False
+        for a in answers:
+            name = name_of(a.split("\n"))
+            if name and "goal." not in a and any(re.search(r"(?<![\w.'-])%s(?![\w'-])" % re.escape(name), i)
+                                                 for i in invariants):
+                answers.remove(a)
+                a = re.sub(r"^(abbrev )?(?:pub )?(?=%s :)" % re.escape(name), r"\1pub ", a, flags=re.M)
+                invariants.insert(0, a)
+                fn.lent.append(name)
+                moved = True
+                break
+    used = [n for n in fn.lent if any(re.search(r"(?<![\w.'-])%s(?![\w'-])" % re.escape(n), a) for a in answers)]
+    fn.lent = used
+    return invariants, answers
 
 
 def arguments(text):
@@ -497,6 +518,8 @@ def main():
             text = autos(fn, of_source(named("\n\n".join(a.strip("\n") for a in answers)), words))
             with open(os.path.join(folder, "Answers.antt"), "w") as out:
                 more = ["use %s.Goals.{%s}" % (stem, ", ".join(fn.kept))] if fn.kept else []
+                if fn.lent:
+                    more.insert(0, "use %s.Invariants.{%s}" % (stem, ", ".join(fn.lent)))
                 out.write("\n".join(imports(used, answers) + ["use %s.Goals as goal" % stem] + more + [""]) + "\n")
                 out.write(text + "\n")
         os.remove(proof)
