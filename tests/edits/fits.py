@@ -1,6 +1,7 @@
 #!/usr/bin/env python3
 """Says which edits do not fit the text: each old text of tests/edits/*/*.edit, uncounted/*/*.edit and of the crates'
-must-fail/*.edit has to stand exactly once in its file, as the pairs before it left that file. Status 1 if one does not."""
+must-fail/*.edit has to stand exactly once in its file, as the pairs before it left that file. The status is 1 if one
+does not."""
 import os
 import sys
 from glob import glob

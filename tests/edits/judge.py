@@ -1,7 +1,7 @@
 """Which refusals of an edit count. Every recorded verdict rests on this file, so its sum is part of the record's.
 
-`rt must-fail` says of each edit that it is refused, with the first error, that it is still proved (NOT REFUSED), or that
-it cannot be applied, compiled or read (BAD EDIT). A refusal counts if its first error says that a fact cannot be had
+`rt must-fail` says of each edit that it is refused, with the first error, that it is still proved (NOT REFUSED), or
+that it cannot be applied, compiled or read (BAD EDIT). A refusal counts if its first error says that a fact cannot be had
 (FACTS): nothing proves it, or what is proved differs from what is wanted. It does not count if rt reaches only a limit,
 or if it is refused only because a proof names what the edit took away (SHAPE): such an error comes of any change of the
 calls, tests and variables, also of a right one. Any other error is one that nobody has looked at yet, and does not
