@@ -1,12 +1,12 @@
 """Which refusals of an edit count. Every recorded verdict rests on this file, so its sum is part of the record's.
 
 `rt must-fail` says of each edit that it is refused, with the first error, that it is still proved (NOT REFUSED), or
-that it cannot be applied, compiled or read (BAD EDIT). A refusal counts if its first error says that a fact cannot be had
-(FACTS): nothing proves it, or what is proved differs from what is wanted. It does not count if rt reaches only a limit,
-or if it is refused only because a proof names what the edit took away (SHAPE): such an error comes of any change of the
-calls, tests and variables, also of a right one. Any other error is one that nobody has looked at yet, and does not
-count. No rule over the prover's words can tell that an edit is wrong: whoever writes one keeps the calls, tests and
-variables, alters an answer, and reads the error."""
+that it cannot be applied, compiled or read (BAD EDIT). A refusal counts if its first error says that a fact cannot be
+had (FACTS): nothing proves it, or what is proved differs from what is wanted at a goal or a law that is named. It
+does not count if the prover only reaches a limit of its own, or if a proof names what the edit took away (SHAPE):
+such an error comes of any change of the calls, tests and variables, also of a right one. Any other error is one that
+nobody has looked at yet, and does not count. No rule over the prover's words can tell that an edit is wrong: whoever
+writes one keeps the calls, tests and variables, alters an answer, and reads the error."""
 import re
 
 SHOWN = 200
