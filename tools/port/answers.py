@@ -205,7 +205,7 @@ def named(text):
     """clauses of the library that have a name now, and fields of Rattle's own"""
     text = re.sub(r"\.type-inv\b", ".type_inv", re.sub(r"\.well-formed\b", ".well_formed", text))
     # a test of `!x` says of x what it says
-    text = re.sub(r"\bnot-(?:true|false) (?:_|[\w.'-]+|\([^()]*\)) (c\.[\w.-]*-not-[\w.-]+)", r"\1", text)
+    text = re.sub(r"\bnot-(?:true|false) (?:_|[\w.'-]+|\((?:[^()]|\([^()]*\))*\)) (c\.[\w.-]*-not-[\w.-]+)", r"\1", text)
     return re.sub(r"\.(wrapping_\w+(?:-\w+)?)\.ensures(?![.\w])", r".\1.ensures.value", text)
 
 
@@ -431,7 +431,7 @@ def helper(fn, body, stem):
         at = fn.new_place[scope[variables[0]]]
         body = turn_paths(fn, body, {v: scope[v] for v in variables}, at)
     body = re.sub(r"tie\.(%s)" % IDENT, place, body)
-    body = re.sub(r"(?: invariant-[\w-]+| decreases-[\w-]+)+(?=\))", "", body)
+    body = re.sub(r"(?: invariant-[\w-]+| decreases-[\w-]+)+(?=\)| →)", "", body)
     return body
 
 
@@ -482,7 +482,7 @@ def invariant(fn, m, body, loops):
             return name
         return table.get(name, name)
 
-    text = re.sub(r"(?<![\w.'′₀-₉-])%s" % IDENT.replace("+-]", "]"), word, text)
+    text = re.sub(r"(?<![\w.'′₀-₉-])%s" % IDENT.replace("+-]", "-]"), word, text)
     new_name = "%s-%s" % (kind, new)
     pre = after[:clause.start()].strip("\n")
     return "%sabbrev pub %s : goal.%s\n%s%s l =%s" % (before, new_name, new_name, pre + "\n" if pre else "", new_name,
