@@ -121,6 +121,7 @@ def name_of(block):
 def turn_paths(fn, text, scope, root):
     """paths from variables at known places: `c.before.before.step.x` is `c.step.x` now, since a place's record has the
     steps before it too; root is the name of the goal or place whose record the clause takes"""
+    text = spread(text)
     first = next(iter(scope), None)
     fn.root = scope[first] if first else None
     text = re.sub(r"\blet (%s) = (%s)((?:\.before(?![\w-]))*) in" % (IDENT, IDENT), lambda m: alias(fn, m, scope), text)
@@ -207,6 +208,19 @@ def named(text):
     # a test of `!x` says of x what it says
     text = re.sub(r"\bnot-(?:true|false) (?:_|[\w.'-]+|\((?:[^()]|\([^()]*\))*\)) (c\.[\w.-]*-not-[\w.-]+)", r"\1", text)
     return re.sub(r"\.(wrapping_\w+(?:-\w+)?)\.ensures(?![.\w])", r".\1.ensures.value", text)
+
+
+def spread(text):
+    """`let g = c.x.given in .. g.0` has its path written out"""
+    pattern = r"let (%s) = ((?:%s)(?:\.(?:%s))*\.given) in[ \n]*" % (IDENT, IDENT.replace("+-]", "-]"), IDENT)
+    m = re.search(pattern, text)
+    while m:
+        after = re.sub(r"(?<![\w.'-])%s(?=\.)" % re.escape(m.group(1)), lambda _: m.group(2), text[m.end():])
+        if re.search(r"(?<![\w.'-])%s(?![\w.'-])" % re.escape(m.group(1)), after):
+            return text
+        text = text[:m.start()] + after
+        m = re.search(pattern, text)
+    return text
 
 
 def autos(fn, text):
