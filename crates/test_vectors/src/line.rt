@@ -25,6 +25,7 @@ pub enum Word {
 }
 
 // The value of an upper-case hexadecimal digit, and 16 for any other letter.
+#[tactic(auto, unfolding(crate::specs::Hex::digit))]
 fn digit(letter: u8) -> u8
     ensures { (result ≡ digitOf letter) × (result ≤ 16) }
 {
