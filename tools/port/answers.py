@@ -27,6 +27,7 @@ class Function:
         self.crate, self.path = crate, path
         self.info = info
         self.places = {p[0]: p for p in info["places"]}
+        self.arms = dict(zip([p[0] for p in info["places"]], info["arms"]))
         self.new_place = dict(zip([p[0] for p in info["places"]], info["places_by_name"]))
         self.needs = {}
         for i, (old, new) in enumerate(info["needs"]):
@@ -35,7 +36,7 @@ class Function:
         self.by_norm = {norm(o): o for o in self.needs}
         self.place_norm = {norm(p): p for p in self.places}
         self.said = []
-        self.kept = {}
+        self.kept, self.helpers = {}, {}
 
     def need(self, old):
         for name in (old, re.sub(r"^(overflow|nonzero)-", "", old)):
@@ -43,6 +44,9 @@ class Function:
                 return name
             if norm(name) in self.by_norm:
                 return self.by_norm[norm(name)]
+        for name, (new, _) in self.needs.items():
+            if norm(new) == norm(old):
+                return name
         return None
 
     def place(self, old):
@@ -114,49 +118,84 @@ def name_of(block):
     return None
 
 
-def turn_paths(fn, text, scope):
-    """paths from variables at known places: `c.before.before.step.x`"""
-    text = re.sub(r"\blet (%s) = (%s)((?:\.before)*) in" % (IDENT, IDENT),
-                  lambda m: alias(fn, m, scope), text)
+def turn_paths(fn, text, scope, root):
+    """paths from variables at known places: `c.before.before.step.x` is `c.step.x` now, since a place's record has the
+    steps before it too; root is the name of the goal or place whose record the clause takes"""
+    first = next(iter(scope), None)
+    text = re.sub(r"\blet (%s) = (%s)((?:\.before(?![\w-]))*) in" % (IDENT, IDENT), lambda m: alias(fn, m, scope), text)
+    helpers = sorted((h for h in fn.helpers if h != root), key=len, reverse=True)
+    if helpers and first:
+        pattern = r"(?<![\w.'-])(%s) (?:(%s)((?:\.before(?![\w-]))*)(?![\w.'-])|\((%s)((?:\.before(?![\w-]))*)\))" % (
+            "|".join(map(re.escape, helpers)), IDENT, IDENT)
+
+        def call(m):
+            var = m.group(2) or m.group(4)
+            if var not in scope:
+                return m.group(0)
+            wanted = fn.helpers[m.group(1)]
+            fn.kept[fn.new_place[wanted]] = wanted
+            if wanted == fn.root_place:
+                return "%s %s" % (m.group(1), first)
+            return "%s (goal.at.%s %s).%s" % (m.group(1), root, first, fn.new_place[wanted])
+
+        fn.root_place = scope[first]
+        text = re.sub(pattern, call, text)
 
     def path(m):
-        var, befores, field = m.group(1), m.group(2), m.group(3)
-        if var not in scope:
+        var, befores, rest = m.group(1), m.group(2), [x for x in m.group(3).split(".") if x]
+        if var not in scope or not rest:
             return m.group(0)
-        place = scope[var]
-        n = befores.count(".before")
-        at = place
-        for _ in range(n):
-            at = fn.parent(at) if at else None
-        if at is None:
-            fn.said.append("no place for %s" % m.group(0))
+        if m.start() >= 8 and text[:m.start()].endswith("goal.at."):
             return m.group(0)
-        if field is None:
-            return m.group(0)
-        if field == "before":
-            return m.group(0)
-        own = fn.places[at][2]
-        if field in BASE:
-            new = FIELDS.get(field, field)
-            if at == "Start" or fn.parent(at) is None:
-                return "%s.%s" % (var, new)
-            return "%s.%s" % (var, new)
-        if norm(field) == norm(own[0]) or norm(re.sub(r"\d+$", "", field)) == norm(re.sub(r"\d+$", "", own[0])):
-            return "%s.%s" % (var, own[1])
-        # a step further down that the flat record names
-        for below in fn.chain(at):
-            o = fn.places[below][2]
-            if norm(o[0]) == norm(field):
-                return "%s.%s" % (var, o[1])
-        fn.said.append("%s: step %r is %r at %s" % (m.group(0), field, own[0], at))
-        return "%s.%s" % (var, own[1])
+        at = scope[var]
+        for _ in range(befores.count(".before")):
+            at = fn.parent(at) or at if at else None
+        return ".".join([first] + step(fn, at, rest, m.group(0)))
 
-    return re.sub(r"(?<![\w.'-])(%s)((?:\.before)*)(?:\.(%s))?(?![\w'-])" % (IDENT.replace("+-]", "]").replace("-]", "]"), IDENT),
-                  lambda m: path(m) if (m.group(2) or m.group(3)) else m.group(0), text)
+    text = re.sub(r"(?<![\w.'-])(%s)((?:\.before(?![\w-]))*)((?:\.(?:%s|\d+))*)(?![\w'-])" % (
+        IDENT.replace("+-]", "-]"), IDENT), path, text)
+    # names of places that nothing cites any more
+    for name in [n for n in scope if n != first]:
+        line = re.search(r"\blet %s = %s(?:\.before)* in[ \n]*" % (re.escape(name), IDENT), text)
+        while line and not re.search(r"(?<![\w.'-])%s(?![\w'-])" % re.escape(name), text[:line.start()] + text[line.end():]):
+            text = text[:line.start()] + text[line.end():]
+            line = re.search(r"\blet %s = %s(?:\.before)* in[ \n]*" % (re.escape(name), IDENT), text)
+    return text
+
+
+DEEPER = {"type-inv": "type_inv", "well-formed": "well_formed"}
+
+
+def step(fn, at, rest, whole):
+    """a path from the record of a place, as it is written now"""
+    field, deeper = rest[0], [DEEPER.get(x, x) for x in rest[1:]]
+    if field in BASE:
+        return [FIELDS.get(field, field)] + deeper
+    for below in fn.chain(at):
+        own, arm = fn.places[below][2], fn.arms.get(below)
+        if not same(field, own[0]):
+            continue
+        if arm:
+            fits = [(len(p), new, p) for new, old, p in arm[2] if same(field, old) and p == rest[1:1 + len(p)]]
+            if fits:
+                n, new, p = max(fits)
+                if n or not new.endswith("-own"):
+                    return [arm[0], new] + deeper[n:]
+        if below != at:
+            fn.said.append("%s: step %r is further down" % (whole, field))
+        return [own[1]] + deeper
+    own = fn.places[at][2]
+    fn.said.append("%s: step %r is %r at %s" % (whole, field, own[0], at))
+    return [own[1]] + deeper
+
+
+def same(field, own):
+    return norm(field) == norm(own) or norm(re.sub(r"\d+$", "", field)) == norm(re.sub(r"\d+$", "", own))
 
 
 def named(text):
-    """clauses of the library that have a name now"""
+    """clauses of the library that have a name now, and fields of Rattle's own"""
+    text = re.sub(r"\.type-inv\b", ".type_inv", re.sub(r"\.well-formed\b", ".well_formed", text))
     return re.sub(r"\.(wrapping_\w+(?:-\w+)?)\.ensures(?![.\w])", r".\1.ensures.value", text)
 
 
@@ -166,9 +205,8 @@ def alias(fn, m, scope):
         return m.group(0)
     at = scope[var]
     for _ in range(befores.count(".before")):
-        at = fn.parent(at) if at else None
-    if at:
-        scope[name] = at
+        at = fn.parent(at) or at
+    scope[name] = at
     return m.group(0)
 
 
@@ -187,11 +225,18 @@ def turn(crate, folder, info):
 
     loops = {norm(o): (o, n, vs, fn.info["changed"][i] if i < len(fn.info["changed"]) else [])
              for i, ((o, n), vs) in enumerate(fn.info["loops"])}
-    invariants, answers = [], []
+    invariants, answers, renamed = [], [], {}
+    for d in decls:
+        m = re.search(r"^(?:abbrev )?(?:pub )?(%s) :\s*(?:\(%s : )?tie\.(%s)" % (IDENT, IDENT, IDENT), "\n".join(d), re.M)
+        if m and re.match("(Need|invariant|decreases)-", m.group(2)):
+            m = None
+        if m and fn.place(m.group(2)):
+            fn.helpers[m.group(1)] = fn.place(m.group(2))
     for d in decls:
         body = "\n".join(d)
         name = name_of(d)
         if re.search(r"tie\.close\b", body):
+            answers += inline(fn, body, {name_of(x) for x in decls}, decls)
             continue
         m = re.search(r"^abbrev (?:pub )?(%s) : tie\.(invariant|decreases)-(%s)" % (IDENT, IDENT), body, re.M)
         if m:
@@ -205,10 +250,75 @@ def turn(crate, folder, info):
                 answers.append("-- LEFT: no goal %s\n%s" % (m.group(2), "\n".join("-- " + x for x in body.split("\n"))))
                 continue
             new, at = fn.needs[old]
+            if m.group(1) != new:
+                renamed[m.group(1)] = new
             answers.append(answer(fn, m, body, new, at, old))
             continue
         answers.append(helper(fn, body, stem))
-    return fn, comments, uses, stem, invariants, answers
+    return fn, comments, uses, stem, invariants, [cross(a, renamed) for a in answers]
+
+
+def arguments(text):
+    """what stands after `tie.spec`, part by part"""
+    out, depth, part = [], 0, ""
+    for ch in text:
+        if ch in "([{":
+            depth += 1
+        if ch in ")]}":
+            depth -= 1
+            if depth < 0:
+                break
+        if ch.isspace() and depth == 0:
+            if part:
+                out.append(part)
+            part = ""
+        else:
+            part += ch
+    return out + ([part] if part else [])
+
+
+def inline(fn, body, local, decls):
+    """goals that were answered in the call of `tie.spec` itself, or by a lemma of another name"""
+    m = re.search(r"tie\.spec\b(.*)", body, re.S)
+    if not m:
+        return []
+    parts = arguments(m.group(1))
+    text = "\n".join("\n".join(d) for d in decls)
+    parts = [p for p in parts if not re.match(r"(invariant|decreases)-", p) and
+             not re.search(r"^abbrev (?:pub )?%s : tie\.(invariant|decreases)" % re.escape(p), text, re.M)]
+    needs = fn.info["needs"]
+    if len(parts) != len(needs):
+        left = [p for p in parts if "search rules" not in p and
+                not re.search(r"^(?:pub )?%s : tie\.Need-" % re.escape(p), text, re.M)]
+        if left:
+            fn.said.append("%d arguments, %d goals; left: %s" % (len(parts), len(needs), left))
+        return []
+    out = []
+    for part, (old, new), (at, _) in zip(parts, needs, fn.info["asked_at"]):
+        if re.match(r"\(λ (?:c|_)(?: κs| _)*\. search rules\)$", part):
+            continue
+        if re.search(r"^(?:pub )?%s : tie\.Need-" % re.escape(part), text, re.M):
+            continue
+        m = re.match(r"\(λ (\S+?)(?: κs| _)*\. (.*)\)$", part, re.S)
+        if m:
+            var, term = m.groups()
+        else:
+            var, term = "c", part + " c"
+        term = turn_paths(fn, term, {var: at}, new)
+        out.append("pub %s : goal.%s\n%s %s = %s" % (new, new, new, var, term))
+    return out
+
+
+def cross(text, renamed):
+    """an answer that cites another one of the same file"""
+    head, lines = [], text.split("\n")
+    out = []
+    for line in lines:
+        lead = re.match(r"(?:pub )?%s(?: :|(?: [^\s=]+)* =)" % IDENT, line)
+        start = lead.end() if lead else 0
+        out.append(line[:start] + re.sub(r"(?<![\w.'-])%s" % IDENT.replace("+-]", "-]"),
+                                         lambda m: renamed.get(m.group(0), m.group(0)), line[start:]))
+    return "\n".join(out)
 
 
 def rest_of(body, m):
@@ -231,7 +341,7 @@ def answer(fn, m, body, new, at, old):
             # the other arguments that an answer takes came with the kinds of the callee
     text = "\n".join(out)
     text = re.sub(r"^%s (\S+) κs =" % re.escape(new), r"%s \1 =" % new, text, flags=re.M)
-    text = turn_paths(fn, text, scope)
+    text = turn_paths(fn, text, scope, new)
     text = re.sub(r"(?<![\w.-])%s(?= )" % re.escape(local), new, text) if local != new and "-" in local else text
     return "%spub %s : goal.%s\n%s" % (before, new, new, text)
 
@@ -248,12 +358,16 @@ def helper(fn, body, stem):
             fn.kept[fn.new_place[p]] = p
         return fn.new_place[p] if p else m.group(0)
     # the name of the variable in the clause may differ
-    sig = re.search(r"^(?:pub )?(%s) : .*?\((%s) : tie\." % (IDENT, IDENT), body, re.M)
-    if sig:
+    sig = re.search(r"^(?:abbrev )?(?:pub )?(%s) :\s*(?:\((%s) : )?tie\.(%s)" % (IDENT, IDENT, IDENT), body, re.M)
+    if sig and fn.place(sig.group(3)):
         clause = re.search(r"^%s (%s)" % (re.escape(sig.group(1)), IDENT), body[sig.end():], re.M)
-        if clause and sig.group(2) in scope:
-            scope[clause.group(1)] = scope[sig.group(2)]
-    body = turn_paths(fn, body, scope)
+        if clause:
+            scope[clause.group(1)] = fn.place(sig.group(3))
+    variables = sorted(scope, key=lambda v: not re.search(r"^%s %s\b" % (re.escape(name_of(body.split("\n")) or "?"), re.escape(v)),
+                                                            body, re.M))
+    if variables:
+        at = fn.new_place[scope[variables[0]]]
+        body = turn_paths(fn, body, {v: scope[v] for v in variables}, at)
     body = re.sub(r"tie\.(%s)" % IDENT, place, body)
     body = re.sub(r"(?: invariant-[\w-]+| decreases-[\w-]+)+(?=\))", "", body)
     return body

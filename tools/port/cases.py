@@ -11,20 +11,24 @@ for line in sys.stdin:
     m = re.match(r"(?:so far: )?\./(\S+):(\d+):\d+: error: `([^`]+)`: write the clauses", line)
     if m:
         at = (m.group(1), int(m.group(2)), m.group(3))
-        asked.setdefault(at, [])
         continue
-    if at and re.match(r"  %s(?= ).* = " % re.escape(at[2]), line):
-        if line.strip() not in asked[at]:
-            asked[at].append(line.strip())
+    clause = re.match(r"  (\S+) [^=]*= ", line) if at else None
+    if clause and not line.startswith("  no clause"):
+        found = asked.setdefault(at + (clause.group(1),), [])
+        if line.strip() not in found:
+            found.append(line.strip())
     elif at and not line.startswith("  "):
         at = None
 files = {}
-for (path, number, name), clauses in sorted(asked.items(), reverse=True):
+for (path, number, name, word), clauses in sorted(asked.items(), reverse=True):
     lines = files.setdefault(path, open(path).read().split("\n"))
-    i = next(k for k in range(number - 1, -1, -1) if re.match(r"\s*(?:pub )?%s :" % re.escape(name), lines[k])) \
-        if not re.match(r"\s*(?:pub )?%s :" % re.escape(name), lines[number - 1]) else number - 1
+    i = number - 1
+    while i > 0 and not re.match(r"\s*(?:pub )?%s :" % re.escape(name), lines[i]):
+        i -= 1
+    while word != name and not re.match(r"\s*%s :" % re.escape(word), lines[i]):
+        i += 1
     i += 1
-    while not re.match(r"\s*%s(?= )" % re.escape(name), lines[i]):
+    while not re.match(r"\s*%s (?!:)" % re.escape(word), lines[i]):
         i += 1
     indent = re.match(r"\s*", lines[i]).group(0)
     lines[i:i] = [indent + c for c in clauses]

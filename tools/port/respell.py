@@ -56,7 +56,7 @@ def declared(text):
         if record and line.strip() and len(line) - len(line.lstrip()) <= record[1]:
             record = None
         m = DECL.match(line)
-        if m and not line.lstrip().startswith("use "):
+        if m and not re.match(r"\s*(?:pub )?use ", line):
             (fields if record and record[0] == "record" else names).append(m.group(2))
     return names, fields
 
@@ -92,6 +92,12 @@ def main():
     for f in files:
         if own(f):
             table[module_of(f)] = {n: renamed(n) for n in names[f]}
+    for f in files:     # what a module passes on
+        for m in re.finditer(r"(?:^|\n)\s*pub use ([^\s{]+)\.\{([^}]*)\}", texts[f]):
+            for n in m.group(2).split(","):
+                n = n.strip()
+                if own(f) and n in table.get(m.group(1), {}):
+                    table[module_of(f)].setdefault(n, table[m.group(1)][n])
     field_table = {n: respelled(n, words) for n in fields if respelled(n, words) != n and "-" not in n or
                    ("-" in n and respelled(n, words) != n)}
 
@@ -105,7 +111,7 @@ def main():
     def uses(text, start):
         """names in scope by `use` lines: {name in the text: new name}, and the names of the library"""
         own_names, others = {}, set()
-        for m in re.finditer(r"(?:^|\n)\s*" + start + r"([^\s{;]+)\.\{([^}]*)\}", text):
+        for m in re.finditer(r"(?:^|\n)\s*(?:pub )?" + start + r"([^\s{;]+)\.\{([^}]*)\}", text):
             module = m.group(1).rstrip(".")
             for item in m.group(2).split(","):
                 item = item.strip()
@@ -127,7 +133,7 @@ def main():
                  for item in m.group(3).split(",")]
         return m.group(1) + m.group(2) + ".{" + ",".join(items) + "}"
 
-    def body(text, scope):
+    def body(text, scope, whole=None):
         def one(m):
             w = m.group(0)
             before = text[m.start() - 1] if m.start() else " "
@@ -140,7 +146,7 @@ def main():
             return field_table.get(w, w) if in_record(m.start()) else w
 
         members = {}
-        for alias in re.finditer(r"(?:^|\n)use (Rattle\.[^\s{]+)(?: as (\S+))?(?=\n)", text):
+        for alias in re.finditer(r"(?:^|\n)(?:ghost )?use (Rattle\.[^\s{;]+)(?: as (\S+?))?;?(?=\n)", whole or text):
             members.update(table.get(alias.group(1), {}))
 
         def in_record(at):
@@ -160,7 +166,7 @@ def main():
 
     def parts(text):
         """comment lines, `use` lines and the rest are turned apart"""
-        return re.split(r"(\n(?:\s*--[^\n]*|\s*use [^\n]*))", "\n" + text)
+        return re.split(r"(\n(?:\s*--[^\n]*|\s*(?:pub )?use [^\n]*))", "\n" + text)
 
     changed = {}
     for f in files:
@@ -180,10 +186,10 @@ def main():
         for piece in parts(text):
             if re.match(r"\n\s*--", piece):
                 out.append(piece)
-            elif re.match(r"\n\s*use ", piece):
+            elif re.match(r"\n\s*(?:pub )?use ", piece):
                 out.append(re.sub(r"(use )([^\s{]+)\.\{([^}]*)\}", turn_use, piece))
             else:
-                out.append(body(piece, scope))
+                out.append(body(piece, scope, text))
         new = "".join(out)[1:]
         if new != text:
             changed[f] = new
@@ -205,7 +211,7 @@ def main():
                 depth += {"{": 1, "}": -1}.get(new[i], 0)
                 i += 1
             out.append(new[at:m.end()])
-            out.append(body(new[m.end():i], scope))
+            out.append(body(new[m.end():i], scope, text))
             at = i
         out.append(new[at:])
         new = "".join(out)

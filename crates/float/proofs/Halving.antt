@@ -10,6 +10,8 @@ half-below n k h = omega arith
 -- more turns give no other power
 enough : (k j n : ℕ) (r : Float) → n ≤ k → n ≤ j → power_within k r n ≡ power_within j r n
 unfolding power_within
+enough zero (suc j) (suc n) r h i = elim h [ ]
+enough (suc k) zero (suc n) r h i = elim i [ ]
 enough zero zero n r h i = refl
 enough zero (suc j) zero r h i = refl
 enough (suc k) zero zero r h i = refl

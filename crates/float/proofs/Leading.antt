@@ -18,7 +18,7 @@ use Rattle.ieee.proofs.Fields.{as_fields, at_low, at_mid, finite_field}
 use Rattle.ieee.proofs.RootSteps.{above_zero}
 use Rattle.float.specs.Exp.{bits}
 use Rattle.float.specs.Log.{ratio, combined, over, places, logarithm}
-use Rattle.float.proofs.Values.{other-scale}
+use Rattle.float.proofs.Values.{other_scale}
 use Rattle.float.proofs.Fields.{parts}
 use Rattle.float.proofs.Order.{from_b}
 use Rattle.float.proofs.Signed.{not_below, add_values, sum_shift, ltb_same, lt_stands}
@@ -207,7 +207,7 @@ raised_value x z B f h e lo hi =
     let o : B / 2 ^ 52 - 1 ≡ 0 = omega arith in
     let m : 2 ^ 52 + B % 2 ^ 52 ≡ B = omega arith in
     let s : 51 + (1023 + z) ≡ z + 1074 = omega arith in
-    other-scale x false (b * 1) (2 ^ 1074) ((2 ^ 52 + B % 2 ^ 52) * 2 ^ (B / 2 ^ 52 - 1)) (2 ^ (51 + (1023 + z))) (pow_pos 1074)
+    other_scale x false (b * 1) (2 ^ 1074) ((2 ^ 52 + B % 2 ^ 52) * 2 ^ (B / 2 ^ 52 - 1)) (2 ^ (51 + (1023 + z))) (pow_pos 1074)
     (rw (o, m, e, s, mul-one b, mul-one (b * 2 ^ z), pow-add 2 z 1074) (sym (mul_assoc b (2 ^ z) (2 ^ 1074)))) (low_value x f h)
 
 -- no finite number has the highest field

@@ -217,6 +217,12 @@ round_clear f n d = subst (λ (x : Float). T (clear x)) (sym (round_is f false n
 
 pub neg_no : (x y : Float) → T (clear x) → T (clear y) → lt x (neg y) ≡ false
 unfolding neg lt
+neg_no (inf false) (inf true) p q = elim q [ ]
+neg_no (inf false) (fin true n d) p q = elim q [ ]
+neg_no (inf true) y p q = elim p [ ]
+neg_no (fin false m e) (inf true) p q = elim q [ ]
+neg_no (fin false m e) (fin true n d) p q = elim q [ ]
+neg_no (fin true m e) y p q = elim p [ ]
 neg_no nan y p q = refl
 neg_no (inf false) nan p q = refl
 neg_no (inf false) (inf false) p q = refl

@@ -9,7 +9,7 @@ use lib.Ieee.Exact.{HasValue, round_exact}
 use lib.Ieee.Scale.{round_same}
 use mir.ValLaws.{to_z-of_z}
 use Rattle.ieee.proofs.Pack.{value_bits}
-use Rattle.float.proofs.Values.{value_no_nan, no-nan-bits}
+use Rattle.float.proofs.Values.{value_no_nan, no_nan_bits}
 
 -- ---- an i64 as it is read back from its bits, by its sign
 positive : (k : ℤ) → le_z (pos 0) k ≡ true → k ≡ pos (mag k)
@@ -61,7 +61,7 @@ high_power f j h l =
     field p j h l = omega arith
 
 pub power_no_nan : (f : Format) (n j : ℕ) → j < low f + suc (emax f) → of_bits f n ≡ round f false (2 ^ j) (2 ^ low f) → T (not (nan_bits f n))
-power_no_nan f n j h e = no-nan-bits f n _ e (value_no_nan _ false (2 ^ j) (2 ^ low f) (power_value f j h))
+power_no_nan f n j h e = no_nan_bits f n _ e (value_no_nan _ false (2 ^ j) (2 ^ low f) (power_value f j h))
 
 -- ---- the powers by their exponent
 pub up_power : (f : Format) (n : ℕ) → round f false (2 ^ (n + low f)) (2 ^ low f) ≡ round f false (2 ^ n) 1

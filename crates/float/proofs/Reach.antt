@@ -25,6 +25,12 @@ unfolding lt le
 upto_of b c x y k l v = go x y k (le_no x y l) l v
   where
     go : (x y : Float) → T (clear x) → lt y x ≡ false → T (le x y) → HasValue y false b c → Upto b c x
+    go (inf false) nan k g l v = elim l [ ]
+    go (inf false) (inf _) k g l v = elim v [ ]
+    go (inf true) y k g l v = elim k [ ]
+    go (fin false m e) nan k g l v = elim l [ ]
+    go (fin false m e) (inf _) k g l v = elim v [ ]
+    go (fin true m e) y k g l v = elim k [ ]
     go nan y k g l v = absurd l
     go (inf false) (fin u n d) k g l v = absurd l
     go (fin false m e) (fin true n d) k g l v = absurd (true≢false v.0)
@@ -48,6 +54,9 @@ small_above a d D h = go (round binary64 false a d) (rounded_upto binary64 a d 2
     most = unfold round in (refl, refl)
 
     go : (x : Float) → Upto 2051 2 x → Small x
+    go nan h = elim h [ ]
+    go (inf _) h = elim h [ ]
+    go (fin true m e) h = elim h [ ]
     go (fin false m e) h = h
 
 small_below : (a d : ℕ) → 0 < d → a * 2 ≤ 2153 * d → d ≤ a * 2 ^ 1074 → Small (round binary64 true a d)
@@ -58,6 +67,9 @@ small_below a d D h g = subst Small (sym (round_neg binary64 a d)) (go (round bi
     least = unfold round in (refl, refl)
 
     go : (x : Float) → Upto 2153 2 x → T (above x) → Small (neg x)
+    go nan h p = elim h [ ]
+    go (inf _) h p = elim h [ ]
+    go (fin true m e) h p = elim h [ ]
     go (fin false m e) h p = (mul-pos (ltb→lt 0 m p) (up_pos e), h)
 
 -- a value of q units, above 1 / 2, less 1 / 2 is a unit or more
@@ -105,6 +117,12 @@ rounded_half s a d D h =
     bound false = lit≤ tt
 
     go : (s : Bool) (z x : Float) → z ≡ cond s (neg x) x → T (fits binary64 z) → Upto (cond s 1077 1025) 1 x → Small (add binary64 z (fin false 1 (negsuc 0)))
+    go false z nan q k u = elim u [ ]
+    go false z (inf _) q k u = elim u [ ]
+    go false z (fin true m e) q k u = elim u [ ]
+    go true z nan q k u = elim u [ ]
+    go true z (inf _) q k u = elim u [ ]
+    go true z (fin true m e) q k u = elim u [ ]
     go true z (fin false m e) q k u = subst (λ (y : Float). Small (add binary64 y (fin false 1 (negsuc 0)))) (sym q) (half_added true m e (subst (λ (y : Float). T (fits binary64 y)) q k) (omega arith))
     go false z (fin false m e) q k u = subst (λ (y : Float). Small (add binary64 y (fin false 1 (negsuc 0)))) (sym q) (half_added false m e (subst (λ (y : Float). T (fits binary64 y)) q k) (omega arith))
 

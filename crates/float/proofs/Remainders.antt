@@ -7,7 +7,7 @@ use lib.Ieee.Scale.{round_same}
 use Rattle.float.specs.Order.{tau}
 use Rattle.float.proofs.Fields.{digits, digits_lt, field, parts}
 use Rattle.float.proofs.Steps.{bounds}
-use Rattle.float.proofs.Values.{other-scale, same_value}
+use Rattle.float.proofs.Values.{other_scale, same_value}
 
 -- a number that the format holds is q * 2 ^ k units of its smallest value, and below the largest power of two
 pub units_under : (s : Bool) (m : ℕ) (e : ℤ) → T (fits binary64 (fin s m e)) → (q k : ℕ) → m * up e * 2 ^ low binary64 ≡ q * 2 ^ k * down e → q * 2 ^ k < 2 ^ (1074 + 1024)
@@ -24,7 +24,7 @@ own_round s m e h =
     let v : m * up e * 2 ^ low binary64 ≡ q * 2 ^ k * down e = (parts binary64 s m e h).1 in
     let r = round_exact binary64 s (m * up e) (down e) q k (down_pos e) (digits_lt (field binary64 b) (b % hid binary64) (mod-lt b (pow_pos 52))) (units_under s m e h q k v) v in
     same_value binary64 (round binary64 s (m * up e) (down e)) x s (q * 2 ^ k) (round-fits binary64 s (m * up e) (down e)) h
-    (other-scale (round binary64 s (m * up e) (down e)) s (m * up e) (down e) (q * 2 ^ k) (2 ^ low binary64) (down_pos e) v r) (refl, v)
+    (other_scale (round binary64 s (m * up e) (down e)) s (m * up e) (down e) (q * 2 ^ k) (2 ^ low binary64) (down_pos e) v r) (refl, v)
 
 -- ---- the remainder by y, of a number between -y and y
 rem_own : (s : Bool) (m : ℕ) (e : ℤ) (n : ℕ) (d : ℤ) → T (fits binary64 (fin s m e)) → m * up e * down d < n * up d * down e → rem binary64 (fin s m e) (fin false n d) ≡ fin s m e

@@ -15,7 +15,7 @@ use Rattle.ieee.proofs.Sums.{sum_less}
 use Rattle.float.specs.Whole.{floored, integral, steps}
 use Rattle.float.specs.Exp.{two_to, halved}
 use Rattle.float.proofs.Order.{from_b}
-use Rattle.float.proofs.Values.{other-scale}
+use Rattle.float.proofs.Values.{other_scale}
 use Rattle.float.proofs.Powers.{high_power, power_no_nan, up_power, down-power}
 use Rattle.float.proofs.Signed.{Apart, Stands, not_below, ltb_same, sum_shift, add_up, add-down, whole_stands, scaled_stands, lt_stands}
 
@@ -40,7 +40,7 @@ module _ (f : Format) (n d : ℕ) (D : 0 < d) (lo : hid f * d ≤ n) (hi : n < 2
       let same : closest (n * l) (d * l) ≡ q = closest_same (n * l) (d * l) n d (mul-pos D (pow_pos (low f))) D (mul_assoc n l d ∙ ap (λ (z : ℕ). n * z) (mul_comm l d)) in
       let is : round f false n d ≡ units f false q (low f) =
       round_is f false n d ∙ ap (core f false (n * l) d) dropped ∙ ap (λ (z : ℕ). units f false z (low f)) same in
-      other-scale (round f false n d) false (q * l) l q 1 (pow_pos (low f)) (mul-one (q * l))
+      other_scale (round f false n d) false (q * l) l q 1 (pow_pos (low f)) (mul-one (q * l))
       (subst (λ (z : Float). HasValue z false (q * l) l) (sym is) (units_val f false q (low f) (lt_of_le_of_lt (le_trans (mul-le-mul_right l closest_le) (le_of_eq (sym (pow-add 2 (prec f) (low f))))) (pow-lt (room f)))))
     where
       room : (f : Format) → prec f + low f < low f + suc (emax f)
@@ -261,7 +261,7 @@ module _ (k : Float) (x : Exponent k) where
       let b = x.most in
       let lo : 2 ^ 52 ≤ q = omega arith in
       let hi : q ≤ 2 ^ 53 = omega arith in
-      let bits : to_bits binary64 shifted ≡ 1074 * 2 ^ 52 + q = value_bits binary64 shifted false q 1074 (other-scale shifted false q 1 (q * 2 ^ 1074) (2 ^ 1074) (pow_pos 0) (sym (mul-one (q * 2 ^ 1074))) shifted_value) hi (λ _. lo) ∙ zero-add (1074 * 2 ^ 52 + q) in
+      let bits : to_bits binary64 shifted ≡ 1074 * 2 ^ 52 + q = value_bits binary64 shifted false q 1074 (other_scale shifted false q 1 (q * 2 ^ 1074) (2 ^ 1074) (pow_pos 0) (sym (mul-one (q * 2 ^ 1074))) shifted_value) hi (λ _. lo) ∙ zero-add (1074 * 2 ^ 52 + q) in
       ap (λ (z : ℕ). z % 4096) bits ∙ omega arith
 
   first_normal : Normal (fields / 2)

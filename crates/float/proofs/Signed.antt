@@ -7,7 +7,7 @@ use lib.Ieee.Back.{round_whole}
 use Rattle.ieee.proofs.Pack.{le_or_lt}
 use Rattle.ieee.proofs.Sums.{sum_like, sum_less}
 use Rattle.ieee.proofs.Terms.{sum_same, sum_swap}
-use Rattle.float.proofs.Values.{other-scale}
+use Rattle.float.proofs.Values.{other_scale}
 use Rattle.float.proofs.Order.{from_b}
 
 -- ±a is p - n
@@ -108,7 +108,7 @@ scaled-apart false a p n d h = sym (add-mul a n d) ∙ ap (λ (z : ℕ). z * d) 
 
 pub scaled_stands : {x : Float} {p n : ℕ} (d : ℕ) → Stands x p n 1 → Stands x (p * d) (n * d) d
 scaled_stands {x} {p} {n} d X =
-    record { sign = X.sign; size = X.size * d; value = other-scale x X.sign X.size 1 (X.size * d) d (omega arith) (sym (mul-one (X.size * d))) X.value; apart = scaled-apart X.sign X.size p n d X.apart }
+    record { sign = X.sign; size = X.size * d; value = other_scale x X.sign X.size 1 (X.size * d) d (omega arith) (sym (mul-one (X.size * d))) X.value; apart = scaled-apart X.sign X.size p n d X.apart }
 
 -- ---- comparisons
 pub ltb_same : (a b c d : ℕ) → (a < b → c < d) → (b ≤ a → d ≤ c) → ltb a b ≡ ltb c d

@@ -8,7 +8,7 @@ use lib.Ieee.Exact.{HasValue}
 use Rattle.ieee.proofs.Pack.{value_bits}
 use Rattle.ieee.proofs.Words.{whole_back}
 use Rattle.float.specs.Whole.{truncation}
-use Rattle.float.proofs.Values.{same_value, value_no_nan, other-scale}
+use Rattle.float.proofs.Values.{same_value, value_no_nan, other_scale}
 use Rattle.float.proofs.Fields.{digits, digits_lt, field, parts, no_whole, no_fraction, shifted}
 use Rattle.float.proofs.Steps.{whole_value}
 
@@ -24,7 +24,7 @@ zero-whole false = refl
 
 -- a whole number at another scale
 rescaled : (y : Float) (s : Bool) (n a c : ℕ) → n * c ≡ a → HasValue y s n 1 → HasValue y s a c
-rescaled y s n a c g = other-scale y s n 1 a c (pow_pos 0) (g ∙ sym (mul-one a))
+rescaled y s n a c g = other_scale y s n 1 a c (pow_pos 0) (g ∙ sym (mul-one a))
 
 -- ---- below one
 tiny : (x : Float) → T (fits binary64 x) → T (not (is_nan x)) → field binary64 (to_bits binary64 x) < 1023 → truncation x ≡ fin (leb (2 ^ 63) (to_bits binary64 x)) 0 (pos 0)

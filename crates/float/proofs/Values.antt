@@ -7,8 +7,8 @@ use lib.Ieee.Bits.{of_bits-to_bits, to_bits-lt}
 use lib.Ieee.Exact.{HasValue}
 use Rattle.float.specs.Order.{magnitude}
 use Rattle.ieee.proofs.Pack.{to_bits_val}
-pub use Rattle.ieee.proofs.Pack.{other-scale}
-pub use Rattle.ieee.proofs.Fields.{no-nan-bits}
+pub use Rattle.ieee.proofs.Pack.{other_scale}
+pub use Rattle.ieee.proofs.Fields.{no_nan_bits}
 
 -- ---- a value in units of the smallest value
 pub same_value : (f : Format) (x y : Float) (s : Bool) (a : ℕ) → T (fits f x) → T (fits f y) → HasValue x s a (2 ^ low f) → HasValue y s a (2 ^ low f) → x ≡ y
@@ -50,6 +50,8 @@ magnitude_is f x h k = ap (of_bits f) (magnitude-bits f x h k) ∙ of_bits-to_bi
 
 pub value_no_nan : (x : Float) (s : Bool) (a c : ℕ) → HasValue x s a c → T (not (is_nan x))
 unfolding is_nan
+value_no_nan nan s a c h = elim h [ ]
+value_no_nan (inf _) s a c h = elim h [ ]
 value_no_nan (fin t m e) s a c h = tt
 
 pub magnitude_no_nan : (x : Float) → T (not (is_nan x)) → T (not (is_nan (magnitude x)))

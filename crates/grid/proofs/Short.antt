@@ -26,7 +26,7 @@ use Rattle.ieee.proofs.Terms.{sum_same, fused_finite}
 use Rattle.ieee.proofs.Fields.{sum_finite, product_finite}
 use Rattle.ieee.proofs.RootSteps.{above_zero}
 use Rattle.float.proofs.Fields.{units_of}
-use Rattle.float.proofs.Values.{other-scale}
+use Rattle.float.proofs.Values.{other_scale}
 use Rattle.grid.specs.Bins.{table_rmax}
 use Rattle.float.proofs.Order.{lt_trans, sum_mono}
 
@@ -88,7 +88,7 @@ module _ (n : ℕ) (some : 0 < n) (few : n < 2 ^ 32) where
   unfolding sub neg of_bits
   shorter_value =
       subst (λ (x : Float). HasValue x false (n * 2 ^ 20 - 1) (2 ^ 20))
-      (sym (add_at (of_int binary64 (pos n)) (fin true 1 (negsuc 19)) false true (n * 2 ^ 20) 1 (2 ^ 20) (pow_pos 20) (other-scale (of_int binary64 (pos n)) false n 1 (n * 2 ^ 20) (2 ^ 20) (pow_pos 0) (sym (mul-one (n * 2 ^ 20))) count_value) (refl, refl)
+      (sym (add_at (of_int binary64 (pos n)) (fin true 1 (negsuc 19)) false true (n * 2 ^ 20) 1 (2 ^ 20) (pow_pos 20) (other_scale (of_int binary64 (pos n)) false n 1 (n * 2 ^ 20) (2 ^ 20) (pow_pos 0) (sym (mul-one (n * 2 ^ 20))) count_value) (refl, refl)
       ∙ sum_more binary64 false true (n * 2 ^ 20) 1 (2 ^ 20) refl (omega arith)))
       (round_exact binary64 false (n * 2 ^ 20 - 1) (2 ^ 20) (n * 2 ^ 20 - 1) 1054 (pow_pos 20) (omega arith)
       (lt_of_lt_of_le (shl_lt 53 1054 (omega arith)) (pow_mono {i = 53 + 1054} {j = 1074 + 1024} (lit≤ tt))) (ap (λ (z : ℕ). (n * 2 ^ 20 - 1) * z) (pow-add 2 1054 20) ∙ sym (mul_assoc (n * 2 ^ 20 - 1) (2 ^ 1054) (2 ^ 20))))
@@ -129,7 +129,7 @@ module _ (n : ℕ) (dr rmin : Float) (some : 0 < n) (few : n < 2 ^ 32) (D : ℕ)
   unfolding table_rmax
   own_is =
       sym (fused_finite (of_int binary64 (pos n)) dr rmin false false u (n * 2 ^ 1074) D R (2 ^ 1074) (n * D) R (2 ^ 1074)
-      (other-scale (of_int binary64 (pos n)) false n 1 (n * 2 ^ 1074) (2 ^ 1074) (pow_pos 0) (sym (mul-one (n * 2 ^ 1074))) (count_value n some few)) v w (pow_pos 1074) (pow_pos 1074) (spread (2 ^ 1074)) refl)
+      (other_scale (of_int binary64 (pos n)) false n 1 (n * 2 ^ 1074) (2 ^ 1074) (pow_pos 0) (sym (mul-one (n * 2 ^ 1074))) (count_value n some few)) v w (pow_pos 1074) (pow_pos 1074) (spread (2 ^ 1074)) refl)
     where
       spread : (c : ℕ) → n * D * (c * c) ≡ n * c * D * c
       spread c = simp (mul_assoc, mul_comm)

@@ -135,22 +135,22 @@ module _ {each : ℕ → ℕ} {xs ns : List ℕ} {levels : ℕ} {rows : List (Ro
         terms = terms;
         grid_start = 4;
         bins_start = 4 + length xs * 8 + 4;
-        levels_start = OfSections.levelsAt sized + 4;
+        levels_start = OfSections.levels_at sized + 4;
         rows_start = OfSections.rows_at sized;
-        energies_start = OfSections.energiesAt sized;
+        energies_start = OfSections.energies_at sized;
         tail_start = start;
       }
 
   pub laid : Laid each levels rows file table_at
   unfolding row_inside energy_inside entry_at energy_at
   laid =
-      let long = OfSections.sections-length sized in
+      let long = OfSections.sections_length sized in
       record {
         held = λ v h. lt-ltb v levels h;
         row_in = λ s h. rw (lt-ltb s (length rows) h, le-leb (table_at.rows_start + s * 10 + 10) (length file) (omega (arith, long)));
-        entry_is = OfSections.entry-of sized;
+        entry_is = OfSections.entry_of_lem sized;
         found = λ s k h i.
-            let e = OfSections.energy-of sized s k h i in
+            let e = OfSections.energy_of_lem sized s k h i in
             let j = before each levels rows s + k in (
               rw (lt-ltb j (length (packed_energies rows)) e.0, le-leb (table_at.energies_start + j * 4 + 4) (length file) (omega (arith, long, e.0))),
               e.1,

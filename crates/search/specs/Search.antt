@@ -90,7 +90,7 @@ pub record Locator : Type 0 where
   pub faces : List ℕ
 
 abbrev pub locator_of : List ℕ → List ℕ → List ℕ → List ℕ → Locator
-locator_of cellOffsets cellVertices faceOffsets faces =
+locator_of cell_offsets cell_vertices face_offsets faces =
     record { cell_offsets = cell_offsets; cell_vertices = cell_vertices; face_offsets = face_offsets; faces = faces }
 
 -- the lists from level m's first entries on, to the end of what was lent

@@ -4,7 +4,7 @@ use lib.Ieee.{Float, nan, inf, fin, binary64, up, down, low, lt, is_nan, fits}
 use lib.Ieee.Fits.{down_pos}
 use Rattle.float.specs.Order.{farther, larger}
 use Rattle.float.proofs.Fields.{units_of}
-use Rattle.float.proofs.Values.{other-scale, same_value}
+use Rattle.float.proofs.Values.{other_scale, same_value}
 use Rattle.float.proofs.Order.{clear, lt_trans, lt_asym}
 
 -- a value of the format that is not below +0, or the NaN
@@ -35,7 +35,7 @@ neither (fin false m e) (fin false n d) hv hw a b p q =
     let same : m * up e * down d ≡ n * up d * down e =
     omega (arith, ltb-false (m * up e * down d) (n * up d * down e) p, ltb-false (n * up d * down e) (m * up e * down d) q) in
     same_value binary64 (fin false m e) (fin false n d) u.sign u.count hv.held hw.held u.value
-    (other-scale (fin false n d) u.sign (m * up e) (down e) u.count (2 ^ low binary64) (down_pos e) u.value.1 (u.value.0, sym same))
+    (other_scale (fin false n d) u.sign (m * up e) (down e) u.count (2 ^ low binary64) (down_pos e) u.value.1 (u.value.0, sym same))
 
 -- ---- two of them taken into a maximum in turn
 

@@ -30,25 +30,25 @@ all_is p (suc n) h = rw (all_is p n (λ k l. h k (omega arith)), h n (omega arit
 module _ {each : ℕ → ℕ} {xs ns : List ℕ} {levels : ℕ} {rows : List (Row ℕ)} {file post : List ℕ} (w : Sized each xs ns levels rows file post) where
   pub levels_count : count_at file (levels_at w) ≡ levels
   levels_count =
-      Sections.levels-count xs ns _ _ _ file post w.is w.few_floats w.few_bins (few_counts w) (few_entries w) w.few_energies ∙ counts_many levels
+      Sections.levels_count xs ns _ _ _ file post w.is w.few_floats w.few_bins (few_counts w) (few_entries w) w.few_energies ∙ counts_many levels
 
   pub rows_count : count_at file (levels_at w + 4 + levels * 4) ≡ length rows
   rows_count =
       rw (counts_many levels, entries-length each 0 rows) at
-      (Sections.rows-count xs ns (map vertex_count (below levels)) (entries each 0 rows) (packed_energies rows) file post w.is w.few_floats w.few_bins (few_counts w) (few_entries w) w.few_energies)
+      (Sections.rows_count xs ns (map vertex_count (below levels)) (entries each 0 rows) (packed_energies rows) file post w.is w.few_floats w.few_bins (few_counts w) (few_entries w) w.few_energies)
 
   pub energies_count : count_at file (rows_at w + length rows * 10) ≡ length (packed_energies rows)
   energies_count =
       rw (counts_many levels, entries-length each 0 rows) at
-      (Sections.energies-count xs ns (map vertex_count (below levels)) (entries each 0 rows) (packed_energies rows) file post w.is w.few_floats w.few_bins (few_counts w) (few_entries w) w.few_energies)
+      (Sections.energies_count xs ns (map vertex_count (below levels)) (entries each 0 rows) (packed_energies rows) file post w.is w.few_floats w.few_bins (few_counts w) (few_entries w) w.few_energies)
 
   pub floats_count : count_at file 0 ≡ length xs
   floats_count =
-      Sections.floats-count xs ns (map vertex_count (below levels)) (entries each 0 rows) (packed_energies rows) file post w.is w.few_floats w.few_bins (few_counts w) (few_entries w) w.few_energies
+      Sections.floats_count xs ns (map vertex_count (below levels)) (entries each 0 rows) (packed_energies rows) file post w.is w.few_floats w.few_bins (few_counts w) (few_entries w) w.few_energies
 
   pub bins_count : count_at file (4 + length xs * 8) ≡ length ns
   bins_count =
-      Sections.bins-count xs ns (map vertex_count (below levels)) (entries each 0 rows) (packed_energies rows) file post w.is w.few_floats w.few_bins (few_counts w) (few_entries w) w.few_energies
+      Sections.bins_count xs ns (map vertex_count (below levels)) (entries each 0 rows) (packed_energies rows) file post w.is w.few_floats w.few_bins (few_counts w) (few_entries w) w.few_energies
 
   -- 13, where nothing follows
   pub laid_out_lem : length post ≡ 0 → laid_out (length xs) (length ns) file (layout file) ≡ true
@@ -60,7 +60,7 @@ module _ {each : ℕ → ℕ} {xs ns : List ℕ} {levels : ℕ} {rows : List (Ro
   level : (k : ℕ) → k < levels → eqb (number_at 4 file (levels_at w + 4 + 4 * k)) (vertex_count k) ≡ true
   unfolding number_at
   level k l =
-      let back = Sections.levels-back xs ns (map vertex_count (below levels)) (entries each 0 rows) (packed_energies rows) file post w.is w.few_floats w.few_bins (few_counts w) (few_entries w) w.few_energies (counts_fit levels w.few_levels) in
+      let back = Sections.levels_back xs ns (map vertex_count (below levels)) (entries each 0 rows) (packed_energies rows) file post w.is w.few_floats w.few_bins (few_counts w) (few_entries w) w.few_energies (counts_fit levels w.few_levels) in
       eq-eqb _ (vertex_count k)
       (rw (mul_comm 4 k) (sym (item_at number_of 4 file 0 (levels_at w + 4) (length (map vertex_count (below levels))) k (omega (arith, l, counts_many levels)))
       ∙ ap (λ (q : List ℕ). get_or q k 0) back ∙ counts_at levels k l))

@@ -126,13 +126,13 @@ module _ (g : AtomGrid) (levels : ℕ) (rows : List (Row ℕ)) (ok : AtomFilable
   -- row s, its energies at the place where those of the rows before it end
   pub atom_entry_of : (s : ℕ) → s < length rows
       → entry_of (take 10 (drop ((atom_table_in g levels rows).rows_start + s * 10) (atom_file_of g levels rows))) ≡ entry (before vertex_count levels rows s) (get_or rows s repulsive)
-  atom_entry_of = OfSections.entry-of sized
+  atom_entry_of = OfSections.entry_of_lem sized
 
   -- energy k of row s
   pub atom_energy_of : (s k : ℕ) → s < length rows → k < length (energies_in (get_or rows s repulsive))
       → (before vertex_count levels rows s + k < length es)
       × (number_at 4 (atom_file_of g levels rows) ((atom_table_in g levels rows).energies_start + (before vertex_count levels rows s + k) * 4) ≡ get_or (energies_in (get_or rows s repulsive)) k 0)
-  atom_energy_of = OfSections.energy-of sized
+  atom_energy_of = OfSections.energy_of_lem sized
 
 -- ---- one to one
 

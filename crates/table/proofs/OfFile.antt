@@ -155,13 +155,13 @@ module _ (g : Grid) (levels : ℕ) (rows : List (Row ℕ)) (t : Tail) (ok : Fila
   -- row s, its energies at the place where those of the rows before it end
   pub entry_of_lem : (s : ℕ) → s < length rows
       → entry_of (take 10 (drop ((full_table_in g levels rows t).rows_start + s * 10) (full_file g levels rows t))) ≡ entry (before per levels rows s) (get_or rows s repulsive)
-  entry_of_lem = OfSections.entry-of sized
+  entry_of_lem = OfSections.entry_of_lem sized
 
   -- energy k of row s
   pub energy_of_lem : (s k : ℕ) → s < length rows → k < length (energies_in (get_or rows s repulsive))
       → (before per levels rows s + k < length es)
       × (number_at 4 (full_file g levels rows t) ((full_table_in g levels rows t).energies_start + (before per levels rows s + k) * 4) ≡ get_or (energies_in (get_or rows s repulsive)) k 0)
-  energy_of_lem = OfSections.energy-of sized
+  energy_of_lem = OfSections.energy_of_lem sized
 
   -- the tail, where there are terms
   pub tail_of_lem : 0 < length t.terms → tail_in (full_file g levels rows t) (full_table_in g levels rows t) ≡ t

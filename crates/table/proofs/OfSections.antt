@@ -74,7 +74,7 @@ module _ {each : ℕ → ℕ} {xs ns : List ℕ} {levels : ℕ} {rows : List (Ro
   float_of = Sections.float_back xs ns ls rs es file post w.is w.few_floats w.few_bins few_counts few_entries w.few_energies w.floats
 
   pub bin_of_lem : (i : ℕ) → i < length ns → number_at 4 file (4 + length xs * 8 + 4 + i * 4) ≡ get_or ns i 0
-  bin_of_lem = Sections.bin-back xs ns ls rs es file post w.is w.few_floats w.few_bins few_counts few_entries w.few_energies w.bins
+  bin_of_lem = Sections.bin_back xs ns ls rs es file post w.is w.few_floats w.few_bins few_counts few_entries w.few_energies w.bins
 
   fit_rows : All Fitting rs
   fit_rows = entries_fit each levels 0 rows (omega (arith, w.few_levels)) w.fine (omega (arith, w.few_energies))
@@ -93,7 +93,7 @@ module _ {each : ℕ → ℕ} {xs ns : List ℕ} {levels : ℕ} {rows : List (Ro
   pub energies_are : items number_of 4 file energies_at (length es) ≡ es
   energies_are =
       rw (counts_many levels, entries-length each 0 rows) at
-      (Sections.energies-back xs ns ls rs es file post w.is w.few_floats w.few_bins few_counts few_entries w.few_energies (numbers_fit es (numbers each levels rows w.fine)))
+      (Sections.energies_back xs ns ls rs es file post w.is w.few_floats w.few_bins few_counts few_entries w.few_energies (numbers_fit es (numbers each levels rows w.fine)))
 
   -- row s, its energies at the place where those of the rows before it end
   pub entry_of_lem : (s : ℕ) → s < length rows → entry_of (take 10 (drop (rows_at + s * 10) file)) ≡ entry (before each levels rows s) (get_or rows s repulsive)

@@ -50,12 +50,12 @@ pub chosen : {B : Type 0} (P : B → Type 0) (t : Bool) (x y : B) → (t ≡ tru
 chosen P true x y h k = h refl
 chosen P false x y h k = k
 
--- a question that a call answered, r, and a test of `!r`
-pub yes : {q r : Bool} → r ≡ q → not r ≡ false → q ≡ true
-yes {q} {r} e t = sym e ∙ not-false r t
+-- a question that a call answered, r, and a test of it
+pub yes : {q r : Bool} → r ≡ q → r ≡ true → q ≡ true
+yes {q} {r} e t = sym e ∙ t
 
-pub no : {q r : Bool} → r ≡ q → not r ≡ true → q ≡ false
-no {q} {r} e t = sym e ∙ not-true r t
+pub no : {q r : Bool} → r ≡ q → r ≡ false → q ≡ false
+no {q} {r} e t = sym e ∙ t
 
 pub or_none : (a b : Bool) → a || b ≡ false → (a ≡ false) × (b ≡ false)
 or_none false b e = (refl, e)

@@ -1,0 +1,30 @@
+use mathlib.Core.Path.{◌≡◌, refl, sym}
+use Prim.Native.Nat.{◌-◌}
+use native.Mathlib.Omega.{arith}
+use Rattle.mesh.specs.Levels.{cell_count, cell_offsets_below}
+use Rattle.lists.specs.Lists.{sum}
+use Rattle.mesh.proofs.Tables.{cells_le, offsets_le, offsets_more}
+use Rattle.mesh.proofs.levels.cell_offsets_counted.Goals as goal
+
+pub loop-m-init : goal.loop-m-init
+unfolding cell_offsets_below sum
+loop-m-init c = (omega arith, refl)
+
+pub overflow_mul-sum : goal.overflow_mul-sum
+overflow_mul-sum c = rw c.grid_size-g.ensures (omega (arith, cells_le c.loop-m.m (omega arith)))
+
+pub overflow_mul-sum-in-loop-m : goal.overflow_mul-sum-in-loop-m
+overflow_mul-sum-in-loop-m c = rw c.grid_size-g.ensures (omega (arith, cells_le c.loop-m.m (omega arith)))
+
+pub overflow_add-sum : goal.overflow_add-sum
+overflow_add-sum c = rw c.grid_size-g.ensures (omega (arith, cells_le c.loop-m.m (omega arith)))
+
+pub overflow_add-sum-in-loop-m : goal.overflow_add-sum-in-loop-m
+overflow_add-sum-in-loop-m c = rw c.grid_size-g.ensures (omega (arith, cells_le c.loop-m.m (omega arith), offsets_le c.loop-m.m (omega arith)))
+
+pub loop-m-preserved : goal.loop-m-preserved
+unfolding cell_count
+loop-m-preserved c = (omega arith, rw (c.grid_size-g.ensures, c.loop-m.invariant.1) (sym (offsets_more c.loop-m.m)))
+
+pub returns : goal.returns
+returns c = let e : c.loop-m.m ≡ c.args.level = omega arith in rw e at c.loop-m.invariant.1

@@ -1,0 +1,29 @@
+use mathlib.Core.Path.{◌≡◌}
+use Rattle.search.specs.Geometry.{vertex_at}
+use Rattle.search.specs.Search.{squared}
+use Rattle.search.proofs.Nearness.{closer_yes, closer_no}
+use Rattle.search.proofs.cells.closer.Goals as goal
+use Rattle.search.proofs.cells.closer.Goals.{After-dot-distance}
+
+-- the distance
+far : (c : After-dot-distance) → (let a = c.args in c.dot-distance.result ≡ squared a.p (vertex_at a.vertices.now a.v))
+unfolding squared
+far c = rw (c.dot-distance.ensures, c.difference-d.ensures, c.vertex_at.ensures)
+
+pub returns-then-distance-least : goal.returns-then-distance-least
+returns-then-distance-least c =
+    let o = c.before.before.before.before.before in
+    let a = o.args in
+    rw (far c.before) (closer_yes a.vertices.now a.p a.best a.v o.requires.1 (rw (far c.before) at c.if-distance-least.true))
+
+pub returns : goal.returns
+returns c =
+    let o = c.before.before.before.before.before in
+    let a = o.args in
+    closer_no a.vertices.now a.p a.best a.v o.requires.1 (rw (far c.before) at c.if-distance-least.false)
+
+pub difference-d-requires : goal.difference-d-requires
+difference-d-requires c = tt
+
+pub dot-distance-requires : goal.dot-distance-requires
+dot-distance-requires c = tt

@@ -1,0 +1,11 @@
+use denote.Floats.{passes}
+use Rattle.search.specs.Geometry.{in_cells}
+use Rattle.search.proofs.Halves.{fused-half}
+use Rattle.search.proofs.geometry.in_cells.Goals as goal
+
+pub returns : goal.returns
+unfolding in_cells
+returns c = let o = c.before in rw (c.of_u64.ensures, fused-half o.args.u (passes _ o.well_formed.1.0.1))
+
+pub of_u64-requires : goal.of_u64-requires
+of_u64-requires c = tt

@@ -1,0 +1,110 @@
+use mathlib.Core.Path.{◌≡◌, sym, ap, ◌∙◌}
+use Rattle.search.specs.Geometry.{projected_barycentric}
+use Rattle.search.proofs.Regions.{regions, by_regions}
+use Rattle.search.proofs.triangle.projected_barycentric.Goals as goal
+use Rattle.search.proofs.triangle.projected_barycentric.Goals.{After-sides_of-s}
+
+-- what is to be shown, over the dot products that the code holds
+over-sides : (c : After-sides_of-s) → projected_barycentric c.args.p c.args.a c.args.b c.args.c ≡ regions c.sides_of-s.result
+over-sides c = by_regions c.args.p c.args.a c.args.b c.args.c ∙ ap regions (sym c.sides_of-s.ensures)
+
+pub returns-then-d1-d2 : goal.returns-then-d1-d2
+returns-then-d1-d2 c = rw (c.weighed.ensures, over-sides c.before.before, c.if-d1-d2.true)
+
+pub returns-then-d3-d4 : goal.returns-then-d3-d4
+returns-then-d3-d4 c = let a = c.before.before in rw (c.weighed-then-d3-d4.ensures, over-sides a.before, a.if-d1-d2.false, c.if-d3-d4.true)
+
+pub returns-then-not_above : goal.returns-then-not_above
+returns-then-not_above c =
+    let t = c.before.before in
+    let b = t.before in
+    let a = b.before in
+    rw (c.weighed-then-not_above.ensures, over-sides a.before, a.if-d1-d2.false, b.if-d3-d4.false, ← t.not_above.ensures, c.if-not_above.true)
+
+pub returns-then-d6-d5 : goal.returns-then-d6-d5
+returns-then-d6-d5 c =
+    let u = c.before.before in
+    let t = u.before in
+    let b = t.before in
+    let a = b.before in
+    rw (c.weighed-then-d6-d5.ensures, over-sides a.before, a.if-d1-d2.false, b.if-d3-d4.false, ← t.not_above.ensures, u.if-not_above.false, c.if-d6-d5.true)
+
+pub returns-then-not_above-2 : goal.returns-then-not_above-2
+returns-then-not_above-2 c =
+    let w = c.before.before in
+    let v = w.before in
+    let u = v.before in
+    let t = u.before in
+    let b = t.before in
+    let a = b.before in
+    rw (c.weighed-then-not_above-2.ensures, over-sides a.before, a.if-d1-d2.false, b.if-d3-d4.false, ← t.not_above.ensures, u.if-not_above.false, v.if-d6-d5.false, ← w.not_above-2.ensures, c.if-not_above-2.true)
+
+pub returns-then-not_above-3 : goal.returns-then-not_above-3
+returns-then-not_above-3 c =
+    let y = c.before.before in
+    let x = y.before in
+    let w = x.before in
+    let v = w.before in
+    let u = v.before in
+    let t = u.before in
+    let b = t.before in
+    let a = b.before in
+    rw (c.weighed-then-not_above-3.ensures, over-sides a.before, a.if-d1-d2.false, b.if-d3-d4.false, ← t.not_above.ensures, u.if-not_above.false, v.if-d6-d5.false, ← w.not_above-2.ensures, x.if-not_above-2.false, ← y.not_above-3.ensures, c.if-not_above-3.true)
+
+pub returns : goal.returns
+returns c =
+    let k = c.before in
+    let j = k.before in
+    let i = j.before in
+    let z = i.before in
+    let y = z.before in
+    let x = y.before in
+    let w = x.before in
+    let v = w.before in
+    let u = v.before in
+    let t = u.before in
+    let b = t.before in
+    let a = b.before in
+    rw (c.in_face.ensures, over-sides a.before, a.if-d1-d2.false, b.if-d3-d4.false, ← t.not_above.ensures, u.if-not_above.false, v.if-d6-d5.false, ← w.not_above-2.ensures, x.if-not_above-2.false, ← y.not_above-3.ensures, z.if-not_above-3.false, k.mul_add-vc.ensures, j.mul_add-vb.ensures, i.mul_add-va.ensures)
+
+pub sides_of-s-requires : goal.sides_of-s-requires
+sides_of-s-requires c = tt
+
+pub weighed-requires : goal.weighed-requires
+weighed-requires c = tt
+
+pub weighed-requires-then-d3-d4 : goal.weighed-requires-then-d3-d4
+weighed-requires-then-d3-d4 c = tt
+
+pub not_above-requires : goal.not_above-requires
+not_above-requires c = tt
+
+pub weighed-requires-then-not_above : goal.weighed-requires-then-not_above
+weighed-requires-then-not_above c = tt
+
+pub weighed-requires-then-d6-d5 : goal.weighed-requires-then-d6-d5
+weighed-requires-then-d6-d5 c = tt
+
+pub not_above-requires-2 : goal.not_above-requires-2
+not_above-requires-2 c = tt
+
+pub weighed-requires-then-not_above-2 : goal.weighed-requires-then-not_above-2
+weighed-requires-then-not_above-2 c = tt
+
+pub not_above-requires-3 : goal.not_above-requires-3
+not_above-requires-3 c = tt
+
+pub weighed-requires-then-not_above-3 : goal.weighed-requires-then-not_above-3
+weighed-requires-then-not_above-3 c = tt
+
+pub mul_add-va-requires : goal.mul_add-va-requires
+mul_add-va-requires c = tt
+
+pub mul_add-vb-requires : goal.mul_add-vb-requires
+mul_add-vb-requires c = tt
+
+pub mul_add-vc-requires : goal.mul_add-vc-requires
+mul_add-vc-requires c = tt
+
+pub in_face-requires : goal.in_face-requires
+in_face-requires c = tt
