@@ -155,11 +155,14 @@ def turn_paths(fn, text, scope, root):
     text = re.sub(r"(?<![\w.'-])(%s)((?:\.before(?![\w-]))*)((?:\.(?:%s|\d+))*)(?![\w'-])" % (
         IDENT.replace("+-]", "-]"), IDENT), path, text)
     # names of places that nothing cites any more
-    for name in [n for n in scope if n != first]:
-        line = re.search(r"\blet %s = %s(?:\.before)* in[ \n]*" % (re.escape(name), IDENT), text)
-        while line and not re.search(r"(?<![\w.'-])%s(?![\w'-])" % re.escape(name), text[:line.start()] + text[line.end():]):
-            text = text[:line.start()] + text[line.end():]
+    again = True
+    while again:
+        again = False
+        for name in [n for n in scope if n != first]:
             line = re.search(r"\blet %s = %s(?:\.before)* in[ \n]*" % (re.escape(name), IDENT), text)
+            if line and not re.search(r"(?<![\w.'-])%s(?![\w'-])" % re.escape(name), text[:line.start()] + text[line.end():]):
+                text = text[:line.start()] + text[line.end():]
+                again = True
     return text
 
 
@@ -179,8 +182,7 @@ def step(fn, at, rest, whole):
             fits = [(len(p), new, p) for new, old, p in arm[2] if same(field, old) and p == rest[1:1 + len(p)]]
             if fits:
                 n, new, p = max(fits)
-                if n or not new.endswith("-own"):
-                    return [arm[0], new] + deeper[n:]
+                return [arm[0], new] + deeper[n:]
         if below != at:
             fn.said.append("%s: step %r is further down" % (whole, field))
         return [own[1]] + deeper
@@ -196,7 +198,22 @@ def same(field, own):
 def named(text):
     """clauses of the library that have a name now, and fields of Rattle's own"""
     text = re.sub(r"\.type-inv\b", ".type_inv", re.sub(r"\.well-formed\b", ".well_formed", text))
+    # a test of `!x` says of x what it says
+    text = re.sub(r"\bnot-(?:true|false) (?:_|[\w.'-]+|\([^()]*\)) (c\.[\w.-]*-not-[\w.-]+)", r"\1", text)
     return re.sub(r"\.(wrapping_\w+(?:-\w+)?)\.ensures(?![.\w])", r".\1.ensures.value", text)
+
+
+def source_words(crate):
+    out = set()
+    for f in glob.glob("crates/%s/src/**/*.rt" % crate, recursive=True):
+        out |= {w for w in re.findall(r"[a-z]\w*", open(f).read()) if "_" in w}
+    return out
+
+
+def of_source(text, words):
+    """names of the sources keep their spelling"""
+    return re.sub(r"\.([a-z]\w*(?:-[a-z0-9]\w*)+)(?![\w'-])",
+                  lambda m: "." + m.group(1).replace("-", "_") if m.group(1).replace("-", "_") in words else m.group(0), text)
 
 
 def alias(fn, m, scope):
@@ -411,6 +428,7 @@ def invariant(fn, m, body, loops):
 def main():
     crate, names = sys.argv[1], json.load(open(sys.argv[2]))
     only = sys.argv[3:]
+    words = source_words(crate)
     for proof in sorted(glob.glob("crates/%s/proofs/**/Proof.antt" % crate, recursive=True)):
         folder = os.path.dirname(proof)
         rel = os.path.relpath(folder, "crates/%s/proofs" % crate)
@@ -433,7 +451,7 @@ def main():
                 out.write("\n".join(imports(used, invariants) + ["use %s.Given as goal" % stem, ""]) + "\n")
                 out.write("\n\n".join(i.strip("\n") for i in invariants) + "\n")
         if answers:
-            text = named("\n\n".join(a.strip("\n") for a in answers))
+            text = of_source(named("\n\n".join(a.strip("\n") for a in answers)), words)
             with open(os.path.join(folder, "Answers.antt"), "w") as out:
                 more = ["use %s.Goals.{%s}" % (stem, ", ".join(fn.kept))] if fn.kept else []
                 out.write("\n".join(imports(used, answers) + ["use %s.Goals as goal" % stem] + more + [""]) + "\n")

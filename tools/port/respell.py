@@ -56,7 +56,7 @@ def declared(text):
         if record and line.strip() and len(line) - len(line.lstrip()) <= record[1]:
             record = None
         m = DECL.match(line)
-        if m and not re.match(r"\s*(?:pub )?use ", line):
+        if m and not re.match(r"\s*(?:unfoldable )?(?:pub )?use ", line):
             (fields if record and record[0] == "record" else names).append(m.group(2))
     return names, fields
 
@@ -93,7 +93,7 @@ def main():
         if own(f):
             table[module_of(f)] = {n: renamed(n) for n in names[f]}
     for f in files:     # what a module passes on
-        for m in re.finditer(r"(?:^|\n)\s*pub use ([^\s{]+)\.\{([^}]*)\}", texts[f]):
+        for m in re.finditer(r"(?:^|\n)\s*(?:unfoldable )?pub use ([^\s{]+)\.\{([^}]*)\}", texts[f]):
             for n in m.group(2).split(","):
                 n = n.strip()
                 if own(f) and n in table.get(m.group(1), {}):
@@ -111,7 +111,7 @@ def main():
     def uses(text, start):
         """names in scope by `use` lines: {name in the text: new name}, and the names of the library"""
         own_names, others = {}, set()
-        for m in re.finditer(r"(?:^|\n)\s*(?:pub )?" + start + r"([^\s{;]+)\.\{([^}]*)\}", text):
+        for m in re.finditer(r"(?:^|\n)\s*(?:unfoldable )?(?:pub )?" + start + r"([^\s{;]+)\.\{([^}]*)\}", text):
             module = m.group(1).rstrip(".")
             for item in m.group(2).split(","):
                 item = item.strip()
@@ -166,7 +166,7 @@ def main():
 
     def parts(text):
         """comment lines, `use` lines and the rest are turned apart"""
-        return re.split(r"(\n(?:\s*--[^\n]*|\s*(?:pub )?use [^\n]*))", "\n" + text)
+        return re.split(r"(\n(?:\s*--[^\n]*|\s*(?:unfoldable )?(?:pub )?use [^\n]*))", "\n" + text)
 
     changed = {}
     for f in files:
@@ -186,7 +186,7 @@ def main():
         for piece in parts(text):
             if re.match(r"\n\s*--", piece):
                 out.append(piece)
-            elif re.match(r"\n\s*(?:pub )?use ", piece):
+            elif re.match(r"\n\s*(?:unfoldable )?(?:pub )?use ", piece):
                 out.append(re.sub(r"(use )([^\s{]+)\.\{([^}]*)\}", turn_use, piece))
             else:
                 out.append(body(piece, scope, text))

@@ -17,7 +17,7 @@ use Rattle.mesh.specs.Levels.{vertex_count, per}
 use Rattle.table.specs.Bytes.{number_at, number_of, items}
 use Rattle.table.specs.File.{Entry, entry_of}
 use Rattle.table.specs.Tail.{Term, Tail, term_of, tail_valid}
-use Rattle.table.specs.Read.{count_at, f64_at, layout, ended, table_laid_out, tail_at, grid_of, table_of, row_items, energy_items, tail_in, table_valid, gridValid, entry_valid, tiled, read_values, read_out}
+use Rattle.table.specs.Read.{count_at, f64_at, layout, ended, table_laid_out, tail_at, grid_of, table_of, row_items, energy_items, tail_in, table_valid, grid_valid, entry_valid, tiled, read_values, read_out}
 use Rattle.table.specs.View.{host}
 use Rattle.table.specs.Internal.{TableSections, rows_question, table_question}
 use Rattle.table.specs.declared.Layout.{Layout}
@@ -211,7 +211,7 @@ module _ (f : List ℕ) (y : Yes f (table_of f (layout f))) where
   valid_new : table_valid g new_table ≡ true
   unfolding table_valid
   valid_new =
-      let a = (and-eq-true_iff (gridValid t.grid t.levels) _).0 y.valid in
+      let a = (and-eq-true_iff (grid_valid t.grid t.levels) _).0 y.valid in
       let b = (and-eq-true_iff (eqb t.rows (t.grid.n_r * t.grid.n_omega)) _).0 a.1 in
       rw (a.0, b.0)
       (all_is (λ m. eqb (number_at 4 g (t.levels_start + 4 * m)) (vertex_count m)) t.levels

@@ -18,7 +18,7 @@ use Rattle.grid.specs.Settings.{grid_range, slabs_fit}
 use Rattle.table.specs.Bytes.{bytes_of, number_at}
 use Rattle.table.specs.File.{Entry, entry_of}
 use Rattle.table.specs.Tail.{tail_valid}
-use Rattle.table.specs.Read.{count_at, layout, table_laid_out, table_of, row_items, energy_items, tail_in, table_valid, entry_valid, gridValid, ReadValues, read_values}
+use Rattle.table.specs.Read.{count_at, layout, table_laid_out, table_of, row_items, energy_items, tail_in, table_valid, entry_valid, grid_valid, ReadValues, read_values}
 use Rattle.table.specs.Checks.{slab_checked}
 use Rattle.table.specs.Loose.{loose_refusal, loose_out}
 use Rattle.table.specs.Internal.{TableSections, ends_below}
@@ -91,10 +91,10 @@ total_le levels (r ∷ rs) h =
 
 -- "14 bounds slabs times the top level's energies": the packed count fits a u32
 pub total_fits : (file : List ℕ) (t : Table) → Yes file t → total (row_items file t) ≤ 4294967295
-unfolding table_valid gridValid slabs_fit
+unfolding table_valid grid_valid slabs_fit
 total_fits file t y =
     let n = t.grid.n_r * t.grid.n_omega in
-    let g = (and-eq-true_iff (gridValid t.grid t.levels) _).0 y.valid in
+    let g = (and-eq-true_iff (grid_valid t.grid t.levels) _).0 y.valid in
     let m = eqb-true t.rows n ((and-eq-true_iff (eqb t.rows n) _).0 g.1).0 in
     let room = leb-true (n * per (t.levels - 1)) 4294967295 ((and-eq-true_iff (grid_range t.grid t.levels) _).0 g.0).1 in
     let many : length (row_items file t) ≡ n = items-many entry_of 10 file t.rows_start t.rows ∙ m in

@@ -10,7 +10,7 @@ use Rattle.lists.specs.Lists.{put}
 use Rattle.lists.proofs.Written.{put_push}
 use Rattle.float.specs.Exp.{exponential}
 use Rattle.settling.specs.Gradient.{weight}
-use Rattle.settling.specs.Internal.{line_of, line_exponents, line_weights, lineGradient}
+use Rattle.settling.specs.Internal.{line_of, line_exponents, line_weights, line_gradient}
 
 module _ (f : Float → Float) (e : List Float) (from step : ℕ) where
   pub length_line : (n : ℕ) → length (line_of f e from step n) ≡ n
@@ -51,10 +51,10 @@ unfolding line_of weight
 weights_are beta e from step zero = refl
 weights_are beta e from step (suc n) = map-append exponential (line_exponents beta e from step n) _ ∙ rw (weights_are beta e from step n)
 
-pub weighed_line : (m : Mesh) (beta : Float) (e : List Float) (from step n : ℕ) (g r : Float) (d w : List Float) → r ≡ lineGradient m n (map exponential (take n w)) g → w ≡ put d 0 (line_exponents beta e from step n)
-    → r ≡ lineGradient m n (line_weights beta e from step n) g
+pub weighed_line : (m : Mesh) (beta : Float) (e : List Float) (from step n : ℕ) (g r : Float) (d w : List Float) → r ≡ line_gradient m n (map exponential (take n w)) g → w ≡ put d 0 (line_exponents beta e from step n)
+    → r ≡ line_gradient m n (line_weights beta e from step n) g
 weighed_line m beta e from step n g r d w h k =
-    h ∙ ap (λ (l : List Float). lineGradient m n l g) (ap (map exponential) (head_part d w (line_exponents beta e from step n) n k (length_line (mul binary64 (neg beta)) e from step n)) ∙ weights_are beta e from step n)
+    h ∙ ap (λ (l : List Float). line_gradient m n l g) (ap (map exponential) (head_part d w (line_exponents beta e from step n) n k (length_line (mul binary64 (neg beta)) e from step n)) ∙ weights_are beta e from step n)
 
 -- the first n entries, after E was put in their places
 pub weighed_part : (w p rest : List Float) (n : ℕ) → p ≡ map exponential (take (n - 0) w) → n ≤ length w → take (n - 0) (p ++ rest) ≡ map exponential (take n w)

@@ -5,7 +5,7 @@ use Rattle.float.specs.Order.{magnitude, larger}
 use Rattle.lists.proofs.Loops.{each_turn}
 use Rattle.mesh.specs.Mesh.{Mesh, degree, neighbour, angle_to}
 use Rattle.settling.specs.Gradient.{zero, steeper, along_neighbours}
-use Rattle.settling.specs.Internal.{line_weights, lineGradient, column_gradient, four_columns, first_columns, lines_gradient}
+use Rattle.settling.specs.Internal.{line_weights, line_gradient, column_gradient, four_columns, first_columns, lines_gradient}
 use Rattle.settling.proofs.Largest.{larger-number}
 use Rattle.settling.proofs.Orders.{each_same, each_keeps, each_four}
 
@@ -32,8 +32,8 @@ module _ (m : Mesh) where
   neighbours_number v weightAt x g =
       each_keeps Number (degree m v) (λ k. steeper x (weightAt (neighbour m v k)) (angle_to m v k)) (λ k. steeper-number x (weightAt (neighbour m v k)) (angle_to m v k)) g
 
-  pub line_number : (n : ℕ) (ws : List Float) (g : Float) → Number g → Number (lineGradient m n ws g)
-  unfolding lineGradient
+  pub line_number : (n : ℕ) (ws : List Float) (g : Float) → Number g → Number (line_gradient m n ws g)
+  unfolding line_gradient
   line_number n ws g =
       each_keeps Number n (λ v. along_neighbours m v (λ k. get_or ws k nan) (get_or ws v nan)) (λ v. neighbours_number v (λ k. get_or ws k nan) (get_or ws v nan)) g
 
@@ -49,7 +49,7 @@ module _ (m : Mesh) where
   pub columns_are : (n : ℕ) (beta : Float) (e : List Float) → first_columns m n beta e n ≡ lines_gradient m n beta e 1 n zero
   unfolding first_columns column_gradient lines_gradient
   columns_are n beta e =
-      each_same n (column_gradient m n beta e) (λ t. lineGradient m n (line_weights beta e (1 * t) n n)) (λ t s h. ap (λ (z : ℕ). lineGradient m n (line_weights beta e z n n) s) (sym (one-mul t))) zero
+      each_same n (column_gradient m n beta e) (λ t. line_gradient m n (line_weights beta e (1 * t) n n)) (λ t s h. ap (λ (z : ℕ). line_gradient m n (line_weights beta e z n n) s) (sym (one-mul t))) zero
 
   -- one column more, and four
   pub columns-one : (n : ℕ) (beta : Float) (e : List Float) (k : ℕ) → column_gradient m n beta e k (first_columns m n beta e k) ≡ first_columns m n beta e (k + 1)

@@ -11,7 +11,7 @@ use Rattle.lists.specs.Lists.{for_each}
 use Rattle.mesh.specs.Mesh.{Mesh, degree, neighbour, angle_to, mesh_of}
 use Rattle.float.proofs.Order.{clear, round_clear}
 use Rattle.settling.specs.Gradient.{zero, weight, steeper, along_neighbours, pair_weight, gradient_of, gradient, atom_gradient}
-use Rattle.settling.specs.Internal.{line_weights, lineGradient, lines_gradient}
+use Rattle.settling.specs.Internal.{line_weights, line_gradient, lines_gradient}
 use Rattle.settling.proofs.Largest.{Slope, larger_swap}
 use Rattle.settling.proofs.Orders.{Commute, loops_commute, each_split, each_swap, each_same}
 use Rattle.settling.proofs.Lines.{length_line, line_at}
@@ -130,17 +130,17 @@ module _ (m : Mesh) (n : ℕ) (beta : Float) (e : List Float) where
       by (inr h) = line_at (weight beta) e (1 * j) n n i h ∙ entry i j (1 * j + n * i) h hj (simp (mul_comm, one-mul, add_comm))
 
   rows : (s : Float) → lines_gradient m n beta e n 1 s ≡ for_each n (λ i. for_each n (second i)) s
-  unfolding lines_gradient lineGradient second
+  unfolding lines_gradient line_gradient second
   rows s =
-      each_same n (λ t. lineGradient m n (line_weights beta e (n * t) 1 n)) (λ i. for_each n (second i))
+      each_same n (λ t. line_gradient m n (line_weights beta e (n * t) 1 n)) (λ i. for_each n (second i))
       (λ i t hi. each_same n (λ v. along_neighbours m v (λ k. get_or (line_weights beta e (n * i) 1 n) k nan) (get_or (line_weights beta e (n * i) 1 n) v nan)) (second i)
       (λ j u hj. along_same m j (λ k. get_or (line_weights beta e (n * i) 1 n) k nan) (λ k. at i k) (get_or (line_weights beta e (n * i) 1 n) j nan) (at i j)
       (λ k l. in_row i (neighbour m j k) hi) (in_row i j hi) u) t) s
 
   columns : (s : Float) → lines_gradient m n beta e 1 n s ≡ for_each n (λ j. for_each n (λ i. first i j)) s
-  unfolding lines_gradient lineGradient first
+  unfolding lines_gradient line_gradient first
   columns s =
-      each_same n (λ t. lineGradient m n (line_weights beta e (1 * t) n n)) (λ j. for_each n (λ i. first i j))
+      each_same n (λ t. line_gradient m n (line_weights beta e (1 * t) n n)) (λ j. for_each n (λ i. first i j))
       (λ j t hj. each_same n (λ v. along_neighbours m v (λ k. get_or (line_weights beta e (1 * j) n n) k nan) (get_or (line_weights beta e (1 * j) n n) v nan)) (λ i. first i j)
       (λ i u hi. along_same m i (λ k. get_or (line_weights beta e (1 * j) n n) k nan) (λ k. at k j) (get_or (line_weights beta e (1 * j) n n) i nan) (at i j)
       (λ k l. in_column_lem (neighbour m i k) j hj) (in_column_lem i j hj) u) t) s
@@ -159,8 +159,8 @@ module _ (m : Mesh) (n : ℕ) (beta : Float) (e : List Float) where
           let z : 0 + 1 * j ≡ j = omega arith in
           line_at (weight beta) e 0 1 n j h ∙ rw (z, ← get_or-take n e j nan h) (sym (rw (weight-none beta) at (map_at (weight beta) (take n e) j nan)))
 
-  pub by_line : lineGradient m n (line_weights beta e 0 1 n) zero ≡ lineGradient m n (map (weight beta) (take n e)) zero
-  unfolding lineGradient
+  pub by_line : line_gradient m n (line_weights beta e 0 1 n) zero ≡ line_gradient m n (map (weight beta) (take n e)) zero
+  unfolding line_gradient
   by_line =
       each_same n (λ v. along_neighbours m v (λ k. get_or (line_weights beta e 0 1 n) k nan) (get_or (line_weights beta e 0 1 n) v nan))
       (λ v. along_neighbours m v (λ k. get_or (map (weight beta) (take n e)) k nan) (get_or (map (weight beta) (take n e)) v nan))
@@ -175,5 +175,5 @@ gradient-links m n beta e = refl
 
 pub atom_links : (m : Mesh) (n : ℕ) (beta : Float) (e : List Float)
     → atom_gradient (mesh_of [] m.counts m.neighbours m.angles) n beta e ≡ atom_gradient m n beta e
-unfolding atom_gradient lineGradient along_neighbours
+unfolding atom_gradient line_gradient along_neighbours
 atom_links m n beta e = refl

@@ -61,7 +61,7 @@ gradient m n beta e = gradient_of m n (map (weight beta) e)
 unfoldable pub comparisons : Mesh → ℕ → ℕ
 comparisons m n = sum n (λ i. sum n (λ j. degree m i + degree m j))
 
--- of `lineGradient`: for each vertex one for each neighbour (S18.5)
+-- of `line_gradient`: for each vertex one for each neighbour (S18.5)
 unfoldable pub line_comparisons : Mesh → ℕ → ℕ
 line_comparisons m n = sum n (degree m)
 

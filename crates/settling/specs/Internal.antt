@@ -10,7 +10,7 @@ use Rattle.rows.specs.declared.SlabResolution.{SlabResolution}
 use Rattle.rows.specs.declared.SlabResolution.TheVariants.{Scalar as toScalar, Mesh as toMesh, Repulsive as toRepulsive}
 use Rattle.settling.specs.Gradient as Gradient
 use Rattle.settling.specs.Gradient.{weight}
-unfoldable pub use Rattle.settling.specs.Gradient.{lineGradient}
+unfoldable pub use Rattle.settling.specs.Gradient.{line_gradient}
 use Rattle.settling.specs.Settling.{new_row, in_place_of, steeper_of, settles, not_repulsive, packed_row, packed_after, comparisons_for}
 use Rattle.settling.specs.declared.Tally.{Tally}
 use Rattle.settling.specs.declared.Verdict.{Verdict}
@@ -30,7 +30,7 @@ line_exponents beta = line_of (mul binary64 (neg beta))
 
 -- along a column, four columns side by side, and the first k columns
 unfoldable pub column_gradient : Mesh → ℕ → Float → List Float → ℕ → Float → Float
-column_gradient m n beta e t = lineGradient m n (line_weights beta e t n n)
+column_gradient m n beta e t = line_gradient m n (line_weights beta e t n n)
 
 unfoldable pub four_columns : Mesh → ℕ → Float → List Float → ℕ → Float → Float
 four_columns m n beta e t g =
@@ -41,7 +41,7 @@ first_columns m n beta e k = for_each k (column_gradient m n beta e) Gradient.ze
 
 -- along n lines, each `step` places apart, that begin `apart` places after one another
 unfoldable pub lines_gradient : Mesh → ℕ → Float → List Float → ℕ → ℕ → Float → Float
-lines_gradient m n beta e apart step g = for_each n (λ t. lineGradient m n (line_weights beta e (apart * t) step n)) g
+lines_gradient m n beta e apart step g = for_each n (λ t. line_gradient m n (line_weights beta e (apart * t) step n)) g
 
 -- the gradient of a slab: along its columns, then along its rows
 unfoldable pub by_lines : Mesh → ℕ → Float → List Float → Float

@@ -7,7 +7,7 @@ ghost use Rattle.mesh.specs.Mesh.{mesh_of};
 ghost use Rattle.lists.specs.Lists.{put};
 ghost use Rattle.float.specs.Exp.{exponential};
 ghost use Rattle.settling.specs.Gradient.{weight, steeper, along_neighbours, atom_gradient};
-ghost use Rattle.settling.specs.Internal.{line_exponents, line_weights, lineGradient, four_columns, first_columns, lines_gradient, by_lines};
+ghost use Rattle.settling.specs.Internal.{line_exponents, line_weights, line_gradient, four_columns, first_columns, lines_gradient, by_lines};
 
 // The Boltzmann weight of an energy.
 pub(crate) fn weight(beta: f64, e: f64) -> f64
@@ -113,7 +113,7 @@ fn line_gradient(
     g: f64,
 ) -> f64
     requires { is_nan g ≡ false }
-    ensures { result ≡ lineGradient (mesh_of [] counts.now neighbours.now angles.now) n weights.now g }
+    ensures { result ≡ line_gradient (mesh_of [] counts.now neighbours.now angles.now) n weights.now g }
 {
     let mut h = g;
     let mut v: u32 = 0;
@@ -134,7 +134,7 @@ fn weighed(
     g: f64,
 ) -> f64
     requires { (n ≤ length weights.old) × (is_nan g ≡ false) }
-    ensures { result ≡ lineGradient (mesh_of [] counts.now neighbours.now angles.now) n
+    ensures { result ≡ line_gradient (mesh_of [] counts.now neighbours.now angles.now) n
         (map exponential (take n weights.old)) g }
 {
     let m = n as usize;
@@ -156,7 +156,7 @@ fn line(
     weights: &mut [f64],
 ) -> f64
     requires { (n ≤ 2562) × (step ≤ 2562) × (from ≤ 6563844) × (is_nan g ≡ false) × (n ≤ length weights.old) }
-    ensures { result ≡ lineGradient (mesh_of [] counts.now neighbours.now angles.now) n
+    ensures { result ≡ line_gradient (mesh_of [] counts.now neighbours.now angles.now) n
         (line_weights beta energies.now from step n) g }
 {
     let m = n as usize;

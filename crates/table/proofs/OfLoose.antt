@@ -11,7 +11,7 @@ use Rattle.lists.proofs.Counting.{all_at}
 use Rattle.mesh.specs.Levels.{vertex_count, per}
 use Rattle.table.specs.Bytes.{number_at}
 use Rattle.table.specs.File.{Entry}
-use Rattle.table.specs.Read.{layout, table_laid_out, table_of, row_items, table_valid, entry_valid, gridValid, read_values}
+use Rattle.table.specs.Read.{layout, table_laid_out, table_of, row_items, table_valid, entry_valid, grid_valid, read_values}
 use Rattle.table.specs.Checks.{slab_checked}
 use Rattle.table.specs.Loose.{loose_refusal, loose_out}
 use Rattle.table.specs.Internal.{ends_below, loose_question}
@@ -23,7 +23,7 @@ use Rattle.table.proofs.Checked.{mesh-held}
 pub counts_held : (file : List ℕ) (t : Table) → table_valid file t ≡ true → (k : ℕ) → k < t.levels → number_at 4 file (t.levels_start + 4 * k) ≡ vertex_count k
 unfolding table_valid
 counts_held file t h k l =
-    let a = (and-eq-true_iff (gridValid t.grid t.levels) _).0 h in
+    let a = (and-eq-true_iff (grid_valid t.grid t.levels) _).0 h in
     let b = (and-eq-true_iff (eqb t.rows (t.grid.n_r * t.grid.n_omega)) _).0 a.1 in
     eqb-true _ (vertex_count k) (all_at (λ m. eqb (number_at 4 file (t.levels_start + 4 * m)) (vertex_count m)) k t.levels l b.1)
 

@@ -6,7 +6,7 @@ use Rattle.lists.specs.Questions.{ask}
 use Rattle.lists.specs.Lists.{all_up_to, every}
 use Rattle.mesh.specs.Levels.{vertex_count, per}
 use Rattle.grid.specs.Bins.{table_rmax}
-unfoldable pub use Rattle.grid.specs.Settings.{gridValid}
+unfoldable pub use Rattle.grid.specs.Settings.{grid_valid}
 use Rattle.grid.specs.declared.Grid.{Grid}
 use Rattle.table.specs.Bytes.{number_of, number_at, items}
 use Rattle.table.specs.Tail.{Term, Tail, term_of, tail_valid}
@@ -140,7 +140,7 @@ tail_in file t = record { terms = term_items file t; prefactor = f64_at file (t.
 -- "the row count the product of the bin counts, and each vertex count its level's" (S5.14)
 unfoldable pub table_valid : List ℕ → Table → Bool
 table_valid file t =
-    gridValid t.grid t.levels
+    grid_valid t.grid t.levels
     && (eqb t.rows (t.grid.n_r * t.grid.n_omega)
     && all_up_to t.levels (λ m. eqb (number_at 4 file (t.levels_start + 4 * m)) (vertex_count m)))
 

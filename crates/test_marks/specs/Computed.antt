@@ -34,7 +34,7 @@ use Rattle.table.specs.File.{entry_bytes, entry_of, entries, packed_energies, fi
 use Rattle.writer.specs.Write.{file_from, write_refusal, write_out}
 use Rattle.writer.specs.Tailed.{TailLists, tail_lists, terms_from, tail_question, tailed_question, full_file_from, write_tail_refusal, write_tail_out}
 use Rattle.table.specs.Read as read
-use Rattle.table.specs.Read.{layout, laid_out, table_laid_out, tail_at, grid_of, table_of, gridValid, table_valid, scalar_valid, entry_valid, tiled, read_refusal, read_out}
+use Rattle.table.specs.Read.{layout, laid_out, table_laid_out, tail_at, grid_of, table_of, grid_valid, table_valid, scalar_valid, entry_valid, tiled, read_refusal, read_out}
 use Rattle.reading.specs.Resolve.{way_valid, query_valid, outside, resolve, joint, nearest_pick, face_pick, nine_terms, combined}
 use Rattle.reading.specs.Reading.{row_inside, energy_inside, entry_at, energy_at, search_in, read_entry, reading_by}
 use Rattle.reading.specs.Rule.{search, ruled_by}
@@ -116,7 +116,7 @@ unfolding weight repulsive all_repulsive steeper along_neighbours pair_weight gr
 settling x = x
 
 unfoldable tables : {A : Type 0} → A → A
-unfolding bytes_of number_of number_at packed section items entry_bytes entry_of entries packed_energies file_of file_from write_refusal write_out term_bytes term_of term_valid tail_valid full_file terms_from tail_question tailed_question full_file_from write_tail_refusal write_tail_out layout laid_out read.ended table_laid_out tail_at grid_of table_of gridValid table_valid scalar_valid entry_valid tiled read_refusal read_out
+unfolding bytes_of number_of number_at packed section items entry_bytes entry_of entries packed_energies file_of file_from write_refusal write_out term_bytes term_of term_valid tail_valid full_file terms_from tail_question tailed_question full_file_from write_tail_refusal write_tail_out layout laid_out read.ended table_laid_out tail_at grid_of table_of grid_valid table_valid scalar_valid entry_valid tiled read_refusal read_out
 tables x = x
 
 unfoldable readings : {A : Type 0} → A → A

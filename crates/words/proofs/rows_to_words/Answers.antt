@@ -12,8 +12,7 @@ lists s = rows_of s.args.kinds.now s.args.levels.now s.args.values.now
 
 pub returns-then-not-move_long : goal.returns-then-not-move_long
 returns-then-not-move_long c =
-    let s = c.before.before.before.before.before.before in
-    sym (words_short c.args.rows (lists s) c.args.words.now (no c.move_long.ensures c.if-not-move_long.true))
+    sym (words_short c.args.rows (lists (goal.at.returns-then-not-move_long c).Start) c.args.words.now (no c.move_long.ensures c.if-not-move_long.true))
 
 pub put_words-requires : goal.put_words-requires
 put_words-requires c =
@@ -22,5 +21,4 @@ put_words-requires c =
 
 pub returns : goal.returns
 returns c =
-    let s = c.before.before.before.before.before.before.before.before.before.before in
-    rw (c.put_words.ensures, words_done c.args.rows (lists s) c.args.words.now (yes c.move_long.ensures c.if-not-move_long.false))
+    rw (c.put_words.ensures, words_done c.args.rows (lists (goal.at.returns c).Start) c.args.words.now (yes c.move_long.ensures c.if-not-move_long.false))

@@ -14,17 +14,15 @@ lists s = rows_of s.args.kinds.now s.args.levels.now s.args.values.now
 
 pub returns-then-not-move_long : goal.returns-then-not-move_long
 returns-then-not-move_long c =
-    let s = c.before.before.before.before.before.before in
-    sym (rows_short c.args.rows (lists s) c.args.words.now (no c.move_long.ensures c.if-not-move_long.true))
+    sym (rows_short c.args.rows (lists (goal.at.returns-then-not-move_long c).Start) c.args.words.now (no c.move_long.ensures c.if-not-move_long.true))
 
 -- all of them are long enough
-long : (c : Else-not-move_long) → let s = c.before.before.before.before.before.before in move_room c.args.rows (lists s) c.args.words.now ≡ true
+long : (c : Else-not-move_long) → move_room c.args.rows (lists (goal.at.Else-not-move_long c).Start) c.args.words.now ≡ true
 long c = yes c.move_long.ensures c.if-not-move_long.false
 
 pub returns-then-not-rests_clear : goal.returns-then-not-rests_clear
 returns-then-not-rests_clear c =
-    let s = c.before.before.before.before.before.before.before.before in
-    sym (rows-rest c.args.rows (lists s) c.args.words.now (long (goal.at.returns-then-not-rests_clear c).Else-not-move_long) (no c.rests_clear.ensures c.if-not-rests_clear.true))
+    sym (rows-rest c.args.rows (lists (goal.at.returns-then-not-rests_clear c).Start) c.args.words.now (long (goal.at.returns-then-not-rests_clear c).Else-not-move_long) (no c.rests_clear.ensures c.if-not-rests_clear.true))
 
 pub put_rows-requires : goal.put_rows-requires
 put_rows-requires c =
@@ -35,5 +33,4 @@ put_rows-requires c =
 pub returns : goal.returns
 returns c =
     let e = c.before.before.before.before.before.before.before.before.before.before.before.before in
-    let s = e.before.before.before.before.before.before in
-    rw (c.put_rows.ensures, rows_done c.args.rows (lists s) c.args.words.now (long (goal.at.returns c).Else-not-move_long) (yes c.rests_clear.ensures c.if-not-rests_clear.false))
+    rw (c.put_rows.ensures, rows_done c.args.rows (lists (goal.at.returns c).Start) c.args.words.now (long (goal.at.returns c).Else-not-move_long) (yes c.rests_clear.ensures c.if-not-rests_clear.false))

@@ -12,15 +12,13 @@ far c = rw (c.dot-distance.ensures, c.difference-d.ensures, c.vertex_at.ensures)
 
 pub returns-then-distance-least : goal.returns-then-distance-least
 returns-then-distance-least c =
-    let o = c.before.before.before.before.before in
-    let a = o.args in
-    rw (far c.before) (closer_yes a.vertices.now a.p a.best a.v o.requires.1 (rw (far c.before) at c.if-distance-least.true))
+    let a = c.args in
+    rw (far (goal.at.returns-then-distance-least c).After-dot-distance) (closer_yes a.vertices.now a.p a.best a.v c.requires.1 (rw (far (goal.at.returns-then-distance-least c).After-dot-distance) at c.if-distance-least.true))
 
 pub returns : goal.returns
 returns c =
-    let o = c.before.before.before.before.before in
-    let a = o.args in
-    closer_no a.vertices.now a.p a.best a.v o.requires.1 (rw (far c.before) at c.if-distance-least.false)
+    let a = c.args in
+    closer_no a.vertices.now a.p a.best a.v c.requires.1 (rw (far (goal.at.returns c).After-dot-distance) at c.if-distance-least.false)
 
 pub difference-d-requires : goal.difference-d-requires
 difference-d-requires c = tt

@@ -8,19 +8,18 @@ use Rattle.search.proofs.cells.find_nearest_vertex.Goals.{After-vertex_count-n}
 
 -- the cell's places are held
 kept : (c : After-vertex_count-n)
-    → (let s = c.before.before in let a = s.args in
-    Held a.vertices.now (vertex_count a.level) 1 a.cell-offsets.now a.cell-vertices.now s.cell_index-cell.result s.span_of-s.result)
+    → (let s = c.before.before in let a = c.args in
+    Held a.vertices.now (vertex_count a.level) 1 a.cell_offsets.now a.cell_vertices.now c.cell_index-cell.result c.span_of-s.result)
 kept c =
     let s = c.before.before in
-    let a = s.args in
-    held a.vertices.now (vertex_count a.level) 1 a.cell-offsets.now a.cell-vertices.now s.cell_index-cell.result s.span_of-s.result s.span_of-s.ensures (not-false _ c.if-not-held.false)
+    let a = c.args in
+    held a.vertices.now (vertex_count a.level) 1 a.cell_offsets.now a.cell_vertices.now c.cell_index-cell.result c.span_of-s.result c.span_of-s.ensures (c.if-not-held.false)
 
 pub returns-then-not-held : goal.returns-then-not-held
 returns-then-not-held c =
-    let s = c.before.before in
-    let a = s.args in
+    let a = c.args in
     c.not_nearest.ensures
-    ∙ sym (cell_not_held a.cell-offsets.now a.cell-vertices.now a.vertices.now (vertex_count a.level) (grid_size (vertex_count a.level)) a.p s.span_of-s.result (rw (← s.cell_index-cell.ensures) s.span_of-s.ensures) (not-true _ c.if-not-held.true))
+    ∙ sym (cell_not_held a.cell_offsets.now a.cell_vertices.now a.vertices.now (vertex_count a.level) (grid_size (vertex_count a.level)) a.p c.span_of-s.result (rw (← c.cell_index-cell.ensures) c.span_of-s.ensures) (c.if-not-held.true))
 
 pub offset_bounds-cell_vertices-from : goal.offset_bounds-cell_vertices-from
 offset_bounds-cell_vertices-from c = omega (arith, kept c)
@@ -36,11 +35,9 @@ slice_bounds-nearest_in_cell-end c = (kept c).room
 
 pub returns : goal.returns
 returns c =
-    let k = c.before.before in
-    let s = k.before.before in
-    let a = s.args in
-    rw (c.nearest_in_cell.ensures, k.vertex_count-n.ensures)
-    (sym (cell-held a.cell-offsets.now a.cell-vertices.now a.vertices.now (vertex_count a.level) (grid_size (vertex_count a.level)) a.p s.span_of-s.result (rw (← s.cell_index-cell.ensures) s.span_of-s.ensures) (not-false _ k.if-not-held.false)))
+    let a = c.args in
+    rw (c.nearest_in_cell.ensures, c.vertex_count-n.ensures)
+    (sym (cell-held a.cell_offsets.now a.cell_vertices.now a.vertices.now (vertex_count a.level) (grid_size (vertex_count a.level)) a.p c.span_of-s.result (rw (← c.cell_index-cell.ensures) c.span_of-s.ensures) (c.if-not-held.false)))
 
 pub cell_index-cell-requires : goal.cell_index-cell-requires
 cell_index-cell-requires c = tt

@@ -4,14 +4,12 @@ use Rattle.search.proofs.cells.nearer.Goals as goal
 pub returns-then-number-total_order : goal.returns-then-number-total_order
 unfolding nearer squared
 returns-then-number-total_order c =
-    let d = c.before.before in
-    rw (← d.vertex_at.ensures, ← d.difference-d.ensures, ← d.dot-distance.ensures, ← c.total_order.ensures, c.if-number-total_order.true)
+    rw (← c.vertex_at.ensures, ← c.difference-d.ensures, ← c.dot-distance.ensures, ← c.total_order.ensures, c.if-number-total_order.true)
 
 pub returns : goal.returns
 unfolding nearer squared
 returns c =
-    let d = c.before.before in
-    rw (← d.vertex_at.ensures, ← d.difference-d.ensures, ← d.dot-distance.ensures, ← c.total_order.ensures, c.if-number-total_order.false)
+    rw (← c.vertex_at.ensures, ← c.difference-d.ensures, ← c.dot-distance.ensures, ← c.total_order.ensures, c.if-number-total_order.false)
 
 pub difference-d-requires : goal.difference-d-requires
 difference-d-requires c = tt

@@ -14,9 +14,9 @@ use Rattle.search.proofs.cells.nearest_by_order.Goals.{At-loop-i, Else-not-insid
 
 -- the loop starts with 20
 start : (l : At-loop-i)
-    → (let a = l.before.before.before.before.args in
-    nearest_over a.vertices.now a.n a.p l.before.not-nearest.result a.cell.now ≡ nearest_over a.vertices.now a.n a.p (not_nearest 20) a.cell.now)
-start l = rw l.before.not-nearest.ensures
+    → (let a = l.args in
+    nearest_over a.vertices.now a.n a.p l.not_nearest-best.result a.cell.now ≡ nearest_over a.vertices.now a.n a.p (not_nearest 20) a.cell.now)
+start l = rw l.not_nearest-best.ensures
 
 pub loop-i-init : goal.loop-i-init
 loop-i-init c = (omega arith, refl)
@@ -26,19 +26,17 @@ inside-requires c = omega (arith, c.wide16-v.ensures, c.shared_slice_known-in-lo
 
 pub returns-then-not-inside : goal.returns-then-not-inside
 returns-then-not-inside c =
-    let e = c.before.before.before in
-    let l = e.before.before.before in
-    let a = l.args in
+    let a = c.args in
     c.not_nearest.ensures
-    ∙ sym (nearest_stop a.vertices.now a.n a.p a.cell.now l.loop-i.best l.loop-i.i e.wide16-v.result (omega arith) e.wide16-v.ensures (no c.inside.ensures c.if-not-inside.true))
-    ∙ l.loop-i.invariant.1 ∙ start l
+    ∙ sym (nearest_stop a.vertices.now a.n a.p a.cell.now c.loop-i.best c.loop-i.i c.wide16-v.result (omega arith) c.wide16-v.ensures (no c.inside.ensures c.if-not-inside.true))
+    ∙ c.loop-i.invariant.1 ∙ start (goal.at.returns-then-not-inside c).At-loop-i
 
 -- the vertex was found inside what was lent
-room : (c : Else-not-inside) → 3 * c.before.before.wide16.result + 3 ≤ length c.before.before.before.before.before.before.before.before.before.args.vertices.now
+room : (c : Else-not-inside) → 3 * c.wide16-v.result + 3 ≤ length c.args.vertices.now
 room c =
-    let v = c.before.before.wide16.result in
-    let a = c.before.before.before.before.before.before.before.before.before.args in
-    leb-true _ _ ((and-eq-true_iff (ltb v a.n) (leb (3 * v + 3) (length a.vertices.now))).0 (yes c.before.inside.ensures c.if1.false)).1
+    let v = c.wide16-v.result in
+    let a = c.args in
+    leb-true _ _ ((and-eq-true_iff (ltb v a.n) (leb (3 * v + 3) (length a.vertices.now))).0 (yes c.inside.ensures c.if-not-inside.false)).1
 
 pub nearer-best-requires : goal.nearer-best-requires
 nearer-best-requires c =
@@ -46,20 +44,17 @@ nearer-best-requires c =
 
 pub loop-i-preserved : goal.loop-i-preserved
 loop-i-preserved c =
-    let e = c.before.before.before in
-    let l = e.before.before.before in
-    let a = l.args in (
+    let a = c.args in (
       omega arith,
       rw c.nearer-best.ensures
-          (sym (nearest_turn a.vertices.now a.n a.p a.cell.now l.loop-i.best l.loop-i.i e.wide16-v.result (omega arith) e.wide16-v.ensures (yes c.inside.ensures c.if-not-inside.false))
-          ∙ l.loop-i.invariant.1),
+          (sym (nearest_turn a.vertices.now a.n a.p a.cell.now c.loop-i.best c.loop-i.i c.wide16-v.result (omega arith) c.wide16-v.ensures (yes c.inside.ensures c.if-not-inside.false))
+          ∙ c.loop-i.invariant.1),
     )
 
 pub returns : goal.returns
 returns c =
-    let l = c.before in
-    let a = l.args in
-    sym (nearest_end a.vertices.now a.n a.p a.cell.now l.loop-i.best l.loop-i.i (omega arith)) ∙ l.loop-i.invariant.1 ∙ start l
+    let a = c.args in
+    sym (nearest_end a.vertices.now a.n a.p a.cell.now c.loop-i.best c.loop-i.i (omega arith)) ∙ c.loop-i.invariant.1 ∙ start (goal.at.returns c).At-loop-i
 
 pub not_nearest-best-requires : goal.not_nearest-best-requires
 not_nearest-best-requires c = tt

@@ -18,32 +18,29 @@ returns-then-cell-eq0 c =
 
 pub returns-then-limit-v : goal.returns-then-limit-v
 returns-then-limit-v c =
-    let w = c.before.before in
-    let a = w.args in
+    let a = c.args in
     c.not_nearest-then-limit-v.ensures
-    ∙ sym (first_stop a.vertices.now a.n a.p a.cell.now w.wide16-v.result (omega arith) w.wide16-v.ensures (rw (← w.limit_of-limit.ensures) c.if-limit-v.true))
+    ∙ sym (first_stop a.vertices.now a.n a.p a.cell.now c.wide16-v.result (omega arith) c.wide16-v.ensures (rw (← c.limit_of-limit.ensures) c.if-limit-v.true))
 
 -- the first vertex is inside what was lent
-first-inside : (c : Else-limit-v) → (let w = c.before in let a = w.args in w.wide16-v.result < limit_of a.n (length a.vertices.now))
+first-inside : (c : Else-limit-v) → (let a = c.args in c.wide16-v.result < limit_of a.n (length a.vertices.now))
 first-inside c = rw (← c.limit_of-limit.ensures) c.if-limit-v.false
 
 pub nearer-first-requires : goal.nearer-first-requires
 nearer-first-requires c =
     let a = c.args in
-    omega (arith, first-inside c.before, limit_room a.n (length a.vertices.now))
+    omega (arith, first-inside (goal.at.nearer-first-requires c).Else-limit-v, limit_room a.n (length a.vertices.now))
 
 -- what the first vertex is measured by
-first_found : (c : After-nearer-first) → (let o = c.before in let a = o.args in
-    c.nearer-first.result ≡ nearer a.vertices.now a.p (not_nearest 20) o.wide16-v.result)
+first_found : (c : After-nearer-first) → (let a = c.args in
+    c.nearer-first.result ≡ nearer a.vertices.now a.p (not_nearest 20) c.wide16-v.result)
 first_found c = rw (c.nearer-first.ensures, c.not_nearest-2.ensures)
 
 pub nearest_of-requires : goal.nearest_of-requires
 nearest_of-requires c =
-    let n = c.before.before in
-    let w = n.before.before.before in
-    let a = w.args in (
-      rw w.limit_of-limit.ensures (limit_room a.n (length a.vertices.now)),
-      rw (first_found n) (first_measured a.vertices.now a.p (not_nearest 20) w.wide16-v.result (rw (first_found n) at (no_nan_of_same n.nearer-first.result.distance c.if-distance.false))),
+    let a = c.args in (
+      rw c.limit_of-limit.ensures (limit_room a.n (length a.vertices.now)),
+      rw (first_found (goal.at.nearest_of-requires c).After-nearer-first) (first_measured a.vertices.now a.p (not_nearest 20) c.wide16-v.result (rw (first_found (goal.at.nearest_of-requires c).After-nearer-first) at (no_nan_of_same c.nearer-first.result.distance c.if-distance.false))),
     )
 
 -- the list as the slow way is handed it
@@ -54,11 +51,9 @@ returns-then-distance c =
 
 pub returns : goal.returns
 returns c =
-    let n = c.before.before.before in
-    let w = n.before.before.before in
-    let a = w.args in
-    rw (c.nearest_of.ensures, first_found n, w.limit_of-limit.ensures)
-    (sym (first_turn a.vertices.now a.n a.p a.cell.now w.wide16-v.result (omega arith) w.wide16-v.ensures (first-inside n.before.before)))
+    let a = c.args in
+    rw (c.nearest_of.ensures, first_found (goal.at.returns c).After-nearer-first, c.limit_of-limit.ensures)
+    (sym (first_turn a.vertices.now a.n a.p a.cell.now c.wide16-v.result (omega arith) c.wide16-v.ensures (first-inside (goal.at.returns c).Else-limit-v)))
 
 pub limit_of-limit-requires : goal.limit_of-limit-requires
 limit_of-limit-requires c = tt

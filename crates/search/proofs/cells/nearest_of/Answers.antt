@@ -11,39 +11,30 @@ loop-i-init c = (omega arith, c.requires.1, refl)
 
 pub returns-then-limit-v : goal.returns-then-limit-v
 returns-then-limit-v c =
-    let e = c.before.before in
-    let l = e.before.before.before in
-    let o = l.before.before.before in
-    let a = o.args in
+    let a = c.args in
     c.not_nearest.ensures
-    ∙ sym (nearest_stop a.vertices.now a.limit a.p a.list.now l.loop-i.best l.loop-i.i e.wide16-v.result (omega arith) e.wide16-v.ensures (below_limit a.vertices.now a.limit e.wide16-v.result o.requires.0 ∙ le-ltb _ _ c.if-limit-v.true))
-    ∙ l.loop-i.invariant.2
+    ∙ sym (nearest_stop a.vertices.now a.limit a.p a.list.now c.loop-i.best c.loop-i.i c.wide16-v.result (omega arith) c.wide16-v.ensures (below_limit a.vertices.now a.limit c.wide16-v.result c.requires.0 ∙ le-ltb _ _ c.if-limit-v.true))
+    ∙ c.loop-i.invariant.2
 
 pub closer-best-requires : goal.closer-best-requires
 closer-best-requires c =
-    let l = c.before.before.before.before in
-    let o = l.before.before.before in
-    (omega (arith, o.requires.0, c.if-limit-v.false), l.loop-i.invariant.1)
+    (omega (arith, c.requires.0, c.if-limit-v.false), c.loop-i.invariant.1)
 
 pub loop-i-preserved : goal.loop-i-preserved
 loop-i-preserved c =
-    let e = c.before.before in
-    let l = e.before.before.before in
-    let o = l.before.before.before in
-    let a = o.args in (
+    let a = c.args in (
       omega arith,
-      rw c.closer-best.ensures (stays_measured a.vertices.now a.p l.loop-i.best e.wide16-v.result l.loop-i.invariant.1),
+      rw c.closer-best.ensures (stays_measured a.vertices.now a.p c.loop-i.best c.wide16-v.result c.loop-i.invariant.1),
       rw c.closer-best.ensures
-          (sym (nearest_turn a.vertices.now a.limit a.p a.list.now l.loop-i.best l.loop-i.i e.wide16-v.result (omega arith) e.wide16-v.ensures
-          (below_limit a.vertices.now a.limit e.wide16-v.result o.requires.0 ∙ lt-ltb _ _ c.if-limit-v.false))
-          ∙ l.loop-i.invariant.2),
+          (sym (nearest_turn a.vertices.now a.limit a.p a.list.now c.loop-i.best c.loop-i.i c.wide16-v.result (omega arith) c.wide16-v.ensures
+          (below_limit a.vertices.now a.limit c.wide16-v.result c.requires.0 ∙ lt-ltb _ _ c.if-limit-v.false))
+          ∙ c.loop-i.invariant.2),
     )
 
 pub returns : goal.returns
 returns c =
-    let l = c.before in
-    let a = l.args in
-    sym (nearest_end a.vertices.now a.limit a.p a.list.now l.loop-i.best l.loop-i.i (omega arith)) ∙ l.loop-i.invariant.2
+    let a = c.args in
+    sym (nearest_end a.vertices.now a.limit a.p a.list.now c.loop-i.best c.loop-i.i (omega arith)) ∙ c.loop-i.invariant.2
 
 pub wide16-v-requires : goal.wide16-v-requires
 wide16-v-requires c = tt

@@ -18,39 +18,29 @@ returns-then-offsets-i-2 c =
 
 pub returns-then-a-b : goal.returns-then-a-b
 returns-then-a-b c =
-    let b = c.before in
-    let a = b.before.before in
-    let s = a.args in
-    sym (span-empty s.offsets.now s.w s.places s.i a.wide32-a.result b.wide32-b.result a.wide32-a.ensures b.wide32-b.ensures (omega arith) c.if-a-b.true)
+    let s = c.args in
+    sym (span-empty s.offsets.now s.w s.places s.i c.wide32-a.result c.wide32-b.result c.wide32-a.ensures c.wide32-b.ensures (omega arith) c.if-a-b.true)
 
 pub overflow_mul-from : goal.overflow_mul-from
 overflow_mul-from c =
-    let a = c.before.before.before in
-    let s = a.before.before.before.before.before in
-    let h : a.wide32-a.result ≤ 4294967295 = omega (arith, a.wide32-a.ensures, a.shared_slice_known-2-1.given s.args.i) in
-    omega (arith, mul-le-mul s.requires h)
+    let h : c.wide32-a.result ≤ 4294967295 = omega (arith, c.wide32-a.ensures, c.shared_slice_known-2-1.given c.args.i) in
+    omega (arith, mul-le-mul c.requires h)
 
 pub overflow_mul-to : goal.overflow_mul-to
 overflow_mul-to c =
-    let b = c.before in
-    let s = b.before.before.before.before.before.before.before in
-    let h : b.wide32-b.result ≤ 4294967295 = omega (arith, b.wide32-b.ensures, b.shared_slice_known-3-1.given (s.args.i + 1)) in
-    omega (arith, mul-le-mul s.requires h)
+    let h : c.wide32-b.result ≤ 4294967295 = omega (arith, c.wide32-b.ensures, c.shared_slice_known-3-1.given (c.args.i + 1)) in
+    omega (arith, mul-le-mul c.requires h)
 
 pub returns-then-a-b-2 : goal.returns-then-a-b-2
 returns-then-a-b-2 c =
-    let b = c.before.before in
-    let a = b.before.before in
-    let s = a.args in
-    sym (span_by s.offsets.now s.w s.places s.i a.wide32-a.result b.wide32-b.result a.wide32-a.ensures b.wide32-b.ensures (omega arith) true c.if-a-b.false c.if-a-b-2.true)
+    let s = c.args in
+    sym (span_by s.offsets.now s.w s.places s.i c.wide32-a.result c.wide32-b.result c.wide32-a.ensures c.wide32-b.ensures (omega arith) true c.if-a-b.false c.if-a-b-2.true)
 
 pub returns : goal.returns
 returns c =
-    let b = c.before.before.before in
-    let a = b.before.before in
-    let s = a.args in
+    let s = c.args in
     c.no_span-2.ensures
-    ∙ sym (span_by s.offsets.now s.w s.places s.i a.wide32-a.result b.wide32-b.result a.wide32-a.ensures b.wide32-b.ensures (omega arith) false c.if-a-b.false c.if-a-b-2.false)
+    ∙ sym (span_by s.offsets.now s.w s.places s.i c.wide32-a.result c.wide32-b.result c.wide32-a.ensures c.wide32-b.ensures (omega arith) false c.if-a-b.false c.if-a-b-2.false)
 
 pub no_span-requires : goal.no_span-requires
 no_span-requires c = tt

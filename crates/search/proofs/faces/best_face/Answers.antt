@@ -16,8 +16,7 @@ use Rattle.search.proofs.faces.best_face.Goals.{After-sift-w, Else-count-faces}
 
 pub sift-w-requires : goal.sift-w-requires
 sift-w-requires c =
-    let o = c.before.before.before in
-    (o.requires, rw c.limit_of.ensures (limit_room o.args.n (length o.args.vertices.now)))
+    (c.requires, rw c.limit_of.ensures (limit_room c.args.n (length c.args.vertices.now)))
 
 -- what the pass answered
 passed : (c : After-sift-w) → (let a = c.args in
@@ -34,8 +33,7 @@ few c = ltb-false 1 c.sift-w.result.count (neither (ltb 1 c.sift-w.result.count)
 
 some : (c : Else-count-faces) → 3 ≤ length c.args.faces.now
 some c =
-    let o = c.before.before.before.before.before in
-    three (length o.args.faces.now) o.requires (eqb-false (length o.args.faces.now) 0 (neither (ltb 1 c.sift-w.result.count) (eqb (length o.args.faces.now) 0) c.if-count-faces.false).1)
+    three (length c.args.faces.now) c.requires (eqb-false (length c.args.faces.now) 0 (neither (ltb 1 c.sift-w.result.count) (eqb (length c.args.faces.now) 0) c.if-count-faces.false).1)
   where
     three : (n : ℕ) → n % 3 ≡ 0 → (n ≡ 0 → ⊥) → 3 ≤ n
     three n m z = by (le_or_lt 3 n)
@@ -48,63 +46,53 @@ some c =
 room : (c : Else-count-faces) → c.sift-w.result.at + 3 ≤ length c.args.faces.now
 room c =
     let a = c.args in
-    told_room a.vertices.now a.n a.p a.faces.now c.sift-w.result (passed c.before) (few c) (some c)
+    told_room a.vertices.now a.n a.p a.faces.now c.sift-w.result (passed (goal.at.Else-count-faces c).After-sift-w) (few c) (some c)
 
 pub offset_bounds-faces-at : goal.offset_bounds-faces-at
 offset_bounds-faces-at c = omega (arith, room c)
 
 pub bounds-faces-at : goal.bounds-faces-at
-bounds-faces-at c = omega (arith, room c.before)
+bounds-faces-at c = omega (arith, room (goal.at.bounds-faces-at c).Else-count-faces)
 
 pub overflow_add-at : goal.overflow_add-at
-overflow_add-at c = omega (arith, room c.before.before)
+overflow_add-at c = omega (arith, room (goal.at.overflow_add-at c).Else-count-faces)
 
 pub offset_bounds-faces-at-2 : goal.offset_bounds-faces-at-2
-offset_bounds-faces-at-2 c = omega (arith, room c.before.before)
+offset_bounds-faces-at-2 c = omega (arith, room (goal.at.offset_bounds-faces-at-2 c).Else-count-faces)
 
 pub bounds-faces-at-2 : goal.bounds-faces-at-2
-bounds-faces-at-2 c = omega (arith, room c.before.before.before)
+bounds-faces-at-2 c = omega (arith, room (goal.at.bounds-faces-at-2 c).Else-count-faces)
 
 pub overflow_add-at-2 : goal.overflow_add-at-2
-overflow_add-at-2 c = omega (arith, room c.before.before.before.before)
+overflow_add-at-2 c = omega (arith, room (goal.at.overflow_add-at-2 c).Else-count-faces)
 
 pub offset_bounds-faces-at-3 : goal.offset_bounds-faces-at-3
-offset_bounds-faces-at-3 c = omega (arith, room c.before.before.before.before)
+offset_bounds-faces-at-3 c = omega (arith, room (goal.at.offset_bounds-faces-at-3 c).Else-count-faces)
 
 pub bounds-faces-at-3 : goal.bounds-faces-at-3
-bounds-faces-at-3 c = omega (arith, room c.before.before.before.before.before)
+bounds-faces-at-3 c = omega (arith, room (goal.at.bounds-faces-at-3 c).Else-count-faces)
 
 pub best_of_all-requires-2 : goal.best_of_all-requires-2
 best_of_all-requires-2 c = c.requires
 
 pub better-fit-requires : goal.better-fit-requires
 better-fit-requires c =
-    let z = c.before in
-    let y = z.before.before in
-    let x = y.before.before in
-    let e = x.before.before in
-    let a = e.args in
-    let w = e.sift-w.result in
-    let in_List = told_inside a.vertices.now a.n a.p a.faces.now w (passed e.before) (few e) in (
-      rw x.wide16-a.ensures (in_List w.at (omega (arith, room e))),
-      rw y.wide16-b.ensures (in_List (w.at + 1) (omega (arith, room e))),
-      rw z.wide16-c.ensures (in_List (w.at + 2) (omega (arith, room e))),
+    let a = c.args in
+    let w = c.sift-w.result in
+    let in_List = told_inside a.vertices.now a.n a.p a.faces.now w (passed (goal.at.better-fit-requires c).After-sift-w) (few (goal.at.better-fit-requires c).Else-count-faces) in (
+      rw c.wide16-a.ensures (in_List w.at (omega (arith, room (goal.at.better-fit-requires c).Else-count-faces))),
+      rw c.wide16-b.ensures (in_List (w.at + 1) (omega (arith, room (goal.at.better-fit-requires c).Else-count-faces))),
+      rw c.wide16-c.ensures (in_List (w.at + 2) (omega (arith, room (goal.at.better-fit-requires c).Else-count-faces))),
     )
 
 pub returns-then-least-count : goal.returns-then-least-count
 unfolding of_bits
 returns-then-least-count c =
-    let g = c.before.before in
-    let f = g.before in
-    let z = f.before in
-    let y = z.before.before in
-    let x = y.before.before in
-    let e = x.before.before in
-    let a = e.args in
-    let w = e.sift-w.result in
+    let a = c.args in
+    let w = c.sift-w.result in
     c.fitted.ensures
-    ∙ told_best a.vertices.now a.n a.p a.faces.now w (passed e.before) (few e) (some e) a.near g.better-fit.result
-    (rw (g.better-fit.ensures, f.no_fit.ensures, x.wide16-a.ensures, y.wide16-b.ensures, z.wide16-c.ensures)) c.if-least-count.true
+    ∙ told_best a.vertices.now a.n a.p a.faces.now w (passed (goal.at.returns-then-least-count c).After-sift-w) (few (goal.at.returns-then-least-count c).Else-count-faces) (some (goal.at.returns-then-least-count c).Else-count-faces) a.near c.better-fit.result
+    (rw (c.better-fit.ensures, c.no_fit.ensures, c.wide16-a.ensures, c.wide16-b.ensures, c.wide16-c.ensures)) c.if-least-count.true
 
 pub limit_of-requires : goal.limit_of-requires
 limit_of-requires c = tt

@@ -16,16 +16,16 @@ use Rattle.search.proofs.faces.best_of_all.Goals.{At-loop-i, After-inside-in-loo
 
 -- the loop starts with no face
 start : (l : At-loop-i)
-    → (let a = l.before.before.before.before.args in
-    fit_over a.vertices.now a.n a.p a.near l.before.no-fit.result a.faces.now ≡ fit_over a.vertices.now a.n a.p a.near no_fit a.faces.now)
-start l = rw l.before.no-fit.ensures
+    → (let a = l.args in
+    fit_over a.vertices.now a.n a.p a.near l.no_fit-best.result a.faces.now ≡ fit_over a.vertices.now a.n a.p a.near no_fit a.faces.now)
+start l = rw l.no_fit-best.ensures
 
 -- the tests of the three vertices
 tests : (c : After-inside-in-loop-i-2)
-    → (let z = c.before.before.before in let y = z.before.before in let x = y.before.before in let a = x.before.before.before.before.before.before.before.args in
-    (c.before.before.inside.result && (c.before.inside2.result && c.inside3.result))
-    ≡ (inside a.vertices.now a.n x.wide16.result && (inside a.vertices.now a.n y.wide162.result && inside a.vertices.now a.n z.wide163.result)))
-tests c = rw (c.before.before.inside.ensures, c.before.inside2.ensures, c.inside3.ensures)
+    → (let a = c.args in
+    (c.inside.result && (c.inside-in-loop-i.result && c.inside-in-loop-i-2.result))
+    ≡ (inside a.vertices.now a.n c.wide16-a.result && (inside a.vertices.now a.n c.wide16-b.result && inside a.vertices.now a.n c.wide16-c.result)))
+tests c = rw (c.inside.ensures, c.inside-in-loop-i.ensures, c.inside-in-loop-i-2.ensures)
 
 room : (vs : List Float) (n v : ℕ) → inside vs n v ≡ true → 3 * v + 3 ≤ length vs
 room vs n v h = leb-true _ _ ((and-eq-true_iff (ltb v n) (leb (3 * v + 3) (length vs))).0 h).1
@@ -41,42 +41,30 @@ bounds-faces-i-in-loop-i-2 c = omega arith
 
 pub inside-requires : goal.inside-requires
 inside-requires c =
-    let a = c.before.before.before.before in
-    omega (arith, a.wide16-a.ensures, a.shared_slice_known-in-loop-i-1.given a.loop-i.i)
+    omega (arith, c.wide16-a.ensures, c.shared_slice_known-in-loop-i-1.given c.loop-i.i)
 
 pub inside-requires-in-loop-i : goal.inside-requires-in-loop-i
 inside-requires-in-loop-i c =
-    let b = c.before.before.before in
-    omega (arith, b.wide16-b.ensures, b.shared_slice_known-in-loop-i-2-1.given (b.loop-i.i + 1))
+    omega (arith, c.wide16-b.ensures, c.shared_slice_known-in-loop-i-2-1.given (c.loop-i.i + 1))
 
 pub inside-requires-in-loop-i-2 : goal.inside-requires-in-loop-i-2
 inside-requires-in-loop-i-2 c =
-    let d = c.before.before in
-    omega (arith, d.wide16-c.ensures, d.shared_slice_known-in-loop-i-3-1.given (d.loop-i.i + 2))
+    omega (arith, c.wide16-c.ensures, c.shared_slice_known-in-loop-i-3-1.given (c.loop-i.i + 2))
 
 pub returns-then-not-inside : goal.returns-then-not-inside
 returns-then-not-inside c =
-    let i = c.before.before in
-    let z = i.before.before.before in
-    let y = z.before.before in
-    let x = y.before.before in
-    let l = x.before.before.before in
-    let a = l.args in
+    let a = c.args in
     c.not_located.ensures
-    ∙ sym (fit_stop a.vertices.now a.n a.p a.near a.faces.now l.loop-i.best l.loop-i.i x.wide16-a.result y.wide16-b.result z.wide16-c.result (omega arith) x.wide16-a.ensures y.wide16-b.ensures z.wide16-c.ensures (no (tests i) c.if-not-inside.true))
-    ∙ l.loop-i.invariant.2 ∙ start l
+    ∙ sym (fit_stop a.vertices.now a.n a.p a.near a.faces.now c.loop-i.best c.loop-i.i c.wide16-a.result c.wide16-b.result c.wide16-c.result (omega arith) c.wide16-a.ensures c.wide16-b.ensures c.wide16-c.ensures (no (tests (goal.at.returns-then-not-inside c).After-inside-in-loop-i-2) c.if-not-inside.true))
+    ∙ c.loop-i.invariant.2 ∙ start (goal.at.returns-then-not-inside c).At-loop-i
 
 pub better-best-requires : goal.better-best-requires
 better-best-requires c =
-    let i = c.before in
-    let z = i.before.before.before in
-    let y = z.before.before in
-    let x = y.before.before in
-    let a = x.args in
-    let t = yes (tests i) c.if-not-inside.false in
-    let k = (and-eq-true_iff (inside a.vertices.now a.n x.wide16-a.result) (inside a.vertices.now a.n y.wide16-b.result && inside a.vertices.now a.n z.wide16-c.result)).0 t in
-    let m = (and-eq-true_iff (inside a.vertices.now a.n y.wide16-b.result) (inside a.vertices.now a.n z.wide16-c.result)).0 k.1 in
-    (room a.vertices.now a.n x.wide16-a.result k.0, room a.vertices.now a.n y.wide16-b.result m.0, room a.vertices.now a.n z.wide16-c.result m.1)
+    let a = c.args in
+    let t = yes (tests (goal.at.better-best-requires c).After-inside-in-loop-i-2) c.if-not-inside.false in
+    let k = (and-eq-true_iff (inside a.vertices.now a.n c.wide16-a.result) (inside a.vertices.now a.n c.wide16-b.result && inside a.vertices.now a.n c.wide16-c.result)).0 t in
+    let m = (and-eq-true_iff (inside a.vertices.now a.n c.wide16-b.result) (inside a.vertices.now a.n c.wide16-c.result)).0 k.1 in
+    (room a.vertices.now a.n c.wide16-a.result k.0, room a.vertices.now a.n c.wide16-b.result m.0, room a.vertices.now a.n c.wide16-c.result m.1)
 
 pub overflow_add-i-in-loop-i-2 : goal.overflow_add-i-in-loop-i-2
 overflow_add-i-in-loop-i-2 c = omega arith
@@ -86,24 +74,18 @@ loop-i-smaller c = omega arith
 
 pub loop-i-preserved : goal.loop-i-preserved
 loop-i-preserved c =
-    let i = c.before.before in
-    let z = i.before.before.before in
-    let y = z.before.before in
-    let x = y.before.before in
-    let l = x.before.before.before in
-    let a = l.args in (
+    let a = c.args in (
       omega arith,
       omega arith,
       rw c.better-best.ensures
-          (sym (fit_turn a.vertices.now a.n a.p a.near a.faces.now l.loop-i.best l.loop-i.i x.wide16-a.result y.wide16-b.result z.wide16-c.result (omega arith) x.wide16-a.ensures y.wide16-b.ensures z.wide16-c.ensures (yes (tests i) c.if-not-inside.false))
-          ∙ l.loop-i.invariant.2),
+          (sym (fit_turn a.vertices.now a.n a.p a.near a.faces.now c.loop-i.best c.loop-i.i c.wide16-a.result c.wide16-b.result c.wide16-c.result (omega arith) c.wide16-a.ensures c.wide16-b.ensures c.wide16-c.ensures (yes (tests (goal.at.loop-i-preserved c).After-inside-in-loop-i-2) c.if-not-inside.false))
+          ∙ c.loop-i.invariant.2),
     )
 
 pub returns : goal.returns
 returns c =
-    let l = c.before.before in
-    let a = l.args in
-    c.fitted.ensures ∙ sym (fit_end a.vertices.now a.n a.p a.near a.faces.now l.loop-i.best l.loop-i.i (omega arith)) ∙ l.loop-i.invariant.2 ∙ start l
+    let a = c.args in
+    c.fitted.ensures ∙ sym (fit_end a.vertices.now a.n a.p a.near a.faces.now c.loop-i.best c.loop-i.i (omega arith)) ∙ c.loop-i.invariant.2 ∙ start (goal.at.returns c).At-loop-i
 
 pub no_fit-best-requires : goal.no_fit-best-requires
 no_fit-best-requires c = tt

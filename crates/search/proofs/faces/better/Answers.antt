@@ -4,14 +4,12 @@ use Rattle.search.proofs.faces.better.Goals as goal
 pub returns-then-before-least : goal.returns-then-before-least
 unfolding better
 returns-then-before-least c =
-    let m = c.before.before in
-    rw (← c.face_of-face.ensures, ← m.weights_of-weights.ensures, ← m.min.ensures, ← m.min-least.ensures, c.if-before-least.true)
+    rw (← c.face_of-face.ensures, ← c.weights_of-weights.ensures, ← c.min.ensures, ← c.min-least.ensures, c.if-before-least.true)
 
 pub returns : goal.returns
 unfolding better
 returns c =
-    let m = c.before.before in
-    rw (← c.face_of-face.ensures, ← m.weights_of-weights.ensures, ← m.min.ensures, ← m.min-least.ensures, c.if-before-least.false)
+    rw (← c.face_of-face.ensures, ← c.weights_of-weights.ensures, ← c.min.ensures, ← c.min-least.ensures, c.if-before-least.false)
 
 pub min-requires : goal.min-requires
 min-requires c = tt

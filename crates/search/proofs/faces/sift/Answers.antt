@@ -15,59 +15,45 @@ loop-i-init c = (omega arith, omega arith, refl)
 
 -- the tests of the three vertices
 tests : (c : After-wide16-c)
-    → (let y = c.before.before in let x = y.before.before in let a = x.before.before.before.before.before.before.args in
-    (inside a.vertices.now a.limit x.wide16.result && (inside a.vertices.now a.limit y.wide162.result && inside a.vertices.now a.limit c.wide163.result))
-    ≡ (ltb x.wide16.result a.limit && (ltb y.wide162.result a.limit && ltb c.wide163.result a.limit)))
+    → (let y = c.before.before in let x = y.before.before in let a = c.args in
+    (inside a.vertices.now a.limit c.wide16-a.result && (inside a.vertices.now a.limit c.wide16-b.result && inside a.vertices.now a.limit c.wide16-c.result))
+    ≡ (ltb c.wide16-a.result a.limit && (ltb c.wide16-b.result a.limit && ltb c.wide16-c.result a.limit)))
 tests c =
     let y = c.before.before in
     let x = y.before.before in
-    let o = x.before.before.before.before.before.before in
-    let vs = o.args.vertices.now in
-    let n = o.args.limit in
-    let h = o.requires.1 in
-    rw (below_limit vs n x.wide16.result h, below_limit vs n y.wide162.result h, below_limit vs n c.wide163.result h)
+    let vs = c.args.vertices.now in
+    let n = c.args.limit in
+    let h = c.requires.1 in
+    rw (below_limit vs n c.wide16-a.result h, below_limit vs n c.wide16-b.result h, below_limit vs n c.wide16-c.result h)
 
 pub returns-then-not-a-limit : goal.returns-then-not-a-limit
 returns-then-not-a-limit c =
-    let z = c.before in
-    let y = z.before.before in
-    let x = y.before.before in
-    let l = x.before.before.before in
-    let a = l.args in
-    sym (sift_stop a.vertices.now a.limit a.p a.faces.now l.loop-i.w l.loop-i.i x.wide16-a.result y.wide16-b.result z.wide16-c.result (omega arith) x.wide16-a.ensures y.wide16-b.ensures z.wide16-c.ensures (tests z ∙ not-true _ c.if-not-a-limit.true))
-    ∙ l.loop-i.invariant.2
+    let a = c.args in
+    sym (sift_stop a.vertices.now a.limit a.p a.faces.now c.loop-i.w c.loop-i.i c.wide16-a.result c.wide16-b.result c.wide16-c.result (omega arith) c.wide16-a.ensures c.wide16-b.ensures c.wide16-c.ensures (tests (goal.at.returns-then-not-a-limit c).After-wide16-c ∙ c.if-not-a-limit.true))
+    ∙ c.loop-i.invariant.2
 
 pub sifted-w-requires : goal.sifted-w-requires
 sifted-w-requires c =
-    let z = c.before in
-    let y = z.before.before in
-    let x = y.before.before in
-    let o = x.before.before.before.before.before.before in
-    let n = o.args.limit in
-    let k = (and-eq-true_iff (ltb x.wide16-a.result n) (ltb y.wide16-b.result n && ltb z.wide16-c.result n)).0 (not-false _ c.if-not-a-limit.false) in
-    let m = (and-eq-true_iff (ltb y.wide16-b.result n) (ltb z.wide16-c.result n)).0 k.1 in
-    (omega (arith, ltb-true x.wide16-a.result n k.0, o.requires.1), omega (arith, ltb-true y.wide16-b.result n m.0, o.requires.1), omega (arith, ltb-true z.wide16-c.result n m.1, o.requires.1))
+    let n = c.args.limit in
+    let k = (and-eq-true_iff (ltb c.wide16-a.result n) (ltb c.wide16-b.result n && ltb c.wide16-c.result n)).0 (c.if-not-a-limit.false) in
+    let m = (and-eq-true_iff (ltb c.wide16-b.result n) (ltb c.wide16-c.result n)).0 k.1 in
+    (omega (arith, ltb-true c.wide16-a.result n k.0, c.requires.1), omega (arith, ltb-true c.wide16-b.result n m.0, c.requires.1), omega (arith, ltb-true c.wide16-c.result n m.1, c.requires.1))
 
 pub loop-i-preserved : goal.loop-i-preserved
 loop-i-preserved c =
-    let z = c.before.before in
-    let y = z.before.before in
-    let x = y.before.before in
-    let l = x.before.before.before in
-    let a = l.args in (
+    let a = c.args in (
       omega arith,
       omega arith,
       rw c.sifted-w.ensures
-          (sym (sift_turn a.vertices.now a.limit a.p a.faces.now l.loop-i.w l.loop-i.i x.wide16-a.result y.wide16-b.result z.wide16-c.result (omega arith) x.wide16-a.ensures y.wide16-b.ensures z.wide16-c.ensures
-          (tests z ∙ not-false _ c.if-not-a-limit.false))
-          ∙ l.loop-i.invariant.2),
+          (sym (sift_turn a.vertices.now a.limit a.p a.faces.now c.loop-i.w c.loop-i.i c.wide16-a.result c.wide16-b.result c.wide16-c.result (omega arith) c.wide16-a.ensures c.wide16-b.ensures c.wide16-c.ensures
+          (tests (goal.at.loop-i-preserved c).After-wide16-c ∙ c.if-not-a-limit.false))
+          ∙ c.loop-i.invariant.2),
     )
 
 pub returns : goal.returns
 returns c =
-    let l = c.before in
-    let a = l.args in
-    sym (sift_end a.vertices.now a.limit a.p a.faces.now l.loop-i.w l.loop-i.i (omega arith)) ∙ l.loop-i.invariant.2
+    let a = c.args in
+    sym (sift_end a.vertices.now a.limit a.p a.faces.now c.loop-i.w c.loop-i.i (omega arith)) ∙ c.loop-i.invariant.2
 
 pub wide16-a-requires : goal.wide16-a-requires
 wide16-a-requires c = tt

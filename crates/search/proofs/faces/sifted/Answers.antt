@@ -9,9 +9,7 @@ use Rattle.search.proofs.faces.sifted.Goals as goal
 pub returns-then-is_past : goal.returns-then-is_past
 unfolding sifted
 returns-then-is_past c =
-    let d = c.before.before in
-    let e = d.before in
-    rw (← e.vertex_at-va.ensures, ← e.vertex_at-vb.ensures, ← e.vertex_at-vc.ensures, ← d.sides_of.ensures, ← c.is_past.ensures, c.if-is_past.true)
+    rw (← c.vertex_at-va.ensures, ← c.vertex_at-vb.ensures, ← c.vertex_at-vc.ensures, ← c.sides_of.ensures, ← c.is_past.ensures, c.if-is_past.true)
 
 counted : (t : Bool) → 1 + bool_byte (not t) ≡ cond t 1 2
 counted true = refl
@@ -27,9 +25,7 @@ overflow_add-result c = record { fits = small (eqb c.args.w.count 0) }
 pub returns : goal.returns
 unfolding sifted
 returns c =
-    let d = c.before.before in
-    let e = d.before in
-    rw (← e.vertex_at-va.ensures, ← e.vertex_at-vb.ensures, ← e.vertex_at-vc.ensures, ← d.sides_of.ensures, ← c.is_past.ensures, c.if-is_past.false, counted (eqb e.args.w.count 0))
+    rw (← c.vertex_at-va.ensures, ← c.vertex_at-vb.ensures, ← c.vertex_at-vc.ensures, ← c.sides_of.ensures, ← c.is_past.ensures, c.if-is_past.false, counted (eqb c.args.w.count 0))
 
 pub sides_of-requires : goal.sides_of-requires
 sides_of-requires c = tt

@@ -19,18 +19,17 @@ unfolding cube_project
 face-is c = ap (λ (p : Projected). p.face) c.cube_project-p.ensures
 
 small : (c : After-cell_coordinate-j)
-    → (let p = c.before.before in let g = p.grid_size-g.result in
-    (g * g ≤ 400 * 400) × (p.cube_project-p.result.face * (g * g) ≤ 5 * (400 * 400)) × (c.cell_coordinate-i.result * g ≤ 400 * 400) × (c.cell_coordinate-j.result ≤ 400))
+    → (let p = c.before.before in let g = c.grid_size-g.result in
+    (g * g ≤ 400 * 400) × (c.cube_project-p.result.face * (g * g) ≤ 5 * (400 * 400)) × (c.cell_coordinate-i.result * g ≤ 400 * 400) × (c.cell_coordinate-j.result ≤ 400))
 small c =
     let p = c.before.before in
-    let s = p.before in
-    let g = s.grid_size-g.result in
-    let v = s.args.v in
+    let g = c.grid_size-g.result in
+    let v = c.args.v in
     let f = face_le v in
-    let e = face-is p in
-    let h = size-le s in
-    let i : c.cell_coordinate-i.result < g = rw c.cell_coordinate-i.ensures (coordinate_lt g p.cube_project-p.result.u (omega arith) (omega arith)) in
-    let j : c.cell_coordinate-j.result < g = rw c.cell_coordinate-j.ensures (coordinate_lt g p.cube_project-p.result.w (omega arith) (omega arith)) in
+    let e = face-is (goal.at.After-cell_coordinate-j c).After-cube_project-p in
+    let h = size-le (goal.at.After-cell_coordinate-j c).After-grid_size-g in
+    let i : c.cell_coordinate-i.result < g = rw c.cell_coordinate-i.ensures (coordinate_lt g c.cube_project-p.result.u (omega arith) (omega arith)) in
+    let j : c.cell_coordinate-j.result < g = rw c.cell_coordinate-j.ensures (coordinate_lt g c.cube_project-p.result.w (omega arith) (omega arith)) in
     let q : g * g ≤ 400 * 400 = mul-le-mul h.1 h.1 in
     (q, mul-le-mul {n₂ = 5} (omega arith) q, mul-le-mul {n₂ = 400} (omega arith) h.1, omega arith)
 
@@ -52,8 +51,7 @@ overflow_add-result-2 c = omega (arith, small c)
 pub returns : goal.returns
 unfolding cell_index
 returns c =
-    let p = c.before.before in
-    rw (c.cell_coordinate-j.ensures, c.cell_coordinate-i.ensures, p.cube_project-p.ensures, p.grid_size-g.ensures)
+    rw (c.cell_coordinate-j.ensures, c.cell_coordinate-i.ensures, c.cube_project-p.ensures, c.grid_size-g.ensures)
 
 pub grid_size-g-requires : goal.grid_size-g-requires
 grid_size-g-requires c = tt

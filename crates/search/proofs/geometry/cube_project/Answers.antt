@@ -63,24 +63,16 @@ number-le false false false = omega arith
 
 pub overflow_add-result : goal.overflow_add-result
 overflow_add-result c =
-    let h = c.before.before.before.before.before in
-    let ax = h.abs-ax.result in
-    let ay = h.abs-ay.result in
-    let az = h.abs-az.result in
+    let ax = c.abs-ax.result in
+    let ay = c.abs-ay.result in
+    let az = c.abs-az.result in
     rw c.pair_of.ensures
     (record { fits = lt_of_le_of_lt (number-le (le ay ax && le az ax) (le az ay) (not (lt zero c.largest-a.result))) (lit< tt) })
 
 pub returns : goal.returns
 returns c =
-    let e = c.before in
-    let k = e.before in
-    let j = k.before in
-    let i = j.before in
-    let h = i.before in
-    let g = h.before in
-    let f = g.before in
-    let v = f.args.v in
-    rw (c.pair_of.ensures, e.either-d.ensures, k.largest-w.ensures, j.largest-u.ensures, i.largest-a.ensures, h.abs-az.ensures, g.abs-ay.ensures, f.abs-ax.ensures)
+    let v = c.args.v in
+    rw (c.pair_of.ensures, c.either-d.ensures, c.largest-w.ensures, c.largest-u.ensures, c.largest-a.ensures, c.abs-az.ensures, c.abs-ay.ensures, c.abs-ax.ensures)
     (as_seen v (le (magnitude v.y) (magnitude v.x) && le (magnitude v.z) (magnitude v.x)) (le (magnitude v.z) (magnitude v.y)) refl refl)
 
 pub abs-ax-requires : goal.abs-ax-requires

@@ -9,8 +9,7 @@ one_by_one false t a b = refl
 
 pub returns : goal.returns
 returns c =
-    let o = c.before.before.before in
-    let x = o.args in
+    let x = c.args in
     rw (c.either-2.ensures, c.either.ensures, c.either-other.ensures)
     (one_by_one (le x.ay x.ax) (le x.az x.ax) x.x (cond (le x.az x.ay) x.y x.z))
 

@@ -18,24 +18,21 @@ held : (c : Start) → T (fits binary64 c.args.m)
 held c = passes _ c.well_formed.1.1.1.0.1
 
 pub returns-then-not-asked : goal.returns-then-not-asked
-returns-then-not-asked c = rw (not-true c.args.asked c.if-not-asked.true) (sym (and-false (low c.before)))
+returns-then-not-asked c = rw (c.if-not-asked.true) (sym (and-false (low (goal.at.returns-then-not-asked c).Start)))
 
 pub returns-then-p-m : goal.returns-then-p-m
 unfolding of_bits
 returns-then-p-m c =
-    let o = c.before.before in
-    rw (not-false o.args.asked c.if-not-asked.false, not_above o.args.x o.args.y o.args.m (held o) c.if-p-m.true)
+    rw (c.if-not-asked.false, not_above c.args.x c.args.y c.args.m (held (goal.at.returns-then-p-m c).Start) c.if-p-m.true)
 
 pub returns-then-m-p : goal.returns-then-m-p
 unfolding of_bits fits
 returns-then-m-p c =
-    let o = c.before.before.before in
-    rw (above o.args.x o.args.y o.args.m (held o) (of_bits binary64 0x01A5_6E1F_C2F8_F359) tt tt c.if-m-p.true)
+    rw (above c.args.x c.args.y c.args.m (held (goal.at.returns-then-m-p c).Start) (of_bits binary64 0x01A5_6E1F_C2F8_F359) tt tt c.if-m-p.true)
 
 pub returns : goal.returns
 returns c =
-    let o = c.before.before.before.before in
-    rw (c.mul_add.ensures, not-false o.args.asked c.if-not-asked.false) (sym (and-true (low o)))
+    rw (c.mul_add.ensures, c.if-not-asked.false) (sym (and-true (low (goal.at.returns c).Start)))
 
 pub mul_add-requires : goal.mul_add-requires
 mul_add-requires c = tt

@@ -9,63 +9,30 @@ over-sides : (c : After-sides_of-s) → projected_barycentric c.args.p c.args.a 
 over-sides c = by_regions c.args.p c.args.a c.args.b c.args.c ∙ ap regions (sym c.sides_of-s.ensures)
 
 pub returns-then-d1-d2 : goal.returns-then-d1-d2
-returns-then-d1-d2 c = rw (c.weighed.ensures, over-sides c.before.before, c.if-d1-d2.true)
+returns-then-d1-d2 c = rw (c.weighed.ensures, over-sides (goal.at.returns-then-d1-d2 c).After-sides_of-s, c.if-d1-d2.true)
 
 pub returns-then-d3-d4 : goal.returns-then-d3-d4
-returns-then-d3-d4 c = let a = c.before.before in rw (c.weighed-then-d3-d4.ensures, over-sides a.before, a.if-d1-d2.false, c.if-d3-d4.true)
+returns-then-d3-d4 c = rw (c.weighed-then-d3-d4.ensures, over-sides (goal.at.returns-then-d3-d4 c).After-sides_of-s, c.if-d1-d2.false, c.if-d3-d4.true)
 
 pub returns-then-not_above : goal.returns-then-not_above
 returns-then-not_above c =
-    let t = c.before.before in
-    let b = t.before in
-    let a = b.before in
-    rw (c.weighed-then-not_above.ensures, over-sides a.before, a.if-d1-d2.false, b.if-d3-d4.false, ← t.not_above.ensures, c.if-not_above.true)
+    rw (c.weighed-then-not_above.ensures, over-sides (goal.at.returns-then-not_above c).After-sides_of-s, c.if-d1-d2.false, c.if-d3-d4.false, ← c.not_above.ensures, c.if-not_above.true)
 
 pub returns-then-d6-d5 : goal.returns-then-d6-d5
 returns-then-d6-d5 c =
-    let u = c.before.before in
-    let t = u.before in
-    let b = t.before in
-    let a = b.before in
-    rw (c.weighed-then-d6-d5.ensures, over-sides a.before, a.if-d1-d2.false, b.if-d3-d4.false, ← t.not_above.ensures, u.if-not_above.false, c.if-d6-d5.true)
+    rw (c.weighed-then-d6-d5.ensures, over-sides (goal.at.returns-then-d6-d5 c).After-sides_of-s, c.if-d1-d2.false, c.if-d3-d4.false, ← c.not_above.ensures, c.if-not_above.false, c.if-d6-d5.true)
 
 pub returns-then-not_above-2 : goal.returns-then-not_above-2
 returns-then-not_above-2 c =
-    let w = c.before.before in
-    let v = w.before in
-    let u = v.before in
-    let t = u.before in
-    let b = t.before in
-    let a = b.before in
-    rw (c.weighed-then-not_above-2.ensures, over-sides a.before, a.if-d1-d2.false, b.if-d3-d4.false, ← t.not_above.ensures, u.if-not_above.false, v.if-d6-d5.false, ← w.not_above-2.ensures, c.if-not_above-2.true)
+    rw (c.weighed-then-not_above-2.ensures, over-sides (goal.at.returns-then-not_above-2 c).After-sides_of-s, c.if-d1-d2.false, c.if-d3-d4.false, ← c.not_above.ensures, c.if-not_above.false, c.if-d6-d5.false, ← c.not_above-2.ensures, c.if-not_above-2.true)
 
 pub returns-then-not_above-3 : goal.returns-then-not_above-3
 returns-then-not_above-3 c =
-    let y = c.before.before in
-    let x = y.before in
-    let w = x.before in
-    let v = w.before in
-    let u = v.before in
-    let t = u.before in
-    let b = t.before in
-    let a = b.before in
-    rw (c.weighed-then-not_above-3.ensures, over-sides a.before, a.if-d1-d2.false, b.if-d3-d4.false, ← t.not_above.ensures, u.if-not_above.false, v.if-d6-d5.false, ← w.not_above-2.ensures, x.if-not_above-2.false, ← y.not_above-3.ensures, c.if-not_above-3.true)
+    rw (c.weighed-then-not_above-3.ensures, over-sides (goal.at.returns-then-not_above-3 c).After-sides_of-s, c.if-d1-d2.false, c.if-d3-d4.false, ← c.not_above.ensures, c.if-not_above.false, c.if-d6-d5.false, ← c.not_above-2.ensures, c.if-not_above-2.false, ← c.not_above-3.ensures, c.if-not_above-3.true)
 
 pub returns : goal.returns
 returns c =
-    let k = c.before in
-    let j = k.before in
-    let i = j.before in
-    let z = i.before in
-    let y = z.before in
-    let x = y.before in
-    let w = x.before in
-    let v = w.before in
-    let u = v.before in
-    let t = u.before in
-    let b = t.before in
-    let a = b.before in
-    rw (c.in_face.ensures, over-sides a.before, a.if-d1-d2.false, b.if-d3-d4.false, ← t.not_above.ensures, u.if-not_above.false, v.if-d6-d5.false, ← w.not_above-2.ensures, x.if-not_above-2.false, ← y.not_above-3.ensures, z.if-not_above-3.false, k.mul_add-vc.ensures, j.mul_add-vb.ensures, i.mul_add-va.ensures)
+    rw (c.in_face.ensures, over-sides (goal.at.returns c).After-sides_of-s, c.if-d1-d2.false, c.if-d3-d4.false, ← c.not_above.ensures, c.if-not_above.false, c.if-d6-d5.false, ← c.not_above-2.ensures, c.if-not_above-2.false, ← c.not_above-3.ensures, c.if-not_above-3.false, c.mul_add-vc.ensures, c.mul_add-vb.ensures, c.mul_add-va.ensures)
 
 pub sides_of-s-requires : goal.sides_of-s-requires
 sides_of-s-requires c = tt

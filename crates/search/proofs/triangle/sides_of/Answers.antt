@@ -4,17 +4,7 @@ use Rattle.search.proofs.triangle.sides_of.Goals as goal
 pub returns : goal.returns
 unfolding sides_of
 returns c =
-    let e = c.before in
-    let d = e.before in
-    let b = d.before in
-    let a = b.before in
-    let z = a.before in
-    let y = z.before in
-    let x = y.before in
-    let w = x.before in
-    let v = w.before in
-    let u = v.before in
-    rw (c.dot-6.ensures, e.dot-5.ensures, d.dot-4.ensures, b.dot-3.ensures, a.dot-2.ensures, z.dot.ensures, y.difference-cp.ensures, x.difference-bp.ensures, w.difference-ap.ensures, v.difference-ac.ensures, u.difference-ab.ensures)
+    rw (c.dot-6.ensures, c.dot-5.ensures, c.dot-4.ensures, c.dot-3.ensures, c.dot-2.ensures, c.dot.ensures, c.difference-cp.ensures, c.difference-bp.ensures, c.difference-ap.ensures, c.difference-ac.ensures, c.difference-ab.ensures)
 
 pub difference-ab-requires : goal.difference-ab-requires
 difference-ab-requires c = tt

@@ -4,7 +4,7 @@ use lib.Ieee.{Float, nan}
 use Rattle.mesh.specs.Mesh.{mesh_of}
 use Rattle.lists.specs.Lists.{for_each}
 use Rattle.settling.specs.Gradient.{along_neighbours}
-use Rattle.settling.specs.Internal.{lineGradient}
+use Rattle.settling.specs.Internal.{line_gradient}
 use Rattle.lists.proofs.Loops.{each_turn}
 use Rattle.settling.proofs.Numbers.{Number, neighbours_number}
 use Rattle.settling.proofs.gradient.line_gradient.Statement.{statement}
@@ -41,7 +41,7 @@ loop-again c =
     )
 
 returns : tie.Need-returns invariant-loop decreases-loop
-unfolding lineGradient
+unfolding line_gradient
 returns c =
     let l = c.before in
     let full : l.loop.v ≡ l.before.before.before.before.before.args.n = omega arith in

@@ -3,7 +3,7 @@ use Rattle.std.proofs.Common.{◌≡◌, ℕ, ◌-◌, ◌*◌, ◌≤◌, List,
 use lib.Ieee.{Float}
 use Rattle.mesh.specs.Mesh.{mesh_of}
 use Rattle.lists.specs.Lists.{for_each}
-use Rattle.settling.specs.Internal.{line_weights, lineGradient, lines_gradient}
+use Rattle.settling.specs.Internal.{line_weights, line_gradient, lines_gradient}
 use Rattle.lists.proofs.Loops.{each_turn}
 use Rattle.settling.proofs.Numbers.{Number, line_number}
 use Rattle.settling.proofs.gradient.lines.Statement.{statement}
@@ -12,7 +12,7 @@ use Rattle.settling.proofs.gradient.lines.Tie as tie
 -- what a turn of the loop makes of the gradient so far
 abbrev turn : List ℕ → List ℕ → List Float → List Float → Float → ℕ → ℕ → ℕ → ℕ → Float → Float
 turn counts neighbours angles energies beta apart step n t =
-    lineGradient (mesh_of [] counts neighbours angles) n (line_weights beta energies (apart * t) step n)
+    line_gradient (mesh_of [] counts neighbours angles) n (line_weights beta energies (apart * t) step n)
 
 abbrev invariant-loop : tie.invariant-loop
 invariant-loop counts neighbours angles energies beta apart step n g weights₀ h₀ t₀ weights h t =
