@@ -36,7 +36,7 @@ class Function:
         self.by_norm = {norm(o): o for o in self.needs}
         self.place_norm = {norm(p): p for p in self.places}
         self.said = []
-        self.kept, self.helpers = {}, {}
+        self.kept, self.helpers, self.root, self.lent = {}, {}, None, []
 
     def need(self, old):
         for name in (old, re.sub(r"^(overflow|nonzero)-", "", old)):
@@ -122,6 +122,7 @@ def turn_paths(fn, text, scope, root):
     """paths from variables at known places: `c.before.before.step.x` is `c.step.x` now, since a place's record has the
     steps before it too; root is the name of the goal or place whose record the clause takes"""
     first = next(iter(scope), None)
+    fn.root = scope[first] if first else None
     text = re.sub(r"\blet (%s) = (%s)((?:\.before(?![\w-]))*) in" % (IDENT, IDENT), lambda m: alias(fn, m, scope), text)
     helpers = sorted((h for h in fn.helpers if h != root), key=len, reverse=True)
     if helpers and first:
@@ -174,21 +175,26 @@ def step(fn, at, rest, whole):
     field, deeper = rest[0], [DEEPER.get(x, x) for x in rest[1:]]
     if field in BASE:
         return [FIELDS.get(field, field)] + deeper
-    for below in fn.chain(at):
-        own, arm = fn.places[below][2], fn.arms.get(below)
-        if not same(field, own[0]):
-            continue
-        if arm:
-            fits = [(len(p), new, p) for new, old, p in arm[2] if same(field, old) and p == rest[1:1 + len(p)]]
-            if fits:
-                n, new, p = max(fits)
-                return [arm[0], new] + deeper[n:]
-        if below != at:
-            fn.said.append("%s: step %r is further down" % (whole, field))
-        return [own[1]] + deeper
+    whole_chain = fn.chain(fn.root) if fn.root else []
+    for fits_name in (exact, same):
+        for chain in (fn.chain(at), whole_chain):
+            for below in chain:
+                own, arm = fn.places[below][2], fn.arms.get(below)
+                if not fits_name(field, own[0]):
+                    continue
+                if arm:
+                    fits = [(len(p), new, p) for new, old, p in arm[2] if same(field, old) and p == rest[1:1 + len(p)]]
+                    if fits:
+                        n, new, p = max(fits)
+                        return [arm[0], new] + deeper[n:]
+                return [own[1]] + deeper
     own = fn.places[at][2]
     fn.said.append("%s: step %r is %r at %s" % (whole, field, own[0], at))
     return [own[1]] + deeper
+
+
+def exact(field, own):
+    return norm(field) == norm(own)
 
 
 def same(field, own):
@@ -201,6 +207,24 @@ def named(text):
     # a test of `!x` says of x what it says
     text = re.sub(r"\bnot-(?:true|false) (?:_|[\w.'-]+|\([^()]*\)) (c\.[\w.-]*-not-[\w.-]+)", r"\1", text)
     return re.sub(r"\.(wrapping_\w+(?:-\w+)?)\.ensures(?![.\w])", r".\1.ensures.value", text)
+
+
+def autos(fn, text):
+    """what is known by itself after a call goes by the parameter's name"""
+    callee = {p[2][1]: p[3] for p in fn.info["places"] if p[3]}
+    names = {}
+
+    def one(m):
+        step = names.get(m.group(1), m.group(1))
+        params = fn.info["params"].get(callee.get(step), [])
+        index = m.group(2).count(".1")
+        return "%s.auto.%s" % (m.group(1), params[index]) if index < len(params) else m.group(0)
+
+    out = []
+    for part in re.split(r"(\n\n)", text):
+        names = dict(re.findall(r"\blet (%s) = c\.(%s) in" % (IDENT, IDENT), part))
+        out.append(re.sub(r"(?<![\w'-])(%s)\.auto((?:\.1)*)\.0(?![\w.])" % IDENT, one, part))
+    return "".join(out)
 
 
 def source_words(crate):
@@ -272,7 +296,28 @@ def turn(crate, folder, info):
             answers.append(answer(fn, m, body, new, at, old))
             continue
         answers.append(helper(fn, body, stem))
-    return fn, comments, uses, stem, invariants, [cross(a, renamed) for a in answers]
+    answers = [cross(a, renamed) for a in answers]
+    return fn, comments, uses, stem, *shared(fn, stem, invariants, answers)
+
+
+def shared(fn, stem, invariants, answers):
+    """what an invariant cites goes with it; the answers import it"""
+    moved = True
+    while moved:
+        moved = False
+        for a in answers:
+            name = name_of(a.split("\n"))
+            if name and "goal." not in a and any(re.search(r"(?<![\w.'-])%s(?![\w'-])" % re.escape(name), i)
+                                                 for i in invariants):
+                answers.remove(a)
+                a = re.sub(r"^(abbrev )?(?:pub )?(?=%s :)" % re.escape(name), r"\1pub ", a, flags=re.M)
+                invariants.insert(0, a)
+                fn.lent.append(name)
+                moved = True
+                break
+    used = [n for n in fn.lent if any(re.search(r"(?<![\w.'-])%s(?![\w'-])" % re.escape(n), a) for a in answers)]
+    fn.lent = used
+    return invariants, answers
 
 
 def arguments(text):
@@ -390,6 +435,20 @@ def helper(fn, body, stem):
     return body
 
 
+def bound(text, table):
+    """where a name of the table is bound by a binder in the text: name, from, to"""
+    out = []
+    for m in re.finditer(r"λ ((?:\(?[^().]*\)? ?)+?)\.|\((%s(?: %s)*) :[^()]*\) →|\blet (%s)\b" % (IDENT, IDENT, IDENT), text):
+        for name in re.findall(IDENT, (m.group(1) or m.group(2) or m.group(3) or "").split(" : ")[0]):
+            if name in table:
+                depth, j = 0, m.end()
+                while j < len(text) and depth >= 0:
+                    depth += {"(": 1, "{": 1, "[": 1, ")": -1, "}": -1, "]": -1}.get(text[j], 0)
+                    j += 1
+                out.append((name, m.start(), j))
+    return out
+
+
 def invariant(fn, m, body, loops):
     before, after = rest_of(body, m)
     local, kind, loop = m.group(1), m.group(2), m.group(3)
@@ -415,8 +474,13 @@ def invariant(fn, m, body, loops):
     table = dict(zip(args, target))
     table.pop("_", None)
 
+    spans = bound(text, table)
+
     def word(mm):
-        return table.get(mm.group(0), mm.group(0))
+        name = mm.group(0)
+        if any(n == name and i <= mm.start() < j for n, i, j in spans):
+            return name
+        return table.get(name, name)
 
     text = re.sub(r"(?<![\w.'′₀-₉-])%s" % IDENT.replace("+-]", "]"), word, text)
     new_name = "%s-%s" % (kind, new)
@@ -451,9 +515,11 @@ def main():
                 out.write("\n".join(imports(used, invariants) + ["use %s.Given as goal" % stem, ""]) + "\n")
                 out.write("\n\n".join(i.strip("\n") for i in invariants) + "\n")
         if answers:
-            text = of_source(named("\n\n".join(a.strip("\n") for a in answers)), words)
+            text = autos(fn, of_source(named("\n\n".join(a.strip("\n") for a in answers)), words))
             with open(os.path.join(folder, "Answers.antt"), "w") as out:
                 more = ["use %s.Goals.{%s}" % (stem, ", ".join(fn.kept))] if fn.kept else []
+                if fn.lent:
+                    more.insert(0, "use %s.Invariants.{%s}" % (stem, ", ".join(fn.lent)))
                 out.write("\n".join(imports(used, answers) + ["use %s.Goals as goal" % stem] + more + [""]) + "\n")
                 out.write(text + "\n")
         os.remove(proof)

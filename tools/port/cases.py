@@ -8,6 +8,12 @@ import sys
 
 asked, at = {}, None
 for line in sys.stdin:
+    m = re.match(r"(?:so far: )?\./(\S+):(\d+):\d+: error: `([^`]+)`: write the clause `((\S+) [^`]*)`", line)
+    if m:
+        found = asked.setdefault((m.group(1), int(m.group(2)), m.group(3), m.group(5)), [])
+        if m.group(4) not in found:
+            found.append(m.group(4))
+        continue
     m = re.match(r"(?:so far: )?\./(\S+):(\d+):\d+: error: `([^`]+)`: write the clauses", line)
     if m:
         at = (m.group(1), int(m.group(2)), m.group(3))

@@ -178,6 +178,7 @@ rise_round a b c d B D h = record { from = round_plain a b B; to = round_plain c
 
 le_top : (v : Float) → Plain v → T (le v (inf false))
 unfolding le lt eq
+le_top nan p = elim p [ ]
 le_top (inf s) p = rw p tt
 le_top (fin s m e) p = tt
 

@@ -62,6 +62,10 @@ module _ (p M c Y g : ℕ) (P : 0 < p) (C : 0 < c) (room : M ≤ g * 2 ^ (p - 1)
 -- ---- sums of values over one denominator
 pub add_at : (x y : Float) (s t : Bool) (a b c : ℕ) → 0 < c → HasValue x s a c → HasValue y t b c → add binary64 x y ≡ sum binary64 s a t b c
 unfolding add
+add_at lib.Ieee.nan y s t a b c C hx hy = elim hx [ ]
+add_at (lib.Ieee.inf _) y s t a b c C hx hy = elim hx [ ]
+add_at (fin s' m e) lib.Ieee.nan s t a b c C hx hy = elim hy [ ]
+add_at (fin s' m e) (lib.Ieee.inf _) s t a b c C hx hy = elim hy [ ]
 add_at (fin s' m e) (fin t' n d) s t a b c C hx hy =
     ap (λ (v : Bool). sum binary64 v (m * up e * down d) t' (n * up d * down e) (down e * down d)) hx.0
     ∙ ap (λ (v : Bool). sum binary64 s (m * up e * down d) v (n * up d * down e) (down e * down d)) hy.0

@@ -1,0 +1,43 @@
+use mathlib.Core.Path.{◌≡◌, refl, sym, ◌∙◌}
+use Prim.Native.Nat.{◌-◌}
+use native.Mathlib.Omega.{arith}
+use Rattle.lists.specs.Lists.{joined}
+use Rattle.lists.proofs.Counting.{no}
+use Rattle.mesh.specs.Internal.{links}
+use Rattle.search.specs.Search.{fit_from}
+use Rattle.locator.proofs.Blocks.{block_row, block-rows, untouched}
+use Rattle.mesh_search.proofs.Folds.{fit_turn}
+use Rattle.mesh_search.proofs.faces.with_block.Goals as goal
+
+pub returns-then-not-touches : goal.returns-then-not-touches
+unfolding fit_from
+returns-then-not-touches c = rw (untouched _ _ _ (no c.touches.ensures c.if-not-touches.true))
+
+pub loop-x-init : goal.loop-x-init
+unfolding fit_from joined
+loop-x-init c = (omega arith, refl)
+
+pub loop-x-preserved : goal.loop-x-preserved
+loop-x-preserved c =
+    let a = c.args in
+    let e = rw (c.neighbour-j.ensures, c.loop-x.invariant.1) at c.with_thirds-best.ensures in
+    (omega arith, e ∙ sym (fit_turn a.vertices.now a.p a.before (block_row (links a.counts.now a.neighbours.now) a.v a.i c.degree-c.result) c.loop-x.x))
+
+pub returns : goal.returns
+returns c =
+    let a = c.args in
+    let k = c.degree-c.result in
+    let full : c.loop-x.x ≡ k = omega arith in
+    rw (block-rows (links a.counts.now a.neighbours.now) a.v a.i k c.degree-c.ensures) (rw full at c.loop-x.invariant.1)
+
+pub touches-requires : goal.touches-requires
+touches-requires c = tt
+
+pub degree-c-requires : goal.degree-c-requires
+degree-c-requires c = tt
+
+pub neighbour-j-requires : goal.neighbour-j-requires
+neighbour-j-requires c = tt
+
+pub with_thirds-best-requires : goal.with_thirds-best-requires
+with_thirds-best-requires c = tt

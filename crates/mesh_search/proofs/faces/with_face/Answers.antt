@@ -1,0 +1,17 @@
+use Rattle.lists.proofs.Counting.{yes, no}
+use Rattle.search.specs.Search.{fit_from}
+use Rattle.mesh_search.proofs.faces.with_face.Goals as goal
+
+pub returns-then-not-wanted : goal.returns-then-not-wanted
+unfolding fit_from
+returns-then-not-wanted c = rw (no c.wanted.ensures c.if-not-wanted.true)
+
+pub returns : goal.returns
+unfolding fit_from
+returns c = rw (yes c.wanted.ensures c.if-not-wanted.false) c.better.ensures
+
+pub wanted-requires : goal.wanted-requires
+wanted-requires c = tt
+
+pub better-requires : goal.better-requires
+better-requires c = tt
