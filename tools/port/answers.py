@@ -121,6 +121,7 @@ def name_of(block):
 def turn_paths(fn, text, scope, root):
     """paths from variables at known places: `c.before.before.step.x` is `c.step.x` now, since a place's record has the
     steps before it too; root is the name of the goal or place whose record the clause takes"""
+    text = spread(text)
     first = next(iter(scope), None)
     fn.root = scope[first] if first else None
     text = re.sub(r"\blet (%s) = (%s)((?:\.before(?![\w-]))*) in" % (IDENT, IDENT), lambda m: alias(fn, m, scope), text)
@@ -205,8 +206,21 @@ def named(text):
     """clauses of the library that have a name now, and fields of Rattle's own"""
     text = re.sub(r"\.type-inv\b", ".type_inv", re.sub(r"\.well-formed\b", ".well_formed", text))
     # a test of `!x` says of x what it says
-    text = re.sub(r"\bnot-(?:true|false) (?:_|[\w.'-]+|\([^()]*\)) (c\.[\w.-]*-not-[\w.-]+)", r"\1", text)
+    text = re.sub(r"\bnot-(?:true|false) (?:_|[\w.'-]+|\((?:[^()]|\([^()]*\))*\)) (c\.[\w.-]*-not-[\w.-]+)", r"\1", text)
     return re.sub(r"\.(wrapping_\w+(?:-\w+)?)\.ensures(?![.\w])", r".\1.ensures.value", text)
+
+
+def spread(text):
+    """`let g = c.x.given in .. g.0` has its path written out"""
+    pattern = r"let (%s) = ((?:%s)(?:\.(?:%s))*\.given) in[ \n]*" % (IDENT, IDENT.replace("+-]", "-]"), IDENT)
+    m = re.search(pattern, text)
+    while m:
+        after = re.sub(r"(?<![\w.'-])%s(?=\.)" % re.escape(m.group(1)), lambda _: m.group(2), text[m.end():])
+        if re.search(r"(?<![\w.'-])%s(?![\w.'-])" % re.escape(m.group(1)), after):
+            return text
+        text = text[:m.start()] + after
+        m = re.search(pattern, text)
+    return text
 
 
 def autos(fn, text):
@@ -431,7 +445,7 @@ def helper(fn, body, stem):
         at = fn.new_place[scope[variables[0]]]
         body = turn_paths(fn, body, {v: scope[v] for v in variables}, at)
     body = re.sub(r"tie\.(%s)" % IDENT, place, body)
-    body = re.sub(r"(?: invariant-[\w-]+| decreases-[\w-]+)+(?=\))", "", body)
+    body = re.sub(r"(?: invariant-[\w-]+| decreases-[\w-]+)+(?=\)| →)", "", body)
     return body
 
 
@@ -482,7 +496,7 @@ def invariant(fn, m, body, loops):
             return name
         return table.get(name, name)
 
-    text = re.sub(r"(?<![\w.'′₀-₉-])%s" % IDENT.replace("+-]", "]"), word, text)
+    text = re.sub(r"(?<![\w.'′₀-₉-])%s" % IDENT.replace("+-]", "-]"), word, text)
     new_name = "%s-%s" % (kind, new)
     pre = after[:clause.start()].strip("\n")
     return "%sabbrev pub %s : goal.%s\n%s%s l =%s" % (before, new_name, new_name, pre + "\n" if pre else "", new_name,

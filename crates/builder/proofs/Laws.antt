@@ -32,11 +32,11 @@ use Rattle.builder.specs.Atom.{atom_builder_question, atom_room, atom_set_questi
 use Rattle.builder.specs.declared.Builder.{Builder}
 use Rattle.builder.specs.declared.AtomBuilder.{AtomBuilder}
 
--- the first of two tests was passed before; the branch on `!r`, r being both, was passed by, or taken
-pub second_yes : {a q r : Bool} → r ≡ a && q → a ≡ true → not r ≡ false → q ≡ true
+-- the first of two tests was passed before; the test of r, r being both, says that it was, or was not
+pub second_yes : {a q r : Bool} → r ≡ a && q → a ≡ true → r ≡ true → q ≡ true
 second_yes {a} {q} {r} e h t = let z : a && q ≡ true = yes e t in rw h at z
 
-pub second_no : {a q r : Bool} → r ≡ a && q → a ≡ true → not r ≡ true → q ≡ false
+pub second_no : {a q r : Bool} → r ≡ a && q → a ≡ true → r ≡ false → q ≡ false
 second_no {a} {q} {r} e h t = let z : a && q ≡ false = no e t in rw h at z
 
 -- 1 to 5 answered yes
