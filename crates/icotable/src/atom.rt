@@ -326,7 +326,7 @@ fn atom_reading_of(
 ) -> EnergyAnswer
     ensures { energy_in result ≡ atom_reading_by file.now (atom_table_from table) vertices.now
         (locator_of cell_offsets.now cell_vertices.now face_offsets.now faces.now)
-        linear (record { r = r; d = record { x = dx; y = dy; result = dz } }) }
+        linear (record { r = r; d = record { x = dx; y = dy; z = dz } }) }
 {
     let t = atom_table_from(table);
     let d = Vector3 {
@@ -365,7 +365,7 @@ pub extern "C" fn icotable_atom_reading(
 ) -> EnergyAnswer
     ensures { energy_in result ≡ atom_reading_by file.now (atom_table_from table.now) vertices.now
         (locator_of cell_offsets.now cell_vertices.now face_offsets.now faces.now)
-        linear (record { r = r; d = record { x = dx; y = dy; result = dz } }) }
+        linear (record { r = r; d = record { x = dx; y = dy; z = dz } }) }
 {
     atom_reading_of(
         *table,
@@ -398,7 +398,7 @@ fn atom_boltzmann_of(
 ) -> EnergyAnswer
     ensures { energy_in result ≡ atom_reading_by file.now (atom_table_from table) vertices.now
         (locator_of cell_offsets.now cell_vertices.now face_offsets.now faces.now)
-        (boltzmann beta) (record { r = r; d = record { x = dx; y = dy; result = dz } }) }
+        (boltzmann beta) (record { r = r; d = record { x = dx; y = dy; z = dz } }) }
 {
     let t = atom_table_from(table);
     let d = Vector3 {
@@ -439,7 +439,7 @@ pub extern "C" fn icotable_atom_boltzmann(
 ) -> EnergyAnswer
     ensures { energy_in result ≡ atom_reading_by file.now (atom_table_from table.now) vertices.now
         (locator_of cell_offsets.now cell_vertices.now face_offsets.now faces.now)
-        (boltzmann beta) (record { r = r; d = record { x = dx; y = dy; result = dz } }) }
+        (boltzmann beta) (record { r = r; d = record { x = dx; y = dy; z = dz } }) }
 {
     atom_boltzmann_of(
         *table,

@@ -411,7 +411,7 @@ fn reading_of(
 ) -> ValueAnswer
     ensures { value_in result ≡ reading_out file.now (table_from table) vertices.now
         (locator_of cell_offsets.now cell_vertices.now face_offsets.now faces.now)
-        (record { r = r; omega = omega; a = record { x = ax; y = ay; result = az }; b = record { x = bx; y = by; result = bz } }) }
+        (record { r = r; omega = omega; a = record { x = ax; y = ay; z = az }; b = record { x = bx; y = by; z = bz } }) }
 {
     let t = table_from(table);
     let a = Vector3 {
@@ -461,7 +461,7 @@ pub extern "C" fn icotable_reading(
 ) -> ValueAnswer
     ensures { value_in result ≡ reading_out file.now (table_from table.now) vertices.now
         (locator_of cell_offsets.now cell_vertices.now face_offsets.now faces.now)
-        (record { r = r; omega = omega; a = record { x = ax; y = ay; result = az }; b = record { x = bx; y = by; result = bz } }) }
+        (record { r = r; omega = omega; a = record { x = ax; y = ay; z = az }; b = record { x = bx; y = by; z = bz } }) }
 {
     reading_of(
         *table,
@@ -502,7 +502,7 @@ fn boltzmann_of(
 ) -> ValueAnswer
     ensures { value_in result ≡ reading_by file.now (table_from table) vertices.now
         (locator_of cell_offsets.now cell_vertices.now face_offsets.now faces.now)
-        (boltzmann beta) (record { r = r; omega = omega; a = record { x = ax; y = ay; result = az }; b = record { x = bx; y = by; result = bz } }) }
+        (boltzmann beta) (record { r = r; omega = omega; a = record { x = ax; y = ay; z = az }; b = record { x = bx; y = by; z = bz } }) }
 {
     let t = table_from(table);
     let a = Vector3 {
@@ -554,7 +554,7 @@ pub extern "C" fn icotable_boltzmann(
 ) -> ValueAnswer
     ensures { value_in result ≡ reading_by file.now (table_from table.now) vertices.now
         (locator_of cell_offsets.now cell_vertices.now face_offsets.now faces.now)
-        (boltzmann beta) (record { r = r; omega = omega; a = record { x = ax; y = ay; result = az }; b = record { x = bx; y = by; result = bz } }) }
+        (boltzmann beta) (record { r = r; omega = omega; a = record { x = ax; y = ay; z = az }; b = record { x = bx; y = by; z = bz } }) }
 {
     boltzmann_of(
         *table,

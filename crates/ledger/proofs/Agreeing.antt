@@ -99,8 +99,9 @@ module _ {m n : ℕ} where
 
   pub settled_both : {r q : Rows} (c s : ℕ) (vs : List Verdict) → s + length vs ≤ m → Both m n r q → Both m n (settled_lists c r s vs) (settled_lists c q s vs)
   unfolding settled_lists
-  settled_both c s [] i h = h
-  settled_both c s (v ∷ vs) i h = settled_both c (suc s) vs (omega arith) (by_both s (omega arith) (new_row c v) h)
+  settled_both {r = r} {q = q} c s [] i h = h
+  settled_both {r = r} {q = q} c s (v ∷ vs) i h =
+      settled_both {r = replaced_by r s (new_row c v)} {q = replaced_by q s (new_row c v)} c (suc s) vs (omega arith) (by_both s (omega arith) (new_row c v) h)
 
 -- fresh fills c slabs, and what stands behind them stays
 fill_same : (c : ℕ) (d e : List ℕ) (s : ℕ) → get_or d s 0 ≡ get_or e s 0 → get_or (put d 0 (replicate c 0)) s 0 ≡ get_or (put e 0 (replicate c 0)) s 0

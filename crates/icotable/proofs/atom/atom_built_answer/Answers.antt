@@ -1,0 +1,10 @@
+use Rattle.icotable.specs.AtomAnswers.{atom_built_in}
+use Rattle.icotable.proofs.atom.atom_built_answer.Goals as goal
+
+pub returns-in-Accepted : goal.returns-in-Accepted
+unfolding atom_built_in
+returns-in-Accepted c = rw c.in-Accepted.is
+
+pub returns-in-Refused : goal.returns-in-Refused
+unfolding atom_built_in
+returns-in-Refused c = rw c.in-Refused.is
