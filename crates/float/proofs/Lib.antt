@@ -7,6 +7,7 @@ pub mod Steps
 pub mod Truncation
 pub mod Powers
 pub mod Remainders
+pub mod Far
 pub mod Order
 pub mod Signed
 pub mod Shifts

@@ -116,14 +116,46 @@ pub fn of_u64(n: u64) -> f64
     std::num::nearest_u64_to_f64(n)
 }
 
-// The remainder by TAU, with the sign of x. Below TAU either way it is x, and `%`, which is slow, is left out.
+// TAU is this many times 2 to the power of -50.
+const TAU_DIGITS: u64 = 0x19_21FB_5444_2D18;
+
+const LAST_PLACE: f64 = 8.881784197001252e-16;
+
+// The remainder by TAU's digits of these digits with k zeros behind them, a zero at a time.
+fn digits_by_tau(digits: u64, k: u64) -> u64
+    ensures { (result ≡ digits * 2 ^ k % 0x19_21FB_5444_2D18) × (result < 2 ^ 53) }
+{
+    let mut r = digits % TAU_DIGITS;
+    let mut i = 0;
+    while i < k {
+        r = 2 * r % TAU_DIGITS;
+        i += 1;
+    }
+    r
+}
+
+// The remainder by TAU, with the sign of x. Below TAU either way it is x. From there on it is taken of the digits: `%`
+// on floats would call the C library's `fmod`, which not every C library has under the name that is linked.
 fn remainder(x: f64) -> f64
     ensures { result ≡ rem binary64 x tau }
 {
     if (x < TAU) & (-TAU < x) {
         return x;
     }
-    x % TAU
+    if x != x {
+        return x;
+    }
+    let b = f64::to_bits(x);
+    let field = b % 0x8000_0000_0000_0000 / 0x10_0000_0000_0000;
+    if field == 2047 {
+        return 0.0 / 0.0;
+    }
+    let r = digits_by_tau(b % 0x10_0000_0000_0000 + 0x10_0000_0000_0000, field - 1025);
+    if b < 0x8000_0000_0000_0000 {
+        of_u64(r) * LAST_PLACE
+    } else {
+        of_u64(r) * -LAST_PLACE
+    }
 }
 
 // The remainder by TAU: a remainder below 0 has TAU added, and -0.0 is not below 0.

@@ -1,8 +1,9 @@
-// The accident that started this port: a slice is settled, the level drops, and a job that was restarted settles a slice of the level that has gone. Document 01 refuses that with 11; the
-// Rust accepts it, and its table then has more energies than its rows account for.
+// The accident that started this port: a slice is settled, the level drops, and a job that was restarted settles a slice
+// of the level that has gone. Document 01 refuses that with 11; the Rust accepts it, and its table then has more energies
+// than its rows account for.
 use crate::{begun, compared, say, set_number, settings, settled, settled_number, written};
 use builder::{Builder, Settled};
-use libc::STDOUT_FILENO;
+use std::io;
 
 // Energies of a slab of level 1 that settles as Mesh nearest at threshold 0.1: zeros but for one.
 fn smooth() -> [f64; 1764] {
@@ -106,63 +107,90 @@ fn other_bytes(a: &[u8; 84900], b: &[u8; 84900]) -> u64 {
 }
 
 // Settles slice ri of a level that has gone: 11, and nothing is altered.
-fn settle_late(b: Builder, ri: u64, store: &[f64; 21168], before: [u64; 12]) {
+fn settle_late(
+    rt: &impl Print,
+    b: Builder,
+    ri: u64,
+    store: &[f64; 21168],
+    before: [u64; 12],
+) -> io::Result<()> {
     let mut words = before;
     let mut once: [u8; 84900] = [7; 84900];
     let mut twice: [u8; 84900] = [7; 84900];
     let n = written(b, store, &words, &mut once);
-    say(b"  bytes", n, 84852);
+    say(rt, "  bytes", n, 84852)?;
     let a = settled(b, ri, store, &mut words);
-    say(b"  settled at a level that has gone", settled_number(a), 11);
-    say(b"  comparisons", compared(a), 0);
-    let c = after(b, a);
-    say(b"  level after it", level_of(c), 0);
-    let m = written(c, store, &words, &mut twice);
-    say(b"  bytes", m, 84852);
-    say(b"  bytes that differ", other_bytes(&once, &twice), 0);
     say(
-        b"  energies that are not those set",
+        rt,
+        "  settled at a level that has gone",
+        settled_number(a),
+        11,
+    )?;
+    say(rt, "  comparisons", compared(a), 0)?;
+    let c = after(b, a);
+    say(rt, "  level after it", level_of(c), 0)?;
+    let m = written(c, store, &words, &mut twice);
+    say(rt, "  bytes", m, 84852)?;
+    say(rt, "  bytes that differ", other_bytes(&once, &twice), 0)?;
+    say(
+        rt,
+        "  energies that are not those set",
         other_energies(store),
         0,
-    );
-    say(b"  rows that differ", other_rows(&before, &words), 0);
+    )?;
+    say(rt, "  rows that differ", other_rows(&before, &words), 0)
 }
 
-// A table of slices 0 to `late`, of n_omega slabs each and twelve in all, every one of them set at level 1. The first slice is settled and the level drops; then the last slice is settled,
-// which is the same one where there is one alone.
-fn settle_both(what: &[u8], rmax: f64, omega_step: f64, late: u64, n_omega: u64, comparisons: u64) {
+// A table of slices 0 to `late`, of n_omega slabs each and twelve in all, every one of them set at level 1. The first
+// slice is settled and the level drops; then the last slice is settled, which is the same one where there is one alone.
+fn settle_both(
+    rt: &impl Print,
+    what: &str,
+    rmax: f64,
+    omega_step: f64,
+    late: u64,
+    n_omega: u64,
+    comparisons: u64,
+) -> io::Result<()> {
     let mut store = [1.0; 21168];
     let mut words: [u64; 12] = [u64::MAX; 12];
     let g = settings(rmax, omega_step);
     let b = begun(g, 1, &mut store, &mut words);
-    io::write_all(STDOUT_FILENO, what);
+    print!(rt; "{what}")?;
     let refused = set_twelve(b, n_omega, &mut store, &mut words);
-    say(b", sets refused", refused, 0);
+    say(rt, ", sets refused", refused, 0)?;
     let a = settled(b, 0, &store, &mut words);
-    say(b"  settled", settled_number(a), 0);
-    say(b"  comparisons", compared(a), comparisons);
+    say(rt, "  settled", settled_number(a), 0)?;
+    say(rt, "  comparisons", compared(a), comparisons)?;
     let c = after(b, a);
-    say(b"  level after it", level_of(c), 0);
+    say(rt, "  level after it", level_of(c), 0)?;
     let nearest = nearest_rows(&words);
-    say(b"  rows that are Mesh nearest of level 1", nearest, n_omega);
-    settle_late(c, late, &store, words);
+    say(
+        rt,
+        "  rows that are Mesh nearest of level 1",
+        nearest,
+        n_omega,
+    )?;
+    settle_late(rt, c, late, &store, words)
 }
 
-pub(crate) fn settled_twice() {
+pub(crate) fn settled_twice(rt: &impl Print) -> io::Result<()> {
     settle_both(
-        b"twelve slabs of level 1 in one slice",
+        rt,
+        "twelve slabs of level 1 in one slice",
         1.0,
         0.5235987755982988,
         0,
         12,
         211680,
-    );
+    )?;
     settle_both(
-        b"twelve slabs of level 1 in two slices",
+        rt,
+        "twelve slabs of level 1 in two slices",
         2.0,
         1.0471975511965976,
         1,
         6,
         105840,
-    );
+    )
 }

@@ -1,24 +1,21 @@
-// Builds small tables from settings alone, with the compiled operations, and prints what document 01 says of them beside what came out.
+// Builds small tables from settings alone, with the compiled operations, and prints what document 01 says of them beside
+// what came out.
 #![tactic(auto)]
 
 use builder::{Builder, Built, Settled};
 use grid::Grid;
-use libc::STDOUT_FILENO;
+use std::io;
 use writer::Written;
 
 mod accident;
 mod meshes;
 
-pub(crate) fn say(what: &[u8], got: u64, wanted: u64) {
-    io::write_all(STDOUT_FILENO, what);
-    io::write_all(STDOUT_FILENO, b": ");
-    io::print_decimal(STDOUT_FILENO, got);
+pub(crate) fn say(rt: &impl Print, what: &str, got: u64, wanted: u64) -> io::Result<()> {
+    print!(rt; "{what}: {got}")?;
     if got == wanted {
-        io::write_all(STDOUT_FILENO, b", as it should be\n");
+        println!(rt; ", as it should be")
     } else {
-        io::write_all(STDOUT_FILENO, b", but it should be ");
-        io::print_decimal(STDOUT_FILENO, wanted);
-        io::write_all(STDOUT_FILENO, b"\n");
+        println!(rt; ", but it should be {wanted}")
     }
 }
 
@@ -122,73 +119,81 @@ pub(crate) fn compared(a: Settled) -> u64 {
 }
 
 // A group of bytes of the file, as document 01 groups them.
-fn group(bytes: &[u8]) {
+fn group(rt: &impl Print, bytes: &[u8]) -> io::Result<()> {
     let mut i = 0;
     while i < bytes.len() {
-        io::print_hex(STDOUT_FILENO, wide8(bytes[i]), 2);
+        let byte = wide8(bytes[i]);
+        print!(rt; "{byte:02x}")?;
         i += 1;
     }
-    io::write_all(STDOUT_FILENO, b" ");
+    print!(rt; " ")
 }
 
 // The sections of grid, bins and levels; then those of rows and energies.
-fn head(file: [u8; 66]) {
-    group(&file[0..4]);
-    group(&file[4..12]);
-    group(&file[12..20]);
-    group(&file[20..28]);
-    group(&file[28..32]);
-    group(&file[32..36]);
-    group(&file[36..40]);
-    group(&file[40..44]);
-    group(&file[44..48]);
+fn head(rt: &impl Print, file: [u8; 66]) -> io::Result<()> {
+    group(rt, &file[0..4])?;
+    group(rt, &file[4..12])?;
+    group(rt, &file[12..20])?;
+    group(rt, &file[20..28])?;
+    group(rt, &file[28..32])?;
+    group(rt, &file[32..36])?;
+    group(rt, &file[36..40])?;
+    group(rt, &file[40..44])?;
+    group(rt, &file[44..48])
 }
 
-fn tail(file: [u8; 66]) {
-    group(&file[48..52]);
-    group(&file[52..53]);
-    group(&file[53..54]);
-    group(&file[54..58]);
-    group(&file[58..62]);
-    group(&file[62..66]);
-    io::write_all(STDOUT_FILENO, b"\n");
+fn tail(rt: &impl Print, file: [u8; 66]) -> io::Result<()> {
+    group(rt, &file[48..52])?;
+    group(rt, &file[52..53])?;
+    group(rt, &file[53..54])?;
+    group(rt, &file[54..58])?;
+    group(rt, &file[58..62])?;
+    group(rt, &file[62..66])?;
+    println!(rt)
 }
 
 // The table of rmin 0, rmax 1, dr 1, step 6, top level 0 with nothing set: the 66 bytes.
-fn nothing_set() {
+fn nothing_set(rt: &impl Print) -> io::Result<()> {
     let mut store = [1.0; 144];
     let mut words: [u64; 1] = [u64::MAX; 1];
     let mut output: [u8; 66] = [0; 66];
     let b = begun(settings(1.0, 6.0), 0, &mut store, &mut words);
     let n = written(b, &store, &words, &mut output);
-    say(b"bytes with nothing set", n, 66);
-    head(output);
-    tail(output);
+    say(rt, "bytes with nothing set", n, 66)?;
+    head(rt, output)?;
+    tail(rt, output)
 }
 
-// One slab of level 0 with 144 equal energies: the file's length, then the comparisons, and the kind and the value that the slab settles to.
-fn one_slab(what: &[u8], energy: f64, kind: u64, comparisons: u64) {
+// One slab of level 0 with 144 equal energies: the file's length, then the comparisons, and the kind and the value that
+// the slab settles to.
+fn one_slab(
+    rt: &impl Print,
+    what: &str,
+    energy: f64,
+    kind: u64,
+    comparisons: u64,
+) -> io::Result<()> {
     let mut store = [1.0; 144];
     let mut words: [u64; 1] = [u64::MAX; 1];
     let mut output: [u8; 700] = [0; 700];
     let energies = [energy; 144];
     let b = begun(settings(1.0, 6.0), 0, &mut store, &mut words);
     let no = set_number(builder::set(b, &mut store, &mut words, 0, 0, &energies));
-    io::write_all(STDOUT_FILENO, what);
-    say(b", set", no, 0);
+    print!(rt; "{what}")?;
+    say(rt, ", set", no, 0)?;
     let n = written(b, &store, &words, &mut output);
-    say(b"  bytes", n, 642);
+    say(rt, "  bytes", n, 642)?;
     let a = settled(b, 0, &store, &mut words);
-    say(b"  settled", settled_number(a), 0);
-    say(b"  comparisons", compared(a), comparisons);
+    say(rt, "  settled", settled_number(a), 0)?;
+    say(rt, "  comparisons", compared(a), comparisons)?;
     let word = words[0];
-    say(b"  kind", word / 1099511627776, kind);
-    say(b"  value", word % 4294967296, 0);
+    say(rt, "  kind", word / 1099511627776, kind)?;
+    say(rt, "  value", word % 4294967296, 0)
 }
 
-fn main() {
-    nothing_set();
-    one_slab(b"144 tens", 10.0, 1, 0);
-    one_slab(b"144 zeros", 0.0, 0, 1440);
-    accident::settled_twice();
+fn main(rt: HostRuntime) -> io::Result<()> {
+    nothing_set(&rt)?;
+    one_slab(&rt, "144 tens", 10.0, 1, 0)?;
+    one_slab(&rt, "144 zeros", 0.0, 0, 1440)?;
+    accident::settled_twice(&rt)
 }

@@ -1,11 +1,12 @@
-// A settle with the builder lent, and a record replaced in a lent list of rows, each beside the by-value call over words. `either_form` of `lent` has the rest by proof.
+// A settle with the builder lent, and a record replaced in a lent list of rows, each beside the by-value call over words.
+// `either_form` of `lent` has the rest by proof.
 #![tactic(auto)]
 
 use builder::{Builder, Built, Settled};
 use grid::Grid;
 use lent::{LentSettled, RowRecord};
-use libc::STDOUT_FILENO;
 use rows::SlabResolution;
+use std::io;
 
 mod meshes;
 mod through;
@@ -21,25 +22,21 @@ struct Left {
 }
 
 // What the lent form gave, beside what the by-value call gave.
-fn say(what: &[u8], lent: u64, by_value: u64) {
-    io::write_all(STDOUT_FILENO, what);
-    io::write_all(STDOUT_FILENO, b": ");
-    io::print_decimal(STDOUT_FILENO, lent);
+fn say(rt: &impl Print, what: &str, lent: u64, by_value: u64) -> io::Result<()> {
+    print!(rt; "{what}: {lent}")?;
     if lent == by_value {
-        io::write_all(STDOUT_FILENO, b", as by value\n");
+        println!(rt; ", as by value")
     } else {
-        io::write_all(STDOUT_FILENO, b", but by value ");
-        io::print_decimal(STDOUT_FILENO, by_value);
-        io::write_all(STDOUT_FILENO, b"\n");
+        println!(rt; ", but by value {by_value}")
     }
 }
 
-fn compare(what: &[u8], lent: Left, by_value: Left) {
-    say(what, lent.number, by_value.number);
-    say(b"  gradient's bits", lent.gradient, by_value.gradient);
-    say(b"  comparisons", lent.comparisons, by_value.comparisons);
-    say(b"  level after it", lent.level, by_value.level);
-    say(b"  row 0", lent.row, by_value.row);
+fn compare(rt: &impl Print, what: &str, lent: Left, by_value: Left) -> io::Result<()> {
+    say(rt, what, lent.number, by_value.number)?;
+    say(rt, "  gradient's bits", lent.gradient, by_value.gradient)?;
+    say(rt, "  comparisons", lent.comparisons, by_value.comparisons)?;
+    say(rt, "  level after it", lent.level, by_value.level)?;
+    say(rt, "  row 0", lent.row, by_value.row)
 }
 
 fn word_of(r: RowRecord) -> u64 {
@@ -125,7 +122,7 @@ fn record_of(w: u64) -> RowRecord {
 }
 
 // Row 1 replaced by Repulsive.
-fn replace(rows: [u64; 2]) {
+fn replace(rt: &impl Print, rows: [u64; 2]) -> io::Result<()> {
     let mut words = rows;
     let records = through::with_row(
         [record_of(words[0]), record_of(words[1])],
@@ -135,12 +132,12 @@ fn replace(rows: [u64; 2]) {
     rows::replace_in(&mut words, 1, SlabResolution::Repulsive);
     let a = records[0];
     let b = records[1];
-    say(b"row 0, row 1 being replaced", word_of(a), words[0]);
-    say(b"row 1, replaced by Repulsive", word_of(b), words[1]);
+    say(rt, "row 0, row 1 being replaced", word_of(a), words[0])?;
+    say(rt, "row 1, replaced by Repulsive", word_of(b), words[1])
 }
 
 // Words into records that hold Repulsive, beside the move of the same words to three lists that do.
-fn gather(what: &[u8], words: [u64; 2]) {
+fn gather(rt: &impl Print, what: &str, words: [u64; 2]) -> io::Result<()> {
     let r = lent::record_of(SlabResolution::Repulsive);
     let records = through::with_words([r, r], &words);
     let mut kinds: [u8; 2] = [1; 2];
@@ -149,10 +146,11 @@ fn gather(what: &[u8], words: [u64; 2]) {
     words::words_to_rows(2, &words, &mut kinds, &mut levels, &mut values);
     let a = records[0];
     say(
+        rt,
         what,
         word_of(a),
         rows::word_of(kinds[0], levels[0], values[0]),
-    );
+    )
 }
 
 // rmin 0, rmax 1, dr 1, two dihedral bins, top level 1: a slice of two slabs.
@@ -191,7 +189,7 @@ fn accepted(a: Built) -> Builder {
 
 // A slice with one slab set; a settle of a bin beyond, which is refused; one that is accepted, and drops the level; a
 // record replaced; words into records, without and with a rest.
-fn main() {
+fn main(rt: HostRuntime) -> io::Result<()> {
     let mut store = [1.0; 3528];
     let mut words: [u64; 2] = [18446744073709551615; 2];
     let b = accepted(builder::fresh(
@@ -207,16 +205,18 @@ fn main() {
     let c = accepted(builder::set(b, &mut store, &mut words, 0, 0, &smooth()));
     let beyond = settle_by_value(c, 1, &store, words);
     compare(
-        b"settle, a bin beyond",
+        &rt,
+        "settle, a bin beyond",
         settle_lent(c, 1, &store, words),
         beyond,
-    );
+    )?;
     let settled = settle_by_value(c, 0, &store, words);
-    compare(b"settle", settle_lent(c, 0, &store, words), settled);
-    replace(words);
-    gather(b"row 0, gathered over Repulsive", words);
+    compare(&rt, "settle", settle_lent(c, 0, &store, words), settled)?;
+    replace(&rt, words)?;
+    gather(&rt, "row 0, gathered over Repulsive", words)?;
     gather(
-        b"row 0, where word 1 has a rest",
+        &rt,
+        "row 0, where word 1 has a rest",
         [words[0], 281474976710656],
-    );
+    )
 }

@@ -1,4 +1,5 @@
-// The lent forms behind plain signatures: a caller that holds a builder or records in a local lends them from such a function, whose proof is a walk by hand.
+// The lent forms behind plain signatures: a caller that holds a builder or records in a local lends them from such a
+// function.
 ghost use Rattle.std.specs.Prelude.{◌≡◌, true, set};
 ghost use Rattle.mesh.specs.Mesh.{mesh_of};
 ghost use Rattle.builder.specs.BuilderLists.{word_lists};

@@ -1,7 +1,6 @@
 // A line of the input: an operation's name, its operands and what it is to give, in hexadecimal of fixed widths, with
 // one blank between them.
-ghost use Rattle.std.specs.Prelude.{◌≡◌, ◌≤◌, length};
-ghost use Rattle.io.specs.Counts.{IsPrefixLen};
+ghost use Rattle.std.specs.Prelude.{◌≡◌, ◌≤◌, length, take};
 ghost use Rattle.test_vectors.specs.Hex.{digit as digitOf, word};
 
 use crate::operation;
@@ -26,6 +25,7 @@ pub enum Word {
 }
 
 // The value of an upper-case hexadecimal digit, and 16 for any other letter.
+#[tactic(auto, unfolding(crate::specs::Hex::digit))]
 fn digit(letter: u8) -> u8
     ensures { (result ≡ digitOf letter) × (result ≤ 16) }
 {
@@ -100,7 +100,7 @@ pub(crate) fn place_of(byte: u8, text: &[u8], at: usize) -> usize
 
 // The place of the first blank, or the length.
 pub fn name_end(text: &[u8]) -> usize
-    ensures { IsPrefixLen result text.now }
+    ensures { (result ≤ length text.now) × (result ≡ length (take result text.now)) }
 {
     place_of(b' ', text, 0)
 }

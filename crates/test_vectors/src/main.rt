@@ -3,10 +3,11 @@
 // how many agree.
 #![tactic(auto)]
 
-ghost use Rattle.std.specs.Prelude.{◌≤◌, length};
-ghost use Rattle.io.specs.Counts.{IsPrefixLen};
+ghost use Rattle.std.specs.Prelude.{◌≡◌, ◌≤◌, length, take};
+ghost use Rattle.std.specs.Io.{ReadsAtMost};
 
-use libc::STDIN_FILENO;
+use std::io;
+use std::io::Read;
 
 mod line;
 mod operation;
@@ -18,7 +19,7 @@ use tally::Tally;
 // How many of the first `have` bytes can be judged: all where the input ended, and else those up to the last line end.
 fn ready(piece: &[u8], have: usize, is_last: bool) -> usize
     requires { have ≤ length piece.now }
-    ensures { (result ≤ have) × IsPrefixLen result piece.now }
+    ensures { (result ≤ have) × ((result ≤ length piece.now) × (result ≡ length (take result piece.now))) }
 {
     if is_last {
         return have;
@@ -47,50 +48,67 @@ fn keep(piece: &mut [u8], from: usize, have: usize) -> usize
 }
 
 // Runs one line, and counts how it went.
-fn judge(text: &[u8], t: Tally) -> Tally {
+fn judge(rt: &impl Print, text: &[u8], t: Tally) -> io::Result<Tally> {
     match line::parse(text) {
-        Line::Malformed => t.malformed(text),
+        Line::Malformed => t.malformed(rt, text),
         Line::Vector { op, a, b, c, want } => {
             let got = operation::run(op, a, b, c);
-            t.counted(op, got == operation::settled(op, want), text)
+            t.counted(rt, op, got == operation::settled(op, want), text)
         }
     }
 }
 
 // Runs every line of the text.
-fn judge_all(text: &[u8], before: Tally) -> Tally {
+fn judge_all(rt: &impl Print, text: &[u8], before: Tally) -> io::Result<Tally> {
     let mut t = before;
     let mut at = 0;
     while at < text.len() {
         let end = line::place_of(b'\n', text, at);
-        t = judge(&text[at..end], t);
+        t = judge(rt, &text[at..end], t)?;
         at = end + 1;
     }
-    t
+    Ok(t)
+}
+
+// Reads until the piece is full or the input ends, and answers how many bytes it put at the start of the piece.
+fn read_full(input: &mut impl Read, piece: &mut [u8]) -> io::Result<usize>
+    ensures { ReadsAtMost result piece.new }
+{
+    let mut done = 0;
+    while done < piece.len() {
+        let n = input.read(&mut piece[done..])?;
+        if n == 0 {
+            break;
+        }
+        done += n;
+    }
+    Ok(done)
 }
 
 // Runs the lines of the input, which is read as far as the piece has room. What is left of a line goes to the front. A
 // line that is longer than the piece is malformed, and ends the reading.
-fn judge_input(piece: &mut [u8]) -> Tally {
+fn judge_input<R: Input + Print>(rt: &R, piece: &mut [u8]) -> io::Result<Tally> {
+    let mut input = rt.reader();
     let mut t = Tally::new();
     let mut have = 0;
     // Nothing says that the input ends, and a proved loop does: the turns count down from more than any input takes.
     let mut turns = u64::MAX;
     while turns > 0 {
         turns -= 1;
-        let more = io::read_full(STDIN_FILENO, &mut piece[have..]);
+        let more = read_full(&mut input, &mut piece[have..])?;
         let filled = have + more;
         let end = ready(piece, filled, more == 0);
-        t = judge_all(&piece[..end], t);
+        t = judge_all(rt, &piece[..end], t)?;
         have = keep(piece, end, filled);
         if more == 0 {
             break;
         }
     }
-    t
+    Ok(t)
 }
 
-fn main() {
-    let mut piece = io::large_buffer();
-    tally::report(judge_input(&mut piece));
+fn main(rt: HostRuntime) -> io::Result<()> {
+    let mut piece = [0; 65536];
+    let t = judge_input(&rt, &mut piece)?;
+    tally::report(&rt, t)
 }

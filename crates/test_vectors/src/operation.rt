@@ -3,7 +3,7 @@ ghost use Rattle.std.specs.Prelude.{◌≡◌, ◌≤◌};
 ghost use Rattle.test_vectors.specs.Signed.{complement};
 
 use crate::line;
-use libc::STDOUT_FILENO;
+use std::io;
 
 pub const ROOT: usize = 0;
 
@@ -99,10 +99,10 @@ pub fn number(text: &[u8]) -> usize {
     op
 }
 
-pub fn write_name(op: usize) {
+pub fn write_name(rt: &impl Print, op: usize) -> io::Result<()> {
     let letters = name(op);
     let n = line::name_end(&letters);
-    io::write_all(STDOUT_FILENO, &letters[..n]);
+    rt.write_all(&letters[..n])
 }
 
 // How many operands the operation has.

@@ -1,7 +1,7 @@
 // How many lines there were and how many agreed.
 use crate::operation;
 use crate::operation::COUNT;
-use libc::STDOUT_FILENO;
+use std::io;
 
 // How many lines that differ or are malformed are written out.
 const SHOWN: u64 = 8;
@@ -26,36 +26,42 @@ impl Tally {
     }
 
     // Counts a line of the operation, and writes it where it does not agree.
-    pub fn counted(self, op: usize, agrees: bool, text: &[u8]) -> Tally {
+    pub fn counted(
+        self,
+        rt: &impl Print,
+        op: usize,
+        agrees: bool,
+        text: &[u8],
+    ) -> io::Result<Tally> {
         if op >= COUNT {
-            return self;
+            return Ok(self);
         }
         let mut t = self;
         t.lines[op] = more(t.lines[op], 1);
         if agrees {
             t.agree[op] = more(t.agree[op], 1);
-            return t;
+            return Ok(t);
         }
-        t.show(b"differs: ", text)
+        t.show(rt, b"differs: ", text)
     }
 
-    pub fn malformed(self, text: &[u8]) -> Tally {
+    pub fn malformed(self, rt: &impl Print, text: &[u8]) -> io::Result<Tally> {
         let mut t = self;
         t.malformed = more(t.malformed, 1);
-        t.show(b"malformed: ", text)
+        t.show(rt, b"malformed: ", text)
     }
 
     // Writes a line of the input, unless enough have been written.
-    fn show(self, why: &[u8], text: &[u8]) -> Tally {
+    fn show(self, rt: &impl Print, why: &[u8], text: &[u8]) -> io::Result<Tally> {
         if self.shown >= SHOWN {
-            return self;
+            return Ok(self);
         }
-        io::write_all(STDOUT_FILENO, why);
-        io::write_all(STDOUT_FILENO, text);
-        io::write_all(STDOUT_FILENO, b"\n");
+        rt.write_all(why)?;
+        rt.write_all(text)?;
+        rt.write_all(b"\n")?;
         let mut t = self;
         t.shown += 1;
-        t
+        Ok(t)
     }
 }
 
@@ -64,33 +70,30 @@ fn more(a: u64, b: u64) -> u64 {
     if a < u64::MAX - b { a + b } else { u64::MAX }
 }
 
-fn write_counts(agree: u64, lines: u64) {
-    io::print_decimal(STDOUT_FILENO, agree);
-    io::write_all(STDOUT_FILENO, b" of ");
-    io::print_decimal(STDOUT_FILENO, lines);
-    io::write_all(STDOUT_FILENO, b" agree\n");
+fn write_counts(rt: &impl Print, agree: u64, lines: u64) -> io::Result<()> {
+    println!(rt; "{agree} of {lines} agree")
 }
 
 // Writes the counts of each operation and of all, and a complaint where there were malformed lines.
-pub fn report(t: Tally) {
+pub fn report(rt: &impl Print, t: Tally) -> io::Result<()> {
     let mut agree = 0;
     let mut lines = 0;
     let mut op = 0;
     while op < COUNT {
-        operation::write_name(op);
-        io::write_all(STDOUT_FILENO, b": ");
+        operation::write_name(rt, op)?;
+        print!(rt; ": ")?;
         let a = t.agree[op];
         let n = t.lines[op];
-        write_counts(a, n);
+        write_counts(rt, a, n)?;
         agree = more(agree, a);
         lines = more(lines, n);
         op += 1;
     }
-    io::write_all(STDOUT_FILENO, b"all: ");
-    write_counts(agree, lines);
+    print!(rt; "all: ")?;
+    write_counts(rt, agree, lines)?;
     if t.malformed > 0 {
-        io::write_all(STDOUT_FILENO, b"malformed lines: ");
-        io::print_decimal(STDOUT_FILENO, t.malformed);
-        io::write_all(STDOUT_FILENO, b"\n");
+        let malformed = t.malformed;
+        println!(rt; "malformed lines: {malformed}")?;
     }
+    Ok(())
 }

@@ -1,3 +1,0 @@
--- Laws of what is lent from a local.
-pub mod Arrays
-pub mod Loans
