@@ -17,7 +17,7 @@ use Rattle.mesh.proofs.Sizes.{count_mono}
 use Rattle.mesh.proofs.Kept.{held}
 use Rattle.mesh.proofs.Totals.{kept-total_le}
 use Rattle.rows.specs.Rows.{Rows, Row, scalar, repulsive, mesh}
-use Rattle.settling.specs.Gradient.{all_repulsive, gradient, comparisons}
+use Rattle.settling.specs.Gradient.{all_repulsive, comparisons}
 use Rattle.settling.specs.Settling.{by_gradient, verdict, verdict_of, verdicts, drops, settled_slice, from_level, comparisons_for, comparisons_in, atom_verdict, atom_verdict_of, atom_level}
 use Rattle.builder.specs.BuilderLists.{BuilderLists, slab, slice_at}
 use Rattle.builder.specs.Calls.{settled_values, settled_lists, SettleOut, settle_accepted}

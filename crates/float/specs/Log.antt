@@ -1,5 +1,5 @@
 -- The logarithm, by the document's own steps, each rounded once. The numbers in hexadecimal are bit patterns.
-use Rattle.std.specs.Prelude.{ℕ, zero, suc, ◌+◌, ◌-◌, true, false, cond, List, [], ◌∷◌, ℤ, pos, ◌+ℤ◌, neg_ℤ, Float}
+use Rattle.std.specs.Prelude.{ℕ, zero, suc, ◌+◌, ◌-◌, true, false, cond, List, [], ◌∷◌, pos, ◌+ℤ◌, neg_ℤ, Float}
 use Rattle.std.specs.Float.{nan, inf, fin, binary64}
 use Rattle.std.specs.Float.Ieee.{size, add, sub, mul, div, lt, of_int}
 use Rattle.float.specs.Exp.{bits, horner, H, W}

@@ -12,7 +12,7 @@ use Rattle.mesh.specs.declared.Face.{Face}
 use Rattle.search.specs.declared.Weights.{Weights}
 use Rattle.table.specs.Bytes.{number_at}
 use Rattle.reading.specs.Resolve.{ReadingValues, reading_values, plain, widened}
-use Rattle.reading.specs.Internal.{PlaceInside, RowInside, face_terms, staged_with, finished, StagedInside, Ready}
+use Rattle.reading.specs.Internal.{PlaceInside, RowInside, face_terms, staged_with, finished, Ready}
 use Rattle.reading.specs.declared.Reading.{Reading}
 use Rattle.reading.specs.declared.Reading.TheVariants.{Energy}
 use Rattle.reading.specs.declared.Staged.{Staged}

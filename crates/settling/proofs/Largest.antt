@@ -1,5 +1,5 @@
 -- The largest of numbers that are not below +0 does not depend on their order. Assumes nothing.
-use Rattle.std.proofs.Common.{◌≡◌, ◌-◌, ◌*◌, ◌^◌, Bool, true, false, cond, T, sym, refl, ap, ◌∙◌, true≢false, arith, ltb-false}
+use Rattle.std.proofs.Common.{◌≡◌, ◌*◌, ◌^◌, Bool, true, false, cond, T, sym, refl, ap, ◌∙◌, true≢false, arith, ltb-false}
 use lib.Ieee.{Float, nan, inf, fin, binary64, up, down, low, lt, is_nan, fits}
 use lib.Ieee.Fits.{down_pos}
 use Rattle.float.specs.Order.{farther, larger}

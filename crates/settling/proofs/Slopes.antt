@@ -1,5 +1,5 @@
 -- The gradient along columns and rows is that of `compute_gradient`. Assumes nothing.
-use Rattle.std.proofs.Common.{◌≡◌, ℕ, zero as none, suc, ◌+◌, ◌*◌, ◌<◌, ◌≤◌, Bool, true, false, cond, T, eqb, ◌⊎◌, List, [], ◌∷◌, map, length, get_or, take, sym, refl, ap, ◌∙◌, inl, inr, true≢false, mul_comm, add_comm, one-mul, arith, length-take, get_or-take, le-ltb, lt-ltb}
+use Rattle.std.proofs.Common.{◌≡◌, ℕ, zero as none, suc, ◌+◌, ◌*◌, ◌<◌, ◌≤◌, Bool, true, false, cond, T, eqb, ◌⊎◌, List, [], ◌∷◌, map, get_or, take, sym, refl, ap, ◌∙◌, inl, inr, true≢false, mul_comm, add_comm, one-mul, arith, length-take, get_or-take, le-ltb, lt-ltb}
 use Rattle.lists.proofs.Counting.{chosen}
 use lib.ListN.{length-map, get_or-eq_default}
 use lib.Ieee.{Float, nan, inf, fin, binary64, up, down, round, of_bits, neg, sub, mul, div, lt, is_nan}

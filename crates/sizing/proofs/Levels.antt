@@ -1,6 +1,6 @@
 -- A number for each level: a turn of the loop that writes them, and one of them. Assumes nothing.
 use mathlib.Core.Path.{◌≡◌, refl, sym, ap, ◌∙◌, fun_ext}
-use mathlib.Core.List.{List, [], ◌∷◌, ◌++◌}
+use mathlib.Core.List.{List, [], ◌∷◌}
 use mathlib.Core.Logic.{⊎_elim}
 use Prim.Native.Nat.{ℕ, zero, suc, ◌+◌, ◌*◌, ◌≤◌, ◌<◌}
 use native.Mathlib.Nat.{eq-or-lt_of_le, le_of_suc-le-suc}
@@ -8,7 +8,7 @@ use native.Mathlib.Numerals.{add-one}
 use native.Mathlib.Omega.{arith}
 use lib.ListN.{length, set, get_or, replicate, length-replicate}
 use lib.Seq.{get_or-set_same, get_or-set_other}
-use Rattle.lists.specs.Lists.{sum, joined, put}
+use Rattle.lists.specs.Lists.{joined}
 use Rattle.lists.proofs.Sums.{sum_le, sum_const}
 use Rattle.lists.proofs.Written.{put_push, put_nil, length-put, length-joined, joined-more}
 use Rattle.mesh.specs.Levels.{vertex_count, vertices_below}

@@ -1,5 +1,5 @@
 -- What the loose reader's questions, answered yes, say of a file; and its outcome by the answers. Assumes nothing.
-use mathlib.Core.Path.{◌≡◌, refl, sym, ap, ◌∙◌}
+use mathlib.Core.Path.{◌≡◌, refl, sym}
 use mathlib.Core.Bool.{Bool, true, false, and-eq-true_iff}
 use mathlib.Core.List.{List, [], ◌∷◌}
 use Prim.Native.Nat.{ℕ, ◌+◌, ◌*◌, ◌<◌}
@@ -11,7 +11,7 @@ use Rattle.lists.proofs.Counting.{all_at}
 use Rattle.mesh.specs.Levels.{vertex_count, per}
 use Rattle.table.specs.Bytes.{number_at}
 use Rattle.table.specs.File.{Entry}
-use Rattle.table.specs.Read.{layout, table_laid_out, table_of, row_items, table_valid, entry_valid, grid_valid, read_values}
+use Rattle.table.specs.Read.{layout, table_laid_out, table_of, table_valid, entry_valid, grid_valid, read_values}
 use Rattle.table.specs.Checks.{slab_checked}
 use Rattle.table.specs.Loose.{loose_refusal, loose_out}
 use Rattle.table.specs.Internal.{ends_below, loose_question}

@@ -5,7 +5,7 @@ use mathlib.Core.List.{List, [], ◌∷◌, ◌++◌, append_assoc}
 use mathlib.Core.Logic.{⊎_elim}
 use Prim.Native.Nat.{ℕ, ◌+◌, ◌*◌, ◌^◌, ◌≤◌, ◌<◌}
 use native.Mathlib.Omega.{arith}
-use lib.ListN.{length, take, drop, length-append}
+use lib.ListN.{length, drop, length-append}
 use lib.Seq.{take_at, drop_at, take_all}
 use lib.Dec.{T, eqb, lit<}
 use lib.Ieee.{Float, binary64, fits, to_bits, of_bits}
@@ -13,7 +13,7 @@ use lib.Ieee.Bits.{of_bits-to_bits, to_bits-lt}
 use borrow.Author.Tests.{lt-ltb, eq-eqb, ne_eqb, eqb-true, eqb-false}
 use Rattle.ieee.proofs.Pack.{le_or_lt}
 use Rattle.rows.specs.Rows.{Row}
-use Rattle.table.specs.Bytes.{bytes_of, number_of, number_at, section, items}
+use Rattle.table.specs.Bytes.{bytes_of, number_at, section, items}
 use Rattle.table.specs.Tail.{Term, Tail, no_tail, term_bytes, term_of, sixth, tail_bytes, tail_size, tail_valid}
 use Rattle.table.specs.File.{sections_of}
 use Rattle.table.specs.Read.{count_at, layout, ended, tail_at, f64_at}

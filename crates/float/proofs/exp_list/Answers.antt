@@ -1,4 +1,4 @@
-use Rattle.std.proofs.Common.{◌-◌, sym, refl, ◌∙◌, arith, length-set, rules}
+use Rattle.std.proofs.Common.{sym, refl, ◌∙◌, arith, length-set, rules}
 use lib.Ieee.{nan}
 use Rattle.lists.proofs.Loops.{map_turn, map_end}
 use Rattle.float.specs.Exp.{exponential}

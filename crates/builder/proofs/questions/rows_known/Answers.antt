@@ -1,6 +1,5 @@
 use mathlib.Core.Path.{◌≡◌, refl, sym}
-use mathlib.Core.Bool.{true}
-use Prim.Native.Nat.{◌+◌, ◌-◌}
+use Prim.Native.Nat.{◌+◌}
 use native.Mathlib.Omega.{arith}
 use Rattle.lists.specs.Lists.{all_up_to}
 use Rattle.lists.proofs.Counting.{all_turn, all_fails, yes, no}

@@ -1,4 +1,4 @@
-use Rattle.std.proofs.Common.{◌≡◌, ◌-◌, ◌*◌, ◌%◌, ◌^◌, ◌<◌, ◌≤◌, sym, subst, lt_of_lt_of_le, lt_of_le_of_lt, mod-eq_of_lt, arith, lit<, lit≤}
+use Rattle.std.proofs.Common.{◌≡◌, ◌-◌, ◌*◌, ◌%◌, ◌^◌, sym, subst, lt_of_lt_of_le, lt_of_le_of_lt, mod-eq_of_lt, arith, lit<, lit≤}
 use lib.Count.{count_leading_zeros, leading_le}
 use Rattle.ieee.proofs.Halves.{Moved, moved, cut_normal, cut_subnormal}
 use Rattle.ieee.proofs.cases.cut_off.Goals as goal

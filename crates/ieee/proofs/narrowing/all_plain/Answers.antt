@@ -1,4 +1,4 @@
-use Rattle.std.proofs.Common.{◌-◌, refl, ◌∙◌, arith}
+use Rattle.std.proofs.Common.{refl, ◌∙◌, arith}
 use lib.Ieee.{nan}
 use Rattle.lists.proofs.Loops.{every_turn, every-all}
 use Rattle.ieee.specs.Internal.{plain}

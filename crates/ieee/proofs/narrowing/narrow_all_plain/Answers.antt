@@ -1,4 +1,4 @@
-use Rattle.std.proofs.Common.{◌-◌, List, map, sym, refl, ap, ◌∙◌, arith, length-set, take_all, rules}
+use Rattle.std.proofs.Common.{List, map, sym, refl, ap, ◌∙◌, arith, length-set, take_all, rules}
 use lib.Ieee.{Float, nan}
 use Rattle.lists.specs.Lists.{put}
 use Rattle.lists.proofs.Loops.{mapped_turn, every_at}

@@ -1,4 +1,4 @@
-use Rattle.std.proofs.Common.{◌+◌, ◌-◌, ◌/◌, arith}
+use Rattle.std.proofs.Common.{◌+◌, ◌/◌, arith}
 use Rattle.ieee.proofs.RootSteps.{at_first, lower, upper, at_last}
 use Rattle.ieee.proofs.roots.bisect.Goals as goal
 

@@ -1,10 +1,9 @@
 use mathlib.Core.Path.{refl, ◌∙◌}
-use Prim.Native.Nat.{◌-◌, ◌<◌}
+use Prim.Native.Nat.{◌<◌}
 use native.Mathlib.Nat.{mul-le-mul, mul-pos}
 use native.Mathlib.Omega.{arith}
 use lib.ListN.{length-set}
 use lib.Seq.{drop-set-lt}
-use Rattle.locator.specs.Internal.{vertex_key}
 use Rattle.locator.proofs.Keys.{one_more}
 use Rattle.locator.proofs.cells.fresh_keys.Goals as goal
 

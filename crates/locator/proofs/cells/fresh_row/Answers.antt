@@ -1,10 +1,10 @@
 use mathlib.Core.Path.{◌≡◌, sym, ◌∙◌}
-use Prim.Native.Nat.{◌-◌, ◌<◌}
+use Prim.Native.Nat.{◌<◌}
 use native.Mathlib.Nat.{mul-le-mul, mul-pos}
 use native.Mathlib.Omega.{arith}
 use Rattle.lists.specs.Lists.{filter, below}
 use Rattle.lists.proofs.Written.{nothing, kept, passed}
-use Rattle.locator.specs.Internal.{near_kept, key_row}
+use Rattle.locator.specs.Internal.{key_row}
 use Rattle.locator.proofs.Keys.{spots}
 use Rattle.locator.proofs.Rows.{front}
 use Rattle.locator.proofs.cells.fresh_row.Goals as goal

@@ -1,10 +1,10 @@
 use mathlib.Core.Path.{◌≡◌, sym, ◌∙◌}
-use Prim.Native.Nat.{◌-◌, ◌<◌}
+use Prim.Native.Nat.{◌<◌}
 use native.Mathlib.Omega.{arith}
 use lib.ListN.{length}
 use Rattle.lists.specs.Lists.{filter}
 use Rattle.lists.proofs.Written.{nothing}
-use Rattle.locator.specs.Internal.{near_kept, in_column}
+use Rattle.locator.specs.Internal.{in_column}
 use Rattle.locator.proofs.Rows.{entry-below, entry_fits, entry_kept, entry_passed}
 use Rattle.locator.proofs.cells.put_cell.Goals as goal
 use Rattle.locator.proofs.cells.put_cell.Goals.{Then-near_kept, then-near_kept, else-near_kept}

@@ -1,6 +1,6 @@
 use mathlib.Core.Path.{sym}
 use mathlib.Core.Bool.{and-true}
-use borrow.Author.Tests.{lt-ltb, le-ltb, not-true, not-false}
+use borrow.Author.Tests.{lt-ltb, le-ltb}
 use Rattle.mesh.specs.Internal.{links}
 use Rattle.mesh.specs.Mesh.{lists}
 use Rattle.mesh.specs.Faces.{face, is_face, has}

@@ -1,5 +1,4 @@
 use mathlib.Core.Path.{◌≡◌, refl, sym}
-use Prim.Native.Nat.{◌-◌}
 use native.Mathlib.Omega.{arith}
 use Rattle.mesh.specs.Levels.{cell_count, cell_offsets_below}
 use Rattle.lists.specs.Lists.{sum}

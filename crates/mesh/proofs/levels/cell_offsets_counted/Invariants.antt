@@ -1,7 +1,6 @@
 use mathlib.Core.Path.{◌≡◌}
 use Prim.Native.Nat.{◌-◌, ◌≤◌}
 use Rattle.mesh.specs.Levels.{cell_offsets_below}
-use Rattle.lists.specs.Lists.{sum}
 use Rattle.mesh.proofs.levels.cell_offsets_counted.Given as goal
 
 abbrev pub invariant-loop-m : goal.invariant-loop-m

@@ -1,7 +1,5 @@
 use mathlib.Core.Path.{◌≡◌, refl, sym}
-use mathlib.Core.Bool.{true}
 use mathlib.Core.List.{[]}
-use Prim.Native.Nat.{◌-◌}
 use native.Mathlib.Omega.{arith}
 use Rattle.lists.specs.Lists.{all_up_to}
 use Rattle.mesh.specs.Mesh.{angles_of, angles_kept, mesh_of}

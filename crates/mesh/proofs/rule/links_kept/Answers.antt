@@ -1,6 +1,4 @@
 use mathlib.Core.Path.{◌≡◌, refl, sym}
-use mathlib.Core.Bool.{true}
-use Prim.Native.Nat.{◌-◌}
 use native.Mathlib.Omega.{arith}
 use Rattle.lists.specs.Lists.{all_up_to}
 use Rattle.mesh.specs.Mesh.{vertex_linked, links_kept}

@@ -1,11 +1,10 @@
 use mathlib.Core.Path.{◌≡◌, refl, sym}
-use mathlib.Core.Bool.{true}
 use mathlib.Core.List.{[]}
-use Prim.Native.Nat.{suc, ◌-◌, ◌≤◌}
+use Prim.Native.Nat.{suc, ◌≤◌}
 use native.Mathlib.Omega.{arith}
 use Rattle.lists.specs.Lists.{all_up_to}
 use Rattle.mesh.specs.Levels.{vertex_count, vertices_below}
-use Rattle.mesh.specs.Mesh.{Mesh, level_part, links_kept, links_room, meshes_linked, mesh_of}
+use Rattle.mesh.specs.Mesh.{Mesh, level_part, links_kept, meshes_linked, mesh_of}
 use Rattle.mesh.proofs.Laws.{below_le}
 use Rattle.lists.proofs.Counting.{all_turn, all_fails, yes, no}
 use Rattle.mesh.proofs.Kept.{links-held}

@@ -1,5 +1,4 @@
 use mathlib.Core.Path.{sym, ◌∙◌}
-use borrow.Author.Tests.{not-true, not-false}
 use Rattle.mesh.specs.Faces.{has}
 use Rattle.mesh_search.proofs.Choices.{not_ascending, not_of, by_list}
 use Rattle.mesh_search.proofs.faces.wanted.Goals as goal

@@ -1,10 +1,8 @@
 use mathlib.Core.Path.{◌≡◌, sym, ◌∙◌}
-use mathlib.Core.Bool.{true, false, ◌&&◌}
+use mathlib.Core.Bool.{true, false}
 use Prim.Native.Nat.{◌+◌, ◌≤◌}
 use native.Mathlib.Omega.{arith}
 use lib.ListN.{length}
-use lib.Ieee.{binary64, of_bits, lt}
-use borrow.Author.Tests.{not-true, not-false}
 use Rattle.lists.proofs.Counting.{yes, no}
 use Rattle.grid.specs.Settings.{above}
 use Rattle.search.specs.Search.{Locator, locator_of}

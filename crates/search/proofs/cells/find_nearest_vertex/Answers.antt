@@ -1,6 +1,5 @@
 use mathlib.Core.Path.{sym, ◌∙◌}
 use native.Mathlib.Omega.{arith}
-use borrow.Author.Tests.{not-true, not-false}
 use Rattle.mesh.specs.Levels.{vertex_count, grid_size}
 use Rattle.search.proofs.Laws.{Held, held, cell_not_held, cell-held}
 use Rattle.search.proofs.cells.find_nearest_vertex.Goals as goal

@@ -1,7 +1,6 @@
 use mathlib.Core.Path.{sym, ◌∙◌}
 use native.Mathlib.Omega.{arith}
 use lib.ListN.{length-take, length-drop}
-use borrow.Author.Tests.{not-true, not-false}
 use Rattle.mesh.specs.Levels.{vertex_count, grid_size}
 use Rattle.search.specs.Search.{Locator, locator_of}
 use Rattle.search.proofs.Laws.{Held, held, none-near, faces_not_held, faces-held}

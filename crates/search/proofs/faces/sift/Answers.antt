@@ -1,9 +1,8 @@
 use mathlib.Core.Path.{◌≡◌, refl, sym, ◌∙◌}
 use mathlib.Core.Bool.{◌&&◌, and-eq-true_iff}
-use Prim.Native.Nat.{◌-◌}
 use native.Mathlib.Omega.{arith}
 use lib.Dec.{ltb}
-use borrow.Author.Tests.{ltb-true, not-true, not-false}
+use borrow.Author.Tests.{ltb-true}
 use Rattle.search.proofs.Laws.{inside}
 use Rattle.search.proofs.Nearness.{below_limit}
 use Rattle.search.proofs.Sifting.{sift_turn, sift_stop, sift_end}

@@ -2,7 +2,6 @@ use mathlib.Core.Path.{sym}
 use mathlib.Core.Bool.{Bool, and-false, and-true}
 use lib.Dec.{T}
 use lib.Ieee.{binary64, of_bits, fits, neg, le}
-use borrow.Author.Tests.{not-true, not-false}
 use denote.Floats.{passes}
 use Rattle.ieee.specs.Fused.{fused}
 use Rattle.search.specs.Geometry.{zero}

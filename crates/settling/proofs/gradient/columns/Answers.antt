@@ -1,4 +1,4 @@
-use Rattle.std.proofs.Common.{◌≡◌, ◌-◌, [], refl, ◌∙◌, arith}
+use Rattle.std.proofs.Common.{◌≡◌, [], refl, ◌∙◌, arith}
 use Rattle.mesh.specs.Mesh.{mesh_of}
 use Rattle.settling.specs.Internal.{column_gradient}
 use Rattle.settling.proofs.Numbers.{columns-number, columns-one}

@@ -1,4 +1,4 @@
-use Rattle.std.proofs.Common.{◌≡◌, ◌-◌, sym, refl, ◌∙◌, arith, length-set, rules}
+use Rattle.std.proofs.Common.{◌≡◌, sym, refl, ◌∙◌, arith, length-set, rules}
 use lib.Ieee.{binary64, mul, neg}
 use Rattle.lists.proofs.Written.{put_nil}
 use Rattle.settling.specs.Internal.{line_of}

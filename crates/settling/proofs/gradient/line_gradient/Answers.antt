@@ -1,4 +1,4 @@
-use Rattle.std.proofs.Common.{◌≡◌, ◌-◌, refl, ◌∙◌, arith, rules}
+use Rattle.std.proofs.Common.{◌≡◌, refl, ◌∙◌, arith, rules}
 use Rattle.lists.specs.Lists.{for_each}
 use Rattle.settling.specs.Internal.{line_gradient}
 use Rattle.lists.proofs.Loops.{each_turn}

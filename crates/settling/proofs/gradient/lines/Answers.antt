@@ -1,4 +1,4 @@
-use Rattle.std.proofs.Common.{◌≡◌, ◌-◌, ◌*◌, ◌≤◌, [], refl, ◌∙◌, mul-le-mul, arith, rules}
+use Rattle.std.proofs.Common.{◌≡◌, ◌*◌, ◌≤◌, [], refl, ◌∙◌, mul-le-mul, arith, rules}
 use Rattle.mesh.specs.Mesh.{mesh_of}
 use Rattle.lists.specs.Lists.{for_each}
 use Rattle.settling.specs.Internal.{line_weights, lines_gradient}

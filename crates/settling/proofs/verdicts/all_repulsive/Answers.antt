@@ -1,4 +1,4 @@
-use Rattle.std.proofs.Common.{◌-◌, sym, refl, ◌∙◌, arith}
+use Rattle.std.proofs.Common.{sym, refl, ◌∙◌, arith}
 use Rattle.lists.proofs.Counting.{yes, no}
 use lib.Ieee.{nan}
 use Rattle.settling.specs.Gradient.{repulsive, all_repulsive}

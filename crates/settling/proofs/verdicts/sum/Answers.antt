@@ -1,4 +1,4 @@
-use Rattle.std.proofs.Common.{◌-◌, sym, refl, ◌∙◌, arith}
+use Rattle.std.proofs.Common.{sym, refl, ◌∙◌, arith}
 use lib.Ieee.{of_bits, neg}
 use Rattle.settling.proofs.Sums.{sum_turn, sum_end}
 use Rattle.settling.proofs.verdicts.sum.Goals as goal

@@ -1,7 +1,6 @@
 use mathlib.Core.Path.{◌≡◌, ◌∙◌}
 use Prim.Native.Nat.{◌+◌, ◌-◌, ◌*◌, ◌/◌, ◌%◌}
 use native.Mathlib.Omega.{arith}
-use lib.Ieee.{nan_bits}
 use Rattle.table.specs.Bytes.{number_of, number_at}
 use Rattle.table.proofs.Items.{every_one, every_two, every-none}
 use Rattle.table.proofs.questions.energies_valid.Goals as goal
