@@ -19,6 +19,7 @@ pub mod AtomEnds
 pub mod AtomTheorem
 pub mod Sets
 pub mod Runs
+pub mod Moved
 pub mod Order
 pub mod Longest
 pub mod AtomLongest

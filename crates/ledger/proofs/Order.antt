@@ -16,6 +16,7 @@ use Rattle.ledger.specs.Ledger.{Call, set_call, settle_call, write_call, State, 
 use Rattle.ledger.specs.Promise.{History, ended, last_write, file}
 use Rattle.ledger.specs.Replies.{Reply, number, replied, replies, begun}
 use Rattle.ledger.specs.Order.{Reordered, nothing, same, exchanged, then, moved, accepted_in, once, with_calls, AnyOrder, Later}
+use Rattle.ledger.proofs.Moved.{moved-many, accepted_moved}
 use Rattle.ledger.proofs.Sets.{taken, accepted_number, replied-after, called_again, called_comm}
 
 -- ---- an answer for each call
@@ -25,16 +26,6 @@ unfolding replies
 replies-many m st [] = refl
 replies-many m st (c ∷ cs) = ap suc (replies-many m (called m st c) cs)
 
-moved-many : {A : Type 0} {cs ds : List Call} (p : Reordered cs ds) (xs : List A) → length cs ≡ length xs → length ds ≡ length (moved p xs)
-unfolding moved
-moved-many nothing xs h = h
-moved-many (same p) [] h = absurd (omega arith)
-moved-many (same p) (x ∷ xs) h = ap suc (moved-many p xs (omega arith))
-moved-many exchanged [] h = absurd (omega arith)
-moved-many exchanged (x ∷ []) h = absurd (omega arith)
-moved-many exchanged (x ∷ y ∷ xs) h = h
-moved-many (then p q) xs h = moved-many q (moved p xs) (moved-many p xs h)
-
 -- ---- what is accepted in a run does not depend on its order
 
 eqb_comm : (a b : ℕ) → eqb a b ≡ eqb b a
@@ -43,24 +34,6 @@ eqb_comm a b = by (eqb a b) refl
     by : (x : Bool) → eqb a b ≡ x → eqb a b ≡ eqb b a
     by true d = d ∙ sym (eq-eqb b a (sym (eqb-true a b d)))
     by false d = d ∙ sym (ne_eqb b a (λ q. eqb-false a b d (sym q)))
-
-or_exchanged : (a b c : Bool) → a || (b || c) ≡ b || (a || c)
-or_exchanged true true c = refl
-or_exchanged true false c = refl
-or_exchanged false b c = refl
-
-accepted_moved : {cs ds : List Call} (p : Reordered cs ds) (ri oi : ℕ) (rs : List Reply) → length cs ≡ length rs → accepted_in ri oi ds (moved p rs) ≡ accepted_in ri oi cs rs
-unfolding moved accepted_in
-accepted_moved nothing ri oi rs h = refl
-accepted_moved (same p) ri oi [] h = absurd (omega arith)
-accepted_moved (same {c = set_call rj oj e} p) ri oi (r ∷ rs) h = rw (accepted_moved p ri oi rs (omega arith)) refl
-accepted_moved (same {c = settle_call rj} p) ri oi (r ∷ rs) h = refl
-accepted_moved (same {c = write_call t out} p) ri oi (r ∷ rs) h = refl
-accepted_moved exchanged ri oi [] h = absurd (omega arith)
-accepted_moved exchanged ri oi (x ∷ []) h = absurd (omega arith)
-accepted_moved (exchanged {ri = rj} {oi = oj} {rj = rk} {oj = ok} {cs = cs}) ri oi (x ∷ y ∷ rs) h =
-    or_exchanged (eqb (number y) 0 && (eqb ri rk && eqb oi ok)) (eqb (number x) 0 && (eqb ri rj && eqb oi oj)) (accepted_in ri oi cs rs)
-accepted_moved (then p q) ri oi rs h = accepted_moved q ri oi (moved p rs) (moved-many p rs h) ∙ accepted_moved p ri oi rs h
 
 -- of two sets: accepted or not, of one slab or not, accepted again later or not, and the rest
 once-exchanged : (a b e c d o : Bool) → not (b && ((a && e) || d)) && (not (a && c) && o) ≡ not (a && ((b && e) || c)) && (not (b && d) && o)
