@@ -7,7 +7,7 @@ from wrong import Wrong
 
 PAGE = 'docs/PROMISE.md'
 # words of the page that are of C, of the compiler or of a host
-OTHERS = {'%', 'fmod', '-ffast-math', 'icotable_float_environment()'}
+OTHERS = {'memcpy', 'memset', '-ffast-math', 'icotable_float_environment()'}
 WORD = re.compile(r'`([^`\n]+)`')
 # `crate` proofs/File
 PLACE = re.compile(r'`\w+`\s+(proofs|specs)/(\w+)')

@@ -61,7 +61,7 @@ class Graph:
         source = found.source
         reader = Reader(self.lent(source))
         for text in found.types:
-            for word in re.findall(r"'?[A-Za-z_][\w:]*", text):
+            for word in re.findall(r"(?<!\w)'?[A-Za-z_][\w:]*", text):
                 item = word[0] != "'" and word not in ('mut',) and self.tree.typed(source, word.split('::'), found.where())
                 if item:
                     reader.named.append((word.split('::')[-1], item))
