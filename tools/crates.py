@@ -1,4 +1,4 @@
-"""What crates.txt says, and sums of what a crate is proved from. Read by hosts/c/prove and tests/edits/run."""
+"""What crates.txt says, and sums of what a crate is proved from. Read by hosts/c/prove, tools/layers and tests/edits/run."""
 import hashlib
 import os
 import subprocess
@@ -6,15 +6,18 @@ import subprocess
 PROVED_FROM = ("src", "specs", "proofs")
 
 
+def line_of(text):
+    """A line of crates.txt: the crate's name, whether it is a static library, and what it depends on; else None."""
+    head, colon, rest = text.split("#")[0].partition(":")
+    name, *words = head.split() or [""]
+    return (name, "staticlib" in words, rest.split()) if colon else None
+
+
 def listed():
     """What each crate of crates.txt depends on, the kit's libraries among it."""
-    needs = {}
     with open("crates.txt", encoding="utf8") as lines:
-        for line in lines:
-            name, colon, rest = line.split("#")[0].partition(":")
-            if colon:
-                needs[name.strip()] = rest.split()
-    return needs
+        found = [line_of(line) for line in lines]
+    return {name: needs for name, _, needs in filter(None, found)}
 
 
 def reached(needs, name):

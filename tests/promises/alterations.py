@@ -22,25 +22,25 @@ from wrong import Wrong  # noqa: E402
 
 # what moves: what it is, the file, the old and the new text, and the declaration that is altered
 MOVES = [
-    ('an operand of a contract', 'crates/icotable/src/lib.rt', '(now (words .entry))) ri oi (now (energies',
-     '(now (words .entry))) oi ri (now (energies', 'fn icotable_set'),
+    ('an operand of a contract', 'crates/icotable/src/lib.rt', 'store.old words.old) ri oi energies',
+     'store.old words.old) oi ri energies', 'fn icotable_set'),
     ('the parameters of a contract', 'crates/float_c/src/lib.rt', 'fn float_mul_add(a: f64, b: f64,',
      'fn float_mul_add(b: f64, a: f64,', 'fn float_mul_add'),
-    ('a body two levels below', 'crates/grid/specs/Settings.antt', 'slabsFit n m top = leb (n * m * per top) 4294967295',
-     'slabsFit n m top = leb (n * m * per top) 4294967294', 'slabsFit'),
+    ('a body two levels below', 'crates/grid/specs/Settings.antt', 'slabs_fit n m top = leb (n * m * per top) 4294967295',
+     'slabs_fit n m top = leb (n * m * per top) 4294967294', 'slabs_fit'),
     ('a body deep below', 'crates/lists/specs/Questions.antt', 'ask q n rest = cond q rest n',
      'ask q n rest = cond q n rest', 'ask'),
-    ('a type', 'crates/grid/specs/Bins.antt', 'tableRmax : ℕ → Float → Float → Float',
-     'tableRmax : ℕ → Float → Float → ℕ', 'tableRmax'),
+    ('a type', 'crates/grid/specs/Bins.antt', 'table_rmax : ℕ → Float → Float → Float',
+     'table_rmax : ℕ → Float → Float → ℕ', 'table_rmax'),
     ("a struct's field", 'crates/builder/src/lib.rt', '    pub level: u64,', '    pub level: u32,', 'Builder'),
     ("an enum's variant", 'crates/writer/src/lib.rt', '    Accepted(u64),', '    Accepted(u32),', 'Written'),
     ('a constant', 'crates/float/specs/Exp.antt', 'H = 0x3FE6_2E42_FEE0_0000', 'H = 0x3FE6_2E42_FEE0_0001', 'H'),
-    ("a record's field", 'crates/ledger/specs/Promise.antt', '  pub levels : suc (a .top) ≡ suc (b .top)',
-     '  pub levels : a .top ≡ suc (b .top)', 'Same'),
-    ("a law's type", 'crates/grid/proofs/Rises.antt', 'pub bins-rise : (x y rmin dr : Float)',
-     'pub bins-rise : (y x rmin dr : Float)', 'bins-rise'),
+    ("a record's field", 'crates/ledger/specs/Promise.antt', '  pub levels : suc a.top ≡ suc b.top',
+     '  pub levels : a.top ≡ suc b.top', 'Same'),
+    ("a law's type", 'crates/grid/proofs/Rises.antt', 'pub bins_rise : (x y rmin dr : Float)',
+     'pub bins_rise : (y x rmin dr : Float)', 'bins_rise'),
     ('two names exchanged', 'crates/builder/specs/Calls.antt', '{Accepted as Builds, Refused as NotBuilt}',
-     '{Accepted as NotBuilt, Refused as Builds}', 'builtValues'),
+     '{Accepted as NotBuilt, Refused as Builds}', 'built_values'),
 ]
 # what does not move
 STAYS = [
@@ -50,39 +50,39 @@ STAYS = [
      '-- 22 was put to its tail'),
     ("a private function's body", 'crates/icotable/src/lib.rt', 'Built::Accepted(builder) => BuildAnswer { number: 0,',
      'Built::Accepted(builder) => BuildAnswer { number: 1,'),
-    ("a private function's contract", 'crates/icotable/src/lib.rt', 'λ r. ⌜ r ≡ noBuilder .grid ⌝',
-     'λ r. ⌜ noBuilder .grid ≡ r ⌝'),
-    ('a mark', 'crates/grid/specs/Settings.antt', 'unfoldable pub slabsFit :', 'abbrev pub slabsFit :'),
+    ("a private function's contract", 'crates/icotable/src/lib.rt', 'result ≡ no_builder.grid',
+     'no_builder.grid ≡ result'),
+    ('a mark', 'crates/grid/specs/Settings.antt', 'unfoldable pub slabs_fit :', 'abbrev pub slabs_fit :'),
     ('what unfolds', 'crates/grid/specs/Settings.antt', 'unfolding above lt\n', 'unfolding lt\n'),
     ('the order of use lines', 'crates/grid/specs/Settings.antt',
-     'use lib.Dec.{leb, eqb}\nuse lib.Ieee.{Float, binary64, ofBits, lt}\n',
-     'use lib.Ieee.{lt, Float, binary64, ofBits}\nuse lib.Dec.{eqb, leb}\n'),
+     'use Rattle.std.specs.Float.{binary64}\nuse Rattle.std.specs.Float.Ieee.{of_bits, lt}\n',
+     'use Rattle.std.specs.Float.Ieee.{lt, of_bits}\nuse Rattle.std.specs.Float.{binary64}\n'),
 ]
 # what is an error, and what its message has to have
 FAILS = [
-    ('a name in a body', 'crates/grid/specs/Settings.antt', 'slabsFit n m top = leb (n', 'slabsFit n m top = lebb (n',
+    ('a name in a body', 'crates/grid/specs/Settings.antt', 'slabs_fit n m top = leb (n', 'slabs_fit n m top = lebb (n',
      r'crates/grid/specs/Settings\.antt:\d+: `lebb`'),
-    ('a name in a contract', 'crates/float_c/src/lib.rt', 'r ≡ root x', 'r ≡ rot x',
+    ('a name in a contract', 'crates/float_c/src/lib.rt', 'result ≡ root x', 'result ≡ rot x',
      r'crates/float_c/src/lib\.rt:\d+: `rot`'),
-    ('a name that a use line no longer brings', 'crates/grid/specs/Settings.antt', 'use lib.Dec.{leb, eqb}',
-     'use lib.Dec.{leb}', r'crates/grid/specs/Settings\.antt:\d+: `eqb`'),
+    ('a name that a use line no longer brings', 'crates/grid/specs/Settings.antt', 'not, ◌&&◌, leb, eqb, Float}',
+     'not, ◌&&◌, leb, Float}', r'crates/grid/specs/Settings\.antt:\d+: `eqb`'),
     ('a use line that names nothing', 'crates/grid/specs/Settings.antt', 'Questions.{ask}', 'Questions.{aks as ask}',
      r'crates/grid/specs/Settings\.antt:\d+: no `aks` in crates/lists/specs/Questions\.antt'),
-    ('a field', 'crates/grid/specs/Settings.antt', 'ownCount (g .«n_r») (g .dr) (g .rmin)) 4',
-     'ownCount (g .«n_r») (g .drr) (g .rmin)) 4', r'crates/grid/specs/Settings\.antt:\d+: `\.drr`'),
-    ('a literal', 'crates/builder/specs/Calls.antt', 'builtValues kept (Builds b) = record { number = 0; builder = b }',
-     'builtValues kept (Builds b) = record { number = 0 }', r'crates/builder/specs/Calls\.antt:\d+: a record with the '),
+    ('a field', 'crates/grid/specs/Settings.antt', 'own_count g.n_r g.dr g.rmin) 4',
+     'own_count g.n_r g.drr g.rmin) 4', r'crates/grid/specs/Settings\.antt:\d+: `\.drr`'),
+    ('a literal', 'crates/builder/specs/Calls.antt', 'built_values kept (Builds b) = record { number = 0; builder = b }',
+     'built_values kept (Builds b) = record { number = 0 }', r'crates/builder/specs/Calls\.antt:\d+: a record with the '),
     ('a type of Rattle', 'crates/builder/src/lib.rt', '    pub packed: u64,', '    pub packed: Packed,',
      r'crates/builder/src/lib\.rt:\d+: `Packed`'),
-    ('a form that is not read', 'crates/grid/specs/Settings.antt', 'slabsFit n m top = leb', 'slabsFit n m top = do leb',
+    ('a form that is not read', 'crates/grid/specs/Settings.antt', 'slabs_fit n m top = leb', 'slabs_fit n m top = do leb',
      r'crates/grid/specs/Settings\.antt:\d+: `do` is not read'),
-    ('a word of the page', 'docs/PROMISE.md', '**`any-order`**', '**`any-ordre`**', r'docs/PROMISE\.md:\d+: `any-ordre`'),
-    ('a place of the page', 'docs/PROMISE.md', '**`any-order`** (`ledger` proofs/Order)',
-     '**`any-order`** (`ledger` proofs/Runs)', r'docs/PROMISE\.md:\d+: `any-order` is not in ledger proofs/Runs'),
+    ('a word of the page', 'docs/PROMISE.md', '**`any_order`**', '**`any_ordre`**', r'docs/PROMISE\.md:\d+: `any_ordre`'),
+    ('a place of the page', 'docs/PROMISE.md', '**`any_order`** (`ledger` proofs/Order)',
+     '**`any_order`** (`ledger` proofs/Runs)', r'docs/PROMISE\.md:\d+: `any_order` is not in ledger proofs/Runs'),
     ('several laws of one name', 'docs/PROMISE.md', '(`once`, `ledger` specs/Order)', '(`once`)',
      r'docs/PROMISE\.md:\d+: `once` is the name of several things'),
     ('a law that the index does not list', 'docs/PROMISE.md', 'One theorem, **`promise`**',
-     'One theorem, `round-sticky`, **`promise`**', r'operations\.py: `round-sticky` is not listed'),
+     'One theorem, `round_sticky`, **`promise`**', r'operations\.py: `round_sticky` is not listed'),
 ]
 wrong = []
 
@@ -96,7 +96,7 @@ def expect(holds, message):
 def copied(folder):
     """The sources and the stored promises."""
     for name in ('crates', 'docs'):
-        shutil.copytree(os.path.join(ROOT, name), os.path.join(folder, name))
+        shutil.copytree(os.path.join(ROOT, name), os.path.join(folder, name), ignore=shutil.ignore_patterns('out'))
     shutil.copy(os.path.join(ROOT, 'crates.txt'), folder)
 
 
@@ -197,8 +197,8 @@ def checks(folder):
     expect(status == 0, 'a tree as it is stored: ' + said)
     status, said = called(folder, folder)
     expect(status == 0, 'with no kit: ' + said)
-    stored = 'docs/promises/laws/bins-rise.md'
-    with Altered(folder, stored, '→ isNan y ≡ false', '→ isNan x ≡ false'):
+    stored = 'docs/promises/laws/bins_rise.md'
+    with Altered(folder, stored, '→ is_nan y ≡ false', '→ is_nan x ≡ false'):
         status, said = called(folder)
     expect(status == 1 and stored + ': line 7 differs' in said, 'a stored line that differs: ' + said)
     os.rename(os.path.join(folder, stored), os.path.join(folder, 'docs/promises/laws/none.md'))

@@ -48,27 +48,29 @@ class Words:
     def rattle(self, file, text):
         crate = file.split('/')[1]
         self.means[file] = self.brought(text)
-        for path, name in re.findall(r'^(?:pub )?use ([\w:]+)::(\w+);', text, re.M):
-            self.means[file][name] = ('use', path.replace('crate', crate, 1).split('::')[0], name)
+        for path, names in re.findall(r'^(?:pub(?:\(crate\))? )?use (\w+)::([^;]*);', text, re.M):
+            for name in re.findall(r'\b[A-Z]\w*', names):
+                self.means[file][name] = ('use', path.replace('crate', crate, 1), name)
         for found in re.finditer(r'^(?:pub )?(?:struct|enum) (\w+)\s*(\{[^}]*\}|\([^)]*\))', text, re.M):
             self.means[file][found.group(1)] = file, found.group(1)
             self.inside[file, found.group(1)] = set(re.findall(r'\w+', found.group(2)))
-        for found in re.finditer(r'\bfn (\w+)(\([^{]*?(?:(?:ensures|requires) \{.*?⌝ \}\s*)*)\n?\{', text, re.S):
-            self.inside[file, 'fn ' + found.group(1)] = set(WORD.findall(found.group(2)))
+        for found in re.finditer(r'\bfn (\w+)(.*?)\n\}', text, re.S):
+            head = found.group(2).split('\n{')[0] if '\n{' in found.group(2) else found.group(2).split(' {')[0]
+            self.inside[file, 'fn ' + found.group(1)] = set(WORD.findall(head))
 
     @staticmethod
     def brought(text):
         """What the names of the use lines mean: a file and a name there."""
         found = {}
         for path, names in USE.findall(text):
-            crate = re.match(r'Rattle·([^·.]+)(?:·\w+)?\.(specs|proofs)\.(.*)', path)
+            crate = re.match(r'Rattle\.(\w+)\.(specs|proofs)\.(.*)', path)
             for item in names.split(','):
                 name, _, alias = item.strip().partition(' as ')
                 if crate and not crate.group(3).startswith('declared.'):
                     home = 'crates/%s/%s/%s.antt' % (crate.group(1), crate.group(2), crate.group(3).replace('.', '/'))
                     found[alias or name] = home, name
                 elif crate:
-                    parts = [part for part in crate.group(3).split('.')[1:] if part != 'the-variants']
+                    parts = [part for part in crate.group(3).split('.')[1:] if part != 'TheVariants']
                     found[alias or name] = 'use', crate.group(1), parts[-1]
         return found
 
@@ -89,7 +91,7 @@ class Words:
             file, name = left.pop()
             means = self.means[file]
             for word in self.inside[file, name]:
-                for spelled in [word] + [one for one in means if '_' in one and word in one.split('_')]:
+                for spelled in [word] + [one for one in means if '◌' in one and word in one.split('◌')]:
                     target = spelled in means and self.target(means[spelled])
                     if target and target not in found:
                         found.add(target)

@@ -6,9 +6,9 @@ from wrong import Wrong
 
 MARKS = re.compile(r'^(\s*)((?:(?:unfoldable|abbrev|pub|axiom) )*)')
 SHAPES = 'data', 'record'
-# chunks that declare nothing: fixity, and what proofs hand to tactics
-ASIDE = 'infix', 'infixl', 'infixr', 'ruleset'
-UNREAD = 'open', 'mutual', 'deriving'
+# chunks that declare nothing: fixity, what proofs hand to tactics, and names of a parameter's fields
+ASIDE = 'infix', 'infixl', 'infixr', 'ruleset', 'open'
+UNREAD = 'mutual', 'deriving'
 SIGNATURE = re.compile(r'\s*(«[^»]*»|[^\s(){}.;,@"«»]+)( \{[^:}]*\})? :( |$)')
 
 

@@ -19,9 +19,10 @@ lines; half of the files have fewer than %(middle)s.
 
 ## How to read a file
 
-- A contract is `ensures { λ r. ⌜ .. ⌝ }`: what is between the corners holds of the result r, whatever the arguments.
-  `now (x .entry)` is what the lent list or struct x holds when the call begins, `now (x .exit)` what it holds when the
-  call has returned. No contract here has a condition that the caller must meet.
+- A contract is `ensures { .. }`: what is between the brackets holds of the `result`, whatever the arguments. Of a list
+  or struct x that is lent to be read `x.now` is what it holds; of one that is lent to be written `x.old` is what it
+  holds when the call begins, `x.new` what it holds when the call has returned. A word behind `ensures` names the
+  clause. No contract here has a condition that the caller must meet.
 - A law is a name and its type. The type is the statement; the proof is not shown.
 - The definitions come by file, a file before those that it uses, and in a file each definition before those that it
   uses. A heading says where they are: `` `grid` specs/Settings `` is crates/grid/specs/Settings.antt, and
@@ -36,7 +37,7 @@ lines; half of the files have fewer than %(middle)s.
 
 ## The boundary
 
-The kit is the boundary: its prelude, its libraries (`Prim`, `mathlib`, `lib`) and its logic. A file ends with the names
+The kit is the boundary: its prelude, its libraries (`Prim`, `Rattle.std`) and its logic. A file ends with the names
 that it takes from there, by their paths, without their text. They are those of this kit:
 
     %(kit)s

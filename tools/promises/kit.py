@@ -6,18 +6,14 @@ NOTATION = set('→ × = : _ | ↦'.split())
 FORMS = set('λ let in record Type'.split())
 # the names of the prelude that are open in every file
 PRELUDE = {
-    '⊥': 'Prim.⊥', 'Unit': 'Prim.Unit', 'tt': 'Prim.tt', '¬': 'Prim.¬_', '¬_': 'Prim.¬_', 'absurd': 'Prim.absurd',
+    '⊥': 'Prim.⊥', 'Unit': 'Prim.Unit', 'tt': 'Prim.tt', '¬': 'Prim.¬◌', '¬◌': 'Prim.¬◌', 'absurd': 'Prim.absurd',
 }
-# what every clause of a contract is lent
-CLAUSE = {'⌜': 'the logic: ⌜_⌝', '⌝': 'the logic: ⌜_⌝', 'now': 'denote.Ref.now'}
-# fields of the kit's records: a lent parameter is a pair of two moments, and a tuple's fields are numbers
-FIELDS = {'entry', 'exit'}
+# what a clause of a contract calls the value that the call gives back
+RESULT = 'result'
+# fields of the kit's records: a lent parameter has its value now, or one before the call and one after it; a tuple's
+# fields are numbers
+FIELDS = {'now', 'old', 'new'}
 # of the kit's names, those that a pattern takes apart; any other that a pattern writes is an error
-CONSTRUCTORS = {
-    'Prim.Native.Nat.zero', 'Prim.Native.Nat.suc',
-    'mathlib.Core.Bool.true', 'mathlib.Core.Bool.false',
-    'mathlib.Core.List.[]', 'mathlib.Core.List._∷_', 'mathlib.Core.Option.none', 'mathlib.Core.Option.some',
-    'lib.Ieee.nan', 'lib.Ieee.inf', 'lib.Ieee.fin', 'lib.IntN.pos', 'lib.IntN.negsuc',
-}
+CONSTRUCTORS = set('zero suc true false [] ◌∷◌ none some nan inf fin pos negsuc'.split())
 # .. and those that a pattern may bind anew, as they are no constructors
 HIDDEN = set()

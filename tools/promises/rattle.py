@@ -20,6 +20,24 @@ def closing(text, start, file):
     raise Wrong(file, 'a bracket is not closed: %s' % text[start:start + 40])
 
 
+def imported(tree, before):
+    """What a `use` line brings, by name: A::B and A::{B, C::D}."""
+    path, _, inside = tree.partition('{')
+    parts = before + [part for part in path.split('::') if part]
+    if not inside:
+        return {parts[-1]: parts}
+    found, depth, names = {}, 0, ['']
+    for sign in inside[:-1]:
+        depth += (sign == '{') - (sign == '}')
+        if sign == ',' and depth == 0:
+            names.append('')
+        else:
+            names[-1] += sign
+    for name in filter(None, names):
+        found.update(imported(name, parts))
+    return found
+
+
 class Declared:
     """A struct, an enum, a constant, a name for a type, or a function with its contract."""
 
@@ -48,8 +66,8 @@ class Source:
         self.place = 'src/%s' % module
         self.bare = re.sub(r'//[^\n]*', lambda found: ' ' * len(found.group()), text)
         self.used = {}
-        for path, name in re.findall(r'^(?:pub )?use ((?:\w+::)+)(\w+);', self.bare, re.M):
-            self.used[name] = path.split('::')[:-1] + [name]
+        for tree in re.findall(r'^(?:pub(?:\(crate\))? )?use ([^;]*);', self.bare, re.M):
+            self.used.update(imported(''.join(tree.split()), []))
         self.ghost = re.findall(r'^ghost use ([^;]*);', self.bare, re.M)
         self.defined, self.functions = {}, {}
         self.types()
@@ -124,4 +142,4 @@ class Source:
         return list(enumerate(self.bare[start:end].split('\n'), first))
 
     def exports(self):
-        return re.findall(r'#\[no_mangle\]\s+pub extern "C" fn (\w+)\(', self.bare)
+        return re.findall(r'#\[unsafe\(no_mangle\)\]\s+pub extern "C" fn (\w+)\(', self.bare)

@@ -2,7 +2,7 @@
 import re
 
 from antt import Definition
-from kit import CLAUSE, FIELDS
+from kit import FIELDS, RESULT
 from rattle import Declared
 from terms import Reader, Scope
 from tokens import grouped, split, tokens_of
@@ -66,21 +66,23 @@ class Graph:
                 if item:
                     reader.named.append((word.split('::')[-1], item))
         for lines in found.clauses if found.kind == 'fn' else []:
-            reader.term(grouped(tokens_of(lines, source.file)), set(found.parameters))
+            reader.term(grouped(tokens_of(lines, source.file)), set(found.parameters) | {RESULT})
         return reader
 
     def lent(self, source):
-        """The scope of a file's contracts: what its `ghost use` lines bring, and what every clause is lent."""
+        """The scope of a file's contracts: what its `ghost use` lines bring."""
         if source not in self.scopes:
-            uses = {}
+            uses, modules = {}, {}
             for line in source.ghost:
                 path, _, names = line.partition('.{')
                 if not names:
-                    raise Wrong(source.file, '`ghost use %s` is not read by this program' % line)
+                    path, _, name = path.partition(' as ')
+                    modules[name or path.split('.')[-1]] = path.split('.')
+                    continue
                 for item in names.rstrip('}').split(','):
                     name, _, alias = item.strip().partition(' as ')
                     uses[alias or name] = path.split('.') + [name]
-            self.scopes[source] = Scope(self.tree, uses, {}, None, CLAUSE)
+            self.scopes[source] = Scope(self.tree, uses, modules)
         return self.scopes[source]
 
 

@@ -1,7 +1,7 @@
 """The names in a term. A name is bound where it stands, or it is the file's own, or a `use` line brings it, or it is the
 prelude's; anything else is an error."""
-from antt import before, telescope
-from kit import CLAUSE, CONSTRUCTORS, FORMS, HIDDEN, NOTATION, PRELUDE
+from antt import Definition, before, telescope
+from kit import CONSTRUCTORS, FORMS, HIDDEN, NOTATION, PRELUDE
 from tokens import NUMERAL, RESERVED, Group, grouped, split, tokens_of
 from tree import Constructor, Kit
 from wrong import Wrong
@@ -10,13 +10,13 @@ from wrong import Wrong
 class Scope:
     """What the names of a file mean there, where nothing nearer binds them."""
 
-    def __init__(self, tree, uses, modules, own=None, lent=()):
-        self.tree, self.uses, self.modules, self.own, self.lent = tree, uses, modules, own, lent
+    def __init__(self, tree, uses, modules, own=None):
+        self.tree, self.uses, self.modules, self.own = tree, uses, modules, own
         names = list(uses) + (list(own.defined) + list(own.built) if own else [])
         self.operators = {}
         for name in names:
-            if '_' in name and not name.startswith('«'):
-                for part in filter(None, name.split('_')):
+            if '◌' in name:
+                for part in filter(None, name.split('◌')):
                     self.operators.setdefault(part, []).append(name)
 
     def lookup(self, name, place):
@@ -25,8 +25,6 @@ class Scope:
             return self.tree.member(self.own, [name], place)
         if name in self.uses:
             return self.tree.found(self.uses[name], place)
-        if name in self.lent:
-            return Kit(CLAUSE[name])
         return Kit(PRELUDE[name]) if name in PRELUDE else None
 
     def spelled(self, name, place):
@@ -61,11 +59,19 @@ class Reader:
         if parts[0] in bound:
             self.fields += [(part, place) for part in parts[1:] if not NUMERAL.match(part)]
             return
+        if len(parts) > 1 and self.is_value(parts[0], place):
+            self.fields += [(part, place) for part in parts[1:] if not NUMERAL.match(part)]
+            parts = parts[:1]
         name = self.scope.spelled(parts[0], place) if len(parts) == 1 else '.'.join(parts)
         found = self.scope.path(parts, place) if len(parts) > 1 else self.scope.lookup(name, place)
         if found is None:
             raise Wrong(place, '`%s` is nothing that is known here' % name)
         self.named.append((name, found))
+
+    def is_value(self, name, place):
+        """Whether a name is of a function or a value, whose fields may be read, and not of a type or a module."""
+        found = None if name in self.scope.modules else self.scope.lookup(name, place)
+        return isinstance(found, Definition) and found.kind == 'function'
 
     def term(self, items, bound):
         """A term, or several with commas between them."""
@@ -172,7 +178,7 @@ class Reader:
         found = self.scope.lookup(name, item.place())
         if len(item.parts) > 1:
             self.refer(item, set())
-        elif isinstance(found, Constructor) or isinstance(found, Kit) and found.path in CONSTRUCTORS:
+        elif isinstance(found, Constructor) or isinstance(found, Kit) and found.path.split('.')[-1] in CONSTRUCTORS:
             self.named.append((name, found))
         elif isinstance(found, Kit) and found.path not in HIDDEN:
             raise Wrong(item.place(), 'a pattern has `%s`: say in kit.py whether it is a constructor' % found.path)

@@ -1,5 +1,5 @@
 """The text of a promise: its contract or its type, and every definition that it reaches."""
-from kit import CLAUSE, PRELUDE
+from kit import PRELUDE
 from rattle import Declared
 
 HEAD = '''# `%s`
@@ -57,7 +57,7 @@ class Promise:
         """The names that another name has where it is declared, and those that mean two things in this promise."""
         lines = []
         for name, target in sorted({one for found in inside for one in self.reached.graph.named(found).spelled}):
-            renamed = name != target[1].split('.')[-1] and name not in CLAUSE and name not in PRELUDE
+            renamed = name != target[1].split('.')[-1] and name not in PRELUDE
             if renamed or len(spelled[name]) > 1 and target[0] != place:
                 lines.append('- `%s` is %s\n' % (name, described(name, *target)))
         return '\nHere\n\n' + ''.join(lines) if lines else ''

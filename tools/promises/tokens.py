@@ -41,8 +41,8 @@ class Group:
 
 
 def escaped(name):
-    """A name as it is written where nothing in it is to be read as an argument's place or a reserved word."""
-    return '«%s»' % name if '_' in name or name in RESERVED else name
+    """A name as it is written where it is not to be read as a reserved word."""
+    return '«%s»' % name if name in RESERVED else name
 
 
 def word(text, at):
@@ -66,10 +66,10 @@ def after_dot(text, at, tokens, file, line, tight):
         tokens.append(Token('dot', '.', file, line))
         return at + 1
     end, name = word(text, at + 1)
-    if not tight:
-        tokens.append(Token('projection', name, file, line))
-    elif tokens[-1].kind == 'name' or tokens[-1].kind == 'projection':
+    if tight and tokens[-1].kind in ('name', 'projection'):
         tokens[-1].parts.append(name)
+    elif not tight or tokens[-1].text == ')':
+        tokens.append(Token('projection', name, file, line))
     else:
         raise Wrong('%s:%d' % (file, line), 'a dot behind `%s`' % tokens[-1].text)
     return end

@@ -8,6 +8,7 @@ from rattle import PRIMITIVE, Source
 from wrong import Wrong
 
 ROOTS = 'lib', 'main'
+VARIANTS = 'TheVariants'
 
 
 class Kit:
@@ -37,7 +38,7 @@ class Tree:
         """The crates of crates.txt, in its order, each with those that it uses."""
         with open(os.path.join(root, 'crates.txt'), encoding='utf-8') as opened:
             lines = [line.split(':') for line in opened if line.strip() and not line.startswith('#')]
-        return {name.strip(): rest.split() for name, rest in lines}
+        return {head.split()[0]: rest.split() for head, rest in lines}
 
     def content(self, file):
         with open(os.path.join(self.root, file), encoding='utf-8') as opened:
@@ -84,14 +85,13 @@ class Tree:
         """What a whole path names."""
         if parts[0] == 'package':
             parts = parts[1:]
-        library = re.fullmatch(r'Rattle·([^·]+)(·specs|·proofs)?', parts[0])
-        if not library or library.group(1) not in self.crates:
+        if parts[0] != 'Rattle' or len(parts) < 3 or parts[1] not in self.crates:
             return Kit('.'.join(parts))
-        crate = library.group(1)
-        if len(parts) > 3 and parts[1:3] == ['specs', 'declared']:
-            return self.declared(crate, parts[3:], place)
-        for end in range(len(parts) - 1, 2, -1):
-            module = self.module(crate, parts[1], '.'.join(parts[2:end]))
+        crate, folder = parts[1:3]
+        if len(parts) > 4 and parts[2:4] == ['specs', 'declared']:
+            return self.declared(crate, parts[4:], place)
+        for end in range(len(parts) - 1, 3, -1):
+            module = self.module(crate, folder, '.'.join(parts[3:end]))
             if module:
                 return self.member(module, parts[end:], place)
         raise Wrong(place, '`%s` is in no file of the repository' % '.'.join(parts))
@@ -116,14 +116,14 @@ class Tree:
         raise Wrong(place, '`%s` has no `%s`' % (found.name, '.'.join(parts)))
 
     def declared(self, crate, parts, place):
-        """[MODULE.]TYPE.TYPE, or [MODULE.]TYPE.the-variants.VARIANT"""
+        """[MODULE.]TYPE.TYPE, or [MODULE.]TYPE.TheVariants.VARIANT"""
         folders, name, last = parts[:-2], parts[-2], parts[-1]
-        if name == 'the-variants':
+        if name == VARIANTS:
             folders, name = parts[:-3], parts[-3]
         for module in ['.'.join(folders)] if folders else ROOTS:
             source = self.source(crate, module)
             item = source and source.defined.get(name)
-            if item and parts[-2] == 'the-variants':
+            if item and parts[-2] == VARIANTS:
                 return self.part(item, [last], place)
             if item and name == last:
                 return item

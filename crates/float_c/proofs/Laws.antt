@@ -1,7 +1,7 @@
--- A list narrowed into another, in the words of `narrowedAll`. Assumes nothing.
+-- A list narrowed into another, in the words of `narrowed_all`. Assumes nothing.
 use Prim.Native.Nat.{ℕ, zero, suc, ◌+◌, ◌-◌, min}
 use native.Mathlib.Omega.{arith}
-use mathlib.Core.Path.{◌≡◌, refl, sym, ap, ◌∙◌}
+use mathlib.Core.Path.{◌≡◌, refl, ap, ◌∙◌}
 use mathlib.Core.List.{List, [], ◌∷◌, ◌++◌, map}
 use lib.Ieee.{Float}
 use lib.ListN.{length, take, drop, length-map}

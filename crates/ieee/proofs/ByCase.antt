@@ -1,4 +1,4 @@
--- Clause 4.3.1 for narrowing: `specs/Clause.antt` states it, `by-case` proves it. Assumes nothing.
+-- Clause 4.3.1 for narrowing: `specs/Clause.antt` states it, `by_case` proves it. Assumes nothing.
 use Rattle.std.proofs.Common.{◌≡◌, ℕ, suc, ◌+◌, ◌-◌, ◌*◌, ◌/◌, ◌%◌, ◌^◌, ◌<◌, ◌≤◌, min, Bool, true, false, cond, ltb, leb, ◌⊎◌, sym, refl, ap, ◌∙◌, subst, inl, inr, le_trans, le_of_eq, le_refl, lt_of_lt_of_le, lt_of_le_of_lt, le_of_lt, add_assoc, add-le-add, mul_assoc, mul_comm, add-mul, lt_of_mul-lt-mul_right, eq-or-lt_of_le, mul-lt-mul_of_pos_right, mul-pos, div-add-mod', mul_right_comm, mul_left_comm, arith, lit<, pow_pos, le-ltb, lt-ltb, eq-eqb, ne_eqb, le-leb}
 use Prim.Native.Nat.{compare}
 use native.Mathlib.Nat.{eq_of_mul-eq-mul_right, min-eq_left, min-eq_right, min-le_right}

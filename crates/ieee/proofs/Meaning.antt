@@ -1,4 +1,4 @@
--- The defined square root is the correctly rounded one: no fraction on either side of the root rounds beyond it (`root-rounds`). Assumes nothing.
+-- The defined square root is the correctly rounded one: no fraction on either side of the root rounds beyond it (`root_rounds`). Assumes nothing.
 use Rattle.std.proofs.Common.{◌≡◌, ℕ, zero, suc, ◌+◌, ◌-◌, ◌*◌, ◌/◌, ◌%◌, ◌^◌, ◌<◌, ◌≤◌, Bool, true, false, cond, ◌&&◌, T, eqb, ltb, leb, ℤ, pos, negsuc, sym, refl, ap, ◌∙◌, subst, inl, inr, le_trans, le_of_eq, lt_of_le_of_lt, zero-lt-suc, mul_assoc, mul-le-mul, mul-pos, one-mul, le-div_iff_mul-le, mul-one, sub-add_cancel, suc-ne-zero, mul_left_comm, arith, leb→le, pow_pos, pow_mono, pow-add, ne_eqb, eqb-true}
 use native.Mathlib.Nat.{div-eq_of_eq-mul_left}
 use borrow.Author.Tests.{eqb-false}
@@ -9,7 +9,7 @@ use Rattle.ieee.proofs.Pack.{pow_le_back}
 use Rattle.ieee.proofs.Squares.{Cut, isqrt_cut, square_lt, twice, twice_ge, four, next_sq}
 use Rattle.ieee.proofs.OddRoot.{Sticks, root_below, root-above}
 
--- what `rootOf` hands to `round` is the root of 4 * n, rounded to odd
+-- what `root_of` hands to `round` is the root of 4 * n, rounded to odd
 sticks : (n r : ℕ) → Cut n r → Sticks (4 * n) (twice n r)
 sticks n r (lo, hi) = go (eqb (r * r) n) refl
   where

@@ -1,5 +1,5 @@
 -- The bit pattern of a rounded fraction, once for both formats: `round` drops k digits and keeps q, and the pattern is k * 2 ^ (prec - 1) + q, up to that of an infinity.
--- A q that was rounded up to 2 ^ prec carries into the exponent's field, and an overflow is past the last field (`round-pattern`). Assumes nothing.
+-- A q that was rounded up to 2 ^ prec carries into the exponent's field, and an overflow is past the last field (`round_pattern`). Assumes nothing.
 use Rattle.std.proofs.Common.{◌≡◌, ℕ, suc, ◌+◌, ◌-◌, ◌*◌, ◌/◌, ◌%◌, ◌^◌, ◌<◌, ◌≤◌, min, Bool, true, false, cond, not, T, ltb, leb, ◌⊎◌, sym, refl, ap, ◌∙◌, subst, inl, inr, le_trans, le_of_eq, le_refl, lt_of_lt_of_le, le_of_suc-le-suc, le-add_right, lt_of_le_of_lt, add_assoc, add-le-add, lt_irrefl, mul-le-mul_right, mul_assoc, suc-mul, mul_comm, add-mul, eq-zero-or-pos, eq-or-lt_of_le, one-mul, lt_of_not-le, le-div_iff_mul-le, zero-add, mul_right_comm, not-le_of_lt, le_of_mul-le-mul_right, mul-div_cancel, arith, leb→le, pow_pos, pow_mono, pow-add, shl_lt}
 use Prim.Native.Nat.{compare}
 use native.Mathlib.Nat.{eq_of_mul-eq-mul_right, pow-succ', div-div-eq-div-mul, min-eq_left, min-eq_right}

@@ -1,5 +1,5 @@
 -- Cutting digits off a number that may be a fraction rounded to odd: its lowest digit, the sticky bit, is set wherever the fraction is not whole.
--- With two digits or more cut, it is rounded as the fraction is (`closest-sticky`), so it stands for the fraction in `round` (`round-sticky`). Assumes nothing.
+-- With two digits or more cut, it is rounded as the fraction is (`closest_sticky`), so it stands for the fraction in `round` (`round_sticky`). Assumes nothing.
 use Rattle.std.proofs.Common.{◌≡◌, ℕ, suc, ◌+◌, ◌-◌, ◌*◌, ◌/◌, ◌%◌, ◌^◌, ◌<◌, ◌≤◌, Bool, not, T, eqb, ◌⊎◌, sym, refl, ap, ◌∙◌, subst, inl, inr, le_trans, le_of_eq, lt_of_lt_of_le, lt_of_le_of_lt, le_of_lt, add_assoc, mul-le-mul_right, mod-lt, zero-lt-suc, mul_assoc, mul_comm, div-lt_iff_lt-mul, add-mul, eq-zero-or-pos, lt_of_mul-lt-mul_right, mul-lt-mul_of_pos_right, mul-pos, one-mul, div-add-mod', le-div_iff_mul-le, not-le_of_lt, le_of_mul-le-mul_right, mul_left_comm, arith, eqb→eq, leb→le, pow_pos, pow_mono, pow-add}
 use Prim.Native.Nat.{compare, Ordering}
 use lib.Dec.{is_le, compare_is_eq, nleb→lt, eqb_refl}

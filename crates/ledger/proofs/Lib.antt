@@ -1,7 +1,7 @@
--- Laws of lists of calls, and the theorems: `promise` (Theorem), `atom-promise` (AtomTheorem), `any_order` and `later` (Order), `within-runs` (Runs), `packed-moves` (Packed), `file-length` (Ends),
--- `reports` and `atom-reports` (Comparisons),
--- `longest`, `reached` and `fitting` (Longest) with those of an atom (AtomLongest), `foretold` and `atom-foretold` (Foretold), `as_lists` (Words),
--- `played-again` and `atom-played-again`, with `replayed-file` and `resumed-file` (PlayedAgain).
+-- Laws of lists of calls, and the theorems: `promise` (Theorem), `atom_promise` (AtomTheorem), `any_order` and `later` (Order), `within-runs` (Runs), `packed_moves` (Packed), `file-length` (Ends),
+-- `reports` and `atom_reports` (Comparisons),
+-- `longest`, `reached` and `fitting` (Longest) with those of an atom (AtomLongest), `foretold` and `atom_foretold` (Foretold), `as_lists` (Words),
+-- `played_again` and `atom_played_again`, with `replayed_file` and `resumed_file` (PlayedAgain).
 pub mod Store
 pub mod Invariant
 pub mod Follows

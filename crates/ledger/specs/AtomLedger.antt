@@ -46,7 +46,7 @@ atom_run m st (c ∷ cs) = atom_run m (atom_called m st c) cs
 unfoldable pub atom_opened : AtomGrid → ℕ → Ledger
 atom_opened g top = record { level = top; rows = replicate g.n_r (scalar zero) }
 
--- 8 and 11 of settle; 8 to 10 of set by `atomSetQuestion`
+-- 8 and 11 of settle; 8 to 10 of set by `atom_set_question`
 unfoldable pub atom_ledger_question : AtomGrid → Ledger → ℕ → ℕ
 atom_ledger_question g b ri = ask (ltb ri g.n_r) 8 (ask (from_level b.level (get_or b.rows ri repulsive)) 11 0)
 

@@ -58,7 +58,7 @@ opened g top = record { level = top; rows = replicate (slabs g) (scalar zero) }
 abbrev pub ledger_slice : Grid → Ledger → ℕ → List (Row Float)
 ledger_slice g b ri = take g.n_omega (drop (slab g ri 0) b.rows)
 
--- "It puts 8 to 11 to these and to its own level and rows": 8 and 11 of settle, and 8 to 10 of set by `setQuestion`
+-- "It puts 8 to 11 to these and to its own level and rows": 8 and 11 of settle, and 8 to 10 of set by `set_question`
 unfoldable pub ledger_question : Grid → Ledger → ℕ → ℕ
 ledger_question g b ri = ask (ltb ri g.n_r) 8 (ask (every (from_level b.level) (ledger_slice g b ri)) 11 0)
 

@@ -30,6 +30,7 @@ Clear ws = (s : ℕ) → word_kind (get_or ws s 0) ≤ 255
 
 copied_at : {A : Type 0} (n : ℕ) (f : ℕ → A) (xs : List A) (d : A) (i : ℕ) → i < n → n ≤ length xs → get_or (copied n f xs) i d ≡ f i
 unfolding for_each
+copied_at {A = A} zero f xs d i h k = elim h [ ]
 copied_at (suc n) f xs d i h k =
     ⊎_elim (λ (low : n ≤ i). let e : i ≡ n = omega (arith, low, h) in rw e (get_or-set_same (copied n f xs) n (f n) d (omega (arith, length-copied n f xs, k))))
     (λ (low : i < n). let other : (i ≡ n → ⊥) = λ e. omega (arith, low, e) in get_or-set_other (copied n f xs) n i (f n) d other ∙ copied_at n f xs d i low (omega (arith, k)))

@@ -116,8 +116,9 @@ module _ {n : ℕ} where
 
   settled_worded : (c : ℕ) (f : Row Float → Verdict) → ((x : Row Float) → Fits (new_row c (f x))) → {r : Rows} (s : ℕ) (xs : List (Row Float)) → Worded n r → Worded n (settled_lists c r s (map f xs))
   unfolding settled_lists
-  settled_worded c f each s [] h = h
-  settled_worded c f each s (x ∷ xs) h = settled_worded c f each (suc s) xs (replaced_worded s (new_row c (f x)) (each x) h)
+  settled_worded c f each {r = r} s [] h = h
+  settled_worded c f each {r = r} s (x ∷ xs) h =
+      settled_worded c f each {r = replaced_by r s (new_row c (f x))} (suc s) xs (replaced_worded s (new_row c (f x)) (each x) h)
 
   pub settle_worded : (b : Builder) (m : Mesh) (l : BuilderLists) (ri : ℕ) → Worded n l.rows → Worded n (settle_out b m l ri).lists.rows
   unfolding settle_out settle_accepted settle_refusal meshed_refusal verdicts

@@ -138,8 +138,8 @@ fn fill_cells(
     requires { (3 * n ≤ length vertices.now) × (n ≤ 65536) × (n ≤ length keys.old) × (n ≤ length row.old) × (0 < g) × (g < 65500) × (m < length offsets.old)
         × (length (joined m (cell vertices.now n g)) ≤ length out.old) × (length (joined m (cell vertices.now n g)) ≤ 4294967295) }
     ensures { (◌≡◌ {A = CellsOut}
-        (record { offsets = offsets.exit.now; entries = out.new })
-        (cells_out vertices.now n g m offsets.entry.now out.old)) × (drop n keys.new ≡ drop n keys.old) }
+        (record { offsets = offsets.new; entries = out.new })
+        (cells_out vertices.now n g m offsets.old out.old)) × (drop n keys.new ≡ drop n keys.old) }
 {
     let a = g * g;
     let mut held: usize = 0;
@@ -168,8 +168,8 @@ pub(crate) fn put_cells(
     requires { (3 * n ≤ length vertices.now) × (n ≤ 2562) × (n ≤ length keys.old) × (0 < g) × (g < 65500) × (m < length offsets.old)
         × (length (joined m (cell vertices.now n g)) ≤ length out.old) × (length (joined m (cell vertices.now n g)) ≤ 4294967295) }
     ensures { (◌≡◌ {A = CellsOut}
-        (record { offsets = offsets.exit.now; entries = out.new })
-        (cells_out vertices.now n g m offsets.entry.now out.old)) × (drop n keys.new ≡ drop n keys.old) }
+        (record { offsets = offsets.new; entries = out.new })
+        (cells_out vertices.now n g m offsets.old out.old)) × (drop n keys.new ≡ drop n keys.old) }
 {
     let mut row: [u16; 2562] = [0; 2562];
     fill_cells(vertices, n, g, m, keys, &mut row, offsets, out);

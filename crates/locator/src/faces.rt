@@ -188,8 +188,8 @@ pub(crate) fn put_faces(
         × (3 * length (joined n (faces_of (links counts.now neighbours.now) n)) ≤ length out.old)
         × (length (joined n (faces_of (links counts.now neighbours.now) n)) ≤ 4294967295) }
     ensures { ◌≡◌ {A = FacesOut}
-        (record { offsets = offsets.exit.now; entries = out.new })
-        (faces_out (links counts.now neighbours.now) n offsets.entry.now out.old) }
+        (record { offsets = offsets.new; entries = out.new })
+        (faces_out (links counts.now neighbours.now) n offsets.old out.old) }
 {
     let end = n as usize;
     let mut to: usize = 0;

@@ -15,12 +15,9 @@ use Rattle.ieee.proofs.Squares.{isqrt_cut, square_lt}
 use Rattle.float.specs.Whole.{ceiled, integral}
 use Rattle.lists.specs.Lists.{all_up_to, sum}
 use Rattle.mesh.specs.Levels.{vertex_count, grid_size, cell_count, cell_offsets_below}
+use Rattle.mesh.proofs.Grids.{grid_by}
 use Rattle.lists.proofs.Counting.{all_at}
 use Rattle.lists.proofs.Sums.{sum_eq, sum_le, sum_more, sum_const}
-
--- g over whole numbers
-abbrev pub grid_by : ℕ → ℕ
-grid_by m = (12691 * m + 20900) / 8192
 
 abbrev offsets : List ℕ
 offsets = 0 ∷ 25 ∷ 122 ∷ 273 ∷ 568 ∷ 953 ∷ 1554 ∷ 2281 ∷ 3296 ∷ 4473 ∷ 6010 ∷ 7955 ∷ 10122 ∷ 12769 ∷ 15674 ∷ 19131 ∷ []

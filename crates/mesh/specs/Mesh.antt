@@ -57,7 +57,7 @@ vertices_finite n vs = all_up_to (3 * n) (λ i. finite (get_or vs i nan))
 unfoldable pub keeps_rule : ℕ → Mesh → Bool
 keeps_rule n m = vertices_finite n m.vertices && all_up_to n (vertex_kept n m)
 
--- ---- the mesh rule in parts, for calls that take a mesh without some of its lists: the rule is the three of them together (`rule-parts`, proofs/Parts)
+-- ---- the mesh rule in parts, for calls that take a mesh without some of its lists: the rule is the three of them together (`rule_parts`, proofs/Parts)
 
 -- of the neighbour at place k of v, but for its angle
 unfoldable pub neighbour_linked : ℕ → Mesh → ℕ → ℕ → Bool

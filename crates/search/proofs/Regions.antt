@@ -1,4 +1,4 @@
--- `projectedBarycentric` over the six dot products that it begins with. Assumes nothing.
+-- `projected_barycentric` over the six dot products that it begins with. Assumes nothing.
 use mathlib.Core.Path.{◌≡◌, refl}
 use mathlib.Core.Bool.{cond, ◌&&◌}
 use lib.Ieee.{neg, le}

@@ -52,7 +52,7 @@ limit_of n places = cond (ltb n (places / 3)) n (places / 3)
 unfoldable pub fit_over : List Float → ℕ → Vector3 → Nearest → Fit → List ℕ → Located
 fit_over vs n p v best l = cond (every (vertex_inside vs n) l) (located_fit v (fit_from vs p best (triples l))) (not_located 19)
 
--- the dot products that `projectedBarycentric` begins with
+-- the dot products that `projected_barycentric` begins with
 unfoldable pub sides_of : Vector3 → Vector3 → Vector3 → Vector3 → Sides
 sides_of p a b c =
     let ab = difference b a in

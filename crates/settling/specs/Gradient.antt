@@ -57,7 +57,7 @@ gradient m n beta e = gradient_of m n (map (weight beta) e)
 
 -- ---- document 02, paper 8: the neighbour comparisons of a slab, counted where the gradient makes them; "pairs passed over for their angle are counted"
 
--- of `gradientOf`: for each pair of vertices one for each neighbour of the first, and one for each neighbour of the second (S7.11)
+-- of `gradient_of`: for each pair of vertices one for each neighbour of the first, and one for each neighbour of the second (S7.11)
 unfoldable pub comparisons : Mesh → ℕ → ℕ
 comparisons m n = sum n (λ i. sum n (λ j. degree m i + degree m j))
 

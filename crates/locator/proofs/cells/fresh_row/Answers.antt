@@ -32,10 +32,10 @@ near_kept-requires c = let a = c.args in omega (arith, c.shared_slice_known-in-l
 pub loop-v-preserved : goal.loop-v-preserved
 loop-v-preserved c = let h = c.loop-v.invariant.2 in
     elim c.if-near_kept.branch [
-      then-near_kept w ↦
-      rw (w.row-is, w.to-is) (omega arith, omega arith, kept _ c.loop-v.v h (sym c.near_kept.ensures ∙ w.if-near_kept.true) (omega arith))
-    | else-near_kept w ↦
-      rw (w.row-is, w.to-is) (omega arith, omega arith, passed _ c.loop-v.v h (sym c.near_kept.ensures ∙ w.if-near_kept.false))
+      | then-near_kept w ↦
+          rw (w.row-is, w.to-is) (omega arith, omega arith, kept _ c.loop-v.v h (sym c.near_kept.ensures ∙ w.if-near_kept.true) (omega arith))
+      | else-near_kept w ↦
+          rw (w.row-is, w.to-is) (omega arith, omega arith, passed _ c.loop-v.v h (sym c.near_kept.ensures ∙ w.if-near_kept.false))
     ]
 
 pub returns : goal.returns

@@ -45,11 +45,14 @@ pub loop-k-preserved : goal.loop-k-preserved
 unfolding in_column
 loop-k-preserved c = let r = c.args.row.now in let h = c.loop-k.invariant.1 in
     elim c.if-near_kept.branch [
-      then-near_kept w ↦
-      rw (w.out-is, w.to-is) (omega arith, entry_kept _ r c.loop-k.k h (omega arith) (sym c.near_kept.ensures ∙ w.if-near_kept.true)
-      (entry_fits _ r c.loop-k.k h (omega arith) c.args.held (sym c.near_kept.ensures ∙ w.if-near_kept.true) (omega arith) c.requires.3))
-    | else-near_kept w ↦
-      rw (w.out-is, w.to-is) (omega arith, entry_passed _ r c.loop-k.k h (omega arith) (sym c.near_kept.ensures ∙ w.if-near_kept.false))
+      | then-near_kept w ↦
+          rw (w.out-is, w.to-is) (
+            omega arith,
+            entry_kept _ r c.loop-k.k h (omega arith) (sym c.near_kept.ensures ∙ w.if-near_kept.true)
+                (entry_fits _ r c.loop-k.k h (omega arith) c.args.held (sym c.near_kept.ensures ∙ w.if-near_kept.true) (omega arith) c.requires.3),
+          )
+      | else-near_kept w ↦
+          rw (w.out-is, w.to-is) (omega arith, entry_passed _ r c.loop-k.k h (omega arith) (sym c.near_kept.ensures ∙ w.if-near_kept.false))
     ]
 
 pub returns : goal.returns

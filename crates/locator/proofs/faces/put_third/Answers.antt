@@ -42,11 +42,11 @@ loop-y-init c = (omega arith, nothing (omega arith))
 
 pub put_wanted-to-requires : goal.put_wanted-to-requires
 put_wanted-to-requires c = let e = c.neighbour-k.ensures in (
-      c.requires.0,
-      c.requires.1,
-      omega (arith, e, c.requires.2 c.loop-y.y c.loop-y-test.true),
-      rw e (omega (arith, fits (goal.at.put_wanted-to-requires c).In-loop-y, c.loop-y.invariant.1.size)),
-    )
+  c.requires.0,
+  c.requires.1,
+  omega (arith, e, c.requires.2 c.loop-y.y c.loop-y-test.true),
+  rw e (omega (arith, fits (goal.at.put_wanted-to-requires c).In-loop-y, c.loop-y.invariant.1.size)),
+)
 
 pub loop-y-preserved : goal.loop-y-preserved
 loop-y-preserved c = let a = c.args in
