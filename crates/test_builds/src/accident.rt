@@ -1,6 +1,6 @@
-// The accident that started this port: a slice is settled, the level drops, and a job that was restarted settles a slice
-// of the level that has gone. Document 01 refuses that with 11; the Rust accepts it, and its table then has more energies
-// than its rows account for.
+// The accident that started this port: a slice is settled, the level drops, and a job that was restarted settles a
+// slice of the level that has gone. Document 01 refuses that with 11; the Rust accepts it, and its table then has more
+// energies than its rows account for.
 use crate::{begun, compared, say, set_number, settings, settled, settled_number, written};
 use builder::{Builder, Settled};
 use std::io;

@@ -1,5 +1,5 @@
-// Builds small tables from settings alone, with the compiled operations, and prints what document 01 says of them beside
-// what came out.
+// Builds small tables from settings alone, with the compiled operations, and prints what document 01 says of them
+// beside what came out.
 #![tactic(auto)]
 
 use builder::{Builder, Built, Settled};

@@ -1,5 +1,5 @@
-// A settle with the builder lent, and a record replaced in a lent list of rows, each beside the by-value call over words.
-// `either_form` of `lent` has the rest by proof.
+// A settle with the builder lent, and a record replaced in a lent list of rows, each beside the by-value call over
+// words. `either_form` of `lent` has the rest by proof.
 #![tactic(auto)]
 
 use builder::{Builder, Built, Settled};

@@ -1,6 +1,6 @@
 // Meshes of levels 0 and 1, one after the other, that keep document 01's rule: the vertices of a level stand in sixes,
-// and each has the other five of its six for neighbours. No answer here depends on where the vertices are. A sixth place,
-// which is not read, holds a number too.
+// and each has the other five of its six for neighbours. No answer here depends on where the vertices are. A sixth
+// place, which is not read, holds a number too.
 
 // The neighbour at a place, six places a vertex.
 fn neighbour(i: usize) -> u16 {

@@ -27,7 +27,11 @@ pub(crate) fn settle_through(
     ri: u64,
 ) -> SettleLeft
     ensures { (lent_numbered result.answer ≡ true) × ◌≡◌ {A = LentOut LentValues}
-        (record { answer = lent_values result.answer; builder = result.builder; lists = word_lists store.now words.new })
+        (record {
+          answer = lent_values result.answer;
+          builder = result.builder;
+          lists = word_lists store.now words.new;
+        })
         (settle_lent b (mesh_of vertices.now counts.now neighbours.now angles.now)
         (word_lists store.now words.old) ri) }
 {

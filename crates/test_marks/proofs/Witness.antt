@@ -13,7 +13,7 @@ use Rattle.grid.specs.Settings.{counted}
 use Rattle.grid.specs.declared.Grid.{Grid}
 use Rattle.rows.specs.Rows.{Row, scalar, repulsive, mesh}
 use Rattle.builder.specs.BuilderLists.{slabs}
-use Rattle.writer.specs.Tailed.{TailLists, tail_lists, write_tail_out}
+use Rattle.writer.specs.Tailed.{tail_lists, write_tail_out}
 use Rattle.ledger.specs.Ledger.{Call, set_call, settle_call, write_call, State, run, Ledger, opened, ledger}
 use Rattle.ledger.specs.Promise.{History, fresh, ended, file, rows, tail_of, Accepted, Same}
 use Rattle.ledger.proofs.Theorem.{promise}

@@ -1,7 +1,6 @@
 -- Tables against an atom, by computation over the definitions and real meshes of levels 0 and 1.
-use Rattle.std.specs.Prelude.{◌≡◌, refl, true, List, [], ◌∷◌, ◌++◌, ℕ, length, replicate, set, Float}
+use Rattle.std.specs.Prelude.{◌≡◌, refl, true, List, [], ◌∷◌, ℕ, length, replicate, set, Float}
 use Rattle.std.specs.Float.Ieee.{lt}
-use Rattle.float.specs.Log.{logarithm}
 use Rattle.grid.specs.Atom.{atom_in_range, atom_count_valid, atom_slabs_fit, atom_question, atom_counted, atom_grid_valid}
 use Rattle.grid.specs.declared.AtomGrid.{AtomGrid}
 use Rattle.rows.specs.Rows.{rows_of}
@@ -11,7 +10,7 @@ use Rattle.builder.specs.Atom.{AtomSettledValues, atom_room, atom_meshed_refusal
 use Rattle.table.specs.Atom.{atom_file_of, atom_grid_of, atom_table_of, atom_table_valid, atom_read_refusal, atom_read_out}
 use Rattle.table.specs.Read.{read_out}
 use Rattle.writer.specs.Atom.{atom_file_from, atom_write_refusal, atom_write_out}
-use Rattle.ledger.specs.AtomLedger.{AtomCall, set_call, settle_call, AtomState, atom_called, atom_run, atom_opened, atom_ledger_question, atom_settle_entered, atom_entered, atom_ledger}
+use Rattle.ledger.specs.AtomLedger.{AtomCall, set_call, settle_call, atom_called, atom_run, atom_opened, atom_ledger_question, atom_settle_entered, atom_entered, atom_ledger}
 use Rattle.ledger.specs.AtomPromise.{AtomHistory, atom_ended, atom_file, atom_rows}
 use Rattle.ledger.specs.Promise.{file}
 use Rattle.test_marks.specs.Icospheres.{icosahedron, two_levels}

@@ -1,10 +1,9 @@
 -- Checks of the long-range tail (request 9) by computation. Not in the starred table.
-use Rattle.std.specs.Prelude.{◌≡◌, refl, List, [], ◌∷◌, ◌++◌, ℕ, length, set, take, drop, replicate, Float}
+use Rattle.std.specs.Prelude.{◌≡◌, refl, List, [], ◌∷◌, ◌++◌, ℕ, set, take, drop, replicate}
 use Rattle.std.specs.Float.{binary64}
 use Rattle.std.specs.Float.Ieee.{to_bits}
-use Rattle.float.specs.Exp.{exponential, scaled, raised, halved, doublings, residue, two_to}
 use Rattle.float.specs.Power.{squared_times, power_within, power}
-use Rattle.table.specs.Tail.{Term, Tail}
+use Rattle.table.specs.Tail.{Term}
 use Rattle.table.specs.Read.{read_out}
 use Rattle.writer.specs.Tailed.{TailLists, tail_lists}
 use Rattle.tail.specs.Rule.{term_energy, sum_from, tail_rule}

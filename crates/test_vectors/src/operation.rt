@@ -1,4 +1,5 @@
-// The operations under test. An operation is known by its number in this list, and its place in the report is that number.
+// The operations under test. An operation is known by its number in this list, and its place in the report is that
+// number.
 ghost use Rattle.std.specs.Prelude.{◌≡◌, ◌≤◌};
 ghost use Rattle.test_vectors.specs.Signed.{complement};
 

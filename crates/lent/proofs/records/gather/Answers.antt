@@ -26,7 +26,8 @@ pub bounds-rows-i : goal.bounds-rows-i
 bounds-rows-i c = omega (arith, within (goal.at.bounds-rows-i c).In-loop-i, c.loop-i.auto.rows)
 
 pub loop-i-preserved : goal.loop-i-preserved
-loop-i-preserved c =
-    (omega (arith, c.loop-i-test.true),
-      rw c.loop-i.invariant.1
-          (copied_more (record_at (word_rows c.args.words.now)) c.args.rows.now c.loop-i.i c.record_at-r.result c.record_at-r.ensures))
+loop-i-preserved c = (
+  omega (arith, c.loop-i-test.true),
+  rw c.loop-i.invariant.1
+      (copied_more (record_at (word_rows c.args.words.now)) c.args.rows.now c.loop-i.i c.record_at-r.result c.record_at-r.ensures),
+)

@@ -26,8 +26,9 @@ pub bounds-words-i : goal.bounds-words-i
 bounds-words-i c = omega (arith, within (goal.at.bounds-words-i c).In-loop-i, c.loop-i.auto.words)
 
 pub loop-i-preserved : goal.loop-i-preserved
-loop-i-preserved c =
-    (omega (arith, c.loop-i-test.true),
-      rw c.loop-i.invariant.1
-          (copied_more (λ s. get_or (words_in c.args.rows.now) s 0) c.args.words.now c.loop-i.i c.word_in-w.result
-          (c.word_in-w.ensures ∙ word_read c.args.rows.now c.loop-i.i)))
+loop-i-preserved c = (
+  omega (arith, c.loop-i-test.true),
+  rw c.loop-i.invariant.1
+      (copied_more (λ s. get_or (words_in c.args.rows.now) s 0) c.args.words.now c.loop-i.i c.word_in-w.result
+      (c.word_in-w.ensures ∙ word_read c.args.rows.now c.loop-i.i)),
+)

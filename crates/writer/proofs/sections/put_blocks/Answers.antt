@@ -11,13 +11,12 @@ use Rattle.writer.proofs.sections.put_blocks.Goals as goal
 use Rattle.writer.proofs.sections.put_blocks.Goals.{After-block_size-k}
 
 pub loop-left-init : goal.loop-left-init
-loop-left-init c =
-    (
-      c.requires.0,
-      c.requires.1,
-      refl,
-      begun c.args.out.now c.args.at _ (omega (arith, c.requires.0, taken_bytes narrow_bits c.args.store.now c.args.from c.args.n c.requires.1)),
-    )
+loop-left-init c = (
+  c.requires.0,
+  c.requires.1,
+  refl,
+  begun c.args.out.now c.args.at _ (omega (arith, c.requires.0, taken_bytes narrow_bits c.args.store.now c.args.from c.args.n c.requires.1)),
+)
 
 -- a turn takes k energies, of those that are left
 taken : (c : After-block_size-k) → let l = c.loop-left in (c.block_size-k.result ≤ l.left) × (c.block_size-k.result ≤ 256) × (l.left - c.block_size-k.result < l.left)
