@@ -19,3 +19,12 @@ pub struct Face {
     pub b: u64,
     pub c: u64,
 }
+
+// The lists of a mesh, as they are lent: of one level, or of several one after another. In a contract `lent` of them.
+#[derive(Clone, Copy)]
+pub struct Mesh<'a> {
+    pub vertices: &'a [f64],
+    pub counts: &'a [u8],
+    pub neighbours: &'a [u16],
+    pub angles: &'a [f64],
+}

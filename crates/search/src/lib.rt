@@ -58,6 +58,15 @@ pub struct Fit {
     pub least: f64,
 }
 
+// The lists of a level's locator, as they are lent: the vertices of each cell, and the faces of each vertex, with where each begins.
+#[derive(Clone, Copy)]
+pub struct Locator<'a> {
+    pub cell_offsets: &'a [u32],
+    pub cell_vertices: &'a [u16],
+    pub face_offsets: &'a [u32],
+    pub faces: &'a [u16],
+}
+
 // The nearest vertex of a cell and the square of its distance: number 0; or 19 or 20, and then nothing else counts.
 #[repr(C)]
 #[derive(Clone, Copy)]
