@@ -9,7 +9,9 @@ pub use levels::{cell_offsets_below, grid_size, per_level, vertex_count, vertice
 pub use rule::{
     degree, entry, links_kept, lists, mesh_keeps, mesh_room, neighbour, vertices_finite,
 };
-pub use several::{links_room, meshes_keep, meshes_linked, meshes_room, neighbour_total};
+pub use several::{
+    links_room, meshes_keep, meshes_linked, meshes_long, meshes_room, neighbour_total,
+};
 
 // The vertices of a face, ascending.
 #[repr(C)]
