@@ -20,7 +20,7 @@ pub overflow_cast-n : goal.overflow_cast-n
 overflow_cast-n c = omega (arith, small c)
 
 pub atom_gradient-gradient-requires : goal.atom_gradient-gradient-requires
-atom_gradient-gradient-requires c = small c
+atom_gradient-gradient-requires c = small (goal.at.atom_gradient-gradient-requires c).After-vertex_count-n
 
 pub returns : goal.returns
 unfolding atom_verdict

@@ -22,7 +22,7 @@ pub overflow_cast-n : goal.overflow_cast-n
 overflow_cast-n c = omega (arith, small c)
 
 pub gradient-x-requires : goal.gradient-x-requires
-gradient-x-requires c = small c
+gradient-x-requires c = small (goal.at.gradient-x-requires c).After-vertex_count-n
 
 pub returns : goal.returns
 unfolding verdict by_lines
