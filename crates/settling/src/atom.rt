@@ -24,14 +24,10 @@ fn without_gradient(verdict: Verdict) -> AtomVerdict
 }
 
 // What settling finds of a slab's energies, at a level that a builder can have.
-fn atom_verdict(
-    threshold: f64,
-    beta: f64,
-    mesh: &Mesh,
-    energies: &[f64],
-    level: u8,
-) -> AtomVerdict
-    ensures { result ≡ (if leb level 15 then atom_verdict threshold beta (lent mesh.now) (vertex_count level) energies.now else (record { verdict = Empty; gradient = zero })) }
+fn atom_verdict(threshold: f64, beta: f64, mesh: &Mesh, energies: &[f64], level: u8) -> AtomVerdict
+    ensures { result ≡ (if leb level 15
+        then atom_verdict threshold beta (lent mesh.now) (vertex_count level) energies.now
+        else (record { verdict = Empty; gradient = zero })) }
 {
     if 15 < level {
         return without_gradient(Verdict::Empty);
@@ -40,7 +36,12 @@ fn atom_verdict(
         return without_gradient(Verdict::Blocked);
     }
     let n = mesh::vertex_count(level) as u32;
-    let gradient = gradient::atom_gradient(&Slab { mesh, n, energies, beta });
+    let gradient = gradient::atom_gradient(&Slab {
+        mesh,
+        n,
+        energies,
+        beta,
+    });
     AtomVerdict {
         verdict: verdicts::by_gradient(threshold, energies, gradient),
         gradient,
@@ -56,7 +57,9 @@ pub fn atom_verdict_of(
     level: u8,
     row: SlabResolution,
 ) -> AtomVerdict
-    ensures { result ≡ (if leb level 15 then atom_verdict_of threshold beta (lent mesh.now) (vertex_count level) (row_with row energies.now) else (record { verdict = Empty; gradient = zero })) }
+    ensures { result ≡ (if leb level 15
+        then atom_verdict_of threshold beta (lent mesh.now) (vertex_count level) (row_with row energies.now)
+        else (record { verdict = Empty; gradient = zero })) }
 {
     match row {
         SlabResolution::Mesh(_, _) => atom_verdict(threshold, beta, mesh, energies, level),

@@ -1,5 +1,6 @@
-// The gradient of a slab. No list of weights is kept: the weights of a row, or of a column, fit into an array, so that each entry is weighed twice. The arrays are made once for a slab and lent
-// from line to line, since making one clears it; what they hold before does not count.
+// The gradient of a slab. No list of weights is kept: the weights of a row, or of a column, fit into an array, so that
+// each entry is weighed twice. The arrays are made once for a slab and lent from line to line, since making one clears it;
+// what they hold before does not count. A line begins at a place of the energies, and its entries are a step apart.
 ghost use Rattle.std.specs.Prelude.{◌≡◌, ◌+◌, ◌*◌, ◌/◌, ◌≤◌, false, map, length, get_or, take, is_nan, slice_index_or};
 ghost use Rattle.std.specs.Float.{nan, binary64};
 ghost use Rattle.std.specs.Float.Ieee.{mul, neg};
@@ -20,13 +21,6 @@ pub(crate) struct Slab<'a> {
     pub beta: f64,
 }
 
-// A row or a column of a slab: where it begins among the energies, and how many places apart its entries are.
-#[derive(Clone, Copy)]
-struct Line {
-    from: usize,
-    step: usize,
-}
-
 // The Boltzmann weight of an energy.
 #[tactic(auto, unfolding(crate::specs::Gradient::weight))]
 pub(crate) fn weight(beta: f64, e: f64) -> f64
@@ -35,7 +29,8 @@ pub(crate) fn weight(beta: f64, e: f64) -> f64
     float::exp(-beta * e)
 }
 
-// The larger of g and the slope between two weights; a pair at a smaller angle is passed over. g is a number, so that one comparison finds the larger one.
+// The larger of g and the slope between two weights; a pair at a smaller angle is passed over. g is a number, so that
+// one comparison finds the larger one.
 fn steeper(x: f64, y: f64, angle: f64, g: f64) -> f64
     requires { is_nan g ≡ false }
     ensures { result ≡ steeper x y angle g }
@@ -50,20 +45,22 @@ fn steeper(x: f64, y: f64, angle: f64, g: f64) -> f64
 }
 
 // The exponent of the weight at place i of a line.
-fn exponent_at(slab: &Slab, line: Line, i: usize) -> f64
-    requires { (line.from ≤ 6563844) × (line.step ≤ 2562) × (i ≤ 2562) }
-    ensures { result ≡ mul binary64 (neg slab.now.beta) (slice_index_or slab.now.energies.now (line.from + line.step * i) nan) }
+fn exponent_at(slab: &Slab, from: usize, step: usize, i: usize) -> f64
+    requires { (from ≤ 6563844) × (step ≤ 2562) × (i ≤ 2562) }
+    ensures { result ≡ mul binary64 (neg slab.now.beta)
+        (slice_index_or slab.now.energies.now (from + step * i) nan) }
 {
-    -slab.beta * mesh::entry(slab.energies, line.from + line.step * i)
+    -slab.beta * mesh::entry(slab.energies, from + step * i)
 }
 
 // The exponents of a line.
-fn exponents(slab: &Slab, line: Line, weights: &mut [f64])
-    requires { (slab.now.n ≤ length weights.old) × (slab.now.n ≤ 2562) × (line.step ≤ 2562) × (line.from ≤ 6563844) }
-    ensures { weights.new ≡ put weights.old 0 (line_exponents slab.now.beta slab.now.energies.now line.from line.step slab.now.n) }
+fn exponents(slab: &Slab, from: usize, step: usize, weights: &mut [f64])
+    requires { (slab.now.n ≤ length weights.old) × (slab.now.n ≤ 2562) × (step ≤ 2562) × (from ≤ 6563844) }
+    ensures { weights.new ≡ put weights.old 0
+        (line_exponents slab.now.beta slab.now.energies.now from step slab.now.n) }
 {
     for i in 0..slab.n as usize {
-        weights[i] = exponent_at(slab, line, i);
+        weights[i] = exponent_at(slab, from, step, i);
     }
 }
 
@@ -76,18 +73,24 @@ fn exponents_four(
     third: &mut [f64],
     fourth: &mut [f64],
 )
-    requires { (slab.now.n ≤ length first.old) × (slab.now.n ≤ length second.old) × (slab.now.n ≤ length third.old) × (slab.now.n ≤ length fourth.old) × (slab.now.n ≤ 2562) × (from ≤ 2562) }
-    ensures { (first.new ≡ put first.old 0 (line_exponents slab.now.beta slab.now.energies.now from slab.now.n slab.now.n))
-        × (second.new ≡ put second.old 0 (line_exponents slab.now.beta slab.now.energies.now (from + 1) slab.now.n slab.now.n))
-        × (third.new ≡ put third.old 0 (line_exponents slab.now.beta slab.now.energies.now (from + 2) slab.now.n slab.now.n))
-        × (fourth.new ≡ put fourth.old 0 (line_exponents slab.now.beta slab.now.energies.now (from + 3) slab.now.n slab.now.n)) }
+    requires { (slab.now.n ≤ length first.old) × (slab.now.n ≤ length second.old)
+        × (slab.now.n ≤ length third.old) × (slab.now.n ≤ length fourth.old)
+        × (slab.now.n ≤ 2562) × (from ≤ 2562) }
+    ensures { (first.new ≡ put first.old 0
+        (line_exponents slab.now.beta slab.now.energies.now from slab.now.n slab.now.n))
+        × (second.new ≡ put second.old 0
+        (line_exponents slab.now.beta slab.now.energies.now (from + 1) slab.now.n slab.now.n))
+        × (third.new ≡ put third.old 0
+        (line_exponents slab.now.beta slab.now.energies.now (from + 2) slab.now.n slab.now.n))
+        × (fourth.new ≡ put fourth.old 0
+        (line_exponents slab.now.beta slab.now.energies.now (from + 3) slab.now.n slab.now.n)) }
 {
-    let step = slab.n as usize;
-    for i in 0..step {
-        first[i] = exponent_at(slab, Line { from, step }, i);
-        second[i] = exponent_at(slab, Line { from: from + 1, step }, i);
-        third[i] = exponent_at(slab, Line { from: from + 2, step }, i);
-        fourth[i] = exponent_at(slab, Line { from: from + 3, step }, i);
+    let n = slab.n as usize;
+    for i in 0..n {
+        first[i] = exponent_at(slab, from, n, i);
+        second[i] = exponent_at(slab, from + 1, n, i);
+        third[i] = exponent_at(slab, from + 2, n, i);
+        fourth[i] = exponent_at(slab, from + 3, n, i);
     }
 }
 
@@ -101,7 +104,12 @@ fn along_neighbours(mesh: &Mesh, weights: &[f64], v: u32, g: f64) -> f64
     let mut h = g;
     for k in 0..mesh::degree(mesh.counts, v) {
         let y = mesh::entry(weights, mesh::neighbour(mesh.neighbours, v, k) as usize);
-        h = steeper(x, y, mesh::entry(mesh.angles, 6 * v as usize + k as usize), h);
+        h = steeper(
+            x,
+            y,
+            mesh::entry(mesh.angles, 6 * v as usize + k as usize),
+            h,
+        );
     }
     h
 }
@@ -130,16 +138,18 @@ fn weighed(mesh: &Mesh, weights: &mut [f64], n: u32, g: f64) -> f64
 }
 
 // The gradient along a line.
-fn line_steeper(slab: &Slab, line: Line, g: f64, weights: &mut [f64]) -> f64
-    requires { (slab.now.n ≤ 2562) × (line.step ≤ 2562) × (line.from ≤ 6563844) × (is_nan g ≡ false) × (slab.now.n ≤ length weights.old) }
+fn line_steeper(slab: &Slab, from: usize, step: usize, g: f64, weights: &mut [f64]) -> f64
+    requires { (slab.now.n ≤ 2562) × (step ≤ 2562) × (from ≤ 6563844) × (is_nan g ≡ false)
+        × (slab.now.n ≤ length weights.old) }
     ensures { result ≡ line_gradient (lent slab.now.mesh.now) slab.now.n
-        (line_weights slab.now.beta slab.now.energies.now line.from line.step slab.now.n) g }
+        (line_weights slab.now.beta slab.now.energies.now from step slab.now.n) g }
 {
-    exponents(slab, line, weights);
+    exponents(slab, from, step, weights);
     weighed(slab.mesh, weights, slab.n, g)
 }
 
 // The gradient along four columns side by side.
+#[tactic(auto, using(crate::proofs::Numbers::line_number))]
 fn four_columns(
     slab: &Slab,
     from: usize,
@@ -149,7 +159,9 @@ fn four_columns(
     third: &mut [f64],
     fourth: &mut [f64],
 ) -> f64
-    requires { (slab.now.n ≤ 2562) × (from ≤ 2562) × (is_nan g ≡ false) × (slab.now.n ≤ length first.old) × (slab.now.n ≤ length second.old) × (slab.now.n ≤ length third.old) × (slab.now.n ≤ length fourth.old) }
+    requires { (slab.now.n ≤ 2562) × (from ≤ 2562) × (is_nan g ≡ false)
+        × (slab.now.n ≤ length first.old) × (slab.now.n ≤ length second.old)
+        × (slab.now.n ≤ length third.old) × (slab.now.n ≤ length fourth.old) }
     ensures { result ≡ four_columns (lent slab.now.mesh.now) slab.now.n slab.now.beta slab.now.energies.now from g }
 {
     exponents_four(slab, from, first, second, third, fourth);
@@ -162,7 +174,8 @@ fn four_columns(
 // The columns of a slab, four at a time, as far as that goes.
 fn fours(slab: &Slab, first: &mut [f64]) -> f64
     requires { (slab.now.n ≤ 2562) × (slab.now.n ≤ length first.old) }
-    ensures { result ≡ first_columns (lent slab.now.mesh.now) slab.now.n slab.now.beta slab.now.energies.now (slab.now.n / 4 * 4) }
+    ensures { result ≡ first_columns (lent slab.now.mesh.now) slab.now.n slab.now.beta slab.now.energies.now
+        (slab.now.n / 4 * 4) }
 {
     let mut second = [0.0; 2562];
     let mut third = [0.0; 2562];
@@ -178,12 +191,13 @@ fn fours(slab: &Slab, first: &mut [f64]) -> f64
 // All columns of a slab.
 fn columns(slab: &Slab, weights: &mut [f64]) -> f64
     requires { (slab.now.n ≤ 2562) × (slab.now.n ≤ length weights.old) }
-    ensures { result ≡ first_columns (lent slab.now.mesh.now) slab.now.n slab.now.beta slab.now.energies.now slab.now.n }
+    ensures { result ≡ first_columns (lent slab.now.mesh.now) slab.now.n slab.now.beta slab.now.energies.now
+        slab.now.n }
 {
-    let step = slab.n as usize;
+    let n = slab.n as usize;
     let mut h = fours(slab, weights);
-    for from in step / 4 * 4..step {
-        h = line_steeper(slab, Line { from, step }, h, weights);
+    for t in n / 4 * 4..n {
+        h = line_steeper(slab, t, n, h, weights);
     }
     h
 }
@@ -191,12 +205,13 @@ fn columns(slab: &Slab, weights: &mut [f64]) -> f64
 // All rows of a slab.
 fn along_rows(slab: &Slab, g: f64, weights: &mut [f64]) -> f64
     requires { (slab.now.n ≤ 2562) × (is_nan g ≡ false) × (slab.now.n ≤ length weights.old) }
-    ensures { result ≡ lines_gradient (lent slab.now.mesh.now) slab.now.n slab.now.beta slab.now.energies.now slab.now.n 1 g }
+    ensures { result ≡ lines_gradient (lent slab.now.mesh.now) slab.now.n slab.now.beta slab.now.energies.now
+        slab.now.n 1 g }
 {
     let n = slab.n as usize;
     let mut h = g;
     for t in 0..n {
-        h = line_steeper(slab, Line { from: n * t, step: 1 }, h, weights);
+        h = line_steeper(slab, n * t, 1, h, weights);
     }
     h
 }
@@ -217,5 +232,5 @@ pub(crate) fn atom_gradient(slab: &Slab) -> f64
     ensures { result ≡ atom_gradient (lent slab.now.mesh.now) slab.now.n slab.now.beta slab.now.energies.now }
 {
     let mut weights = [0.0; 2562];
-    line_steeper(slab, Line { from: 0, step: 1 }, 0.0, &mut weights)
+    line_steeper(slab, 0, 1, 0.0, &mut weights)
 }

@@ -77,18 +77,16 @@ fn steeper_of(x: f64, v: Verdict) -> f64
 pub fn settles(v: Verdict) -> bool
     ensures { result ≡ settles v }
 {
-    matches!(v, Verdict::Isotropic(_) | Verdict::Smooth(_) | Verdict::Rough(_))
+    matches!(
+        v,
+        Verdict::Isotropic(_) | Verdict::Smooth(_) | Verdict::Rough(_)
+    )
 }
 
 // What settling finds of a slab's energies, at a level that a builder can have.
-fn verdict(
-    threshold: f64,
-    beta: f64,
-    mesh: &Mesh,
-    energies: &[f64],
-    level: u8,
-) -> Verdict
-    ensures { result ≡ (if nat_le level 15 then verdict threshold beta (lent mesh.now) (vertex_count level) energies.now else Empty) }
+fn verdict(threshold: f64, beta: f64, mesh: &Mesh, energies: &[f64], level: u8) -> Verdict
+    ensures { result ≡ (if nat_le level 15
+        then verdict threshold beta (lent mesh.now) (vertex_count level) energies.now else Empty) }
 {
     if 15 < level {
         return Verdict::Empty;
@@ -97,7 +95,12 @@ fn verdict(
         return Verdict::Blocked;
     }
     let n = mesh::vertex_count(level) as u32;
-    let x = gradient::gradient(&Slab { mesh, n, energies, beta });
+    let x = gradient::gradient(&Slab {
+        mesh,
+        n,
+        energies,
+        beta,
+    });
     by_gradient(threshold, energies, x)
 }
 
@@ -110,7 +113,8 @@ pub fn verdict_of(
     level: u8,
     row: SlabResolution,
 ) -> Verdict
-    ensures { result ≡ (if nat_le level 15 then verdict_of threshold beta (lent mesh.now) (vertex_count level) (row_with row energies.now) else Empty) }
+    ensures { result ≡ (if nat_le level 15
+        then verdict_of threshold beta (lent mesh.now) (vertex_count level) (row_with row energies.now) else Empty) }
 {
     match row {
         SlabResolution::Mesh(_, _) => verdict(threshold, beta, mesh, energies, level),
@@ -202,6 +206,7 @@ pub fn tallied(level: u8, t: Tally, row: SlabResolution, v: Verdict) -> Tally
 }
 
 // Puts the settled row in its place; a row that stays keeps its bits.
+#[tactic(auto, using(crate::proofs::Changes::row_stays, crate::proofs::Changes::row_becomes))]
 pub fn replace_by(
     kinds: &mut [u8],
     levels: &mut [u8],
@@ -220,6 +225,7 @@ pub fn replace_by(
     rows::replace(kinds, levels, values, s, becomes(level, v));
 }
 
+#[tactic(auto, using(crate::proofs::Changes::row_stays, crate::proofs::Changes::row_becomes))]
 pub fn replace_word_by(words: &mut [u64], s: u64, level: u8, v: Verdict)
     ensures { ◌≡◌ {A = Rows} (word_rows words.new) (replaced_by (word_rows words.old) s (new_row level v)) }
 {

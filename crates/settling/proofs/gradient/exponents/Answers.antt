@@ -12,7 +12,7 @@ loop-i-init c = (refl, sym (put_nil c.args.weights.now 0))
 pub loop-i-preserved : goal.loop-i-preserved
 loop-i-preserved c =
     let s = c.args.slab.now in
-    let l = c.args.line in (
+    let a = c.args in (
       simp length-set c.loop-i.invariant.0,
-      rw c.exponent_at.ensures (line_turn (mul binary64 (neg s.beta)) s.energies.now l.from l.step c.args.weights.now c.loop-i.weights c.loop-i.i c.loop-i.invariant.1 (omega arith)),
+      rw c.exponent_at.ensures (line_turn (mul binary64 (neg s.beta)) s.energies.now a.from a.step a.weights.now c.loop-i.weights c.loop-i.i c.loop-i.invariant.1 (omega arith)),
     )

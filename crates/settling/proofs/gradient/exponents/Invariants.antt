@@ -6,4 +6,4 @@ use Rattle.settling.proofs.gradient.exponents.Given as goal
 abbrev pub invariant-loop-i : goal.invariant-loop-i
 invariant-loop-i l =
     (length l.weights ≡ length l.initial.weights)
-    × (l.weights ≡ put l.initial.weights 0 (line_exponents l.slab.beta l.slab.energies.now l.line.from l.line.step l.i))
+    × (l.weights ≡ put l.initial.weights 0 (line_exponents l.slab.beta l.slab.energies.now l.from l.step l.i))

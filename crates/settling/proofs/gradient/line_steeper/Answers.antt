@@ -5,5 +5,5 @@ use Rattle.settling.proofs.gradient.line_steeper.Goals as goal
 pub returns : goal.returns
 returns c =
     let s = c.args.slab.now in
-    let l = c.args.line in
-    weighed_line (lent s.mesh.now) s.beta s.energies.now l.from l.step s.n c.args.g _ _ _ c.weighed.ensures c.exponents.ensures
+    let a = c.args in
+    weighed_line (lent s.mesh.now) s.beta s.energies.now a.from a.step s.n a.g _ _ _ c.weighed.ensures c.exponents.ensures
