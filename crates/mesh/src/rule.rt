@@ -9,37 +9,27 @@ ghost use Rattle.mesh.specs.Lent.{lent};
 
 use crate::Mesh;
 use crate::levels::vertex_count;
+use lists::entry_or;
 
 // How many neighbours v has; 0 where no count was lent.
 pub fn degree(counts: &[u8], v: u32) -> u32
     ensures { result ≡ get_or counts.now v 0 }
 {
-    let i = v as usize;
-    if i < counts.len() {
-        return counts[i] as u32;
-    }
-    0
+    entry_or(counts, v as usize, 0) as u32
 }
 
 // The neighbour at place k of v; 0 where none was lent.
 pub fn neighbour(neighbours: &[u16], v: u32, k: u32) -> u32
     ensures { result ≡ get_or neighbours.now (6 * v + k) 0 }
 {
-    let i = 6 * v as usize + k as usize;
-    if i < neighbours.len() {
-        return neighbours[i] as u32;
-    }
-    0
+    entry_or(neighbours, 6 * v as usize + k as usize, 0) as u32
 }
 
 // The entry at place i; a NaN where none was lent.
 pub fn entry(list: &[f64], i: usize) -> f64
     ensures { result ≡ get_or list.now i nan }
 {
-    if i < list.len() {
-        return list[i];
-    }
-    0.0 / 0.0
+    entry_or(list, i, 0.0 / 0.0)
 }
 
 // w is among the k entries from a place on, all of which are there.

@@ -1,7 +1,7 @@
 -- A refusal has a number: 0 is acceptance alone.
-use Rattle.std.proofs.Common.{◌≡◌, refl, ℕ, cond, ◌≤◌, Result, Ok, Err, false, eqb}
+use Rattle.std.proofs.Common.{◌≡◌, refl, ℕ, false, eqb}
 use Rattle.lists.specs.Questions.{first}
-use Rattle.refusals.specs.Numbers.{number, asked}
+use Rattle.refusals.specs.Numbers.{number}
 use Rattle.refusals.specs.declared.Refusal.{Refusal}
 use Rattle.refusals.specs.declared.Refusal.TheVariants.{Settings, Level, BinCount, OwnCount, TooManyEnergies, ShortList, Mesh, Bin, EnergyCount, NanEnergy, OtherLevel, ShortOutput, Sections, FileGrid, Row, Tiling, FileNan, Query, NotLent, EmptyCell, ReadingBeta, Prefactor, Term, ViewerBound, SlabPlace, Span}
 
