@@ -54,9 +54,7 @@ pub fn difference(a: Vector3, b: Vector3) -> Vector3
 pub fn cube_face_project(face: u64, v: Vector3) -> Seen
     ensures { result ≡ cube_face_project face v }
 {
-    let x = v.x;
-    let y = v.y;
-    let z = v.z;
+    let Vector3 { x, y, z } = v;
     match face {
         0 => Seen { u: y, w: z, d: x },
         1 => Seen { u: -y, w: z, d: -x },
@@ -96,9 +94,7 @@ fn pair_of(ax: f64, ay: f64, az: f64) -> u64
 pub fn cube_project(v: Vector3) -> Projected
     ensures { result ≡ cube_project v }
 {
-    let x = v.x;
-    let y = v.y;
-    let z = v.z;
+    let Vector3 { x, y, z } = v;
     let ax = float::abs(x);
     let ay = float::abs(y);
     let az = float::abs(z);
@@ -144,8 +140,7 @@ pub fn cell_index(level: u8, v: Vector3) -> u64
 {
     let g = mesh::grid_size(level);
     let p = cube_project(v);
-    let face = p.face;
     let i = cell_coordinate(g, p.u);
     let j = cell_coordinate(g, p.w);
-    face * (g * g) + i * g + j
+    p.face * (g * g) + i * g + j
 }

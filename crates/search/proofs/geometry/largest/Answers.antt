@@ -12,12 +12,3 @@ returns c =
     let x = c.args in
     rw (c.either-2.ensures, c.either.ensures, c.either-other.ensures)
     (one_by_one (le x.ay x.ax) (le x.az x.ax) x.x (cond (le x.az x.ay) x.y x.z))
-
-pub either-other-requires : goal.either-other-requires
-either-other-requires c = tt
-
-pub either-requires : goal.either-requires
-either-requires c = tt
-
-pub either-requires-2 : goal.either-requires-2
-either-requires-2 c = tt

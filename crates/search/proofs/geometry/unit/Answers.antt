@@ -4,6 +4,3 @@ use Rattle.search.proofs.geometry.unit.Goals as goal
 pub returns : goal.returns
 unfolding unit
 returns c = rw c.norm-l.ensures
-
-pub norm-l-requires : goal.norm-l-requires
-norm-l-requires c = tt
