@@ -2,8 +2,8 @@ use native.Mathlib.Omega.{arith}
 use Rattle.table.specs.Read.{table_of}
 use Rattle.table.proofs.walk.table_of.Goals as goal
 
-pub grid_of-grid-requires : goal.grid_of-grid-requires
-grid_of-grid-requires c = c.requires.0
+pub grid_of-requires : goal.grid_of-requires
+grid_of-requires c = c.requires.0
 
 pub u32_in-requires : goal.u32_in-requires
 u32_in-requires c = let p = c.requires.0 in omega (arith, p.rows, p.energies, p.end)
@@ -19,4 +19,4 @@ terms_start-requires c = c.requires.1
 
 pub returns : goal.returns
 unfolding table_of
-returns c = rw (c.terms_start.ensures, c.u32_at.ensures, c.u32_in-3.ensures, c.u32_in-2.ensures, c.u32_in.ensures, c.grid_of-grid.ensures)
+returns c = rw (c.terms_start.ensures, c.u32_at.ensures, c.u32_in-3.ensures, c.u32_in-2.ensures, c.u32_in.ensures, c.grid_of.ensures)
