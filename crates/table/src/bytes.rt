@@ -13,6 +13,7 @@ pub fn u32_in(file: &[u8], at: u64) -> u32
 }
 
 // Eight bytes that are inside the file: also two numbers of four.
+#[tactic(auto, using(crate::proofs::Numbers::eight))]
 pub(crate) fn u64_in(file: &[u8], at: u64) -> u64
     requires { at + 8 ≤ length file.now }
     ensures { (result ≡ number_at 8 file.now at) × (result % 4294967296 ≡ number_at 4 file.now at) × (result / 4294967296 ≡ number_at 4 file.now (at + 4)) }
@@ -45,5 +46,10 @@ pub(crate) fn u32_at(file: &[u8], at: u64) -> u32
         return 0;
     }
     let i = at as usize;
-    u32::from_le_bytes([byte_at(file, i), byte_at(file, i + 1), byte_at(file, i + 2), byte_at(file, i + 3)])
+    u32::from_le_bytes([
+        byte_at(file, i),
+        byte_at(file, i + 1),
+        byte_at(file, i + 2),
+        byte_at(file, i + 3),
+    ])
 }

@@ -8,7 +8,9 @@ ghost use Rattle.table.specs.Read.{read_values};
 ghost use Rattle.table.specs.Loose.{loose_out};
 ghost use Rattle.table.specs.Internal.{TableInside, ends_below, loose_question};
 
-use crate::questions::{energies_of, energies_valid, entry_in, rows_valid, table_valid, tail_valid};
+use crate::questions::{
+    energies_of, energies_valid, entry_in, rows_valid, table_valid, tail_valid,
+};
 use crate::walk::{sections, table_laid_out, table_of};
 use crate::{Entry, Section, Table};
 use refusals::{Asked, Refusal};

@@ -141,6 +141,7 @@ fn placed(row: Entry, o: u64) -> bool
 }
 
 // The energies of a Mesh row of a level: n·n where two directions are paired, n against an atom.
+#[tactic(auto, using(mesh::proofs::Laws::per_le), unfolding(mesh::specs::Levels::per))]
 pub fn energies_of(pairs: bool, level: u8) -> u64
     ensures { result ≡ each_of pairs level }
 {

@@ -17,9 +17,9 @@ pub fn read_over(bound: Bound, file: &[u8]) -> Result<Table, Refusal>
     if !table_laid_out(file, p) {
         return Err(Refusal::Sections);
     }
-    let t = table_of(file, p);
-    table_question(bound, file, t)?;
-    Ok(t)
+    let table = table_of(file, p);
+    table_question(bound, file, table)?;
+    Ok(table)
 }
 
 // Reads a file for the host: no bound but those of question 14.
@@ -52,7 +52,7 @@ pub fn atom_read(file: &[u8]) -> Result<AtomTable, Refusal>
     if !laid_out(file, p, 2, 1) {
         return Err(Refusal::Sections);
     }
-    let t = atom_table_of(file, p);
-    atom_table_question(file, t)?;
-    Ok(t)
+    let atom_table = atom_table_of(file, p);
+    atom_table_question(file, atom_table)?;
+    Ok(atom_table)
 }

@@ -44,6 +44,7 @@ pub(crate) fn laid_out(file: &[u8], p: Layout, i: u32, j: u32) -> bool
 }
 
 // The file ends with its fifth section, at byte `end`, or with the prefactor of the terms that follow.
+#[tactic(auto, using(crate::proofs::Numbers::none_there, crate::proofs::Accepted::left_is), unfolding(crate::specs::Read::ended))]
 fn ended(file: &[u8], end: u64) -> bool
     ensures { result ≡ ended file.now end }
 {
@@ -77,6 +78,7 @@ pub fn tail_size(terms: u32) -> u64
 }
 
 // Where the terms start, behind the fifth section, which ends at byte `end`.
+#[tactic(auto, unfolding(crate::specs::Read::tail_at))]
 fn terms_start(file: &[u8], end: u64) -> u64
     requires { TailInside file.now (end + 4) (count_at file.now end) }
     ensures { result ≡ tail_at file.now end }

@@ -2,7 +2,6 @@ use mathlib.Core.Path.{◌≡◌, refl, sym}
 use mathlib.Core.Bool.{true}
 use Rattle.std.proofs.lemmas.Result.{err_from_is_err_and}
 use Rattle.lists.proofs.Counting.{yes, no}
-use Rattle.refusals.specs.Numbers.{asked}
 use Rattle.refusals.proofs.Numbers.{numbered}
 use Rattle.table.specs.Read.{layout, table_laid_out, table_of}
 use Rattle.table.specs.Internal.{TableSections}

@@ -21,11 +21,10 @@ loop-i-preserved c =
     let at = a.rows.start + i * 10 in
     let row = c.entry_in-row.ensures ∙ entry_at_lem a.file.now at in
     let z : a.rows.start + (i + 1) * 10 ≡ at + 10 = omega arith in
-    let m : a.rows.count - (i + 1) ≡ a.rows.count - i - 1 = omega arith in
-    (
+    let m : a.rows.count - (i + 1) ≡ a.rows.count - i - 1 = omega arith in (
       c.next_place-o.ensures.1,
       rw (z, m, c.next_place-o.ensures.0, row)
-      (sym (tiled_next (each_of a.pairs) a.file.now a.energies c.loop-i.o at (a.rows.count - i) (omega arith) (yes (c.placed.ensures ∙ rw row refl) c.if-not-placed.false)) ∙ c.loop-i.invariant.1)
+          (sym (tiled_next (each_of a.pairs) a.file.now a.energies c.loop-i.o at (a.rows.count - i) (omega arith) (yes (c.placed.ensures ∙ rw row refl) c.if-not-placed.false)) ∙ c.loop-i.invariant.1),
     )
 
 pub returns : goal.returns

@@ -1,17 +1,8 @@
-use Prim.Native.Nat.{◌+◌, ◌*◌, ◌≤◌}
-use native.Mathlib.Omega.{arith}
-use lib.ListN.{length}
 use borrow.Author.Tests.{eq-eqb, ne_eqb}
 use Rattle.lists.proofs.Counting.{yes, no}
 use Rattle.table.specs.Tail.{term_of, tail_valid}
 use Rattle.table.proofs.Items.{items-many}
-use Rattle.table.proofs.Accepted.{some}
 use Rattle.table.proofs.questions.tail_valid.Goals as goal
-use Rattle.table.proofs.questions.tail_valid.Goals.{Else-t-eq0}
-
--- where there are terms, they and the prefactor are inside the file
-inside : (c : Else-t-eq0) → c.args.t.tail_start + c.args.t.terms * 20 + 8 ≤ length c.args.file.now
-inside c = c.requires (some _ c.if-t-eq0.false)
 
 pub returns-then-t-eq0 : goal.returns-then-t-eq0
 unfolding tail_valid
@@ -19,23 +10,11 @@ returns-then-t-eq0 c =
     let a = c.args in
     rw (items-many term_of 20 a.file.now a.t.tail_start a.t.terms, eq-eqb _ _ c.if-t-eq0.true)
 
-pub terms_valid-requires : goal.terms_valid-requires
-terms_valid-requires c = omega (arith, inside c)
-
 pub returns-then-not-terms_valid : goal.returns-then-not-terms_valid
 unfolding tail_valid
 returns-then-not-terms_valid c =
     let a = c.args in
     rw (items-many term_of 20 a.file.now a.t.tail_start a.t.terms, ne_eqb _ _ c.if-t-eq0.false, no c.terms_valid.ensures c.if-not-terms_valid.true)
-
-pub overflow_mul-t : goal.overflow_mul-t
-overflow_mul-t c = omega (arith, inside (goal.at.overflow_mul-t c).Else-t-eq0)
-
-pub overflow_add-t : goal.overflow_add-t
-overflow_add-t c = omega (arith, inside (goal.at.overflow_add-t c).Else-t-eq0)
-
-pub f64_in-requires : goal.f64_in-requires
-f64_in-requires c = omega (arith, inside (goal.at.f64_in-requires c).Else-t-eq0)
 
 pub returns : goal.returns
 unfolding tail_valid

@@ -2,7 +2,6 @@ use mathlib.Core.Path.{◌≡◌, refl, sym}
 use mathlib.Core.Bool.{true}
 use Rattle.std.proofs.lemmas.Result.{err_from_is_err_and}
 use Rattle.lists.proofs.Counting.{yes, no}
-use Rattle.refusals.specs.Numbers.{asked}
 use Rattle.refusals.proofs.Numbers.{numbered}
 use Rattle.table.specs.Read.{layout, table_laid_out, table_of}
 use Rattle.table.specs.Internal.{TableSections}
@@ -19,20 +18,20 @@ placed c = table_laid _ _ c.sections-p.ensures (yes c.table_laid_out.ensures c.i
 pub returns-then-not-table_laid_out : goal.returns-then-not-table_laid_out
 returns-then-not-table_laid_out c = sym (read_unlaid c.args.bound c.args.file.now (rw (← c.sections-p.ensures) (no c.table_laid_out.ensures c.if-not-table_laid_out.true)))
 
-pub table_of-t-requires : goal.table_of-t-requires
-table_of-t-requires c = placed c
+pub table_of-table-requires : goal.table_of-table-requires
+table_of-table-requires c = placed c
 
 pub table_question-requires : goal.table_question-requires
 unfolding table_of
-table_question-requires c = rw c.table_of-t.ensures (table_inside _ _ (placed (goal.at.table_question-requires c).Else-not-table_laid_out))
+table_question-requires c = rw c.table_of-table.ensures (table_inside _ _ (placed (goal.at.table_question-requires c).Else-not-table_laid_out))
 
 pub returns-in_err-table_question : goal.returns-in_err-table_question
 returns-in_err-table_question c =
     let p = err_from_is_err_and c.from_residual.result c.from_residual.ensures.1 in
-    let e = rw (c.table_of-t.ensures, c.sections-p.ensures) at c.in_err-table_question.ensures in
+    let e = rw (c.table_of-table.ensures, c.sections-p.ensures) at c.in_err-table_question.ensures in
     rw (p.1, p.2) (sym (read_refused c.args.bound c.args.file.now (answered (goal.at.returns-in_err-table_question c).Else-not-table_laid_out) _ e (numbered _)))
 
 pub returns : goal.returns
 returns c =
-    let e = rw (c.table_of-t.ensures, c.sections-p.ensures) at c.in_ok-table_question.ensures in
-    rw (c.table_of-t.ensures, c.sections-p.ensures) (sym (read_accepted c.args.bound c.args.file.now (answered (goal.at.returns c).Else-not-table_laid_out) 0 e refl))
+    let e = rw (c.table_of-table.ensures, c.sections-p.ensures) at c.in_ok-table_question.ensures in
+    rw (c.table_of-table.ensures, c.sections-p.ensures) (sym (read_accepted c.args.bound c.args.file.now (answered (goal.at.returns c).Else-not-table_laid_out) 0 e refl))
