@@ -9,7 +9,7 @@ use Rattle.sizing.proofs.by_cells.Goals as goal
 use Rattle.sizing.proofs.by_cells.Goals.{After-grid_size-g}
 
 pub loop-m-init : goal.loop-m-init
-loop-m-init c = (omega arith, none_yet (λ k. cell_count (grid_size (vertex_count k)) + 1))
+loop-m-init c = none_yet (λ k. cell_count (grid_size (vertex_count k)) + 1)
 
 -- the number of a level fits
 fits : (c : After-grid_size-g) → c.grid_size-g.result * c.grid_size-g.result ≤ 160000
@@ -26,18 +26,12 @@ overflow_add-out c = omega (arith, fits c)
 
 pub bounds-out-m : goal.bounds-out-m
 bounds-out-m c = let l = c.loop-m in
-    omega (arith, ap length l.invariant.1 ∙ sixteen (λ k. cell_count (grid_size (vertex_count k)) + 1) l.m (omega arith))
+    omega (arith, ap length l.invariant ∙ sixteen (λ k. cell_count (grid_size (vertex_count k)) + 1) l.m (omega arith))
 
 pub loop-m-preserved : goal.loop-m-preserved
 unfolding cell_count
 loop-m-preserved c = let l = c.loop-m in
-    (omega arith, rw c.grid_size-g.ensures (one_more (λ k. cell_count (grid_size (vertex_count k)) + 1) l.m l.out l.invariant.1 (omega arith)))
+    rw c.grid_size-g.ensures (one_more (λ k. cell_count (grid_size (vertex_count k)) + 1) l.m l.out l.invariant (omega arith))
 
 pub returns : goal.returns
-returns c = let full : c.loop-m.m ≡ c.args.levels = omega arith in rw full at c.loop-m.invariant.1
-
-pub offset_bounds-out-m : goal.offset_bounds-out-m
-offset_bounds-out-m c = omega arith
-
-pub overflow_add-m : goal.overflow_add-m
-overflow_add-m c = omega arith
+returns c = let full : c.loop-m.m ≡ c.args.levels = omega arith in rw full at c.loop-m.invariant

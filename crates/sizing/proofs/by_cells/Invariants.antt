@@ -5,7 +5,4 @@ use Rattle.sizing.specs.Sizing.{by_level}
 use Rattle.sizing.proofs.by_cells.Given as goal
 
 abbrev pub invariant-loop-m : goal.invariant-loop-m
-invariant-loop-m l = (l.m ≤ l.levels) × (l.out ≡ by_level l.m (λ k. cell_count (grid_size (vertex_count k)) + 1))
-
-abbrev pub decreases-loop-m : goal.decreases-loop-m
-decreases-loop-m l = l.levels - l.m
+invariant-loop-m l = l.out ≡ by_level l.m (λ k. cell_count (grid_size (vertex_count k)) + 1)

@@ -11,7 +11,7 @@ use Rattle.sizing.proofs.by_neighbours.Goals as goal
 use Rattle.sizing.proofs.by_neighbours.Goals.{After-neighbour_total-total}
 
 pub loop-m-init : goal.loop-m-init
-loop-m-init c = let s = c.args in (omega arith, none_yet (λ k. (s.times * vertex_count k + s.more) * neighbour_total s.counts.now k))
+loop-m-init c = let s = c.args in none_yet (λ k. (s.times * vertex_count k + s.more) * neighbour_total s.counts.now k)
 
 -- the number of a level fits
 lines : (c : After-neighbour_total-total) → c.args.times * c.vertex_count-n.result ≤ 131070 * 2562
@@ -35,20 +35,14 @@ overflow_mul-out-in-loop-m c = let s = c.args in
 
 pub bounds-out-m : goal.bounds-out-m
 bounds-out-m c = let s = c.args in let l = c.loop-m in
-    omega (arith, ap length l.invariant.1 ∙ sixteen (λ k. (s.times * vertex_count k + s.more) * neighbour_total s.counts.now k) l.m (omega arith))
+    omega (arith, ap length l.invariant ∙ sixteen (λ k. (s.times * vertex_count k + s.more) * neighbour_total s.counts.now k) l.m (omega arith))
 
 pub loop-m-preserved : goal.loop-m-preserved
-loop-m-preserved c = let s = c.args in let l = c.loop-m in (
-  omega arith,
+loop-m-preserved c = 
+    let s = c.args in
+    let l = c.loop-m in
   rw (c.vertex_count-n.ensures, c.neighbour_total-total.ensures)
-      (one_more (λ k. (s.times * vertex_count k + s.more) * neighbour_total s.counts.now k) l.m l.out l.invariant.1 (omega arith)),
-)
+      (one_more (λ k. (s.times * vertex_count k + s.more) * neighbour_total s.counts.now k) l.m l.out l.invariant (omega arith))
 
 pub returns : goal.returns
-returns c = let full : c.loop-m.m ≡ c.args.levels = omega arith in rw full at c.loop-m.invariant.1
-
-pub offset_bounds-out-m : goal.offset_bounds-out-m
-offset_bounds-out-m c = omega arith
-
-pub overflow_add-m : goal.overflow_add-m
-overflow_add-m c = omega arith
+returns c = let full : c.loop-m.m ≡ c.args.levels = omega arith in rw full at c.loop-m.invariant

@@ -6,7 +6,4 @@ use Rattle.sizing.specs.Sizing.{by_level}
 use Rattle.sizing.proofs.by_neighbours.Given as goal
 
 abbrev pub invariant-loop-m : goal.invariant-loop-m
-invariant-loop-m l = (l.m ≤ l.levels) × (l.out ≡ by_level l.m (λ k. (l.times * vertex_count k + l.more) * neighbour_total l.counts k))
-
-abbrev pub decreases-loop-m : goal.decreases-loop-m
-decreases-loop-m l = l.levels - l.m
+invariant-loop-m l = l.out ≡ by_level l.m (λ k. (l.times * vertex_count k + l.more) * neighbour_total l.counts k)

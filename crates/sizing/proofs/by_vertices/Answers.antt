@@ -10,7 +10,7 @@ use Rattle.sizing.proofs.by_vertices.Goals as goal
 use Rattle.sizing.proofs.by_vertices.Goals.{After-vertex_count}
 
 pub loop-m-init : goal.loop-m-init
-loop-m-init c = (omega arith, none_yet (λ k. c.args.times * vertex_count k + c.args.more))
+loop-m-init c = none_yet (λ k. c.args.times * vertex_count k + c.args.more)
 
 -- the number of a level fits
 fits : (c : After-vertex_count) → c.args.times * c.vertex_count.result ≤ 45 * 2562
@@ -24,17 +24,11 @@ overflow_add-out c = omega (arith, fits c)
 
 pub bounds-out-m : goal.bounds-out-m
 bounds-out-m c = let s = c.args in let l = c.loop-m in
-    omega (arith, ap length l.invariant.1 ∙ sixteen (λ k. s.times * vertex_count k + s.more) l.m (omega arith))
+    omega (arith, ap length l.invariant ∙ sixteen (λ k. s.times * vertex_count k + s.more) l.m (omega arith))
 
 pub loop-m-preserved : goal.loop-m-preserved
 loop-m-preserved c = let s = c.args in let l = c.loop-m in
-    (omega arith, rw c.vertex_count.ensures (one_more (λ k. s.times * vertex_count k + s.more) l.m l.out l.invariant.1 (omega arith)))
+    rw c.vertex_count.ensures (one_more (λ k. s.times * vertex_count k + s.more) l.m l.out l.invariant (omega arith))
 
 pub returns : goal.returns
-returns c = let full : c.loop-m.m ≡ c.args.levels = omega arith in rw full at c.loop-m.invariant.1
-
-pub offset_bounds-out-m : goal.offset_bounds-out-m
-offset_bounds-out-m c = omega arith
-
-pub overflow_add-m : goal.overflow_add-m
-overflow_add-m c = omega arith
+returns c = let full : c.loop-m.m ≡ c.args.levels = omega arith in rw full at c.loop-m.invariant
