@@ -1,5 +1,5 @@
 use mathlib.Core.Path.{◌≡◌}
-use Prim.Native.Nat.{◌+◌, ◌-◌, ◌≤◌}
+use Prim.Native.Nat.{◌+◌}
 use Rattle.mesh.specs.Levels.{vertex_count, grid_size, cell_count}
 use Rattle.sizing.specs.Sizing.{by_level}
 use Rattle.sizing.proofs.by_cells.Given as goal

@@ -1,5 +1,5 @@
 use mathlib.Core.Path.{◌≡◌}
-use Prim.Native.Nat.{◌+◌, ◌*◌, ◌-◌, ◌≤◌}
+use Prim.Native.Nat.{◌+◌, ◌*◌}
 use Rattle.mesh.specs.Levels.{vertex_count}
 use Rattle.sizing.specs.Sizing.{by_level}
 use Rattle.sizing.proofs.by_vertices.Given as goal
