@@ -40,6 +40,7 @@ pub(crate) fn inside(n: usize, places: usize, v: usize) -> bool
     (v < n) & (3 * v + 3 <= places)
 }
 
+#[tactic(auto, unfolding(crate::specs::Geometry::vertex_at))]
 pub(crate) fn vertex_at(vertices: &[f64], v: usize) -> Vector3
     requires { 3 * v + 3 ≤ length vertices.now }
     ensures { result ≡ vertex_at vertices.now v }
@@ -63,6 +64,7 @@ fn not_nearest(why: Refusal) -> Nearest
 }
 
 // Vertex v, unless the one before is as near or nearer.
+#[tactic(auto, unfolding(crate::specs::Search::nearer, crate::specs::Search::squared))]
 fn nearer(vertices: &[f64], p: Vector3, best: Nearest, v: usize) -> Nearest
     requires { 3 * v + 3 ≤ length vertices.now }
     ensures { result ≡ nearer vertices.now p best v }

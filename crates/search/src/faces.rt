@@ -81,6 +81,7 @@ fn weights_of(vertices: &[f64], p: Vector3, f: Face) -> Weights
 }
 
 // Face f, where the least of its weights is above that of the face before.
+#[tactic(auto, unfolding(crate::specs::Search::better))]
 fn better(vertices: &[f64], p: Vector3, best: Fit, f: Face) -> Fit
     requires { FaceInside vertices.now f }
     ensures { result ≡ better vertices.now p best f }
@@ -130,6 +131,7 @@ struct Within {
 }
 
 // The same with face f, which is listed from place i on.
+#[tactic(auto, unfolding(crate::specs::Internal::sifted))]
 fn sifted(vertices: &[f64], p: Vector3, w: Within, i: usize, f: Face) -> Within
     requires { FaceInside vertices.now f }
     ensures { result ≡ sifted vertices.now p w i f }

@@ -15,6 +15,7 @@ fn weighed(a: f64, b: f64, c: f64) -> Weights
 }
 
 // Past every edge and corner.
+#[tactic(auto, unfolding(crate::specs::Geometry::in_face))]
 fn in_face(va: f64, vb: f64, vc: f64) -> Weights
     ensures { result ≡ in_face va vb vc }
 {
@@ -39,6 +40,7 @@ pub(crate) struct Sides {
     pub(crate) d6: f64,
 }
 
+#[tactic(auto, unfolding(crate::specs::Internal::sides_of))]
 pub(crate) fn sides_of(p: Vector3, a: Vector3, b: Vector3, c: Vector3) -> Sides
     ensures { result ≡ sides_of p a b c }
 {
@@ -58,6 +60,7 @@ pub(crate) fn sides_of(p: Vector3, a: Vector3, b: Vector3, c: Vector3) -> Sides
 }
 
 // Whether p is told to be past an edge or a corner by plain products alone; its least weight is then not above 0.
+#[tactic(auto, unfolding(crate::specs::Internal::past))]
 pub(crate) fn is_past(s: Sides) -> bool
     ensures { result ≡ past s }
 {

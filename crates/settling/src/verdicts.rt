@@ -167,6 +167,7 @@ pub fn packed_row(row: SlabResolution) -> u64
 }
 
 // The number of packed energies after rows with `old` of them became rows with `new`, wrapping.
+#[tactic(auto, unfolding(crate::specs::Settling::packed_after))]
 pub fn packed_after(packed: u64, old: u64, new: u64) -> u64
     ensures { result ≡ packed_after packed old new }
 {
