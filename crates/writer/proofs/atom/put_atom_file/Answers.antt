@@ -3,7 +3,6 @@ use mathlib.Core.List.{[], ◌∷◌}
 use native.Mathlib.Omega.{arith}
 use lib.Ieee.{binary64, to_bits}
 use Rattle.mesh.specs.Levels.{vertex_count}
-use Rattle.rows.specs.Words.{rows_by}
 use Rattle.builder.specs.BuilderLists.{lists_of}
 use Rattle.table.specs.Atom.{atom_file_of}
 use Rattle.writer.specs.Atom.{atom_file_from}
@@ -11,13 +10,12 @@ use Rattle.writer.proofs.Whole.{file-put}
 use Rattle.writer.proofs.atom.put_atom_file.Goals as goal
 
 pub put_rest-requires : goal.put_rest-requires
-unfolding rows_by
 put_rest-requires c =
     let p = c.requires.0 in
     (record { sure = p.sure; energies = p.energies; fits = omega (arith, p.fits) }, omega arith)
 
 pub returns : goal.returns
-unfolding atom_file_from atom_file_of rows_by
+unfolding atom_file_from atom_file_of
 returns c =
     let a = c.args in
     let g = a.b.grid in
