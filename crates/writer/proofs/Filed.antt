@@ -15,7 +15,8 @@ use Rattle.mesh.specs.Levels.{vertex_count}
 use Rattle.rows.specs.declared.SlabResolution.{SlabResolution}
 use Rattle.rows.specs.Rows.{Rows, resolution_at, narrow_bits}
 use Rattle.table.specs.Bytes.{bytes_of, packed}
-use Rattle.table.specs.File.{Entry, entry_bytes}
+use Rattle.table.specs.declared.Entry.{Entry}
+use Rattle.table.specs.File.{entry_bytes}
 use Rattle.writer.specs.Internal.{held_by, entry_for, resolutions, entries_for, total, energies_for, Bounded}
 use Rattle.table.proofs.Lengths.{bytes_length, packed-length, packed-append, entry_length}
 use Rattle.writer.proofs.Puts.{puts_three}
@@ -83,7 +84,7 @@ module _ (each : ℕ → ℕ) (r : Rows) where
   pub energies_turn : (z : ℕ) (store : List Float) (p s n : ℕ) → s < n
       → packed (bytes_of 4) (energies_for each z store p (resolutions r s (n - s)))
       ≡ packed (bytes_of 4) (map narrow_bits (take (held_by each (resolution_at r s)) (drop p store)))
-          ++ packed (bytes_of 4) (energies_for each z store (p + z) (resolutions r (s + 1) (n - (s + 1))))
+      ++ packed (bytes_of 4) (energies_for each z store (p + z) (resolutions r (s + 1) (n - (s + 1))))
   unfolding energies_for
   energies_turn z store p s n h =
       rw (res_cons r s n h)

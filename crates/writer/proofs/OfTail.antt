@@ -104,9 +104,9 @@ module _ (t : TailLists) where
       )
 
 module _ (b : Builder) (m : Mesh) (l : BuilderLists) (t : TailLists) where
-  pub tailed-short : tail_long t ≡ false → tailed_question b m l t ≡ first (builder_question b) 6
+  pub tailed_short : tail_long t ≡ false → tailed_question b m l t ≡ first (builder_question b) 6
   unfolding tailed_question ask
-  tailed-short h = rw h
+  tailed_short h = rw h
 
   pub tailed_long : tail_long t ≡ true → tailed_question b m l t ≡ first (write_question b m l) (tail_question t)
   unfolding tailed_question meshed_refusal

@@ -8,7 +8,7 @@ use Rattle.std.specs.Int.{w32, w64, to_le_bytes}
 use lib.ListN.{length, set, take, drop, length-append}
 use lib.Seq.{drop-drop}
 use Rattle.lists.specs.Lists.{put}
-use Rattle.lists.proofs.Written.{Written, nothing, pushed, put_nil, put-put, length-put}
+use Rattle.lists.proofs.Written.{nothing, pushed, put_nil, put-put, length-put}
 use Rattle.table.specs.Bytes.{bytes_of, packed, section}
 use Rattle.table.proofs.Lengths.{bytes_length}
 

@@ -13,7 +13,8 @@ use Rattle.builder.specs.Atom.{atom_meshed_refusal}
 use Rattle.builder.specs.declared.Builder.{Builder}
 use Rattle.builder.specs.declared.AtomBuilder.{AtomBuilder}
 use Rattle.table.specs.Bytes.{bytes_of, section}
-use Rattle.table.specs.File.{Entry, entry_bytes}
+use Rattle.table.specs.declared.Entry.{Entry}
+use Rattle.table.specs.File.{entry_bytes}
 
 -- ---- rows as the code reads them, without their energies
 

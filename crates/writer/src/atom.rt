@@ -11,12 +11,13 @@ ghost use Rattle.writer.specs.Internal.{WriteReady, atom_write_question};
 
 use crate::sections::{put_atom_head, put_rest};
 use crate::slabs::{Slabs, energy_total, file_size, rows_known};
-use builder::AtomBuilder;
+use builder::{AtomBuilder, Lengths};
 use mesh::Mesh;
 use refusals::{Asked, Refusal};
 use rows::LentRows;
 
 // Questions 1 to 7, then 15 of every row.
+#[tactic(auto, using(refusals::proofs::Numbers::numbered), unfolding(lists::specs::Questions::ask, lists::specs::Questions::first, builder::specs::Atom::atom_meshed_refusal))]
 fn atom_write_question(
     b: AtomBuilder,
     store: &[f64],
@@ -27,14 +28,13 @@ fn atom_write_question(
 ) -> Asked
     ensures { asked result ≡ atom_write_question b (lent mesh.now) (lists_of store.now kinds.now levels.now values.now) }
 {
-    builder::atom_meshed_refusal(
-        b,
-        store.len() as u64,
-        kinds.len() as u64,
-        levels.len() as u64,
-        values.len() as u64,
-        mesh,
-    )?;
+    let lengths = Lengths {
+        store: store.len() as u64,
+        kinds: kinds.len() as u64,
+        levels: levels.len() as u64,
+        values: values.len() as u64,
+    };
+    builder::atom_meshed_refusal(b, lengths, mesh)?;
     let slabs = Slabs {
         rows: LentRows::Lists(kinds, levels, values),
         n: b.grid.n_r,

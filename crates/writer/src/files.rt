@@ -16,6 +16,7 @@ use refusals::{Asked, Refusal};
 use rows::LentRows;
 
 // Questions 1 to 7, then 15 of every row.
+#[tactic(auto, using(refusals::proofs::Numbers::numbered, builder::proofs::Laws::words_long), unfolding(lists::specs::Questions::ask, lists::specs::Questions::first, builder::specs::Refusals::meshed_refusal))]
 pub(crate) fn write_question(b: Builder, store: &[f64], words: &[u64], mesh: &Mesh) -> Asked
     ensures { asked result ≡ write_question b (lent mesh.now) (word_lists store.now words.now) }
 {

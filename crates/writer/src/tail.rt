@@ -81,13 +81,8 @@ fn tail_question(tail: &LentTail) -> Asked
 }
 
 // Questions 1 to 7, 15 of every row, 22 and 23.
-fn tailed_question(
-    b: Builder,
-    store: &[f64],
-    words: &[u64],
-    mesh: &Mesh,
-    tail: &LentTail,
-) -> Asked
+#[tactic(auto, using(refusals::proofs::Numbers::numbered, refusals::proofs::Numbers::stops, crate::proofs::OfTail::tailed_short, crate::proofs::OfTail::tailed_long), unfolding(lists::specs::Questions::first))]
+fn tailed_question(b: Builder, store: &[f64], words: &[u64], mesh: &Mesh, tail: &LentTail) -> Asked
     ensures { asked result ≡ tailed_question b (lent mesh.now) (word_lists store.now words.now) (lent_tail tail.now) }
 {
     if !tail_long(tail) {

@@ -1,4 +1,3 @@
-use mathlib.Core.Path.{◌≡◌}
 use Prim.Native.Nat.{◌+◌, ◌-◌, ◌≤◌}
 use Rattle.rows.specs.Lent.{lent_rows}
 use Rattle.table.specs.Bytes.{packed}
@@ -13,5 +12,5 @@ invariant-loop-s l =
     let each = each_in l.slabs in
     let rest = resolutions (lent_rows l.slabs.rows) l.s (l.slabs.n - l.s) in record {
       few : l.o + total each rest ≤ 4294967295;
-      written : Left l.initial.out l.at (packed entry_bytes (entries_for each 0 (slab_rows l.slabs))) l.out l.to (packed entry_bytes (entries_for each l.o rest))
+      written : Left l.initial.out l.at (packed entry_bytes (entries_for each 0 (slab_rows l.slabs))) l.out l.to (packed entry_bytes (entries_for each l.o rest));
     }

@@ -1,4 +1,3 @@
-use mathlib.Core.Path.{◌∙◌}
 use native.Mathlib.Omega.{arith}
 use Rattle.writer.specs.Internal.{entry_for}
 use Rattle.writer.proofs.Puts.{set-two}

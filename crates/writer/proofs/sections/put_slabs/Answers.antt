@@ -40,7 +40,7 @@ loop-s-init c =
 next : (c : After-energy_count-k) → let l = c.args.slabs.now in let a = c.args in
     packed (bytes_of 4) (energies_for (each_in l) a.z a.store.now c.loop-s.p (resolutions (lent_rows l.rows) c.loop-s.s (l.n - c.loop-s.s)))
     ≡ packed (bytes_of 4) (map narrow_bits (take c.energy_count-k.result (drop c.loop-s.p a.store.now)))
-      ++ packed (bytes_of 4) (energies_for (each_in l) a.z a.store.now (c.loop-s.p + a.z) (resolutions (lent_rows l.rows) (c.loop-s.s + 1) (l.n - (c.loop-s.s + 1))))
+    ++ packed (bytes_of 4) (energies_for (each_in l) a.z a.store.now (c.loop-s.p + a.z) (resolutions (lent_rows l.rows) (c.loop-s.s + 1) (l.n - (c.loop-s.s + 1))))
 next c =
     let l = c.args.slabs.now in
     energies_turn (each_in l) (lent_rows l.rows) c.args.z c.args.store.now c.loop-s.p c.loop-s.s l.n c.loop-s-test.true ∙ rw (← held c)
@@ -60,7 +60,8 @@ put_energies-requires c =
       arith,
       fits c.loop-s.invariant.written (packed (bytes_of 4) (map narrow_bits (take k (drop c.loop-s.p store)))) _ (next (goal.at.put_energies-requires c).After-energy_count-k),
       taken_bytes narrow_bits store c.loop-s.p k h,
-      taken-length narrow_bits store c.loop-s.p k h, length-map (take k (drop c.loop-s.p store)) narrow_bits,
+      taken-length narrow_bits store c.loop-s.p k h,
+      length-map (take k (drop c.loop-s.p store)) narrow_bits,
     )
 
 pub overflow_add-p : goal.overflow_add-p

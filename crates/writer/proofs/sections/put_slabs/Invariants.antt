@@ -15,5 +15,5 @@ invariant-loop-s l =
       bounded : Bounded each l.z rest;
       written :
           Left l.initial.out l.at (packed (bytes_of 4) (energies_for each l.z l.store 0 (slab_rows l.slabs))) l.out l.to
-          (packed (bytes_of 4) (energies_for each l.z l.store l.p rest))
+          (packed (bytes_of 4) (energies_for each l.z l.store l.p rest));
     }

@@ -1,4 +1,4 @@
-use mathlib.Core.Path.{◌≡◌, refl, sym, ◌∙◌}
+use mathlib.Core.Path.{◌≡◌, sym, ◌∙◌}
 use Prim.Native.Nat.{◌+◌, ◌*◌, ◌≤◌, ◌<◌}
 use native.Mathlib.Omega.{arith}
 use lib.ListN.{length}
@@ -76,7 +76,7 @@ returns-then-output-size c =
     let l = lists (goal.at.returns-then-output-size c).Start in
     let t = lent_tail c.args.tail.now in
     let short = lt-leb (length (full_file_from c.args.b l t)) (length c.args.output.now)
-        (omega (arith, long (goal.at.returns-then-output-size c).After-file_size-at, c.tail_size.ensures, c.if-output-size.true)) in
+    (omega (arith, long (goal.at.returns-then-output-size c).After-file_size-at, c.tail_size.ensures, c.if-output-size.true)) in
     sym (tail_short c.args.b (lent c.args.mesh.now) l t c.args.output.now (zero (goal.at.returns-then-output-size c).In_ok-tailed_question) short)
 
 pub put_file-requires : goal.put_file-requires
