@@ -114,11 +114,6 @@ accepted b ri oi e store kinds levels values known p =
     }
 
 -- a chain in two parts, of which the code asked the second after it had the answer to the first
-pub chain_no : (p : ℕ) (room : Bool) (q rest r : ℕ) → p ≡ 0 → r ≡ ask room 6 q → (r ≡ 0 → ⊥) → r ≡ first p (ask room 6 (first q rest))
-unfolding ask first
-chain_no p true q rest r z e n = rw (z, ← e, ne_eqb r 0 n)
-chain_no p false q rest r z e n = rw z e
-
 pub chain_yes : (p : ℕ) (room : Bool) (q rest r : ℕ) → p ≡ 0 → r ≡ ask room 6 q → r ≡ 0 → first p (ask room 6 (first q rest)) ≡ rest
 unfolding ask first
 chain_yes p true q rest r z e n = rw (z, ← e, n)

@@ -9,8 +9,8 @@ use lists::{entry_or, replace_entry};
 mod words;
 
 pub use words::{
-    known_by, known_in, replace_in, resolution_by, resolution_in, word_kind, word_level, word_of,
-    word_value,
+    LentRows, known_by, known_in, replace_in, resolution_by, resolution_in, word_kind, word_level,
+    word_of, word_value,
 };
 
 // What is known of a slab: one energy for all directions, a mesh of energies (its level, and whether a reading interpolates), or nothing but

@@ -1,7 +1,8 @@
 // A slab's row as one number in a lent list: its value, its level, and its kind with whatever stands above it.
 ghost use Rattle.std.specs.Prelude.{◌≡◌};
 ghost use Rattle.rows.specs.Rows.{Rows, resolution_of, resolution_at, replaced, known, row_known};
-ghost use Rattle.rows.specs.Words.{word_of, word_value, word_level, word_kind, word_rows, rows_by};
+ghost use Rattle.rows.specs.Words.{word_of, word_value, word_level, word_kind, word_rows};
+ghost use Rattle.rows.specs.Lent.{lent_rows};
 
 use crate::SlabResolution;
 use lists::{entry_or, replace_entry};
@@ -85,38 +86,28 @@ pub fn known_in(top: u64, words: &[u64], s: u64) -> bool
     word_known(top, entry_or(words, s as usize, 0))
 }
 
-// The row of slab s, and the kind and level part of question 15, in either form.
-#[tactic(auto, unfolding(crate::specs::Words::rows_by))]
-pub fn resolution_by(
-    worded: bool,
-    words: &[u64],
-    kinds: &[u8],
-    levels: &[u8],
-    values: &[u32],
-    s: u64,
-) -> SlabResolution
-    ensures { result ≡ resolution_at (rows_by worded words.now kinds.now levels.now values.now) s }
-{
-    if worded {
-        return resolution_in(words, s);
-    }
-    crate::resolution_at(kinds, levels, values, s)
+// Rows in either form, as they are lent: as words, or in three lists. In a contract `lent_rows` of them.
+#[derive(Clone, Copy)]
+pub enum LentRows<'a> {
+    Words(&'a [u64]),
+    Lists(&'a [u8], &'a [u8], &'a [u32]),
 }
 
-#[tactic(auto, unfolding(crate::specs::Words::rows_by))]
-pub fn known_by(
-    worded: bool,
-    top: u64,
-    words: &[u64],
-    kinds: &[u8],
-    levels: &[u8],
-    values: &[u32],
-    s: u64,
-) -> bool
-    ensures { result ≡ row_known top (rows_by worded words.now kinds.now levels.now values.now) s }
+// The row of slab s, and the kind and level part of question 15, in either form.
+pub fn resolution_by(rows: &LentRows, s: u64) -> SlabResolution
+    ensures { result ≡ resolution_at (lent_rows rows.now) s }
 {
-    if worded {
-        return known_in(top, words, s);
+    match rows {
+        LentRows::Words(words) => resolution_in(words, s),
+        LentRows::Lists(kinds, levels, values) => crate::resolution_at(kinds, levels, values, s),
     }
-    crate::row_known(top, kinds, levels, s)
+}
+
+pub fn known_by(rows: &LentRows, top: u64, s: u64) -> bool
+    ensures { result ≡ row_known top (lent_rows rows.now) s }
+{
+    match rows {
+        LentRows::Words(words) => known_in(top, words, s),
+        LentRows::Lists(kinds, levels, _) => crate::row_known(top, kinds, levels, s),
+    }
 }

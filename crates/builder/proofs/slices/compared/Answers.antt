@@ -21,7 +21,7 @@ pub overflow_mul-result-2 : goal.overflow_mul-result-2
 overflow_mul-result-2 c = omega (arith, pairs c)
 
 pub overflow_mul-result-3 : goal.overflow_mul-result-3
-overflow_mul-result-3 c = omega (arith, mul-le-mul c.requires.1 (pairs c))
+overflow_mul-result-3 c = omega (arith, mul-le-mul c.requires.1 (pairs (goal.at.overflow_mul-result-3 c).After-neighbour_total-total))
 
 pub returns : goal.returns
 returns c = rw (c.vertex_count-n.ensures, c.neighbour_total-total.ensures)

@@ -1,6 +1,6 @@
-use mathlib.Core.Path.{◌∙◌}
-use Rattle.table.proofs.Numbers.{four_bytes}
+use native.Mathlib.Omega.{arith}
+use Rattle.table.proofs.Numbers.{four}
 use Rattle.table.proofs.bytes.u32_in.Goals as goal
 
 pub returns : goal.returns
-returns c = let a = c.args in c.u32_from_le_bytes.ensures ∙ four_bytes a.file.now a.at
+returns c = omega (arith, four c.args.file.now c.args.at, c.from_le_bytes.ensures)

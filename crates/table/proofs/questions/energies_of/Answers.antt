@@ -6,10 +6,3 @@ use Rattle.table.proofs.questions.energies_of.Goals as goal
 pub overflow_mul-result : goal.overflow_mul-result
 unfolding per
 overflow_mul-result c = rw c.vertex_count-n.ensures (omega (arith, per_le c.args.level 256 (omega arith)))
-
-pub returns-then-pairs : goal.returns-then-pairs
-unfolding per
-returns-then-pairs c = rw (c.if-pairs.true, c.vertex_count-n.ensures)
-
-pub returns : goal.returns
-returns c = rw (c.if-pairs.false, c.vertex_count-n.ensures)
