@@ -1,5 +1,4 @@
--- A reader has to believe `Locator`, `Several` and `Lent`. Only the code and the proofs need `Internal`.
+-- A reader has to believe `Locator` and `Several`. Only the code and the proofs need `Internal`.
 pub mod Locator
 pub mod Several
-pub mod Lent
 pub mod Internal

@@ -12,7 +12,7 @@ use mesh::Mesh;
 
 // i, j, k is a face, and v is a vertex of it.
 #[tactic(auto, using(crate::proofs::Blocks::wanted_are), unfolding(crate::specs::Internal::wanted, mesh::specs::Faces::is_face, mesh::specs::Faces::has))]
-fn wanted(mesh: &Mesh, i: u32, j: u32, k: u32, v: u32) -> bool
+pub fn wanted(mesh: &Mesh, i: u32, j: u32, k: u32, v: u32) -> bool
     ensures { result ≡ wanted (lent mesh.now) i j k v }
 {
     i < j && j < k && ((i == v) | ((j == v) | (k == v))) && mesh::lists(mesh, j, k)
@@ -44,7 +44,7 @@ fn put_wanted(mesh: &Mesh, i: u32, j: u32, k: u32, v: u32, out: &mut [u16], at: 
 
 // v is i, or one of its neighbours.
 #[tactic(auto, unfolding(crate::specs::Internal::touches))]
-fn touches(mesh: &Mesh, i: u32, v: u32) -> bool
+pub fn touches(mesh: &Mesh, i: u32, v: u32) -> bool
     ensures { result ≡ touches (lent mesh.now) i v }
 {
     i == v || mesh::lists(mesh, i, v)

@@ -6,22 +6,14 @@ ghost use Rattle.mesh.specs.Lent.{lent};
 ghost use Rattle.refusals.specs.Numbers.{asked};
 ghost use Rattle.search.specs.Search.{locator_of};
 ghost use Rattle.locator.specs.Locator.{locator_room, LocatorOut, locator_out};
-ghost use Rattle.locator.specs.Lent.{lent_lists};
 ghost use Rattle.locator.specs.Internal.{refusal};
 
 mod cells;
 mod faces;
 
+pub use faces::{touches, wanted};
 use mesh::Mesh;
 use refusals::{Asked, Refusal};
-
-// The lists that the locator call fills, as they are lent.
-pub struct LocatorLists<'a> {
-    pub cell_offsets: &'a mut [u32],
-    pub cell_vertices: &'a mut [u16],
-    pub face_offsets: &'a mut [u32],
-    pub faces: &'a mut [u16],
-}
 
 // Question 6, of the four lists.
 fn locator_room(
@@ -84,18 +76,25 @@ fn refusal(
 }
 
 // The face offsets hold the cells' keys before they are written.
-pub fn locator(level: u64, mesh: &Mesh, lists: &mut LocatorLists) -> Asked
+pub fn locator(
+    level: u64,
+    mesh: &Mesh,
+    cell_offsets: &mut [u32],
+    cell_vertices: &mut [u16],
+    face_offsets: &mut [u32],
+    faces: &mut [u16],
+) -> Asked
     ensures { ◌≡◌ {A = LocatorOut}
-        (record { number = asked result; lists = lent_lists lists.new })
-        (locator_out level (lent mesh.now) (lent_lists lists.old)) }
+        (record { number = asked result; lists = locator_of cell_offsets.new cell_vertices.new face_offsets.new faces.new })
+        (locator_out level (lent mesh.now) (locator_of cell_offsets.old cell_vertices.old face_offsets.old faces.old)) }
 {
     refusal(
         level,
         mesh,
-        lists.cell_offsets.len(),
-        lists.cell_vertices.len(),
-        lists.face_offsets.len(),
-        lists.faces.len(),
+        cell_offsets.len(),
+        cell_vertices.len(),
+        face_offsets.len(),
+        faces.len(),
     )?;
     let k = level as u8;
     let n = mesh::vertex_count(k);
@@ -105,10 +104,10 @@ pub fn locator(level: u64, mesh: &Mesh, lists: &mut LocatorLists) -> Asked
         n as usize,
         g,
         6 * (g * g),
-        lists.face_offsets,
-        lists.cell_offsets,
-        lists.cell_vertices,
+        face_offsets,
+        cell_offsets,
+        cell_vertices,
     );
-    faces::put_faces(mesh, n as u32, lists.face_offsets, lists.faces);
+    faces::put_faces(mesh, n as u32, face_offsets, faces);
     Ok(())
 }

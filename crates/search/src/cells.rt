@@ -53,7 +53,8 @@ pub(crate) fn vertex_at(vertices: &[f64], v: usize) -> Vector3
     }
 }
 
-fn not_nearest(why: Refusal) -> Nearest
+// No vertex, for a reason.
+pub fn not_nearest(why: Refusal) -> Nearest
     ensures { result ≡ not_nearest (number why) }
 {
     Nearest {

@@ -24,7 +24,8 @@ fn face_of(a: u16, b: u16, c: u16) -> Face
     }
 }
 
-fn no_fit() -> Fit
+// Before any face is weighed.
+pub fn no_fit() -> Fit
     ensures { result ≡ no_fit }
 {
     Fit {
@@ -38,7 +39,8 @@ fn no_fit() -> Fit
     }
 }
 
-fn not_located(number: u64) -> Located
+// No face, for the reason with this number.
+pub fn not_located(number: u64) -> Located
     ensures { result ≡ not_located number }
 {
     Located {
@@ -54,7 +56,8 @@ fn not_located(number: u64) -> Located
     }
 }
 
-fn fitted(near: Nearest, best: Fit) -> Located
+// The best face beside the nearest vertex.
+pub fn fitted(near: Nearest, best: Fit) -> Located
     ensures { result ≡ located_fit near best }
 {
     Located {

@@ -8,8 +8,8 @@ mod faces;
 mod geometry;
 mod triangle;
 
-pub use cells::find_nearest_vertex;
-pub use faces::locate;
+pub use cells::{find_nearest_vertex, not_nearest};
+pub use faces::{fitted, locate, no_fit, not_located};
 pub use geometry::{
     cell_index, cube_face_project, cube_project, difference, dot, in_cells, length_valid, norm,
     unit,

@@ -9,6 +9,7 @@ ghost use Rattle.search.specs.Search.{nearest_in_cells, locate_in, locator_of};
 ghost use Rattle.locator.specs.Locator.{LocatorOut, locator_out};
 ghost use Rattle.mesh_search.specs.MeshSearch.{search_out};
 
+use mesh::Mesh;
 use search::{Located, Locator, Nearest, Vector3};
 
 #[tactic(auto, unfolding(search::specs::Search::nearest_in))]
@@ -75,17 +76,20 @@ pub extern "C" fn search_locator(
         (locator_out level (mesh_of vertices.now counts.now neighbours.now angles.now)
         (locator_of cell_offsets.old cell_vertices.old face_offsets.old faces.old)) }
 {
-    locator::locator(
-        level,
+    let mesh = Mesh {
         vertices,
         counts,
         neighbours,
         angles,
+    };
+    refusals::number_of(locator::locator(
+        level,
+        &mesh,
         cell_offsets,
         cell_vertices,
         face_offsets,
         faces,
-    )
+    ))
 }
 
 // The search without a locator.
@@ -101,5 +105,11 @@ pub extern "C" fn search_mesh(
 ) -> Located
     ensures { result ≡ search_out level (mesh_of vertices.now counts.now neighbours.now []) (record { x = x; y = y; z = z }) }
 {
-    mesh_search::search_mesh(level, vertices, counts, neighbours, Vector3 { x, y, z })
+    let mesh = Mesh {
+        vertices,
+        counts,
+        neighbours,
+        angles: &[],
+    };
+    mesh_search::search_mesh(level, &mesh, Vector3 { x, y, z })
 }

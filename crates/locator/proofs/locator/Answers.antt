@@ -15,7 +15,7 @@ use Rattle.locator.proofs.locator.Goals as goal
 use Rattle.locator.proofs.locator.Goals.{In_ok-refusal, After-grid_size-g}
 
 facts : (c : In_ok-refusal) → let a = c.args in
-    Accepted (vertex_count a.level) (grid_size (vertex_count a.level)) (lent a.mesh.now) (length a.lists.now.cell_offsets.now) (length a.lists.now.cell_vertices.now) (length a.lists.now.face_offsets.now) (length a.lists.now.faces.now)
+    Accepted (vertex_count a.level) (grid_size (vertex_count a.level)) (lent a.mesh.now) (length a.cell_offsets.now) (length a.cell_vertices.now) (length a.face_offsets.now) (length a.faces.now)
 facts c = accepted _ _ _ _ _ _ (sym c.in_ok-refusal.ensures)
 
 square : (c : After-grid_size-g) → c.grid_size-g.result * c.grid_size-g.result ≤ 160000
@@ -28,7 +28,7 @@ pub returns-in_err-refusal : goal.returns-in_err-refusal
 returns-in_err-refusal c =
     let a = c.args in
     let p = err_from_is_err_and c.from_residual.result c.from_residual.ensures.1 in
-    rw (p.1, p.2) (sym (refused a.level (lent a.mesh.now) (locator_of a.lists.now.cell_offsets.now a.lists.now.cell_vertices.now a.lists.now.face_offsets.now a.lists.now.faces.now) _ c.in_err-refusal.ensures (eqb-false _ _ (numbered _))))
+    rw (p.1, p.2) (sym (refused a.level (lent a.mesh.now) (locator_of a.cell_offsets.now a.cell_vertices.now a.face_offsets.now a.faces.now) _ c.in_err-refusal.ensures (eqb-false _ _ (numbered _))))
 
 pub overflow_cast-k : goal.overflow_cast-k
 overflow_cast-k c = let a = c.args in
@@ -66,7 +66,7 @@ put_faces-requires c = let a = c.args in
 pub returns : goal.returns
 unfolding cell_count made
 returns c = let a = c.args in
-    let m : Mesh = lent a.mesh.now in let l : Locator = locator_of a.lists.now.cell_offsets.now a.lists.now.cell_vertices.now a.lists.now.face_offsets.now a.lists.now.faces.now in
+    let m : Mesh = lent a.mesh.now in let l : Locator = locator_of a.cell_offsets.now a.cell_vertices.now a.face_offsets.now a.faces.now in
     let e1 = rw (c.vertex_count-n.ensures, c.grid_size-g.ensures) at c.put_cells.ensures in
-    let e2 = rw c.vertex_count-n.ensures at c.put_faces.ensures ∙ scratch m (vertex_count a.level) _ a.lists.now.face_offsets.now a.lists.now.faces.now e1.1 in
+    let e2 = rw c.vertex_count-n.ensures at c.put_faces.ensures ∙ scratch m (vertex_count a.level) _ a.face_offsets.now a.faces.now e1.1 in
     rw (answered a.level m l 0 c.in_ok-refusal.ensures refl, ← e1.0, ← e2)
