@@ -104,6 +104,7 @@ pub fn fresh(
 }
 
 // The builder after a set that replaces this row.
+#[tactic(auto, unfolding(crate::specs::Calls::set_builder))]
 fn set_builder(b: Builder, row: SlabResolution) -> Builder
     requires { b.level ≤ 15 }
     ensures { result ≡ set_builder b (row_with row []) }
