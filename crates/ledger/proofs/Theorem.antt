@@ -17,10 +17,9 @@ use Rattle.grid.specs.declared.Grid.{Grid}
 use Rattle.grid.proofs.Tables.{table_valid_lem, some_bins}
 use Rattle.rows.specs.Rows.{Row, repulsive, compared}
 use Rattle.builder.specs.BuilderLists.{BuilderLists, slabs}
-use Rattle.builder.specs.Calls.{built_values, no_builder, fresh_builder, filled, fresh_out}
+use Rattle.builder.specs.Calls.{fresh_builder, filled, fresh_out}
 use Rattle.builder.specs.Refusals.{meshed_refusal}
 use Rattle.builder.specs.declared.Builder.{Builder}
-use Rattle.builder.specs.declared.Built.TheVariants.{Accepted as Builds}
 use Rattle.builder.proofs.Laws.{Meshed, meshed}
 use Rattle.table.specs.Tail.{Tail, tail_bytes}
 use Rattle.table.specs.File.{file_of, full_file}
