@@ -2,7 +2,7 @@
 // looked at.
 #![tactic(auto)]
 
-ghost use Rattle.std.specs.Prelude.{◌≡◌, ◌+◌, ◌*◌, suc, ◌≤◌, [], length, leb};
+ghost use Rattle.std.specs.Prelude.{◌≡◌, ℕ, ◌<◌, ◌+◌, ◌*◌, suc, ◌≤◌, [], length, leb};
 ghost use Rattle.lists.specs.Questions.{ask, first};
 ghost use Rattle.refusals.specs.Numbers.{number, asked};
 ghost use Rattle.grid.specs.Settings.{fresh_question};
@@ -90,41 +90,42 @@ fn no_size(e: Refusal) -> Size
     }
 }
 
-// So many for each vertex, and some more.
-fn by_vertices(levels: u8, times: u64, more: u64) -> [u64; 16]
-    requires { (levels ≤ 16) × (times ≤ 45) × (more ≤ 1) }
-    ensures { result ≡ by_level levels (λ m. times * vertex_count m + more) }
+// A number for each of 16 levels: what `of` makes of the first ones, as many as there are levels, and 0 for those above.
+fn by_level<F: Fn(u8) -> u64>(levels: u8, of: F) -> [u64; 16]
+    requires few { levels ≤ 16 }
+    requires calls { (m : ℕ) → m < levels → F.pre of m }
+    ensures { (f : ℕ → ℕ) → ((m r : ℕ) → m < levels → F.post of m r → r ≡ f m) → result ≡ by_level levels f }
 {
     let mut out = [0; 16];
     for m in 0..levels {
-        out[m as usize] = times * mesh::vertex_count(m) + more;
+        out[m as usize] = of(m);
     }
     out
 }
 
-fn by_cells(levels: u8) -> [u64; 16]
-    requires { levels ≤ 16 }
-    ensures { result ≡ by_level levels (λ m. cell_count (grid_size (vertex_count m)) + 1) }
+// So many for each vertex of a level, and some more.
+fn of_vertices(m: u8, times: u64, more: u64) -> u64
+    requires { (m ≤ 15) × (times ≤ 45) × (more ≤ 1) }
+    ensures { result ≡ times * vertex_count m + more }
 {
-    let mut out = [0; 16];
-    for m in 0..levels {
-        let g = mesh::grid_size(m);
-        out[m as usize] = 6 * (g * g) + 1;
-    }
-    out
+    times * mesh::vertex_count(m) + more
+}
+
+// One cell offset more than there are cells.
+fn of_cells(m: u8) -> u64
+    requires { m ≤ 15 }
+    ensures { result ≡ cell_count (grid_size (vertex_count m)) + 1 }
+{
+    let g = mesh::grid_size(m);
+    6 * (g * g) + 1
 }
 
 // The comparisons of one settle: against each neighbour, so many for each vertex of a line and some more.
-fn by_neighbours(levels: u8, times: u64, more: u64, counts: &[u8]) -> [u64; 16]
-    requires { (levels ≤ 16) × (times ≤ 131070) × (more ≤ 1) }
-    ensures { result ≡ by_level levels (λ m. (times * vertex_count m + more) * neighbour_total counts.now m) }
+fn of_neighbours(m: u8, times: u64, more: u64, counts: &[u8]) -> u64
+    requires { (m ≤ 15) × (times ≤ 131070) × (more ≤ 1) }
+    ensures { result ≡ (times * vertex_count m + more) * neighbour_total counts.now m }
 {
-    let mut out = [0; 16];
-    for m in 0..levels {
-        let n = mesh::vertex_count(m);
-        out[m as usize] = (times * n + more) * mesh::neighbour_total(m, counts);
-    }
-    out
+    (times * mesh::vertex_count(m) + more) * mesh::neighbour_total(m, counts)
 }
 
 // Of so many slabs with `each` energies at the top level, in a file with `head` bytes besides vertex counts, rows and
@@ -139,11 +140,11 @@ fn sized(head: u64, slabs: u64, each: u64, top: u8, times: u64, more: u64, count
         number: 0,
         store,
         file: head + 4 * levels as u64 + 10 * slabs + 4 * store,
-        cell_offsets: by_cells(levels),
-        cell_vertices: by_vertices(levels, 27, 0),
-        face_offsets: by_vertices(levels, 1, 1),
-        faces: by_vertices(levels, 45, 0),
-        comparisons: by_neighbours(levels, times, more, counts),
+        cell_offsets: by_level(levels, |m| of_cells(m)),
+        cell_vertices: by_level(levels, |m| of_vertices(m, 27, 0)),
+        face_offsets: by_level(levels, |m| of_vertices(m, 1, 1)),
+        faces: by_level(levels, |m| of_vertices(m, 45, 0)),
+        comparisons: by_level(levels, |m| of_neighbours(m, times, more, counts)),
     }
 }
 
