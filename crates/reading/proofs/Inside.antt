@@ -12,26 +12,21 @@ use lib.Ieee.{Float, inf, binary32, binary64, of_bits, lt}
 use lib.Ieee.Scale.{finite}
 use borrow.Author.Tests.{lt-ltb, le-ltb, le-leb, lt-leb, leb-true, eqb-true, eqb-false, ne_eqb}
 use Rattle.ieee.proofs.Pack.{le_or_lt}
-use Rattle.lists.specs.Lists.{every}
-use Rattle.lists.proofs.Counting.{or_none, chosen}
+use Rattle.lists.proofs.Counting.{or_none}
 use Rattle.rows.specs.Rows.{resolution_of}
 use Rattle.rows.specs.declared.SlabResolution.{SlabResolution}
 use Rattle.rows.specs.declared.SlabResolution.TheVariants.{Scalar, Mesh, Repulsive}
 use Rattle.search.specs.Search.{Locator}
-use Rattle.search.specs.declared.Weights.{Weights}
-use Rattle.search.specs.declared.Nearest.{Nearest}
-use Rattle.search.specs.declared.Located.{Located}
 use Rattle.table.specs.Bytes.{number_at}
-use Rattle.table.specs.File.{Entry, entry_of}
+use Rattle.table.specs.File.{entry_of}
+use Rattle.table.specs.declared.Entry.{Entry}
 use Rattle.table.proofs.Items.{entry_at as row_at, entry_at_lem}
 use Rattle.grid.specs.Settings.{above}
 use Rattle.grid.specs.declared.Grid.{Grid}
 use Rattle.table.specs.declared.Table.{Table}
-use Rattle.reading.specs.Resolve.{reading_values, reading_numbered, plain, Query, Way, way_valid, Resolved, unresolved, beyond, slab_at, query_valid, outside, resolve, Picks, unpicked, picked, Combination, joint, nearest_pick, face_pick, widened, combined, boltzmann}
+use Rattle.reading.specs.Resolve.{Reading, Refused, reading_values, plain, Query, Way, way_valid, Resolved, unresolved, beyond, slab_at, query_valid, outside, resolve, Picks, unpicked, picked, Combination, widened, combined, boltzmann}
 use Rattle.reading.specs.Reading.{row_inside, energy_inside, energy_at, entry_at, picks_by, entry_by, slab_by, read_entry, read_slab, reading_by, search_in, read_picks}
-use Rattle.reading.specs.Internal.{items_inside, slab_of, rows_table, way_of, toward, read_resolution}
-use Rattle.reading.specs.declared.Reading.{Reading}
-use Rattle.reading.specs.declared.Reading.TheVariants.{Refused}
+use Rattle.reading.specs.Internal.{items_inside, slab_of, rows_table, way_of, read_resolution}
 
 -- ---- the items of a section
 
@@ -84,42 +79,6 @@ module _ (file : List ℕ) (t : Table) where
   pub row_fits : (r held : ℕ) → held ≡ items_inside t.rows_start 10 t.rows (length file) → r < held → t.rows_start + r * 10 + 10 ≤ length file
   row_fits r held h l = held_fits t.rows_start 10 t.rows (length file) (omega arith) r held h l
 
--- a search that picks nothing says why, by a number that is not 0
-pub picks_numbered : Picks → Bool
-picks_numbered (unpicked n) = not (eqb n 0)
-picks_numbered (picked ks u v x y) = true
-
-pub found-numbered : (t : Bool) (n : ℕ) (ks : List ℕ) (u v : Weights) (x y : Float) → eqb n 0 ≡ t → picks_numbered (cond t (picked ks u v x y) (unpicked n)) ≡ true
-unfolding picks_numbered
-found-numbered true n ks u v x y e = refl
-found-numbered false n ks u v x y e = rw e
-
-vertices-numbered : (n : ℕ) (a b : Nearest) → picks_numbered (nearest_pick n a b) ≡ true
-unfolding nearest_pick
-vertices-numbered n a b = let r = joint a.number b.number in found-numbered (eqb r 0) r _ _ _ _ _ refl
-
-faces-numbered : (n : ℕ) (a b : Located) → picks_numbered (face_pick n a b) ≡ true
-unfolding face_pick
-faces-numbered n a b = let r = joint a.number b.number in found-numbered (eqb r 0) r _ _ _ _ _ refl
-
--- no refusal is numbered 0
-abbrev pub Numbered : Reading → Type 0
-Numbered z = reading_numbered z ≡ true
-
-pub resolved_numbered : Resolved → Bool
-resolved_numbered (unresolved n) = not (eqb n 0)
-resolved_numbered beyond = true
-resolved_numbered (slab_at s) = true
-
--- the first stage, by the answers of its questions
-pub stage_numbered : (a v b c : Bool) (s : ℕ) → resolved_numbered (cond a (cond v (cond b beyond (cond c (slab_at s) (unresolved 19))) (unresolved 21)) (unresolved 18)) ≡ true
-unfolding resolved_numbered
-stage_numbered true true true c s = refl
-stage_numbered true true false true s = refl
-stage_numbered true true false false s = refl
-stage_numbered true false b c s = refl
-stage_numbered false v b c s = refl
-
 -- by what reads a row
 module _ (file : List ℕ) (t : Table) (read : Entry → Reading) where
   -- the row of slab s, where r is s or the number of rows held
@@ -131,30 +90,8 @@ module _ (file : List ℕ) (t : Table) (read : Entry → Reading) where
     unfolding entry_at
     row_at_lem k = let z : r ≡ s = omega arith in rw (places-below file t s held h, lt-ltb s held (omega arith), z)
 
-  -- an answer of what is resolved
-  module _ (N : (e : Entry) → Numbered (read e)) where
-    slab-numbered : (x : Resolved) → resolved_numbered x ≡ true → Numbered (slab_by file t read x)
-    unfolding resolved_numbered
-    slab-numbered (unresolved n) e = e
-    slab-numbered beyond e = refl
-    slab-numbered (slab_at s) e = chosen Numbered (row_inside file t s) _ _ (λ h. N (entry_at file t s)) refl
-
-    pub answered_by : (x : Resolved) (z : Reading) → resolved_numbered x ≡ true → z ≡ slab_by file t read x → Numbered z × reading_values z ≡ reading_values (slab_by file t read x)
-    answered_by x z n e = (ap reading_numbered e ∙ slab-numbered x n, ap reading_values e)
-
 -- by a search of a level and what makes one energy of those that it picks
 module _ (file : List ℕ) (t : Table) (f : Bool → Combination) (find : ℕ → Bool → Picks) where
-  picks_numbered_lem : (i : Bool) (o : ℕ) (p : Picks) → picks_numbered p ≡ true → Numbered (picks_by file t (f i) o p)
-  unfolding picks_numbered
-  picks_numbered_lem i o (unpicked n) e = e
-  picks_numbered_lem i o (picked ks u v x y) e = chosen Numbered (every (λ k. energy_inside file t (o + k)) ks) _ _ (λ h. refl) refl
-
-  pub entry-numbered : ((v : ℕ) (i : Bool) → picks_numbered (find v i) ≡ true) → (e : Entry) → Numbered (entry_by file t f find e)
-  entry-numbered n e =
-      chosen Numbered (eqb e.kind 0) _ _ (λ h. refl)
-      (chosen Numbered (eqb e.kind 1) _ _ (λ h. refl)
-      (chosen Numbered (leb e.kind 3 && ltb e.level t.levels) _ _ (λ h. picks_numbered_lem (eqb e.kind 3) e.offset _ (n e.level (eqb e.kind 3))) refl))
-
   -- a Scalar row's short answer
   pub scalar-entry : (e : Entry) → e.kind ≡ 0 → plain (widened e.scalar) ≡ entry_by file t f find e
   scalar-entry e h = rw h
@@ -169,17 +106,9 @@ module _ (file : List ℕ) (t : Table) (f : Bool → Combination) (find : ℕ �
   entry-table e = rw (picks_table (eqb e.kind 3) e.offset (find e.level (eqb e.kind 3)))
 
 module _ (file : List ℕ) (t : Table) (vs : List Float) (l : Locator) (way : Way) (q : Query) where
-  search-numbered : (v : ℕ) (i : Bool) → picks_numbered (search_in vs l q v i) ≡ true
-  unfolding search_in
-  search-numbered v true = faces-numbered _ _ _
-  search-numbered v false = vertices-numbered _ _ _
-
-  pub answered : (x : Resolved) (z : Reading) → x ≡ resolve (way_valid way) t.grid q → z ≡ read_slab file t vs l way q x → Numbered z × reading_values z ≡ reading_by file t vs l way q
-  unfolding reading_by read_entry resolve
-  answered x z e a =
-      answered_by file t (read_entry file t vs l way q) (entry-numbered file t (combined way) (search_in vs l q) search-numbered) (resolve (way_valid way) t.grid q) z
-      (stage_numbered (query_valid q) (way_valid way) (outside t.grid q.r) (ltb 0 t.grid.n_r && ltb 0 t.grid.n_omega) _)
-      (a ∙ ap (λ (x : Resolved). read_slab file t vs l way q x) e)
+  pub answered : (x : Resolved) (z : Reading) → x ≡ resolve (way_valid way) t.grid q → z ≡ read_slab file t vs l way q x → reading_values z ≡ reading_by file t vs l way q
+  unfolding reading_by
+  answered x z e a = ap reading_values (a ∙ ap (λ (x : Resolved). read_slab file t vs l way q x) e)
 
   pub row_none : (s r held : ℕ) → held ≡ items_inside t.rows_start 10 t.rows (length file) → r ≡ min s held → held ≤ r → Refused 19 ≡ read_slab file t vs l way q (slab_at s)
   row_none s r held h e k = no_row file t (read_entry file t vs l way q) s r held h e k
@@ -195,8 +124,8 @@ module _ (file : List ℕ) (t : Table) (vs : List Float) (l : Locator) (way : Wa
         scalar_read (row_at file (t.rows_start + r * 10)) z
         ∙ rw (← entry_at_lem file (t.rows_start + r * 10)) (row_at_lem file t (read_entry file t vs l way q) s r held h e k)
 
-    pub entry_row : read_entry file (rows_table t.levels t.energies_start t.energies) vs l way (toward q.a q.b) (entry_of (take 10 (drop (t.rows_start + r * 10) file))) ≡ read_slab file t vs l way q (slab_at s)
-    unfolding read_entry search_in
+    pub entry_row : read_entry file (rows_table t.levels t.energies_start t.energies) vs l way q (entry_of (take 10 (drop (t.rows_start + r * 10) file))) ≡ read_slab file t vs l way q (slab_at s)
+    unfolding read_entry
     entry_row =
         entry-table file t (combined way) (search_in vs l q) (entry_of (take 10 (drop (t.rows_start + r * 10) file)))
         ∙ row_at_lem file t (read_entry file t vs l way q) s r held h e k

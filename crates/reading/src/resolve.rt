@@ -2,22 +2,21 @@
 ghost use Rattle.std.specs.Prelude.{◌≡◌};
 ghost use Rattle.reading.specs.Resolve.{query_valid, outside};
 
-use search::Vector3;
-use table::Table;
+use crate::Query;
+use grid::Grid;
 
 // Question 18.
-pub(crate) fn query_valid(r: f64, omega: f64, a: Vector3, b: Vector3) -> bool
-    ensures { result ≡ query_valid (record { r = r; omega = omega; a = a; b = b }) }
+#[tactic(auto, using(float::proofs::Tests::nan_test), unfolding(crate::specs::Resolve::query_valid, grid::specs::Settings::above))]
+pub(crate) fn query_valid(q: &Query) -> bool
+    ensures { result ≡ query_valid q.now }
 {
-    !(r != r) & (ieee::is_finite(omega) & (search::length_valid(a) & search::length_valid(b)))
+    !(q.r != q.r) & (ieee::is_finite(q.omega) & (search::length_valid(q.a) & search::length_valid(q.b)))
 }
 
-pub(crate) fn outside(t: Table, r: f64) -> bool
-    ensures { result ≡ outside t.grid r }
+// A distance below rmin or above the table's own rmax.
+#[tactic(auto, unfolding(crate::specs::Resolve::outside))]
+pub fn outside(g: Grid, r: f64) -> bool
+    ensures { result ≡ outside g r }
 {
-    let g = t.grid;
-    let rmin = g.rmin;
-    let dr = g.dr;
-    let n = g.n_r;
-    (r < rmin) | grid::above_rmax(r, n, dr, rmin)
+    (r < g.rmin) | grid::above_rmax(r, g.n_r, g.dr, g.rmin)
 }

@@ -11,7 +11,7 @@ mod walk;
 
 pub use bytes::{f64_in, u32_in};
 pub use loose::read_loose;
-pub use questions::energies_of;
+pub use questions::{energies_of, entry_in};
 pub use reader::{atom_read, read, read_over, view};
 pub use walk::tail_size;
 

@@ -92,7 +92,7 @@ fn scalar_valid(x: u32) -> bool
 
 // The row at a byte.
 #[tactic(auto, using(crate::proofs::Items::entry_at_lem))]
-pub(crate) fn entry_in(file: &[u8], at: u64) -> Entry
+pub fn entry_in(file: &[u8], at: u64) -> Entry
     requires { at + 10 ≤ length file.now }
     ensures { result ≡ entry_of (take 10 (drop at file.now)) }
 {
