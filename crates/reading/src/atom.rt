@@ -119,7 +119,15 @@ pub fn atom_lookup(
         return Ok(plain(bits::widened(table::u32_in(file, at + 6))));
     }
     let lists = *locator;
-    read_atom_row(atom_row_table(t), &file[0..], &vertices[0..], &lists, q.d, 0.0, at)
+    read_atom_row(
+        atom_row_table(t),
+        &file[0..],
+        &vertices[0..],
+        &lists,
+        q.d,
+        0.0,
+        at,
+    )
 }
 
 // The same with a Mesh row's three energies weighted by temperature.
@@ -150,5 +158,13 @@ pub fn atom_lookup_boltzmann(
         return Ok(plain(bits::widened(table::u32_in(file, at + 6))));
     }
     let lists = *locator;
-    read_atom_row(atom_row_table(t), &file[0..], &vertices[0..], &lists, q.d, beta, at)
+    read_atom_row(
+        atom_row_table(t),
+        &file[0..],
+        &vertices[0..],
+        &lists,
+        q.d,
+        beta,
+        at,
+    )
 }

@@ -62,7 +62,13 @@ fn three_average(beta: f64, w: Weights, x: f64, y: f64, z: f64) -> f64
 }
 
 // The sum over a face, or the weighted average with a beta above 0.
-fn atom_interpolated(s: RowTable, file: &[u8], offset: u64, x: Located, beta: f64) -> Result<Energy, Refusal>
+fn atom_interpolated(
+    s: RowTable,
+    file: &[u8],
+    offset: u64,
+    x: Located,
+    beta: f64,
+) -> Result<Energy, Refusal>
     requires { (offset < 4294967296) × LocatedBelow 655362 x }
     ensures { reading_of result ≡ picks_by file.now (table_for s) (atom_combined (way_of beta) true) offset (atom_face_pick x) }
 {

@@ -49,7 +49,14 @@ pub(crate) fn energy(file: &[u8], start: u64, k: u64) -> f64
 }
 
 // The energy of a pair of vertices, and how far they lie.
-pub(crate) fn nearest(s: RowTable, file: &[u8], offset: u64, n: u64, x: Nearest, y: Nearest) -> Result<Energy, Refusal>
+pub(crate) fn nearest(
+    s: RowTable,
+    file: &[u8],
+    offset: u64,
+    n: u64,
+    x: Nearest,
+    y: Nearest,
+) -> Result<Energy, Refusal>
     requires { (offset < 4294967296) × (n ≤ 655362) × NearestBelow n x × NearestBelow n y }
     ensures { reading_of result ≡ read_picks file.now (table_for s) linear false offset (nearest_pick n x y) }
 {
@@ -268,7 +275,5 @@ pub(crate) fn interpolated(
             file, start, offset, n, x.face, y.face, x.weights, y.weights, beta,
         )));
     }
-    Ok(plain(face_terms(
-        file, start, offset, n, x.face, y.face, x.weights, y.weights,
-    )))
+    Ok(plain(face_terms(file, start, offset, n, x.face, y.face, x.weights, y.weights)))
 }

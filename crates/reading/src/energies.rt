@@ -7,7 +7,7 @@ ghost use Rattle.reading.specs.Internal.{table_for, NearestBelow, LocatedBelow, 
 
 use crate::combine::{energy, face_places_below, joint, plain, row_terms};
 use crate::places::items_inside;
-use crate::{Energy, Staged, RowTable};
+use crate::{Energy, RowTable, Staged};
 use mesh::Face;
 use refusals::Refusal;
 use search::{Located, Nearest, Weights};
@@ -85,17 +85,32 @@ fn nine_terms(
 }
 
 // The second stage.
-pub(crate) fn finish(file: &[u8], start: u64, staged: Result<Staged, Refusal>) -> Result<Energy, Refusal>
+pub(crate) fn finish(
+    file: &[u8],
+    start: u64,
+    staged: Result<Staged, Refusal>,
+) -> Result<Energy, Refusal>
     requires { StagedInside file.now start staged }
     ensures { reading_of result ≡ finished file.now start staged }
 {
     match staged? {
         Staged::Known(energy) => Ok(energy),
-        Staged::Pair { place, distance_a, distance_b } => Ok(Energy {
+        Staged::Pair {
+            place,
+            distance_a,
+            distance_b,
+        } => Ok(Energy {
             distance_a,
             energy: energy(file, start, place),
             distance_b,
         }),
-        Staged::Faces { offset, n, f, g, p, q } => Ok(plain(nine_terms(file, start, offset, n, f, g, p, q))),
+        Staged::Faces {
+            offset,
+            n,
+            f,
+            g,
+            p,
+            q,
+        } => Ok(plain(nine_terms(file, start, offset, n, f, g, p, q))),
     }
 }

@@ -17,7 +17,7 @@ use crate::gather::part_from;
 use crate::places::{items_inside, slab_below};
 use crate::resolve::{outside, query_valid};
 use crate::stages::{read_row, row_table};
-use crate::{Query, Staged, RowTable};
+use crate::{Query, RowTable, Staged};
 use refusals::Refusal;
 use rows::SlabResolution;
 use search::Locator;

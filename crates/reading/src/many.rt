@@ -110,7 +110,12 @@ fn read_block(
         kept[i] = stage_pose(t, file, vertices, locator, poses, beta, from + i);
     }
     for j in 0..count {
-        store(from + j, finish(file, t.energies_start, kept[j]), numbers, answers);
+        store(
+            from + j,
+            finish(file, t.energies_start, kept[j]),
+            numbers,
+            answers,
+        );
     }
 }
 
@@ -135,7 +140,9 @@ pub fn lookup_all(
     for block in 0..n.div_ceil(32) {
         let from = block * 32;
         let count = (n - from).min(32);
-        read_block(t, file, vertices, locator, poses, beta, from, count, numbers, answers);
+        read_block(
+            t, file, vertices, locator, poses, beta, from, count, numbers, answers,
+        );
     }
     n as u64
 }

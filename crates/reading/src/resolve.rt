@@ -10,7 +10,8 @@ use grid::Grid;
 pub(crate) fn query_valid(q: &Query) -> bool
     ensures { result ≡ query_valid q.now }
 {
-    !(q.r != q.r) & (ieee::is_finite(q.omega) & (search::length_valid(q.a) & search::length_valid(q.b)))
+    !(q.r != q.r)
+        & (ieee::is_finite(q.omega) & (search::length_valid(q.a) & search::length_valid(q.b)))
 }
 
 // A distance below rmin or above the table's own rmax.

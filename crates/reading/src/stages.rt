@@ -78,7 +78,17 @@ pub(crate) fn read_row(
 {
     let e = table::entry_in(file, at);
     let row = rows::resolution_of(e.kind, e.level, e.scalar);
-    read_resolution(s, file, vertices, locator, q, beta, e.kind, e.offset as u64, row)
+    read_resolution(
+        s,
+        file,
+        vertices,
+        locator,
+        q,
+        beta,
+        e.kind,
+        e.offset as u64,
+        row,
+    )
 }
 
 // Reads a table's energy at a distance, a dihedral angle and two directions: over the file's bytes, read's answer, and the meshes and locators of all its levels one after another.
@@ -119,7 +129,15 @@ pub fn lookup(
     }
     let copy = *q;
     let lists = *locator;
-    read_row(row_table(t), &file[0..], &vertices[0..], &lists, &copy, 0.0, at)
+    read_row(
+        row_table(t),
+        &file[0..],
+        &vertices[0..],
+        &lists,
+        &copy,
+        0.0,
+        at,
+    )
 }
 
 // The same with a Mesh row's nine energies weighted by temperature; beta is the reading's own, in the inverse of the
@@ -164,5 +182,13 @@ pub fn lookup_boltzmann(
     }
     let copy = *q;
     let lists = *locator;
-    read_row(row_table(t), &file[0..], &vertices[0..], &lists, &copy, beta, at)
+    read_row(
+        row_table(t),
+        &file[0..],
+        &vertices[0..],
+        &lists,
+        &copy,
+        beta,
+        at,
+    )
 }
