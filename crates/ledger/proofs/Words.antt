@@ -26,9 +26,8 @@ use Rattle.builder.specs.Refusals.{meshed_refusal, set_question, set_refusal, se
 use Rattle.builder.specs.declared.Builder.{Builder}
 use Rattle.builder.proofs.Laws.{Set, accepted, meshed}
 use Rattle.table.specs.Read.{read_out}
-use Rattle.writer.specs.Write.{WriteOut, written_values}
+use Rattle.writer.specs.Write.{WriteOut}
 use Rattle.writer.specs.Tailed.{TailLists, tail_lists, tailed_question, full_file_from, write_tail_refusal, write_tail_out}
-use Rattle.writer.specs.declared.Written.TheVariants.{Accepted as Writes, Refused as NotWritten}
 use Rattle.writer.proofs.OfTail.{plain_write}
 use Rattle.reading.specs.Reading.{reading_by}
 use Rattle.tail.specs.Reading.{tail_out}
@@ -44,7 +43,7 @@ use Rattle.ledger.proofs.Agreeing.{known_same, rows-known-same, row_same, rows_s
 
 -- what a write makes of its number and its file leaves lists as they are
 writes_agree : (b : Builder) (l k : BuilderLists) (out file : List ℕ) (n : ℕ) (x : Bool) → let o : BuilderLists → WriteOut = λ ls.
-    cond x (record { answer = written_values (Writes (length file)); builder = b; lists = ls; output = put out 0 file }) (record { answer = written_values (NotWritten n); builder = b; lists = ls; output = out }) in
+    cond x (record { answer = record { number = 0; length = length file }; builder = b; lists = ls; output = put out 0 file }) (record { answer = record { number = n; length = 0 }; builder = b; lists = ls; output = out }) in
     WritesAgree l k (o l) (o k)
 writes_agree b l k out file n true = record { answer = refl; builder = refl; output = refl; lists = λ i a. a }
 writes_agree b l k out file n false = record { answer = refl; builder = refl; output = refl; lists = λ i a. a }
