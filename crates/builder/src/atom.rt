@@ -57,13 +57,7 @@ pub fn atom_fresh(
         (atom_fresh_out g top (lent mesh.now) (lists_of store.old kinds.old levels.old values.old)) }
 {
     let made = atom_fresh_builder(g, top);
-    let lengths = Lengths {
-        store: store.len() as u64,
-        kinds: kinds.len() as u64,
-        levels: levels.len() as u64,
-        values: values.len() as u64,
-    };
-    atom_meshed_refusal(made, lengths, mesh)?;
+    atom_meshed_refusal(made, Lengths::of(store, kinds, levels, values), mesh)?;
     let z = mesh::vertex_count(made.top as u8);
     copies::atom_clear_slabs(made.grid.n_r, z, store, kinds, levels, values);
     Ok(made)
@@ -97,13 +91,7 @@ pub fn atom_set(
         (record { answer = atom_built_values b result; lists = lists_of store.new kinds.new levels.new values.new })
         (atom_set_out b (lists_of store.old kinds.old levels.old values.old) ri energies.now) }
 {
-    let lengths = Lengths {
-        store: store.len() as u64,
-        kinds: kinds.len() as u64,
-        levels: levels.len() as u64,
-        values: values.len() as u64,
-    };
-    atom_set_refusal(b, lengths, ri, energies)?;
+    atom_set_refusal(b, Lengths::of(store, kinds, levels, values), ri, energies)?;
     let z = mesh::vertex_count(b.top as u8);
     copies::atom_set_slab(z, b.level as u8, store, kinds, levels, values, ri, energies);
     Ok(b)
@@ -147,13 +135,7 @@ fn atom_settle_refusal(
 ) -> Asked
     ensures { asked result ≡ atom_settle_refusal b (lent mesh.now) (lists_of store.now kinds.now levels.now values.now) ri }
 {
-    let lengths = Lengths {
-        store: store.len() as u64,
-        kinds: kinds.len() as u64,
-        levels: levels.len() as u64,
-        values: values.len() as u64,
-    };
-    atom_meshed_refusal(b, lengths, mesh)?;
+    atom_meshed_refusal(b, Lengths::of(store, kinds, levels, values), mesh)?;
     atom_settle_question(b.grid.n_r, b.top, b.level, kinds, levels, values, ri)
 }
 

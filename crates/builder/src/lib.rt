@@ -1,7 +1,7 @@
 // The builder of a table, by value; its store, rows and meshes are lent.
 #![tactic(auto)]
 
-ghost use Rattle.std.specs.Prelude.{◌≡◌, [], ◌≤◌};
+ghost use Rattle.std.specs.Prelude.{◌≡◌, [], ◌≤◌, length};
 ghost use Rattle.mesh.specs.Lent.{lent};
 ghost use Rattle.rows.specs.Rows.{row_with};
 ghost use Rattle.builder.specs.BuilderLists.{word_lists};
@@ -58,6 +58,22 @@ pub struct Lengths {
 }
 
 impl Lengths {
+    fn of(store: &[f64], kinds: &[u8], levels: &[u8], values: &[u32]) -> Lengths
+        ensures { ◌≡◌ {A = Lengths} result (record {
+          store = length store.now;
+          kinds = length kinds.now;
+          levels = length levels.now;
+          values = length values.now;
+        }) }
+    {
+        Lengths {
+            store: store.len() as u64,
+            kinds: kinds.len() as u64,
+            levels: levels.len() as u64,
+            values: values.len() as u64,
+        }
+    }
+
     // Rows as words are one list, as long as each of the three.
     fn of_words(store: u64, words: u64) -> Lengths
         ensures { ◌≡◌ {A = Lengths} result (record { store = store; kinds = words; levels = words; values = words }) }
