@@ -9,7 +9,9 @@ ghost use Rattle.icotable.specs.Answers.{written_in, value_in, tail_shown, table
 
 use crate::{TableAnswer, ValueAnswer, WriteAnswer, table_from, write_answer};
 use builder::Builder;
-use tail::TailAnswer;
+use mesh::Mesh;
+use refusals::Refusal;
+use writer::LentTail;
 
 #[unsafe(no_mangle)]
 pub extern "C" fn icotable_write_tail(
@@ -32,48 +34,37 @@ pub extern "C" fn icotable_write_tail(
         (word_lists store.now words.now)
         (tail_lists coefficients.now kappas.now powers.now prefactor.now) output.old) }
 {
-    let a = writer::write_tail(
-        builder,
-        store,
-        words,
+    let mesh = Mesh {
         vertices,
-        neighbour_counts,
+        counts: neighbour_counts,
         neighbours,
         angles,
+    };
+    let tail = LentTail {
         coefficients,
         kappas,
         powers,
         prefactor,
-        output,
-    );
-    write_answer(a)
+    };
+    write_answer(writer::write_tail(
+        builder, store, words, &mesh, &tail, output,
+    ))
 }
 
-fn tail_answer(a: TailAnswer) -> ValueAnswer
+#[tactic(auto, unfolding(crate::specs::Answers::value_in, crate::specs::Answers::tail_shown))]
+fn tail_answer(a: Result<f64, Refusal>) -> ValueAnswer
     ensures { value_in result ≡ tail_shown (tail_values a) }
 {
-    match a {
-        TailAnswer::Energy(energy) => ValueAnswer {
-            number: 0,
-            energy,
-            distance_a: 0.0,
-            distance_b: 0.0,
-        },
-        TailAnswer::Refused(number) => ValueAnswer {
-            number,
-            energy: 0.0,
-            distance_a: 0.0,
-            distance_b: 0.0,
-        },
+    let (number, energy) = match a {
+        Ok(energy) => (0, energy),
+        Err(e) => (e.number(), 0.0),
+    };
+    ValueAnswer {
+        number,
+        energy,
+        distance_a: 0.0,
+        distance_b: 0.0,
     }
-}
-
-fn tail_of(table: TableAnswer, file: &[u8], r: f64) -> ValueAnswer
-    ensures { value_in result ≡ tail_shown (tail_out file.now (table_from table) r) }
-{
-    let t = table_from(table);
-    let a = tail::tail_energy(t, file, r);
-    tail_answer(a)
 }
 
 // The tail's energy at a distance; the table is lent, as to a reading.
@@ -81,5 +72,5 @@ fn tail_of(table: TableAnswer, file: &[u8], r: f64) -> ValueAnswer
 pub extern "C" fn icotable_tail(table: &TableAnswer, file: &[u8], r: f64) -> ValueAnswer
     ensures { value_in result ≡ tail_shown (tail_out file.now (table_from table.now) r) }
 {
-    tail_of(*table, file, r)
+    tail_answer(tail::tail_energy(table_from(*table), file, r))
 }
