@@ -13,7 +13,7 @@ ghost use Rattle.sizing.specs.Sizing.{atom_sizing_out};
 ghost use Rattle.icotable.specs.Answers.{written_in};
 ghost use Rattle.icotable.specs.AtomAnswers.{atom_built_in, atom_settled_in, energy_in, atom_table_with, atom_table_answer, atom_table_from};
 
-use crate::{WriteAnswer, write_answer};
+use crate::WriteAnswer;
 use builder::{AtomBuilder, Settled};
 use grid::AtomGrid;
 use mesh::Mesh;
@@ -96,7 +96,10 @@ fn atom_built_answer(kept: AtomBuilder, a: Result<AtomBuilder, Refusal>) -> Atom
 }
 
 #[tactic(auto, unfolding(crate::specs::AtomAnswers::atom_settled_in))]
-fn atom_settle_answer(kept: AtomBuilder, a: Result<Settled<AtomBuilder>, Refusal>) -> AtomSettleAnswer
+fn atom_settle_answer(
+    kept: AtomBuilder,
+    a: Result<Settled<AtomBuilder>, Refusal>,
+) -> AtomSettleAnswer
     ensures { atom_settled_in result ≡ atom_settled_values kept a }
 {
     match a {
@@ -135,54 +138,60 @@ fn atom_table_with(number: u64, t: AtomTable) -> AtomTableAnswer
     }
 }
 
-#[tactic(auto, unfolding(crate::specs::AtomAnswers::atom_table_with, crate::specs::AtomAnswers::atom_table_answer))]
-fn atom_table_answer(a: Result<AtomTable, Refusal>) -> AtomTableAnswer
-    ensures { result ≡ atom_table_answer (atom_read_values a) }
-{
-    match a {
-        Ok(t) => atom_table_with(0, t),
-        Err(e) => AtomTableAnswer {
-            number: e.number(),
-            grid: no_atom_grid(),
-            levels: 0,
-            rows: 0,
-            energies: 0,
-            start: [0; 5],
-        },
+impl From<Result<AtomTable, Refusal>> for AtomTableAnswer {
+    ghost from_gives = { λ a t. t ≡ atom_table_answer (atom_read_values a) };
+
+    #[tactic(auto, unfolding(crate::specs::AtomAnswers::atom_table_with, crate::specs::AtomAnswers::atom_table_answer))]
+    fn from(a: Result<AtomTable, Refusal>) -> AtomTableAnswer {
+        match a {
+            Ok(t) => atom_table_with(0, t),
+            Err(e) => AtomTableAnswer {
+                number: e.number(),
+                grid: no_atom_grid(),
+                levels: 0,
+                rows: 0,
+                energies: 0,
+                start: [0; 5],
+            },
+        }
     }
 }
 
 // Read's answer as it is handed back to a reading, whatever it holds by then.
-#[tactic(auto, unfolding(crate::specs::AtomAnswers::atom_table_from))]
-fn atom_table_from(t: AtomTableAnswer) -> AtomTable
-    ensures { result ≡ atom_table_from t }
-{
-    AtomTable {
-        grid: t.grid,
-        levels: t.levels,
-        rows: t.rows,
-        energies: t.energies,
-        grid_start: t.start[0],
-        bins_start: t.start[1],
-        levels_start: t.start[2],
-        rows_start: t.start[3],
-        energies_start: t.start[4],
+impl From<AtomTableAnswer> for AtomTable {
+    ghost from_gives = { λ a t. t ≡ atom_table_from a };
+
+    #[tactic(auto, unfolding(crate::specs::AtomAnswers::atom_table_from))]
+    fn from(t: AtomTableAnswer) -> AtomTable {
+        AtomTable {
+            grid: t.grid,
+            levels: t.levels,
+            rows: t.rows,
+            energies: t.energies,
+            grid_start: t.start[0],
+            bins_start: t.start[1],
+            levels_start: t.start[2],
+            rows_start: t.start[3],
+            energies_start: t.start[4],
+        }
     }
 }
 
-#[tactic(auto, unfolding(crate::specs::AtomAnswers::energy_in))]
-fn energy_answer(a: Result<Energy, Refusal>) -> EnergyAnswer
-    ensures { energy_in result ≡ energy_alone (reading_values (reading_of a)) }
-{
-    match a {
-        Ok(e) => EnergyAnswer {
-            number: 0,
-            energy: e.energy,
-        },
-        Err(e) => EnergyAnswer {
-            number: e.number(),
-            energy: 0.0,
-        },
+impl From<Result<Energy, Refusal>> for EnergyAnswer {
+    ghost from_gives = { λ a e. energy_in e ≡ energy_alone (reading_values (reading_of a)) };
+
+    #[tactic(auto, unfolding(crate::specs::AtomAnswers::energy_in))]
+    fn from(a: Result<Energy, Refusal>) -> EnergyAnswer {
+        match a {
+            Ok(e) => EnergyAnswer {
+                number: 0,
+                energy: e.energy,
+            },
+            Err(e) => EnergyAnswer {
+                number: e.number(),
+                energy: 0.0,
+            },
+        }
     }
 }
 
@@ -290,16 +299,14 @@ pub extern "C" fn icotable_atom_write(
         neighbours,
         angles,
     };
-    write_answer(writer::atom_write(
-        builder, store, kinds, levels, values, &mesh, output,
-    ))
+    writer::atom_write(builder, store, kinds, levels, values, &mesh, output).into()
 }
 
 #[unsafe(no_mangle)]
 pub extern "C" fn icotable_atom_read(file: &[u8]) -> AtomTableAnswer
     ensures { result ≡ atom_table_answer (atom_read_out file.now) }
 {
-    atom_table_answer(table::atom_read(file))
+    table::atom_read(file).into()
 }
 
 // The table is lent, so that a caller copies no struct for each reading.
@@ -335,13 +342,7 @@ pub extern "C" fn icotable_atom_reading(
             z: dz,
         },
     };
-    energy_answer(reading::atom_lookup(
-        atom_table_from(*table),
-        file,
-        vertices,
-        &locator,
-        &q,
-    ))
+    reading::atom_lookup((*table).into(), file, vertices, &locator, &q).into()
 }
 
 // The same, weighted by temperature.
@@ -378,14 +379,7 @@ pub extern "C" fn icotable_atom_boltzmann(
             z: dz,
         },
     };
-    energy_answer(reading::atom_lookup_boltzmann(
-        atom_table_from(*table),
-        file,
-        vertices,
-        &locator,
-        &q,
-        beta,
-    ))
+    reading::atom_lookup_boltzmann((*table).into(), file, vertices, &locator, &q, beta).into()
 }
 
 // What a build of these settings needs.

@@ -146,16 +146,18 @@ fn settle_answer(kept: Builder, a: Result<Settled<Builder>, Refusal>) -> SettleA
     }
 }
 
-#[tactic(auto, unfolding(crate::specs::Answers::written_in))]
-fn write_answer(a: Result<u64, Refusal>) -> WriteAnswer
-    ensures { written_in result ≡ written_values a }
-{
-    match a {
-        Ok(length) => WriteAnswer { number: 0, length },
-        Err(e) => WriteAnswer {
-            number: e.number(),
-            length: 0,
-        },
+impl From<Result<u64, Refusal>> for WriteAnswer {
+    ghost from_gives = { λ a w. written_in w ≡ written_values a };
+
+    #[tactic(auto, unfolding(crate::specs::Answers::written_in))]
+    fn from(a: Result<u64, Refusal>) -> WriteAnswer {
+        match a {
+            Ok(length) => WriteAnswer { number: 0, length },
+            Err(e) => WriteAnswer {
+                number: e.number(),
+                length: 0,
+            },
+        }
     }
 }
 
@@ -181,61 +183,67 @@ fn table_with(number: u64, t: Table) -> TableAnswer
     }
 }
 
-#[tactic(auto, unfolding(crate::specs::Answers::table_with, crate::specs::Answers::table_answer))]
-fn table_answer(a: Result<Table, Refusal>) -> TableAnswer
-    ensures { result ≡ table_answer (read_values a) }
-{
-    match a {
-        Ok(t) => table_with(0, t),
-        Err(e) => TableAnswer {
-            number: e.number(),
-            grid: no_grid(),
-            levels: 0,
-            rows: 0,
-            energies: 0,
-            terms: 0,
-            start: [0; 6],
-        },
+impl From<Result<Table, Refusal>> for TableAnswer {
+    ghost from_gives = { λ a t. t ≡ table_answer (read_values a) };
+
+    #[tactic(auto, unfolding(crate::specs::Answers::table_with, crate::specs::Answers::table_answer))]
+    fn from(a: Result<Table, Refusal>) -> TableAnswer {
+        match a {
+            Ok(t) => table_with(0, t),
+            Err(e) => TableAnswer {
+                number: e.number(),
+                grid: no_grid(),
+                levels: 0,
+                rows: 0,
+                energies: 0,
+                terms: 0,
+                start: [0; 6],
+            },
+        }
     }
 }
 
 // Read's answer as it is handed back to a reading, whatever it holds by then.
-#[tactic(auto, unfolding(crate::specs::Answers::table_from))]
-fn table_from(t: TableAnswer) -> Table
-    ensures { result ≡ table_from t }
-{
-    Table {
-        grid: t.grid,
-        levels: t.levels,
-        rows: t.rows,
-        energies: t.energies,
-        terms: t.terms,
-        grid_start: t.start[0],
-        bins_start: t.start[1],
-        levels_start: t.start[2],
-        rows_start: t.start[3],
-        energies_start: t.start[4],
-        tail_start: t.start[5],
+impl From<TableAnswer> for Table {
+    ghost from_gives = { λ a t. t ≡ table_from a };
+
+    #[tactic(auto, unfolding(crate::specs::Answers::table_from))]
+    fn from(t: TableAnswer) -> Table {
+        Table {
+            grid: t.grid,
+            levels: t.levels,
+            rows: t.rows,
+            energies: t.energies,
+            terms: t.terms,
+            grid_start: t.start[0],
+            bins_start: t.start[1],
+            levels_start: t.start[2],
+            rows_start: t.start[3],
+            energies_start: t.start[4],
+            tail_start: t.start[5],
+        }
     }
 }
 
-#[tactic(auto, unfolding(crate::specs::Answers::value_in))]
-fn value_answer(a: Result<Energy, Refusal>) -> ValueAnswer
-    ensures { value_in result ≡ reading_values (reading_of a) }
-{
-    match a {
-        Ok(e) => ValueAnswer {
-            number: 0,
-            energy: e.energy,
-            distance_a: e.distance_a,
-            distance_b: e.distance_b,
-        },
-        Err(e) => ValueAnswer {
-            number: e.number(),
-            energy: 0.0,
-            distance_a: 0.0,
-            distance_b: 0.0,
-        },
+impl From<Result<Energy, Refusal>> for ValueAnswer {
+    ghost from_gives = { λ a v. value_in v ≡ reading_values (reading_of a) };
+
+    #[tactic(auto, unfolding(crate::specs::Answers::value_in))]
+    fn from(a: Result<Energy, Refusal>) -> ValueAnswer {
+        match a {
+            Ok(e) => ValueAnswer {
+                number: 0,
+                energy: e.energy,
+                distance_a: e.distance_a,
+                distance_b: e.distance_b,
+            },
+            Err(e) => ValueAnswer {
+                number: e.number(),
+                energy: 0.0,
+                distance_a: 0.0,
+                distance_b: 0.0,
+            },
+        }
     }
 }
 
@@ -261,10 +269,7 @@ pub extern "C" fn icotable_fresh(
         neighbours,
         angles,
     };
-    built_answer(
-        no_builder(),
-        builder::fresh(grid, top, store, words, &mesh),
-    )
+    built_answer(no_builder(), builder::fresh(grid, top, store, words, &mesh))
 }
 
 #[unsafe(no_mangle)]
@@ -308,10 +313,7 @@ pub extern "C" fn icotable_settle(
         neighbours,
         angles,
     };
-    settle_answer(
-        builder,
-        builder::settle(builder, store, words, &mesh, ri),
-    )
+    settle_answer(builder, builder::settle(builder, store, words, &mesh, ri))
 }
 
 #[unsafe(no_mangle)]
@@ -336,14 +338,14 @@ pub extern "C" fn icotable_write(
         neighbours,
         angles,
     };
-    write_answer(writer::write(builder, store, words, &mesh, output))
+    writer::write(builder, store, words, &mesh, output).into()
 }
 
 #[unsafe(no_mangle)]
 pub extern "C" fn icotable_read(file: &[u8]) -> TableAnswer
     ensures { result ≡ table_answer (read_out file.now) }
 {
-    table_answer(table::read(file))
+    table::read(file).into()
 }
 
 // The same for the viewer, which opens small tables alone.
@@ -351,7 +353,7 @@ pub extern "C" fn icotable_read(file: &[u8]) -> TableAnswer
 pub extern "C" fn icotable_view(file: &[u8]) -> TableAnswer
     ensures { result ≡ table_answer (read_over viewer file.now) }
 {
-    table_answer(table::view(file))
+    table::view(file).into()
 }
 
 #[unsafe(no_mangle)]
@@ -430,13 +432,7 @@ pub extern "C" fn icotable_reading(
             z: bz,
         },
     };
-    value_answer(reading::lookup(
-        table_from(*table),
-        file,
-        vertices,
-        &locator,
-        &q,
-    ))
+    reading::lookup((*table).into(), file, vertices, &locator, &q).into()
 }
 
 // The same, weighted by temperature.
@@ -483,14 +479,7 @@ pub extern "C" fn icotable_boltzmann(
             z: bz,
         },
     };
-    value_answer(reading::lookup_boltzmann(
-        table_from(*table),
-        file,
-        vertices,
-        &locator,
-        &q,
-        beta,
-    ))
+    reading::lookup_boltzmann((*table).into(), file, vertices, &locator, &q, beta).into()
 }
 
 // What a build of these settings needs, with so many terms in its tail.

@@ -4,7 +4,7 @@ ghost use Rattle.search.specs.Search.{locator_of};
 ghost use Rattle.reading.specs.Poses.{way_by, ReadingsOut, readings_out};
 ghost use Rattle.icotable.specs.Answers.{table_from};
 
-use crate::{TableAnswer, table_from};
+use crate::TableAnswer;
 use search::Locator;
 
 // The readings of as many poses as the shortest list has room for: plain without a beta, weighted with the first one.
@@ -35,7 +35,7 @@ pub extern "C" fn icotable_readings(
         faces,
     };
     reading::lookup_all(
-        table_from(*table),
+        (*table).into(),
         file,
         vertices,
         &locator,

@@ -4,7 +4,7 @@ ghost use Rattle.span.specs.Spans.{span_values, span_out};
 ghost use Rattle.icotable.specs.Answers.{table_from};
 ghost use Rattle.icotable.specs.SpanAnswers.{spanned_in};
 
-use crate::{TableAnswer, table_from};
+use crate::TableAnswer;
 use refusals::Refusal;
 use span::Spanned;
 
@@ -58,5 +58,5 @@ pub extern "C" fn icotable_span(
 ) -> SpannedAnswer
     ensures { spanned_in result ≡ span_out file.now (table_from table.now) low high omega }
 {
-    span::span(table_from(*table), file, low, high, omega).into()
+    span::span((*table).into(), file, low, high, omega).into()
 }

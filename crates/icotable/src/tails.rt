@@ -7,7 +7,7 @@ ghost use Rattle.writer.specs.Tailed.{tail_lists, write_tail_out};
 ghost use Rattle.tail.specs.Reading.{tail_values, tail_out};
 ghost use Rattle.icotable.specs.Answers.{written_in, value_in, tail_shown, table_from};
 
-use crate::{TableAnswer, ValueAnswer, WriteAnswer, table_from, write_answer};
+use crate::{TableAnswer, ValueAnswer, WriteAnswer};
 use builder::Builder;
 use mesh::Mesh;
 use refusals::Refusal;
@@ -46,24 +46,24 @@ pub extern "C" fn icotable_write_tail(
         powers,
         prefactor,
     };
-    write_answer(writer::write_tail(
-        builder, store, words, &mesh, &tail, output,
-    ))
+    writer::write_tail(builder, store, words, &mesh, &tail, output).into()
 }
 
-#[tactic(auto, unfolding(crate::specs::Answers::value_in, crate::specs::Answers::tail_shown))]
-fn tail_answer(a: Result<f64, Refusal>) -> ValueAnswer
-    ensures { value_in result ≡ tail_shown (tail_values a) }
-{
-    let (number, energy) = match a {
-        Ok(energy) => (0, energy),
-        Err(e) => (e.number(), 0.0),
-    };
-    ValueAnswer {
-        number,
-        energy,
-        distance_a: 0.0,
-        distance_b: 0.0,
+impl From<Result<f64, Refusal>> for ValueAnswer {
+    ghost from_gives = { λ a v. value_in v ≡ tail_shown (tail_values a) };
+
+    #[tactic(auto, unfolding(crate::specs::Answers::value_in, crate::specs::Answers::tail_shown))]
+    fn from(a: Result<f64, Refusal>) -> ValueAnswer {
+        let (number, energy) = match a {
+            Ok(energy) => (0, energy),
+            Err(e) => (e.number(), 0.0),
+        };
+        ValueAnswer {
+            number,
+            energy,
+            distance_a: 0.0,
+            distance_b: 0.0,
+        }
     }
 }
 
@@ -72,5 +72,5 @@ fn tail_answer(a: Result<f64, Refusal>) -> ValueAnswer
 pub extern "C" fn icotable_tail(table: &TableAnswer, file: &[u8], r: f64) -> ValueAnswer
     ensures { value_in result ≡ tail_shown (tail_out file.now (table_from table.now) r) }
 {
-    tail_answer(tail::tail_energy(table_from(*table), file, r))
+    tail::tail_energy((*table).into(), file, r).into()
 }

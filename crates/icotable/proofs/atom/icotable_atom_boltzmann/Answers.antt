@@ -5,4 +5,4 @@ use Rattle.icotable.proofs.atom.icotable_atom_boltzmann.Goals as goal
 
 pub returns : goal.returns
 returns c =
-    rw (← c.atom_table_from.ensures) (c.energy_answer.ensures ∙ ap energy_alone c.atom_lookup_boltzmann.ensures ∙ sym (atom_alone _ _ _ _ _ _))
+    rw (← c.into.ensures) (c.into-2.ensures ∙ ap energy_alone c.atom_lookup_boltzmann.ensures ∙ sym (atom_alone _ _ _ _ _ _))
