@@ -1,5 +1,5 @@
-// The builder of a table against an atom, by value; its store, rows and meshes are lent. A slab is a distance bin, and a
-// slice of its own.
+// The builder of a table against an atom, by value; its store, rows and meshes are lent. A slab is a distance bin,
+// and a slice of its own.
 ghost use Rattle.std.specs.Prelude.{◌≡◌, ◌&&◌, suc, ◌≤◌};
 ghost use Rattle.lists.specs.Questions.{ask, first};
 ghost use Rattle.refusals.specs.Numbers.{asked};
@@ -22,7 +22,8 @@ use settling::{AtomVerdict, Verdict};
 #[tactic(auto, using(refusals::proofs::Numbers::numbered), unfolding(lists::specs::Questions::ask, lists::specs::Questions::first, crate::specs::Atom::atom_room))]
 pub fn atom_meshed_refusal(b: AtomBuilder, l: Lengths, mesh: &Mesh) -> Asked
     ensures { asked result ≡ first (atom_builder_question b)
-        (ask (atom_room b.grid b.top l.store l.kinds l.levels l.values && mesh_long (vertices_below (suc b.top)) (lent mesh.now)) 6
+        (ask (atom_room b.grid b.top l.store l.kinds l.levels l.values
+        && mesh_long (vertices_below (suc b.top)) (lent mesh.now)) 6
         (ask (meshes_keep b.top (lent mesh.now)) 7 0)) }
 {
     grid::atom_question(b.grid, b.top, b.level)?;
@@ -53,7 +54,10 @@ pub fn atom_fresh(
     mesh: &Mesh,
 ) -> Result<AtomBuilder, Refusal>
     ensures { ◌≡◌ {A = AtomBuiltOut}
-        (record { answer = atom_built_values no_atom_builder result; lists = lists_of store.new kinds.new levels.new values.new })
+        (record {
+          answer = atom_built_values no_atom_builder result;
+          lists = lists_of store.new kinds.new levels.new values.new;
+        })
         (atom_fresh_out g top (lent mesh.now) (lists_of store.old kinds.old levels.old values.old)) }
 {
     let made = atom_fresh_builder(g, top);
@@ -133,7 +137,8 @@ fn atom_settle_refusal(
     mesh: &Mesh,
     ri: u64,
 ) -> Asked
-    ensures { asked result ≡ atom_settle_refusal b (lent mesh.now) (lists_of store.now kinds.now levels.now values.now) ri }
+    ensures { asked result ≡ atom_settle_refusal b (lent mesh.now)
+        (lists_of store.now kinds.now levels.now values.now) ri }
 {
     atom_meshed_refusal(b, Lengths::of(store, kinds, levels, values), mesh)?;
     atom_settle_question(b.grid.n_r, b.top, b.level, kinds, levels, values, ri)

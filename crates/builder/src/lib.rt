@@ -39,8 +39,8 @@ pub struct AtomBuilder {
     pub level: u64,
 }
 
-// What settle answers: the builder after it, the largest gradient, and the neighbour comparisons made. Against an atom the
-// gradient is that of the slab.
+// What settle answers: the builder after it, the largest gradient, and the neighbour comparisons made. Against an
+// atom the gradient is that of the slab.
 #[derive(Clone, Copy)]
 pub struct Settled<B> {
     pub builder: B,

@@ -46,8 +46,8 @@ fn no_nan(energies: &[f64]) -> bool
     held
 }
 
-// Questions 6 and 8 to 10 of set: n slabs of z energies each, a bin that is inside or not, and m energies at the current
-// level.
+// Questions 6 and 8 to 10 of set: n slabs of z energies each, a bin that is inside or not, and m energies at the
+// current level.
 #[tactic(auto, using(refusals::proofs::Numbers::numbered), unfolding(lists::specs::Questions::ask))]
 pub(crate) fn set_question(
     n: u64,
@@ -110,7 +110,8 @@ pub(crate) fn set_refusal(
 #[tactic(auto, using(refusals::proofs::Numbers::numbered), unfolding(lists::specs::Questions::ask))]
 pub(crate) fn mesh_question(n: u64, z: u64, top: u64, l: Lengths, mesh: &Mesh) -> Asked
     requires { (n * z ≤ 18446744073709551615) × (top ≤ 15) }
-    ensures { asked result ≡ ask (slab_room n z l.store l.kinds l.levels l.values && mesh_long (vertices_below (suc top)) (lent mesh.now)) 6
+    ensures { asked result ≡ ask (slab_room n z l.store l.kinds l.levels l.values
+        && mesh_long (vertices_below (suc top)) (lent mesh.now)) 6
         (ask (meshes_keep top (lent mesh.now)) 7 0) }
 {
     if !slab_room(n, z, l) {
@@ -129,7 +130,8 @@ pub(crate) fn mesh_question(n: u64, z: u64, top: u64, l: Lengths, mesh: &Mesh) -
 #[tactic(auto, using(refusals::proofs::Numbers::numbered), unfolding(lists::specs::Questions::ask, lists::specs::Questions::first, crate::specs::BuilderLists::list_room))]
 pub fn meshed_refusal(b: Builder, store: u64, words: u64, mesh: &Mesh) -> Asked
     ensures { asked result ≡ first (builder_question b)
-        (ask (list_room b.grid b.top store words words words && mesh_long (vertices_below (suc b.top)) (lent mesh.now)) 6
+        (ask (list_room b.grid b.top store words words words
+        && mesh_long (vertices_below (suc b.top)) (lent mesh.now)) 6
         (ask (meshes_keep b.top (lent mesh.now)) 7 0)) }
 {
     grid::question(b.grid, b.top, b.level)?;

@@ -87,10 +87,11 @@ pub(crate) fn dropped(b: Builder, t: Tally) -> Builder
     }
 }
 
-// The comparisons of a slice: for each slab that reached the gradient the level's total of neighbours, once for each vertex
-// of either molecule.
+// The comparisons of a slice: for each slab that reached the gradient the level's total of neighbours, once for each
+// vertex of either molecule.
 pub(crate) fn compared(b: Builder, t: Tally, counts: &[u8]) -> u64
-    requires { (b.level ≤ 15) × (t.reached ≤ 4294967295) × (neighbour_total counts.now b.level ≤ vertex_count b.level * 6) }
+    requires { (b.level ≤ 15) × (t.reached ≤ 4294967295)
+        × (neighbour_total counts.now b.level ≤ vertex_count b.level * 6) }
     ensures { result ≡ t.reached * (2 * vertex_count b.level * neighbour_total counts.now b.level) }
 {
     let level = b.level as u8;

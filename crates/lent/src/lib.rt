@@ -1,5 +1,5 @@
-// Rows as a slice of records, and set and settle with the builder lent to be altered; and the law that these forms answer
-// as the calls by value over words do.
+// Rows as a slice of records, and set and settle with the builder lent to be altered; and the law that these forms
+// answer as the calls by value over words do.
 #![tactic(auto)]
 
 mod calls;

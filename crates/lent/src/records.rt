@@ -1,4 +1,5 @@
-// Rows as a slice of records: read one, replace one, and the bridge to the words. A slab number is an index of the slice.
+// Rows as a slice of records: read one, replace one, and the bridge to the words. A slab number is an index of the
+// slice.
 ghost use Rattle.std.specs.Prelude.{◌≡◌, ◌<◌, ◌≤◌, ltb, length, get_or, set};
 ghost use Rattle.refusals.specs.Numbers.{asked};
 ghost use Rattle.rows.specs.Rows.{resolution_of};
@@ -69,7 +70,8 @@ pub fn replace_row(rows: &mut [RowRecord], s: usize, r: RowRecord) -> bool
     }
 }
 
-// What refuses a bridge: 6 where there are fewer words than records, then 15 where a word that goes to a record has a rest.
+// What refuses a bridge: 6 where there are fewer words than records, then 15 where a word that goes to a record has a
+// rest.
 #[tactic(auto, using(refusals::proofs::Numbers::numbered), unfolding(lists::specs::Questions::ask, crate::specs::Records::gather_number))]
 fn gather_question(n: usize, words: &[u64]) -> Asked
     ensures { asked result ≡ gather_number n words.now }

@@ -1,6 +1,7 @@
-// The gradient of a slab. No list of weights is kept: the weights of a row, or of a column, fit into an array, so that
-// each entry is weighed twice. The arrays are made once for a slab and lent from line to line, since making one clears
-// it; what they hold before does not count. A line begins at a place of the energies, and its entries are a step apart.
+// The gradient of a slab. No list of weights is kept: the weights of a row, or of a column, fit into an array, so
+// that each entry is weighed twice. The arrays are made once for a slab and lent from line to line, since making one
+// clears it; what they hold before does not count. A line begins at a place of the energies, and its entries are a
+// step apart.
 ghost use Rattle.std.specs.Prelude.{◌≡◌, ◌+◌, ◌*◌, ◌/◌, ◌≤◌, false, map, length, get_or, take, is_nan, slice_index_or};
 ghost use Rattle.std.specs.Float.{nan, binary64};
 ghost use Rattle.std.specs.Float.Ieee.{mul, neg};

@@ -21,16 +21,16 @@ pub enum Verdict {
     Rough(f64),
 }
 
-// What settling finds of a slab against an atom, with the slab's gradient; 0 beside a slab that holds no energies or is
-// repulsive.
+// What settling finds of a slab against an atom, with the slab's gradient; 0 beside a slab that holds no energies or
+// is repulsive.
 #[derive(Clone, Copy)]
 pub struct AtomVerdict {
     pub verdict: Verdict,
     pub gradient: f64,
 }
 
-// What a slice adds up to: the largest gradient of slabs left as Mesh, whether some slab was settled, whether no row is
-// Repulsive, the builder's number of packed energies, and how many slabs reached the gradient.
+// What a slice adds up to: the largest gradient of slabs left as Mesh, whether some slab was settled, whether no row
+// is Repulsive, the builder's number of packed energies, and how many slabs reached the gradient.
 #[derive(Clone, Copy)]
 pub struct Tally {
     pub gradient: f64,

@@ -1,5 +1,5 @@
-// What a build needs, from its settings, top level and neighbour lists alone: no slab is sampled, and no vertex or angle is
-// looked at.
+// What a build needs, from its settings, top level and neighbour lists alone: no slab is sampled, and no vertex or
+// angle is looked at.
 #![tactic(auto)]
 
 ghost use Rattle.std.specs.Prelude.{◌≡◌, ℕ, ◌<◌, ◌+◌, ◌*◌, suc, ◌≤◌, [], length, leb};
@@ -15,8 +15,8 @@ use grid::{AtomGrid, Grid};
 use mesh::Mesh;
 use refusals::{Asked, Refusal};
 
-// The lengths of the store and of the longest file, and for each level those of the locator's lists and the comparisons of
-// one settle. Above the top level stands 0, and beside a number that refuses 0 everywhere.
+// The lengths of the store and of the longest file, and for each level those of the locator's lists and the
+// comparisons of one settle. Above the top level stands 0, and beside a number that refuses 0 everywhere.
 #[repr(C)]
 #[derive(Clone, Copy)]
 pub struct Size {
@@ -90,7 +90,8 @@ fn no_size(e: Refusal) -> Size
     }
 }
 
-// A number for each of 16 levels: what `of` makes of the first ones, as many as there are levels, and 0 for those above.
+// A number for each of 16 levels: what `of` makes of the first ones, as many as there are levels, and 0 for those
+// above.
 fn by_level<F: Fn(u8) -> u64>(levels: u8, of: F) -> [u64; 16]
     requires few { levels ≤ 16 }
     requires calls { (m : ℕ) → m < levels → F.pre of m }
@@ -131,7 +132,8 @@ fn of_neighbours(m: u8, times: u64, more: u64, counts: &[u8]) -> u64
 // Of so many slabs with `each` energies at the top level, in a file with `head` bytes besides vertex counts, rows and
 // energies.
 fn sized(head: u64, slabs: u64, each: u64, top: u8, times: u64, more: u64, counts: &[u8]) -> Size
-    requires { (head ≤ 85899345964) × (slabs ≤ 4294836225) × (slabs * each ≤ 4294967295) × (top ≤ 15) × (times ≤ 131070) × (more ≤ 1) }
+    requires { (head ≤ 85899345964) × (slabs ≤ 4294836225) × (slabs * each ≤ 4294967295)
+        × (top ≤ 15) × (times ≤ 131070) × (more ≤ 1) }
     ensures { result ≡ sized head slabs each top (λ m. (times * vertex_count m + more) * neighbour_total counts.now m) }
 {
     let levels = top + 1;
@@ -148,8 +150,8 @@ fn sized(head: u64, slabs: u64, each: u64, top: u8, times: u64, more: u64, count
     }
 }
 
-// What a build of these settings needs, with so many terms in its tail. The counts in the settings are ignored, as fresh
-// ignores them.
+// What a build of these settings needs, with so many terms in its tail. The counts in the settings are ignored, as
+// fresh ignores them.
 #[tactic(auto, using(refusals::proofs::Numbers::numbered), unfolding(crate::specs::Sizing::sizing_out))]
 pub fn sizing(g: Grid, top: u64, counts: &[u8], neighbours: &[u16], terms: u64) -> Size
     ensures { result ≡ sizing_out g top counts.now neighbours.now terms }
