@@ -85,7 +85,7 @@ fn stage_pose(
     stage(t, file, vertices, locator, &q, beta)
 }
 
-// So many poses, 32 at most, from one on.
+// So many poses from one on, as many at most as there is room to keep what the first stage leaves of each.
 fn read_block(
     t: Table,
     file: &[u8],
@@ -95,17 +95,16 @@ fn read_block(
     beta: Option<f64>,
     from: usize,
     count: usize,
+    kept: &mut [Result<Staged, Refusal>],
     numbers: &mut [u64],
     answers: &mut [f64],
 )
-    requires { (count ≤ 32) × ((from + count) * 8 ≤ length poses.now) × (from + count ≤ length numbers.old) × ((from + count) * 3 ≤ length answers.old) }
+    requires { (count ≤ length kept.old) × ((from + count) * 8 ≤ length poses.now) × (from + count ≤ length numbers.old) × ((from + count) * 3 ≤ length answers.old) }
     ensures { (numbers.new ≡ put numbers.old from (joined count (λ k. (reading_values (pose_reading file.now t vertices.now
         (lent_locator locator.now) beta poses.now (from + k))).number ∷ [])))
         × (answers.new ≡ put answers.old (from * 3) (joined count (λ k. shown (reading_values (pose_reading file.now t vertices.now
         (lent_locator locator.now) beta poses.now (from + k)))))) }
 {
-    let none: Result<Staged, Refusal> = Err(Refusal::NotLent);
-    let mut kept = [none; 32];
     for i in 0..count {
         kept[i] = stage_pose(t, file, vertices, locator, poses, beta, from + i);
     }
@@ -137,11 +136,14 @@ pub fn lookup_all(
 {
     let n = poses_held(poses.len(), numbers.len(), answers.len());
     let beta = weighting(beta);
+    // of zeros alone, so that all are cleared at once
+    let none: Result<Staged, Refusal> = Ok(Staged::Known(plain(0.0)));
+    let mut kept = [none; 32];
     for block in 0..n.div_ceil(32) {
         let from = block * 32;
         let count = (n - from).min(32);
         read_block(
-            t, file, vertices, locator, poses, beta, from, count, numbers, answers,
+            t, file, vertices, locator, poses, beta, from, count, &mut kept, numbers, answers,
         );
     }
     n as u64

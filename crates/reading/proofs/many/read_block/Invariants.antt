@@ -1,7 +1,6 @@
-use mathlib.Core.Path.{◌≡◌}
 use Rattle.std.proofs.Common.{Result, Err}
 use Prim.Native.Nat.{◌+◌}
-use lib.ListN.{length, get_or}
+use lib.ListN.{get_or}
 use Rattle.search.specs.Lent.{lent_locator}
 use Rattle.refusals.specs.declared.Refusal.{Refusal}
 use Rattle.refusals.specs.declared.Refusal.TheVariants.{NotLent}
@@ -18,7 +17,7 @@ none = Err NotLent
 
 abbrev pub invariant-loop-i : goal.invariant-loop-i
 invariant-loop-i l =
-    (length l.kept ≡ 32) × AllReady l.file l.t.energies_start (λ k. pose_reading l.file l.t l.vertices (lent_locator l.locator) l.beta l.poses (l.from + k)) l.kept l.i
+    AllReady l.file l.t.energies_start (λ k. pose_reading l.file l.t l.vertices (lent_locator l.locator) l.beta l.poses (l.from + k)) l.kept l.i
 
 abbrev pub invariant-loop-j : goal.invariant-loop-j
 invariant-loop-j l =
