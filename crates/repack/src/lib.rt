@@ -1,4 +1,5 @@
-// A loosely packed table file made a packed one: each Mesh row's energies are copied to its packed place in a second buffer.
+// A loosely packed table file made a packed one: each Mesh row's energies are copied to its packed place in a second
+// buffer.
 #![tactic(auto)]
 
 ghost use Rattle.std.specs.Prelude.{◌≡◌, ◌+◌, ◌*◌, ◌-◌, ◌≤◌, length};

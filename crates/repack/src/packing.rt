@@ -6,8 +6,9 @@ ghost use Rattle.table.specs.Internal.{ends_below};
 ghost use Rattle.repack.specs.Repack.{held, total, placed, other_offsets, new_row, new_rows, parts};
 ghost use Rattle.repack.specs.Internal.{rows_at, Loose};
 
-use crate::bytes::{copy, put_u32};
+use crate::bytes::copy;
 use table::{Entry, Section};
+use writer::put_u32;
 
 // How many energies a row has.
 fn held(row: Entry) -> u64

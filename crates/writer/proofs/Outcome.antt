@@ -1,27 +1,26 @@
 -- Write's outcome by the answers to its questions, and what they say of builder and lists. Assumes nothing.
 use mathlib.Core.Path.{◌≡◌, refl, sym, ◌∙◌}
 use Rattle.lists.proofs.Asking.{ask_yes, first_yes}
-use mathlib.Core.Bool.{Bool, true, false, cond, ◌&&◌}
+use mathlib.Core.Bool.{Bool, true, false, cond}
 use mathlib.Core.List.{List}
 use Prim.Native.Nat.{ℕ, ◌+◌, ◌*◌, ◌≤◌}
 use native.Mathlib.Nat.{mul-le-mul}
 use native.Mathlib.Omega.{arith}
 use lib.ListN.{length}
 use lib.Dec.{leb, eqb, lit<}
-use lib.Ieee.{Float}
 use borrow.Author.Tests.{eq-eqb, ne_eqb, eqb-false}
 use Rattle.lists.specs.Questions.{ask, first}
 use Rattle.lists.specs.Lists.{put}
 use Rattle.mesh.specs.Levels.{vertex_count, per}
-use Rattle.mesh.specs.Mesh.{Mesh, meshes_keep}
+use Rattle.mesh.specs.Mesh.{Mesh}
 use Rattle.mesh.proofs.Sizes.{count_mono, per_mono}
 use Rattle.grid.proofs.Laws.{slab_energies_le}
-use Rattle.builder.specs.BuilderLists.{BuilderLists, word_lists, slabs, list_room, meshes_long, rows_known}
-use Rattle.builder.specs.Refusals.{builder_question, meshed_refusal}
+use Rattle.builder.specs.BuilderLists.{BuilderLists, slabs, rows_known}
+use Rattle.builder.specs.Refusals.{meshed_refusal}
 use Rattle.builder.specs.Atom.{atom_meshed_refusal}
 use Rattle.builder.specs.declared.Builder.{Builder}
 use Rattle.builder.specs.declared.AtomBuilder.{AtomBuilder}
-use Rattle.builder.proofs.Laws.{meshed, atom_meshed, words_long}
+use Rattle.builder.proofs.Laws.{meshed, atom_meshed}
 use Rattle.table.specs.File.{file_of}
 use Rattle.table.specs.Atom.{atom_file_of}
 use Rattle.writer.specs.Write.{file_from, write_refusal, write_out}
@@ -57,12 +56,6 @@ module _ (m x : ℕ) (r : Bool) where
       let f = first_yes h in
       let z : r ≡ true = (ask_yes (lit< tt) f.1).0 in
       first-zero m _ f.0 ∙ rw z
-
--- 1 to 7, of rows that are words
-pub meshed_words : (b : Builder) (m : Mesh) (store : List Float) (words : List ℕ) → let n = length words in
-    meshed_refusal b m (word_lists store words) ≡ first (builder_question b) (ask (list_room b.grid b.top (length store) n n n && meshes_long b m) 6 (ask (meshes_keep b.top m) 7 0))
-unfolding meshed_refusal
-meshed_words b m store words = rw (words_long b store words)
 
 -- ---- what the answers say
 
