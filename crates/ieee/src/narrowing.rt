@@ -4,7 +4,7 @@ ghost use Rattle.lists.specs.Lists.{every, put};
 ghost use Rattle.ieee.specs.Narrow.{narrowed};
 ghost use Rattle.ieee.specs.Internal.{plain};
 
-use crate::cases::{act_on, decide, is_within};
+use crate::cases::{Case, act_on, decide, is_within};
 use crate::rounding::signed32;
 
 // By its case: the sign, and the cut pattern as it is, raised by one, or an infinity's. An infinity is left as if it overflowed.
@@ -13,15 +13,12 @@ pub fn narrow(x: f64) -> f32
 {
     if is_within(x) {
         let d = decide(x);
-        let neg = d.neg;
-        let case = d.case;
-        let cut = d.cut;
-        return signed32(neg, act_on(case, cut));
+        return signed32(d.neg, act_on(d.case, d.cut));
     }
     if x != x {
-        return 0.0 / 0.0;
+        return f32::NAN;
     }
-    signed32(x < 0.0, act_on(1, 0))
+    signed32(x < 0.0, act_on(Case::Overflow, 0))
 }
 
 // 0, or from 2^-126 up to 2^127.
@@ -38,10 +35,8 @@ fn all_plain(list: &[f64]) -> bool
     ensures { result ≡ every plain list.now }
 {
     let mut held = true;
-    let mut i = 0;
-    while i < list.len() {
-        held = held & is_plain(list[i]);
-        i += 1;
+    for x in list {
+        held &= is_plain(*x);
     }
     held
 }
@@ -51,7 +46,7 @@ fn narrow_plain(x: f64) -> f32
     requires { plain x ≡ true }
     ensures { result ≡ narrowed x }
 {
-    let b = f64::to_bits(x);
+    let b = x.to_bits();
     let odd = b / 0x2000_0000 % 2;
     let kept = (b + 0xfff_ffff + odd) / 0x2000_0000;
     f64::from_bits(kept * 0x2000_0000) as f32
@@ -61,10 +56,8 @@ fn narrow_all_plain(from: &[f64], to: &mut [f32])
     requires { (length from.now ≤ length to.old) × (every plain from.now ≡ true) }
     ensures { to.new ≡ put to.old 0 (map narrowed from.now) }
 {
-    let mut i = 0;
-    while i < from.len() {
-        to[i] = narrow_plain(from[i]);
-        i += 1;
+    for (i, x) in from.iter().enumerate() {
+        to[i] = narrow_plain(*x);
     }
 }
 
@@ -72,10 +65,8 @@ fn narrow_each(from: &[f64], to: &mut [f32])
     requires { length from.now ≤ length to.old }
     ensures { to.new ≡ put to.old 0 (map narrowed from.now) }
 {
-    let mut i = 0;
-    while i < from.len() {
-        to[i] = narrow(from[i]);
-        i += 1;
+    for (i, x) in from.iter().enumerate() {
+        to[i] = narrow(*x);
     }
 }
 
@@ -94,12 +85,6 @@ fn narrow_all(from: &[f64], to: &mut [f32])
 pub fn narrow_list(from: &[f64], to: &mut [f32])
     ensures { to.new ≡ put to.old 0 (map narrowed (take (length to.old) from.now)) }
 {
-    let n = least(from.len(), to.len());
-    narrow_all(&from[0..n], to);
-}
-
-fn least(a: usize, b: usize) -> usize
-    ensures { result ≡ min a b }
-{
-    if a < b { a } else { b }
+    let n = from.len().min(to.len());
+    narrow_all(&from[..n], to);
 }
