@@ -183,10 +183,7 @@ impl From<Result<Energy, Refusal>> for EnergyAnswer {
     #[tactic(auto, unfolding(crate::specs::AtomAnswers::energy_in))]
     fn from(a: Result<Energy, Refusal>) -> EnergyAnswer {
         match a {
-            Ok(e) => EnergyAnswer {
-                number: 0,
-                energy: e.energy,
-            },
+            Ok(Energy { energy, .. }) => EnergyAnswer { number: 0, energy },
             Err(e) => EnergyAnswer {
                 number: e.number(),
                 energy: 0.0,
