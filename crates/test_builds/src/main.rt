@@ -4,12 +4,11 @@
 
 use builder::{Builder, Settled};
 use grid::Grid;
-use meshes::Meshes;
 use refusals::Refusal;
 use std::io;
+use test_meshes::Meshes;
 
 mod accident;
-mod meshes;
 
 pub(crate) fn say(rt: &impl Print, what: &str, got: u64, wanted: u64) -> io::Result<()> {
     print!(rt; "{what}: {got}")?;

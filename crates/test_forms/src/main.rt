@@ -5,12 +5,11 @@
 use builder::Builder;
 use grid::Grid;
 use lent::{LentSettled, RowRecord};
-use meshes::Meshes;
 use refusals::Refusal;
 use rows::SlabResolution;
 use std::io;
+use test_meshes::Meshes;
 
-mod meshes;
 mod through;
 
 // What a settle answered and left: its number, the gradient's bits, the comparisons, the level, and row 0 as a word.

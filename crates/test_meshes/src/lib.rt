@@ -1,10 +1,12 @@
 // Meshes of levels 0 and 1, one after the other, that keep document 01's rule: the vertices of a level stand in sixes,
 // and each has the other five of its six for neighbours. No answer here depends on where the vertices are. A sixth
 // place, which is not read, holds a number too.
+#![tactic(auto)]
+
 use mesh::Mesh;
 
 #[derive(Clone, Copy)]
-pub(crate) struct Meshes {
+pub struct Meshes {
     vertices: [f64; 162],
     counts: [u8; 54],
     neighbours: [u16; 324],
@@ -18,7 +20,7 @@ fn neighbour(i: usize) -> u16 {
 }
 
 impl Meshes {
-    pub(crate) fn new() -> Meshes {
+    pub fn new() -> Meshes {
         let mut neighbours = [0; 324];
         for (i, place) in neighbours.iter_mut().enumerate() {
             *place = neighbour(i);
@@ -31,7 +33,7 @@ impl Meshes {
         }
     }
 
-    pub(crate) fn lent(&self) -> Mesh<'_> {
+    pub fn lent(&self) -> Mesh<'_> {
         Mesh {
             vertices: &self.vertices,
             counts: &self.counts,
