@@ -33,14 +33,14 @@ MOVES = [
     ('a type', 'crates/grid/specs/Bins.antt', 'table_rmax : ℕ → Float → Float → Float',
      'table_rmax : ℕ → Float → Float → ℕ', 'table_rmax'),
     ("a struct's field", 'crates/builder/src/lib.rt', '    pub level: u64,', '    pub level: u32,', 'Builder'),
-    ("an enum's variant", 'crates/writer/src/lib.rt', '    Accepted(u64),', '    Accepted(u32),', 'Written'),
+    ("an enum's variant", 'crates/rows/src/lib.rt', '    Scalar(f32),', '    Scalar(f64),', 'SlabResolution'),
     ('a constant', 'crates/float/specs/Exp.antt', 'H = 0x3FE6_2E42_FEE0_0000', 'H = 0x3FE6_2E42_FEE0_0001', 'H'),
     ("a record's field", 'crates/ledger/specs/Promise.antt', '  pub levels : suc a.top ≡ suc b.top',
      '  pub levels : a.top ≡ suc b.top', 'Same'),
     ("a law's type", 'crates/grid/proofs/Rises.antt', 'pub bins_rise : (x y rmin dr : Float)',
      'pub bins_rise : (y x rmin dr : Float)', 'bins_rise'),
-    ('two names exchanged', 'crates/builder/specs/Calls.antt', '{Accepted as Builds, Refused as NotBuilt}',
-     '{Accepted as NotBuilt, Refused as Builds}', 'built_values'),
+    ('two names exchanged', 'crates/rows/specs/Rows.antt', '{Scalar, Mesh, Repulsive}',
+     '{Scalar as Repulsive, Mesh, Repulsive as Scalar}', 'kind_of'),
 ]
 # what does not move
 STAYS = [
@@ -48,8 +48,8 @@ STAYS = [
      'promise a b p q = ((same b a p q, equal a b p q)'),
     ('a comment in a proof', 'crates/ledger/proofs/Theorem.antt', '-- 22 and 23 were put to its tail',
      '-- 22 was put to its tail'),
-    ("a private function's body", 'crates/icotable/src/lib.rt', 'Built::Accepted(builder) => BuildAnswer { number: 0,',
-     'Built::Accepted(builder) => BuildAnswer { number: 1,'),
+    ("a private function's body", 'crates/icotable/src/lib.rt', 'Ok(builder) => BuildAnswer { number: 0,',
+     'Ok(builder) => BuildAnswer { number: 1,'),
     ("a private function's contract", 'crates/icotable/src/lib.rt', 'result ≡ no_builder.grid',
      'no_builder.grid ≡ result'),
     ('a mark', 'crates/grid/specs/Settings.antt', 'unfoldable pub slabs_fit :', 'abbrev pub slabs_fit :'),

@@ -40,10 +40,10 @@ use Rattle.repack.proofs.Turns.{taken-length, rows-length, parts-length}
 -- ---- what the loose reader answered
 
 module _ (file : List ℕ) where
-  abbrev question : ℕ
-  question = loose_refusal file (layout file) (table_of file (layout file))
+  abbrev loose_number : ℕ
+  loose_number = loose_refusal file (layout file) (table_of file (layout file))
 
-  opened_by : (t : Table) (x : Bool) → eqb question 0 ≡ x → read_values (Ok t) ≡ loose_out file → (t ≡ table_of file (layout file)) × (question ≡ 0)
+  opened_by : (t : Table) (x : Bool) → eqb loose_number 0 ≡ x → read_values (Ok t) ≡ loose_out file → (t ≡ table_of file (layout file)) × (loose_number ≡ 0)
   unfolding loose_out
   opened_by t true d e = (ap (λ (v : ReadValues). v.table) (rw d at e), eqb-true _ 0 d)
   opened_by t false d e = absurd (eqb-false _ 0 d (sym (ap (λ (v : ReadValues). v.number) (rw d at e))))
@@ -53,12 +53,12 @@ module _ (file : List ℕ) where
       let a = opened_by t _ refl e in
       (a.0, rw a.0 a.1)
 
-  shut_by : (r : Refusal) (x : Bool) → eqb question 0 ≡ x → read_values (Err r) ≡ loose_out file → question ≡ number r
+  shut_by : (r : Refusal) (x : Bool) → eqb loose_number 0 ≡ x → read_values (Err r) ≡ loose_out file → loose_number ≡ number r
   unfolding loose_out
   shut_by r true d e = absurd (eqb-false (number r) 0 (numbered r) (ap (λ (v : ReadValues). v.number) (rw d at e)))
   shut_by r false d e = sym (ap (λ (v : ReadValues). v.number) (rw d at e))
 
-  pub shut : (r : Refusal) → read_values (Err r) ≡ loose_out file → question ≡ number r
+  pub shut : (r : Refusal) → read_values (Err r) ≡ loose_out file → loose_number ≡ number r
   shut r e = shut_by r _ refl e
 
 -- ---- what its questions, answered yes, say
