@@ -24,6 +24,7 @@ fn without_gradient(verdict: Verdict) -> AtomVerdict
 }
 
 // What settling finds of a slab's energies, at a level that a builder can have.
+#[tactic(auto, using(mesh::proofs::Laws::count_le), unfolding(crate::specs::Settling::atom_verdict))]
 fn atom_verdict(threshold: f64, beta: f64, mesh: &Mesh, energies: &[f64], level: u8) -> AtomVerdict
     ensures { result ≡ (if leb level 15
         then atom_verdict threshold beta (lent mesh.now) (vertex_count level) energies.now

@@ -55,6 +55,7 @@ fn exponent_at(slab: &Slab, from: usize, step: usize, i: usize) -> f64
 }
 
 // The exponents of a line.
+#[tactic(auto, using(lists::proofs::Written::put_nil), unfolding(crate::specs::Internal::line_of))]
 fn exponents(slab: &Slab, from: usize, step: usize, weights: &mut [f64])
     requires { (slab.now.n ≤ length weights.old) × (slab.now.n ≤ 2562) × (step ≤ 2562) × (from ≤ 6563844) }
     ensures { weights.new ≡ put weights.old 0
@@ -66,6 +67,7 @@ fn exponents(slab: &Slab, from: usize, step: usize, weights: &mut [f64])
 }
 
 // The exponents of four columns that begin side by side, so that what is read for one serves the others.
+#[tactic(auto, using(lists::proofs::Written::put_nil), unfolding(crate::specs::Internal::line_of))]
 fn exponents_four(
     slab: &Slab,
     from: usize,
@@ -96,6 +98,7 @@ fn exponents_four(
 }
 
 // A vertex of a line against its neighbours.
+#[tactic(auto, using(lists::proofs::Loops::each_turn, crate::proofs::Numbers::steeper_number), unfolding(lists::specs::Lists::for_each, crate::specs::Gradient::along_neighbours))]
 fn along_neighbours(mesh: &Mesh, weights: &[f64], v: u32, g: f64) -> f64
     requires { is_nan g ≡ false }
     ensures { result ≡ along_neighbours (lent mesh.now) v
@@ -116,6 +119,7 @@ fn along_neighbours(mesh: &Mesh, weights: &[f64], v: u32, g: f64) -> f64
 }
 
 // All vertices of a line.
+#[tactic(auto, using(lists::proofs::Loops::each_turn, crate::proofs::Numbers::neighbours_number), unfolding(lists::specs::Lists::for_each, crate::specs::Gradient::line_gradient))]
 fn line_gradient(mesh: &Mesh, weights: &[f64], n: u32, g: f64) -> f64
     requires { is_nan g ≡ false }
     ensures { result ≡ line_gradient (lent mesh.now) n weights.now g }
@@ -128,6 +132,7 @@ fn line_gradient(mesh: &Mesh, weights: &[f64], n: u32, g: f64) -> f64
 }
 
 // The weights of a line by its exponents, and the gradient along it.
+#[tactic(auto, using(crate::proofs::Lines::weighed_part))]
 fn weighed(mesh: &Mesh, weights: &mut [f64], n: u32, g: f64) -> f64
     requires { (n ≤ length weights.old) × (is_nan g ≡ false) }
     ensures { result ≡ line_gradient (lent mesh.now) n
@@ -173,6 +178,7 @@ fn four_columns(
 }
 
 // The columns of a slab, four at a time, as far as that goes.
+#[tactic(auto, using(crate::proofs::Numbers::columns_number, crate::proofs::Numbers::columns_four), unfolding(crate::specs::Internal::first_columns, lists::specs::Lists::for_each))]
 fn fours(slab: &Slab, first: &mut [f64]) -> f64
     requires { (slab.now.n ≤ 2562) × (slab.now.n ≤ length first.old) }
     ensures { result ≡ first_columns (lent slab.now.mesh.now) slab.now.n slab.now.beta slab.now.energies.now
@@ -190,6 +196,7 @@ fn fours(slab: &Slab, first: &mut [f64]) -> f64
 }
 
 // All columns of a slab.
+#[tactic(auto, using(crate::proofs::Numbers::columns_number, crate::proofs::Numbers::columns_one), unfolding(crate::specs::Internal::column_gradient))]
 fn columns(slab: &Slab, weights: &mut [f64]) -> f64
     requires { (slab.now.n ≤ 2562) × (slab.now.n ≤ length weights.old) }
     ensures { result ≡ first_columns (lent slab.now.mesh.now) slab.now.n slab.now.beta slab.now.energies.now
@@ -204,6 +211,7 @@ fn columns(slab: &Slab, weights: &mut [f64]) -> f64
 }
 
 // All rows of a slab.
+#[tactic(auto, using(lists::proofs::Loops::each_turn, crate::proofs::Numbers::line_number), unfolding(lists::specs::Lists::for_each, crate::specs::Internal::lines_gradient))]
 fn along_rows(slab: &Slab, g: f64, weights: &mut [f64]) -> f64
     requires { (slab.now.n ≤ 2562) × (is_nan g ≡ false) × (slab.now.n ≤ length weights.old) }
     ensures { result ≡ lines_gradient (lent slab.now.mesh.now) slab.now.n slab.now.beta slab.now.energies.now
@@ -218,6 +226,7 @@ fn along_rows(slab: &Slab, g: f64, weights: &mut [f64]) -> f64
 }
 
 // The gradient of a slab: along its columns, then along its rows.
+#[tactic(auto, using(crate::proofs::Numbers::columns_number, crate::proofs::Numbers::columns_are), unfolding(crate::specs::Internal::by_lines))]
 pub(crate) fn gradient(slab: &Slab) -> f64
     requires { slab.now.n ≤ 2562 }
     ensures { result ≡ by_lines (lent slab.now.mesh.now) slab.now.n slab.now.beta slab.now.energies.now }
@@ -228,6 +237,7 @@ pub(crate) fn gradient(slab: &Slab) -> f64
 }
 
 // The gradient of a slab against an atom, whose energies are one line.
+#[tactic(auto, using(crate::proofs::Numbers::zero_number, crate::proofs::Slopes::by_line), unfolding(crate::specs::Gradient::atom_gradient))]
 pub(crate) fn atom_gradient(slab: &Slab) -> f64
     requires { slab.now.n ≤ 2562 }
     ensures { result ≡ atom_gradient (lent slab.now.mesh.now) slab.now.n slab.now.beta slab.now.energies.now }

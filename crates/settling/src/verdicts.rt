@@ -22,6 +22,7 @@ fn is_repulsive(beta: f64, e: f64) -> bool
     gradient::weight(beta, e) - 1.0 < 1e-4 - 1.0
 }
 
+#[tactic(auto, using(lists::proofs::Loops::every_fails, lists::proofs::Loops::every_next, lists::proofs::Loops::every_end), unfolding(crate::specs::Gradient::all_repulsive))]
 pub(crate) fn all_repulsive(beta: f64, energies: &[f64]) -> bool
     ensures { result ≡ all_repulsive beta energies.now }
 {
@@ -34,6 +35,7 @@ pub(crate) fn all_repulsive(beta: f64, energies: &[f64]) -> bool
 }
 
 // The sum in index order, from -0.0.
+#[tactic(auto, using(crate::proofs::Sums::sum_turn, crate::proofs::Sums::sum_end))]
 fn sum(energies: &[f64]) -> f64
     ensures { result ≡ sum_from (from_bits binary64 0x8000_0000_0000_0000) energies.now }
 {
@@ -84,6 +86,7 @@ pub fn settles(v: Verdict) -> bool
 }
 
 // What settling finds of a slab's energies, at a level that a builder can have.
+#[tactic(auto, using(crate::proofs::Slopes::by_lines_lem, mesh::proofs::Laws::count_le), unfolding(crate::specs::Settling::verdict, crate::specs::Internal::by_lines))]
 fn verdict(threshold: f64, beta: f64, mesh: &Mesh, energies: &[f64], level: u8) -> Verdict
     ensures { result ≡ (if nat_le level 15
         then verdict threshold beta (lent mesh.now) (vertex_count level) energies.now else Empty) }

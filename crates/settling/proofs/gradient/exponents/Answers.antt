@@ -1,13 +1,7 @@
-use Rattle.std.proofs.Common.{sym, refl, arith, length-set}
+use Rattle.std.proofs.Common.{arith, length-set}
 use lib.Ieee.{binary64, mul, neg}
-use Rattle.lists.proofs.Written.{put_nil}
-use Rattle.settling.specs.Internal.{line_of}
 use Rattle.settling.proofs.Lines.{line_turn}
 use Rattle.settling.proofs.gradient.exponents.Goals as goal
-
-pub loop-i-init : goal.loop-i-init
-unfolding line_of
-loop-i-init c = (refl, sym (put_nil c.args.weights.now 0))
 
 pub loop-i-preserved : goal.loop-i-preserved
 loop-i-preserved c =
