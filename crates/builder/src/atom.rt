@@ -19,7 +19,7 @@ use refusals::{Asked, Refusal};
 use settling::{AtomVerdict, Verdict};
 
 // Questions 1 to 7 of a call that the meshes are lent to.
-#[tactic(auto, using(refusals::proofs::Numbers::numbered), unfolding(lists::specs::Questions::ask, lists::specs::Questions::first, crate::specs::Atom::atom_room))]
+#[tactic(auto, using(refusals::proofs::Numbers::numbered, crate::proofs::Laws::atom_asked, grid::proofs::Laws::slab_energies_le), unfolding(lists::specs::Questions::ask, lists::specs::Questions::first, crate::specs::Atom::atom_room))]
 pub fn atom_meshed_refusal(b: AtomBuilder, l: Lengths, mesh: &Mesh) -> Asked
     ensures { asked result ≡ first (atom_builder_question b)
         (ask (atom_room b.grid b.top l.store l.kinds l.levels l.values
@@ -43,7 +43,7 @@ fn atom_fresh_builder(g: AtomGrid, top: u64) -> AtomBuilder
 }
 
 // A builder of these settings, with no slab set; the count in the settings is ignored.
-#[tactic(auto, using(refusals::proofs::Numbers::numbered), unfolding(crate::specs::Atom::atom_fresh_out, crate::specs::Atom::atom_meshed_refusal))]
+#[tactic(auto, using(refusals::proofs::Numbers::numbered), unfolding(crate::specs::Atom::atom_fresh_builder, crate::specs::Atom::atom_fresh_out, crate::specs::Atom::atom_meshed_refusal))]
 pub fn atom_fresh(
     g: AtomGrid,
     top: u64,
@@ -68,7 +68,7 @@ pub fn atom_fresh(
 }
 
 // Questions 1 to 6 and 8 to 10, of set.
-#[tactic(auto, using(refusals::proofs::Numbers::numbered), unfolding(lists::specs::Questions::ask, lists::specs::Questions::first, crate::specs::Atom::atom_room, crate::specs::Atom::atom_set_question))]
+#[tactic(auto, using(refusals::proofs::Numbers::numbered, crate::proofs::Laws::atom_asked, grid::proofs::Laws::slab_energies_le), unfolding(lists::specs::Questions::ask, lists::specs::Questions::first, crate::specs::Atom::atom_room, crate::specs::Atom::atom_set_question))]
 fn atom_set_refusal(b: AtomBuilder, l: Lengths, ri: u64, energies: &[f64]) -> Asked
     ensures { asked result ≡ first (atom_builder_question b)
         (ask (atom_room b.grid b.top l.store l.kinds l.levels l.values) 6
@@ -81,7 +81,7 @@ fn atom_set_refusal(b: AtomBuilder, l: Lengths, ri: u64, energies: &[f64]) -> As
 }
 
 // Gives a slab its energies, which are those of the current level.
-#[tactic(auto, using(refusals::proofs::Numbers::numbered), unfolding(crate::specs::Atom::atom_set_out, crate::specs::Atom::atom_set_refusal))]
+#[tactic(auto, using(refusals::proofs::Numbers::numbered, crate::proofs::Laws::atom_accepted), unfolding(crate::specs::Atom::atom_set_out, crate::specs::Atom::atom_set_refusal))]
 pub fn atom_set(
     b: AtomBuilder,
     store: &mut [f64],
@@ -186,7 +186,7 @@ fn atom_compared(level: u64, v: Verdict, counts: &[u8]) -> u64
 }
 
 // Settles a slab, if it holds energies, and then the level.
-#[tactic(auto, using(refusals::proofs::Numbers::numbered), unfolding(crate::specs::Atom::atom_settle_out))]
+#[tactic(auto, using(refusals::proofs::Numbers::numbered, crate::proofs::Accepted::atom_ready), unfolding(crate::specs::Atom::atom_settle_out))]
 pub fn atom_settle(
     b: AtomBuilder,
     store: &[f64],

@@ -134,7 +134,7 @@ fn set_builder(b: Builder, row: SlabResolution) -> Builder
 }
 
 // Gives a slab its energies, which are those of the current level.
-#[tactic(auto, using(refusals::proofs::Numbers::numbered, crate::proofs::Laws::words_long), unfolding(crate::specs::Calls::set_out, crate::specs::Refusals::set_refusal))]
+#[tactic(auto, using(refusals::proofs::Numbers::numbered, crate::proofs::Laws::words_long, crate::proofs::Laws::accepted), unfolding(crate::specs::Calls::set_out, crate::specs::Refusals::set_refusal))]
 pub fn set(
     b: Builder,
     store: &mut [f64],
@@ -156,7 +156,7 @@ pub fn set(
 }
 
 // Settles a slice: each of its slabs that holds energies, and then the level.
-#[tactic(auto, using(refusals::proofs::Numbers::numbered), unfolding(crate::specs::Calls::settle_out))]
+#[tactic(auto, using(refusals::proofs::Numbers::numbered, crate::proofs::Accepted::ready), unfolding(crate::specs::Calls::settle_out))]
 pub fn settle(
     b: Builder,
     store: &[f64],

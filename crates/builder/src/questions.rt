@@ -36,6 +36,7 @@ fn is_number(x: f64) -> bool
 }
 
 // With no way out of the loop, so that it is compiled to many entries at a time.
+#[tactic(auto, using(lists::proofs::Loops::every_turn), unfolding(lists::specs::Lists::every))]
 fn no_nan(energies: &[f64]) -> bool
     ensures { result ≡ every (λ x. not (is_nan x)) energies.now }
 {
@@ -77,7 +78,7 @@ pub(crate) fn set_question(
 }
 
 // Questions 1 to 6, 8 to 10 and 15, of set.
-#[tactic(auto, using(refusals::proofs::Numbers::numbered), unfolding(lists::specs::Questions::ask, lists::specs::Questions::first, crate::specs::BuilderLists::list_room, crate::specs::Refusals::set_question))]
+#[tactic(auto, using(refusals::proofs::Numbers::numbered, crate::proofs::Laws::asked), unfolding(lists::specs::Questions::ask, lists::specs::Questions::first, crate::specs::BuilderLists::list_room, crate::specs::Refusals::set_question))]
 pub(crate) fn set_refusal(
     b: Builder,
     store: u64,
@@ -127,7 +128,7 @@ pub(crate) fn mesh_question(n: u64, z: u64, top: u64, l: Lengths, mesh: &Mesh) -
 }
 
 // Questions 1 to 7 of a call that the meshes are lent to.
-#[tactic(auto, using(refusals::proofs::Numbers::numbered), unfolding(lists::specs::Questions::ask, lists::specs::Questions::first, crate::specs::BuilderLists::list_room))]
+#[tactic(auto, using(refusals::proofs::Numbers::numbered, crate::proofs::Laws::asked), unfolding(lists::specs::Questions::ask, lists::specs::Questions::first, crate::specs::BuilderLists::list_room))]
 pub fn meshed_refusal(b: Builder, store: u64, words: u64, mesh: &Mesh) -> Asked
     ensures { asked result ≡ first (builder_question b)
         (ask (list_room b.grid b.top store words words words

@@ -37,6 +37,7 @@ fn settle_slab(b: Builder, store: &[f64], mesh: &Mesh, words: &mut [u64], s: u64
 }
 
 // Settles the slabs of a slice, one after another, over the mesh of the current level.
+#[tactic(auto, using(crate::proofs::Turns::end))]
 pub(crate) fn settle_rows(
     b: Builder,
     ri: u64,
@@ -89,6 +90,7 @@ pub(crate) fn dropped(b: Builder, t: Tally) -> Builder
 
 // The comparisons of a slice: for each slab that reached the gradient the level's total of neighbours, once for each
 // vertex of either molecule.
+#[tactic(auto, using(mesh::proofs::Laws::count_le))]
 pub(crate) fn compared(b: Builder, t: Tally, counts: &[u8]) -> u64
     requires { (b.level ≤ 15) × (t.reached ≤ 4294967295)
         × (neighbour_total counts.now b.level ≤ vertex_count b.level * 6) }

@@ -1,24 +1,13 @@
-use Rattle.std.proofs.Common.{◌^◌, ◌<◌, sym, arith, rules}
+use Rattle.std.proofs.Common.{◌^◌, ◌<◌, sym, rules}
 use Rattle.mesh.specs.Lent.{lent}
 use Rattle.builder.specs.BuilderLists.{word_lists}
 use Rattle.builder.specs.Calls.{settle_out}
-use Rattle.builder.proofs.Accepted.{ready, count_ready, settle_is}
+use Rattle.builder.proofs.Accepted.{count_ready, settle_is}
 use Rattle.builder.proofs.settle.Goals as goal
 use Rattle.builder.proofs.settle.Goals.{Start}
 
 few : (c : Start) → c.args.b.packed < 2 ^ 64
 few c = search rules
-
-pub overflow_cast-b : goal.overflow_cast-b
-overflow_cast-b c =
-    let a = c.args in
-    let r = ready a.b (lent a.mesh.now) (word_lists a.store.now a.words.now) a.ri (sym c.in_ok-settle_refusal.ensures) in
-    omega (arith, r.top_le, r.level_le)
-
-pub settle_rows-t-requires : goal.settle_rows-t-requires
-settle_rows-t-requires c =
-    let a = c.args in
-    ready a.b (lent a.mesh.now) (word_lists a.store.now a.words.now) a.ri (sym c.in_ok-settle_refusal.ensures)
 
 pub compared-requires : goal.compared-requires
 compared-requires c =

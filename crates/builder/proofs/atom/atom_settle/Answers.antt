@@ -1,26 +1,9 @@
-use Rattle.std.proofs.Common.{sym, arith}
+use Rattle.std.proofs.Common.{sym}
 use Rattle.mesh.specs.Lent.{lent}
 use Rattle.builder.specs.BuilderLists.{lists_of}
 use Rattle.builder.specs.Atom.{atom_settle_out}
 use Rattle.builder.proofs.Accepted.{atom_ready, atom_settle_is}
 use Rattle.builder.proofs.atom.atom_settle.Goals as goal
-
-pub overflow_cast-b : goal.overflow_cast-b
-overflow_cast-b c =
-    let a = c.args in
-    let r = (atom_ready a.b (lent a.mesh.now) (lists_of a.store.now a.kinds.now a.levels.now a.values.now) a.ri (sym c.in_ok-atom_settle_refusal.ensures)).0 in
-    omega (arith, r.top_le, r.level_le)
-
-pub atom_settle_slab-v-requires : goal.atom_settle_slab-v-requires
-atom_settle_slab-v-requires c =
-    let a = c.args in
-    (atom_ready a.b (lent a.mesh.now) (lists_of a.store.now a.kinds.now a.levels.now a.values.now) a.ri (sym c.in_ok-atom_settle_refusal.ensures)).0
-
-pub atom_compared-requires : goal.atom_compared-requires
-atom_compared-requires c =
-    let a = c.args in
-    let r = (atom_ready a.b (lent a.mesh.now) (lists_of a.store.now a.kinds.now a.levels.now a.values.now) a.ri (sym c.in_ok-atom_settle_refusal.ensures)).0 in
-    omega (arith, r.top_le, r.level_le)
 
 pub returns : goal.returns
 unfolding atom_settle_out

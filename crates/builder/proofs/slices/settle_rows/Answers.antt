@@ -7,7 +7,7 @@ use Rattle.rows.specs.Words.{word_rows}
 use Rattle.settling.specs.Settling.{from_level, verdict_of}
 use Rattle.builder.specs.BuilderLists.{slabs, row_at, word_lists}
 use Rattle.builder.specs.Internal.{start}
-use Rattle.builder.proofs.Turns.{again, end, row_passes, read_row}
+use Rattle.builder.proofs.Turns.{again, row_passes, read_row}
 use Rattle.builder.proofs.slices.settle_rows.Goals as goal
 
 pub settle_slab-t-requires : goal.settle_slab-t-requires
@@ -34,9 +34,3 @@ loop-i-preserved c =
     let row = read_row b.top b.level (base + i) lists now (c.loop-i.invariant.same (base + i) (omega arith)) held in
     let e = c.settle_slab-t.ensures in
     again f b.level b.top base n lists (start b.packed) i c.loop-i.t _ now _ c.loop-i.invariant c.loop-i-test.true (rw row at e.0) (rw row at e.1)
-
-pub returns : goal.returns
-returns c =
-    let a = c.args in
-    let z : a.ri * a.b.grid.n_omega + 0 ≡ a.ri * a.b.grid.n_omega = omega arith in
-    rw z (end _ _ _ _ _ _ _ c.loop-i.i c.loop-i.t _ c.loop-i.invariant (omega arith))
