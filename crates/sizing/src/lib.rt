@@ -66,7 +66,7 @@ fn sizing_question(g: Grid, top: u64, counts: &[u8], neighbours: &[u16], terms: 
 }
 
 // Questions 1 to 7 against an atom.
-#[tactic(auto, using(refusals::proofs::Numbers::numbered), unfolding(lists::specs::Questions::first, crate::specs::Sizing::sizing_refusal))]
+#[tactic(auto, using(refusals::proofs::Numbers::numbered, builder::proofs::Laws::atom_asked), unfolding(lists::specs::Questions::first, crate::specs::Sizing::sizing_refusal))]
 fn atom_sizing_question(g: AtomGrid, top: u64, counts: &[u8], neighbours: &[u16]) -> Asked
     ensures { asked result ≡ sizing_refusal (atom_question g top top) top counts.now neighbours.now }
 {
@@ -92,6 +92,7 @@ fn no_size(e: Refusal) -> Size
 
 // A number for each of 16 levels: what `of` makes of the first ones, as many as there are levels, and 0 for those
 // above.
+#[tactic(auto, using(crate::proofs::Levels::none_yet, crate::proofs::Levels::one_more))]
 fn by_level<F: Fn(u8) -> u64>(levels: u8, of: F) -> [u64; 16]
     requires few { levels ≤ 16 }
     requires calls { (m : ℕ) → m < levels → F.pre of m }
@@ -105,6 +106,7 @@ fn by_level<F: Fn(u8) -> u64>(levels: u8, of: F) -> [u64; 16]
 }
 
 // So many for each vertex of a level, and some more.
+#[tactic(auto, using(mesh::proofs::Laws::count_le))]
 fn of_vertices(m: u8, times: u64, more: u64) -> u64
     requires { (m ≤ 15) × (times ≤ 45) × (more ≤ 1) }
     ensures { result ≡ times * vertex_count m + more }
@@ -113,6 +115,7 @@ fn of_vertices(m: u8, times: u64, more: u64) -> u64
 }
 
 // One cell offset more than there are cells.
+#[tactic(auto, using(mesh::proofs::Tables::cells_le), unfolding(mesh::specs::Levels::cell_count))]
 fn of_cells(m: u8) -> u64
     requires { m ≤ 15 }
     ensures { result ≡ cell_count (grid_size (vertex_count m)) + 1 }
@@ -122,6 +125,7 @@ fn of_cells(m: u8) -> u64
 }
 
 // The comparisons of one settle: against each neighbour, so many for each vertex of a line and some more.
+#[tactic(auto, using(mesh::proofs::Laws::count_le, crate::proofs::Levels::total_le))]
 fn of_neighbours(m: u8, times: u64, more: u64, counts: &[u8]) -> u64
     requires { (m ≤ 15) × (times ≤ 131070) × (more ≤ 1) }
     ensures { result ≡ (times * vertex_count m + more) * neighbour_total counts.now m }
@@ -152,7 +156,7 @@ fn sized(head: u64, slabs: u64, each: u64, top: u8, times: u64, more: u64, count
 
 // What a build of these settings needs, with so many terms in its tail. The counts in the settings are ignored, as
 // fresh ignores them.
-#[tactic(auto, using(refusals::proofs::Numbers::numbered), unfolding(crate::specs::Sizing::sizing_out))]
+#[tactic(auto, using(refusals::proofs::Numbers::numbered, lists::proofs::Asking::first_yes, lists::proofs::Asking::ask_yes, table::proofs::OfTail::tail_small), unfolding(crate::specs::Sizing::sizing_out))]
 pub fn sizing(g: Grid, top: u64, counts: &[u8], neighbours: &[u16], terms: u64) -> Size
     ensures { result ≡ sizing_out g top counts.now neighbours.now terms }
 {
@@ -167,7 +171,7 @@ pub fn sizing(g: Grid, top: u64, counts: &[u8], neighbours: &[u16], terms: u64) 
 }
 
 // The same of a table against an atom, whose slabs are distance bins: each compares each neighbour once.
-#[tactic(auto, using(refusals::proofs::Numbers::numbered), unfolding(crate::specs::Sizing::atom_sizing_out))]
+#[tactic(auto, using(refusals::proofs::Numbers::numbered, lists::proofs::Asking::first_yes, builder::proofs::Laws::atom_asked, grid::proofs::Laws::slab_energies_le), unfolding(crate::specs::Sizing::atom_sizing_out, crate::specs::Sizing::sizing_refusal))]
 pub fn atom_sizing(g: AtomGrid, top: u64, counts: &[u8], neighbours: &[u16]) -> Size
     ensures { result ≡ atom_sizing_out g top counts.now neighbours.now }
 {

@@ -18,12 +18,6 @@ few c = leb-true _ _ (ask_yes (lit< tt) (first_yes (sym c.in_default.ensures)).1
 pub overflow_cast-m : goal.overflow_cast-m
 overflow_cast-m c = omega (arith, (held (goal.at.overflow_cast-m c).In_default).top_le)
 
-pub overflow_cast-terms : goal.overflow_cast-terms
-overflow_cast-terms c = omega (arith, few (goal.at.overflow_cast-terms c).In_default)
-
-pub overflow_add-head : goal.overflow_add-head
-overflow_add-head c = omega (arith, c.tail_size-head.ensures, tail_small _ (few (goal.at.overflow_add-head c).In_default))
-
 pub overflow_mul-slabs : goal.overflow_mul-slabs
 overflow_mul-slabs c =
     let h = held (goal.at.overflow_mul-slabs c).In_default in
