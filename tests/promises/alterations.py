@@ -39,8 +39,8 @@ MOVES = [
      '  pub levels : a.top ≡ suc b.top', 'Same'),
     ("a law's type", 'crates/grid/proofs/Rises.antt', 'pub bins_rise : (x y rmin dr : Float)',
      'pub bins_rise : (y x rmin dr : Float)', 'bins_rise'),
-    ('two names exchanged', 'crates/rows/specs/Rows.antt', '{Scalar, Mesh, Repulsive}',
-     '{Scalar as Repulsive, Mesh, Repulsive as Scalar}', 'kind_of'),
+    ('two names exchanged', 'crates/icotable/specs/Sizes.antt', '{vertex_count, grid_size, cell_count}',
+     '{vertex_count, cell_count as grid_size, grid_size as cell_count}', 'held_cells'),
 ]
 # what does not move
 STAYS = [
@@ -70,8 +70,9 @@ FAILS = [
      r'crates/grid/specs/Settings\.antt:\d+: no `aks` in crates/lists/specs/Questions\.antt'),
     ('a field', 'crates/grid/specs/Settings.antt', 'own_count g.n_r g.dr g.rmin) 4',
      'own_count g.n_r g.drr g.rmin) 4', r'crates/grid/specs/Settings\.antt:\d+: `\.drr`'),
-    ('a literal', 'crates/builder/specs/Calls.antt', 'built_values kept (Ok b) = record { number = 0; builder = b }',
-     'built_values kept (Ok b) = record { number = 0 }', r'crates/builder/specs/Calls\.antt:\d+: a record with the '),
+    ('a literal', 'crates/builder/specs/Calls.antt', 'level = top; packed = 0 }',
+     'level = top }',
+     r'crates/builder/specs/Calls\.antt:\d+: a record with the '),
     ('a type of Rattle', 'crates/builder/src/lib.rt', '    pub packed: u64,', '    pub packed: Packed,',
      r'crates/builder/src/lib\.rt:\d+: `Packed`'),
     ('a form that is not read', 'crates/grid/specs/Settings.antt', 'slabs_fit n m top = leb', 'slabs_fit n m top = do leb',
