@@ -2,7 +2,7 @@
 use mathlib.Core.Path.{◌≡◌, refl, sym, ap, ◌∙◌}
 use mathlib.Core.Bool.{Bool, true, false, cond, ◌&&◌, ◌||◌}
 use mathlib.Core.List.{List}
-use Rattle.std.proofs.Common.{Option, Some, None}
+use Rattle.std.proofs.Common.{Some, None}
 use Prim.Native.Nat.{ℕ, ◌+◌, ◌*◌, ◌≤◌, ◌<◌}
 use native.Mathlib.Omega.{arith}
 use lib.ListN.{length, take, drop, get_or}
@@ -21,7 +21,7 @@ use Rattle.reading.specs.Resolve.{Reading, Refused, plain, Way, way_valid, Resol
 use Rattle.reading.specs.Reading.{picks_by, entry_by, slab_by}
 use Rattle.reading.specs.Atom.{AtomQuery, atom_query_valid, as_grid, as_table, atom_resolve, atom_combined, atom_search_in, atom_reading_by}
 use Rattle.reading.specs.Internal.{items_inside, rows_table, atom_row_place}
-use Rattle.reading.proofs.Inside.{row_fits, no_row, row_at_lem, scalar-entry, entry-table, kept}
+use Rattle.reading.proofs.Inside.{not_some, same_place, row_fits, no_row, row_at_lem, scalar-entry, entry-table, kept}
 
 -- ---- the row, by its kind
 
@@ -38,18 +38,6 @@ module _ (file : List ℕ) (t : Table) (f : Bool → Combination) (find : ℕ �
 
 -- ---- the row's place
 
-abbrev value : Option ℕ → ℕ
-value (Some x) = x
-value None = 0
-
--- a tag
-abbrev tag : Option ℕ → ℕ
-tag (Some x) = 1
-tag None = 0
-
-not_some : (p : ℕ) → Some p ≡ None → ⊥
-not_some p e = let z : ◌≡◌ {A = ℕ} 1 0 = ap tag e in omega (arith, z)
-
 module _ (file : List ℕ) (t : AtomTable) (r : Float) where
   abbrev bin : ℕ
   bin = distance_bin r t.grid.rmin t.grid.dr t.grid.n_r
@@ -64,10 +52,7 @@ module _ (file : List ℕ) (t : AtomTable) (r : Float) where
     pub at : p ≡ t.rows_start + bin * 10
 
   placed_by : (p : ℕ) (x y : Bool) → ltb 0 t.grid.n_r ≡ x → ltb bin held ≡ y → Some p ≡ cond (x && y) (Some (t.rows_start + bin * 10)) None → Placed p
-  placed_by p true true f g e = record { some = ltb-true 0 t.grid.n_r f; row = ltb-true bin held g; at = inner p (t.rows_start + bin * 10) e }
-    where
-      inner : (a b : ℕ) → Some a ≡ Some b → a ≡ b
-      inner a b h = ap (λ (x : Option ℕ). value x) h
+  placed_by p true true f g e = record { some = ltb-true 0 t.grid.n_r f; row = ltb-true bin held g; at = same_place p (t.rows_start + bin * 10) e }
   placed_by p true false f g e = absurd (not_some p e)
   placed_by p false y f g e = absurd (not_some p e)
 

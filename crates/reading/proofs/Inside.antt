@@ -3,6 +3,7 @@ use mathlib.Core.Path.{◌≡◌, refl, sym, ap, ◌∙◌}
 use mathlib.Core.Bool.{Bool, true, false, not, cond, ◌&&◌, ◌||◌, and-eq-true_iff}
 use mathlib.Core.List.{List}
 use mathlib.Core.Logic.{⊎_elim}
+use Rattle.std.proofs.Common.{Option, Some, None}
 use Prim.Native.Nat.{ℕ, ◌+◌, ◌-◌, ◌*◌, ◌/◌, ◌≤◌, ◌<◌, min}
 use native.Mathlib.Nat.{le-div_iff_mul-le, mul-le-mul}
 use native.Mathlib.Omega.{arith}
@@ -10,7 +11,7 @@ use lib.ListN.{length, take, drop, get_or}
 use lib.Dec.{leb, ltb, eqb}
 use lib.Ieee.{Float, inf, binary32, binary64, of_bits, lt}
 use lib.Ieee.Scale.{finite}
-use borrow.Author.Tests.{lt-ltb, le-ltb, le-leb, lt-leb, leb-true, eqb-true, eqb-false, ne_eqb}
+use borrow.Author.Tests.{lt-ltb, le-ltb, le-leb, lt-leb, leb-true, ltb-true, ltb-false, eqb-true, eqb-false, ne_eqb}
 use Rattle.ieee.proofs.Pack.{le_or_lt}
 use Rattle.lists.proofs.Counting.{or_none}
 use Rattle.rows.specs.Rows.{resolution_of}
@@ -24,9 +25,9 @@ use Rattle.table.proofs.Items.{entry_at as row_at, entry_at_lem}
 use Rattle.grid.specs.Settings.{above}
 use Rattle.grid.specs.declared.Grid.{Grid}
 use Rattle.table.specs.declared.Table.{Table}
-use Rattle.reading.specs.Resolve.{Reading, Refused, reading_values, plain, Query, Way, way_valid, Resolved, unresolved, beyond, slab_at, query_valid, outside, resolve, Picks, unpicked, picked, Combination, widened, combined, boltzmann}
+use Rattle.reading.specs.Resolve.{Reading, Refused, reading_values, plain, Query, Way, way_valid, unresolved, beyond, slab_at, query_valid, outside, resolve, Picks, unpicked, picked, Combination, widened, combined, boltzmann}
 use Rattle.reading.specs.Reading.{row_inside, energy_inside, energy_at, entry_at, picks_by, entry_by, slab_by, read_entry, read_slab, reading_by, search_in, read_picks}
-use Rattle.reading.specs.Internal.{items_inside, slab_of, rows_table, way_of, read_resolution}
+use Rattle.reading.specs.Internal.{items_inside, slab_of, rows_table, row_place, way_of, read_resolution}
 
 -- ---- the items of a section
 
@@ -106,29 +107,14 @@ module _ (file : List ℕ) (t : Table) (f : Bool → Combination) (find : ℕ �
   entry-table e = rw (picks_table (eqb e.kind 3) e.offset (find e.level (eqb e.kind 3)))
 
 module _ (file : List ℕ) (t : Table) (vs : List Float) (l : Locator) (way : Way) (q : Query) where
-  pub answered : (x : Resolved) (z : Reading) → x ≡ resolve (way_valid way) t.grid q → z ≡ read_slab file t vs l way q x → reading_values z ≡ reading_by file t vs l way q
+  -- an answer of what is resolved
+  pub answered : (z : Reading) → z ≡ read_slab file t vs l way q (resolve (way_valid way) t.grid q) → reading_values z ≡ reading_by file t vs l way q
   unfolding reading_by
-  answered x z e a = ap reading_values (a ∙ ap (λ (x : Resolved). read_slab file t vs l way q x) e)
-
-  pub row_none : (s r held : ℕ) → held ≡ items_inside t.rows_start 10 t.rows (length file) → r ≡ min s held → held ≤ r → Refused 19 ≡ read_slab file t vs l way q (slab_at s)
-  row_none s r held h e k = no_row file t (read_entry file t vs l way q) s r held h e k
+  answered z a = ap reading_values a
 
   scalar_read : (e : Entry) → e.kind ≡ 0 → plain (widened e.scalar) ≡ read_entry file t vs l way q e
   unfolding read_entry
   scalar_read e h = scalar-entry file t (combined way) (search_in vs l q) e h
-
-  -- the answers of a row that is inside: a Scalar row's at once, and by the three numbers of the table and the two directions
-  module _ (s r held : ℕ) (h : held ≡ items_inside t.rows_start 10 t.rows (length file)) (e : r ≡ min s held) (k : r < held) where
-    pub scalar_row : get_or file (t.rows_start + r * 10) 0 ≡ 0 → plain (widened (number_at 4 file (t.rows_start + r * 10 + 6))) ≡ read_slab file t vs l way q (slab_at s)
-    scalar_row z =
-        scalar_read (row_at file (t.rows_start + r * 10)) z
-        ∙ rw (← entry_at_lem file (t.rows_start + r * 10)) (row_at_lem file t (read_entry file t vs l way q) s r held h e k)
-
-    pub entry_row : read_entry file (rows_table t.levels t.energies_start t.energies) vs l way q (entry_of (take 10 (drop (t.rows_start + r * 10) file))) ≡ read_slab file t vs l way q (slab_at s)
-    unfolding read_entry
-    entry_row =
-        entry-table file t (combined way) (search_in vs l q) (entry_of (take 10 (drop (t.rows_start + r * 10) file)))
-        ∙ row_at_lem file t (read_entry file t vs l way q) s r held h e k
 
   -- the answer by the row as the enum
   pub entry_by_lem : (e : Entry) → read_resolution file t vs l way q e.kind e.offset (resolution_of e.kind e.level e.scalar) ≡ read_entry file t vs l way q e
@@ -155,7 +141,7 @@ bins_some a b h = let k = or_none (eqb a 0) (eqb b 0) h in (some a (eqb-false a 
     some : (n : ℕ) → (n ≡ 0 → ⊥) → 1 ≤ n
     some n h = ⊎_elim (λ l. absurd (h (omega arith))) (λ l. l) (le_or_lt n 0)
 
-bins_none : (a b : ℕ) → (eqb a 0 || eqb b 0) ≡ true → (ltb 0 a && ltb 0 b) ≡ false
+pub bins_none : (a b : ℕ) → (eqb a 0 || eqb b 0) ≡ true → (ltb 0 a && ltb 0 b) ≡ false
 bins_none a b h =
     ⊎_elim
     (λ l. rw (le-ltb 0 a l))
@@ -184,13 +170,78 @@ module _ (valid : Bool) (g : Grid) (q : Query) where
     unfolding resolve
     beyond_out k = rw (h, v, k)
 
-    pub no_bins : outside g q.r ≡ false → (eqb g.n_r 0 || eqb g.n_omega 0) ≡ true → unresolved 19 ≡ resolve valid g q
-    unfolding resolve
-    no_bins k e = rw (h, v, k, bins_none g.n_r g.n_omega e)
+-- ---- the row's place
 
-    pub some_bins : outside g q.r ≡ false → (eqb g.n_r 0 || eqb g.n_omega 0) ≡ false → slab_at (slab_of g q.r q.omega) ≡ resolve valid g q
+abbrev place_in : Option ℕ → ℕ
+place_in (Some p) = p
+place_in None = 0
+
+abbrev is_some : Option ℕ → ℕ
+is_some (Some p) = 1
+is_some None = 0
+
+pub not_some : (p : ℕ) → Some p ≡ None → ⊥
+not_some p e = let z : ◌≡◌ {A = ℕ} 1 0 = ap is_some e in omega (arith, z)
+
+pub same_place : (p r : ℕ) → Some p ≡ Some r → p ≡ r
+same_place p r e = ap place_in e
+
+module _ (file : List ℕ) (t : Table) (q : Query) where
+  abbrev slab : ℕ
+  slab = slab_of t.grid q.r q.omega
+
+  abbrev held : ℕ
+  held = items_inside t.rows_start 10 t.rows (length file)
+
+  abbrev bins : Bool
+  bins = ltb 0 t.grid.n_r && ltb 0 t.grid.n_omega
+
+  -- a row that is placed
+  pub record Placed (p : ℕ) : Type 0 where
+    pub some : bins ≡ true
+    pub row : slab < held
+    pub at : p ≡ t.rows_start + slab * 10
+
+  placed_by : (p : ℕ) (x y : Bool) → bins ≡ x → ltb slab held ≡ y → Some p ≡ cond (x && y) (Some (t.rows_start + slab * 10)) None → Placed p
+  placed_by p true true f g e = record { some = f; row = ltb-true slab held g; at = same_place p (t.rows_start + slab * 10) e }
+  placed_by p true false f g e = absurd (not_some p e)
+  placed_by p false y f g e = absurd (not_some p e)
+
+  pub placed : (p : ℕ) → Some p ≡ row_place t (length file) q → Placed p
+  placed p e = placed_by p _ _ refl refl e
+
+  pub place_fits : (p : ℕ) → Some p ≡ row_place t (length file) q → p + 10 ≤ length file
+  place_fits p e = let k = placed p e in omega (arith, k.at, row_fits file t slab held refl k.row)
+
+  module _ (vs : List Float) (l : Locator) (way : Way) (valid : Bool) (h : query_valid q ≡ true) (v : valid ≡ true) (o : outside t.grid q.r ≡ false) where
+    abbrev Reads : Reading → Type 0
+    Reads z = z ≡ read_slab file t vs l way q (resolve valid t.grid q)
+
+    -- no row: there are no bins, or it is not held
+    none_by : (x y : Bool) → bins ≡ x → ltb slab held ≡ y → None ≡ cond (x && y) (Some (t.rows_start + slab * 10)) None → Reads (Refused 19)
     unfolding resolve
-    some_bins k e = let b = bins_some g.n_r g.n_omega e in rw (h, v, k, lt-ltb 0 g.n_r b.0, lt-ltb 0 g.n_omega b.1)
+    none_by true true f g e = absurd (not_some _ (sym e))
+    none_by true false f g e =
+        rw (h, v, o, f) (no_row file t (read_entry file t vs l way q) slab held held refl (omega (arith, ltb-false slab held g)) (omega arith))
+    none_by false y f g e = rw (h, v, o, f) refl
+
+    pub row_none : None ≡ row_place t (length file) q → Reads (Refused 19)
+    row_none e = none_by _ _ refl refl e
+
+    module _ (p : ℕ) (e : Some p ≡ row_place t (length file) q) where
+      row_read : read_entry file t vs l way q (entry_of (take 10 (drop p file))) ≡ read_slab file t vs l way q (resolve valid t.grid q)
+      unfolding resolve
+      row_read =
+          let k = placed p e in
+          rw (h, v, o, k.some, k.at) (row_at_lem file t (read_entry file t vs l way q) slab slab held refl (omega (arith, k.row)) k.row)
+
+      -- the answers of a row that is inside: a Scalar row's at once, and by what a row's answer asks of a table
+      pub scalar_row : get_or file p 0 ≡ 0 → Reads (plain (widened (number_at 4 file (p + 6))))
+      scalar_row z = scalar_read file t vs l way q (row_at file p) z ∙ rw (← entry_at_lem file p) row_read
+
+      pub entry_row : (z : Reading) → z ≡ read_entry file (rows_table t.levels t.energies_start t.energies) vs l way q (entry_of (take 10 (drop p file))) → Reads z
+      unfolding read_entry
+      entry_row z a = a ∙ entry-table file t (combined way) (search_in vs l q) (entry_of (take 10 (drop p file))) ∙ row_read
 
 -- ---- the row as the enum
 

@@ -68,7 +68,13 @@ atom_row_table t = record { levels = t.levels; energies = record { start = t.ene
 abbrev pub table_for : RowTable → Table
 table_for s = rows_table s.levels s.energies.start s.energies.count
 
--- where the row of a distance starts in a file of n bytes, against an atom, if it is inside
+-- where the row of a distance and an angle starts in a file of n bytes, if there are bins and it is inside
+abbrev pub row_place : Table → ℕ → Query → Option ℕ
+row_place t n q =
+    let s = slab_of t.grid q.r q.omega in
+    cond ((ltb 0 t.grid.n_r && ltb 0 t.grid.n_omega) && ltb s (items_inside t.rows_start 10 t.rows n)) (Some (t.rows_start + s * 10)) None
+
+-- the same against an atom
 abbrev pub atom_row_place : AtomTable → ℕ → Float → Option ℕ
 atom_row_place t n r =
     let g = t.grid in

@@ -14,14 +14,13 @@ ghost use Rattle.reading.specs.Internal.{table_for, weighed_by, beta_held, read_
 use crate::combine::plain;
 use crate::energies::{stage_faces, stage_pair};
 use crate::gather::part_from;
-use crate::places::{items_inside, slab_below};
-use crate::resolve::{outside, query_valid};
+use crate::resolve::{outside, query_valid, row_place};
 use crate::stages::{read_row, row_table};
 use crate::{Query, RowTable, Staged};
 use refusals::Refusal;
 use rows::SlabResolution;
 use search::Locator;
-use table::{Section, Table};
+use table::Table;
 
 // Over one level's parts of the lists.
 fn stage_nearest_in(
@@ -195,21 +194,9 @@ pub(crate) fn stage(
     if outside(t.grid, q.r) {
         return Ok(Staged::Known(plain(0.0)));
     }
-    if (t.grid.n_r == 0) | (t.grid.n_omega == 0) {
+    let Some(at) = row_place(t, file.len() as u64, q) else {
         return Err(Refusal::NotLent);
-    }
-    let ri = grid::distance_bin(q.r, t.grid.rmin, t.grid.dr, t.grid.n_r);
-    let oi = grid::dihedral_bin(q.omega, t.grid.omega_step, t.grid.n_omega);
-    let rows = Section {
-        start: t.rows_start,
-        count: t.rows,
     };
-    let held = items_inside(rows, 10, file.len() as u64);
-    let s = slab_below(ri, t.grid.n_omega, oi, held);
-    if held <= s {
-        return Err(Refusal::NotLent);
-    }
-    let at = t.rows_start + s * 10;
     if 0.0 < beta {
         let energy = read_row(row_table(t), file, vertices, locator, q, beta, at)?;
         return Ok(Staged::Known(energy));

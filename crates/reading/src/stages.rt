@@ -8,8 +8,7 @@ ghost use Rattle.reading.specs.Internal.{table_for, row_table, way_of, read_reso
 
 use crate::combine::plain;
 use crate::gather::{read_interpolated, read_nearest};
-use crate::places::{items_inside, slab_below};
-use crate::resolve::{outside, query_valid};
+use crate::resolve::{outside, query_valid, row_place};
 use crate::{Energy, Query, RowTable};
 use refusals::Refusal;
 use rows::SlabResolution;
@@ -109,21 +108,9 @@ pub fn lookup(
     if outside(t.grid, q.r) {
         return Ok(plain(0.0));
     }
-    if (t.grid.n_r == 0) | (t.grid.n_omega == 0) {
+    let Some(at) = row_place(t, file.len() as u64, q) else {
         return Err(Refusal::NotLent);
-    }
-    let ri = grid::distance_bin(q.r, t.grid.rmin, t.grid.dr, t.grid.n_r);
-    let oi = grid::dihedral_bin(q.omega, t.grid.omega_step, t.grid.n_omega);
-    let rows = Section {
-        start: t.rows_start,
-        count: t.rows,
     };
-    let held = items_inside(rows, 10, file.len() as u64);
-    let s = slab_below(ri, t.grid.n_omega, oi, held);
-    if held <= s {
-        return Err(Refusal::NotLent);
-    }
-    let at = t.rows_start + s * 10;
     if file[at as usize] == 0 {
         return Ok(plain(bits::widened(table::u32_in(file, at + 6))));
     }
@@ -162,21 +149,9 @@ pub fn lookup_boltzmann(
     if outside(t.grid, q.r) {
         return Ok(plain(0.0));
     }
-    if (t.grid.n_r == 0) | (t.grid.n_omega == 0) {
+    let Some(at) = row_place(t, file.len() as u64, q) else {
         return Err(Refusal::NotLent);
-    }
-    let ri = grid::distance_bin(q.r, t.grid.rmin, t.grid.dr, t.grid.n_r);
-    let oi = grid::dihedral_bin(q.omega, t.grid.omega_step, t.grid.n_omega);
-    let rows = Section {
-        start: t.rows_start,
-        count: t.rows,
     };
-    let held = items_inside(rows, 10, file.len() as u64);
-    let s = slab_below(ri, t.grid.n_omega, oi, held);
-    if held <= s {
-        return Err(Refusal::NotLent);
-    }
-    let at = t.rows_start + s * 10;
     if file[at as usize] == 0 {
         return Ok(plain(bits::widened(table::u32_in(file, at + 6))));
     }

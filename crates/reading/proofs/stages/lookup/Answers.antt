@@ -1,17 +1,23 @@
-use mathlib.Core.Path.{◌≡◌, refl, sym, ◌∙◌}
+use mathlib.Core.Path.{◌≡◌, refl, sym, ap, ◌∙◌}
 use mathlib.Core.Bool.{true, false}
-use Prim.Native.Nat.{◌+◌, ◌*◌, ◌≤◌, min}
+use Rattle.std.proofs.Common.{Some}
+use Prim.Native.Nat.{◌+◌, ◌≤◌}
 use native.Mathlib.Omega.{arith}
 use lib.ListN.{length}
 use lib.Ieee.{of_bits, lt}
 use Rattle.lists.proofs.Counting.{yes, no}
 use Rattle.search.specs.Lent.{lent_locator}
-use Rattle.reading.specs.Resolve.{plain, linear, way_valid, unresolved, beyond, slab_at, query_valid, outside, resolve}
-use Rattle.reading.specs.Internal.{slab_of}
-use Rattle.reading.proofs.Inside.{refused_18, beyond_out, no_bins, some_bins, bins_some, row_none, row_fits, scalar_row, entry_row, answered}
+use Rattle.reading.specs.Resolve.{Reading, Resolved, linear, way_valid, query_valid, outside}
+use Rattle.reading.specs.Reading.{read_slab}
+use Rattle.reading.specs.Internal.{row_place}
+use Rattle.reading.proofs.Inside.{refused_18, beyond_out, row_none, place_fits, scalar_row, entry_row, answered}
 use Rattle.reading.proofs.Parts.{whole}
 use Rattle.reading.proofs.stages.lookup.Goals as goal
-use Rattle.reading.proofs.stages.lookup.Goals.{Else-not-query_valid, Else-outside, Else-t, After-slab_below-s, Else-held-s}
+use Rattle.reading.proofs.stages.lookup.Goals.{Start, Else-not-query_valid, Else-outside, In-Some}
+
+-- the answer of what is resolved
+abbrev slabs : Start → Resolved → Reading
+slabs s x = read_slab s.args.file.now s.args.t s.args.vertices.now (lent_locator s.args.locator.now) linear s.args.q.now x
 
 asked : (c : Else-not-query_valid) → query_valid c.args.q.now ≡ true
 asked c = yes c.query_valid.ensures c.if-not-query_valid.false
@@ -19,75 +25,53 @@ asked c = yes c.query_valid.ensures c.if-not-query_valid.false
 inner : (c : Else-outside) → (outside c.args.t.grid c.args.q.now.r ≡ false)
 inner c = sym c.outside.ensures ∙ c.if-outside.false
 
--- the slab that is resolved
-resolved : (c : Else-t) → slab_at (slab_of c.args.t.grid c.args.q.now.r c.args.q.now.omega) ≡ resolve true c.args.t.grid c.args.q.now
-resolved c =
-    some_bins true c.args.t.grid c.args.q.now (asked (goal.at.Else-t c).Else-not-query_valid) refl (inner (goal.at.Else-t c).Else-outside) c.if-t.false
+place : (c : In-Some) → Some c.in-Some.at ≡ row_place c.args.t (length c.args.file.now) c.args.q.now
+place c = c.in-Some.ensures
 
--- its number, or the number of rows held
-slab : (c : After-slab_below-s) → (c.slab_below-s.result ≡ min (slab_of c.args.t.grid c.args.q.now.r c.args.q.now.omega) c.items_inside-held.result)
-slab c = c.slab_below-s.ensures ∙ rw (c.dihedral_bin-oi.ensures, c.distance_bin-ri.ensures)
-
-fits : (c : Else-held-s) → (c.args.t.rows_start + c.slab_below-s.result * 10 + 10 ≤ length c.args.file.now)
-fits c =
-    row_fits c.args.file.now c.args.t c.slab_below-s.result c.items_inside-held.result c.items_inside-held.ensures (omega (arith, c.if-held-s.false))
+fits : (c : In-Some) → c.in-Some.at + 10 ≤ length c.args.file.now
+fits c = place_fits c.args.file.now c.args.t c.args.q.now c.in-Some.at (place c)
 
 pub returns-then-not-query_valid : goal.returns-then-not-query_valid
 unfolding way_valid
 returns-then-not-query_valid c =
-    answered c.args.file.now c.args.t c.args.vertices.now (lent_locator c.args.locator.now) linear c.args.q.now (unresolved 18) _ (refused_18 true c.args.t.grid c.args.q.now (no c.query_valid.ensures c.if-not-query_valid.true)) refl
+    answered c.args.file.now c.args.t c.args.vertices.now (lent_locator c.args.locator.now) linear c.args.q.now _
+    (ap (slabs (goal.at.returns-then-not-query_valid c).Start) (refused_18 true c.args.t.grid c.args.q.now (no c.query_valid.ensures c.if-not-query_valid.true)))
 
 pub returns-then-outside : goal.returns-then-outside
 unfolding way_valid
 returns-then-outside c =
     rw c.plain.ensures
-    (answered c.args.file.now c.args.t c.args.vertices.now (lent_locator c.args.locator.now) linear c.args.q.now beyond _ (beyond_out true c.args.t.grid c.args.q.now (asked (goal.at.returns-then-outside c).Else-not-query_valid) refl (sym c.outside.ensures ∙ c.if-outside.true)) refl)
+    (answered c.args.file.now c.args.t c.args.vertices.now (lent_locator c.args.locator.now) linear c.args.q.now _
+    (ap (slabs (goal.at.returns-then-outside c).Start) (beyond_out true c.args.t.grid c.args.q.now (asked (goal.at.returns-then-outside c).Else-not-query_valid) refl (sym c.outside.ensures ∙ c.if-outside.true))))
 
-pub returns-then-t : goal.returns-then-t
+pub returns-in_default : goal.returns-in_default
 unfolding way_valid
-returns-then-t c =
-    answered c.args.file.now c.args.t c.args.vertices.now (lent_locator c.args.locator.now) linear c.args.q.now (unresolved 19) _ (no_bins true c.args.t.grid c.args.q.now (asked (goal.at.returns-then-t c).Else-not-query_valid) refl (inner (goal.at.returns-then-t c).Else-outside) c.if-t.true) refl
-
-pub slab_below-s-requires : goal.slab_below-s-requires
-slab_below-s-requires c =
-    let g = c.args.t.grid in
-    (bins_some g.n_r g.n_omega c.if-t.false).1
-
-pub returns-then-held-s : goal.returns-then-held-s
-unfolding way_valid
-returns-then-held-s c =
-    answered c.args.file.now c.args.t c.args.vertices.now (lent_locator c.args.locator.now) linear c.args.q.now _ _ (resolved (goal.at.returns-then-held-s c).Else-t)
-    (row_none c.args.file.now c.args.t c.args.vertices.now (lent_locator c.args.locator.now) linear c.args.q.now (slab_of c.args.t.grid c.args.q.now.r c.args.q.now.omega) c.slab_below-s.result c.items_inside-held.result c.items_inside-held.ensures (slab (goal.at.returns-then-held-s c).After-slab_below-s) c.if-held-s.true)
-
-pub overflow_mul-at : goal.overflow_mul-at
-overflow_mul-at c = omega (arith, fits (goal.at.overflow_mul-at c).Else-held-s, c.well_formed.1.0)
-
-pub overflow_add-at : goal.overflow_add-at
-overflow_add-at c = omega (arith, fits (goal.at.overflow_add-at c).Else-held-s, c.well_formed.1.0)
+returns-in_default c =
+    answered c.args.file.now c.args.t c.args.vertices.now (lent_locator c.args.locator.now) linear c.args.q.now _
+    (row_none c.args.file.now c.args.t c.args.q.now c.args.vertices.now (lent_locator c.args.locator.now) linear true (asked (goal.at.returns-in_default c).Else-not-query_valid) refl (inner (goal.at.returns-in_default c).Else-outside) c.in_default.ensures)
 
 pub bounds-file-at : goal.bounds-file-at
-bounds-file-at c = omega (arith, fits (goal.at.bounds-file-at c).Else-held-s)
+bounds-file-at c = omega (arith, fits (goal.at.bounds-file-at c).In-Some)
 
-pub overflow_add-at-then-file-at-eq0 : goal.overflow_add-at-then-file-at-eq0
-overflow_add-at-then-file-at-eq0 c = omega (arith, fits (goal.at.overflow_add-at-then-file-at-eq0 c).Else-held-s, c.well_formed.1.0)
+pub overflow_add-at : goal.overflow_add-at
+overflow_add-at c = omega (arith, fits (goal.at.overflow_add-at c).In-Some, c.well_formed.1.0)
 
 pub u32_in-requires : goal.u32_in-requires
-u32_in-requires c = omega (arith, fits (goal.at.u32_in-requires c).Else-held-s)
+u32_in-requires c = omega (arith, fits (goal.at.u32_in-requires c).In-Some)
 
 pub returns-then-file-at-eq0 : goal.returns-then-file-at-eq0
 unfolding way_valid
 returns-then-file-at-eq0 c =
-    rw c.plain-then-file-at-eq0.ensures
-    (answered c.args.file.now c.args.t c.args.vertices.now (lent_locator c.args.locator.now) linear c.args.q.now (slab_at (slab_of c.args.t.grid c.args.q.now.r c.args.q.now.omega)) (plain c.widened.result) (resolved (goal.at.returns-then-file-at-eq0 c).Else-t)
-    (rw (c.widened.ensures, c.u32_in.ensures)
-    (scalar_row c.args.file.now c.args.t c.args.vertices.now (lent_locator c.args.locator.now) linear c.args.q.now (slab_of c.args.t.grid c.args.q.now.r c.args.q.now.omega) c.slab_below-s.result c.items_inside-held.result c.items_inside-held.ensures (slab (goal.at.returns-then-file-at-eq0 c).After-slab_below-s) (omega (arith, c.if-held-s.false)) c.if-file-at-eq0.true)))
+    rw (c.plain-then-file-at-eq0.ensures, c.widened.ensures, c.u32_in.ensures)
+    (answered c.args.file.now c.args.t c.args.vertices.now (lent_locator c.args.locator.now) linear c.args.q.now _
+    (scalar_row c.args.file.now c.args.t c.args.q.now c.args.vertices.now (lent_locator c.args.locator.now) linear true (asked (goal.at.returns-then-file-at-eq0 c).Else-not-query_valid) refl (inner (goal.at.returns-then-file-at-eq0 c).Else-outside) c.in-Some.at (place (goal.at.returns-then-file-at-eq0 c).In-Some) c.if-file-at-eq0.true))
 
 pub read_row-requires : goal.read_row-requires
-read_row-requires c =
-    rw (whole c.args.file.now 0) (fits (goal.at.read_row-requires c).Else-held-s)
+read_row-requires c = rw (whole c.args.file.now 0) (fits (goal.at.read_row-requires c).In-Some)
 
 pub returns : goal.returns
 unfolding way_valid of_bits lt
 returns c =
-    answered c.args.file.now c.args.t c.args.vertices.now (lent_locator c.args.locator.now) linear c.args.q.now _ _ (resolved (goal.at.returns c).Else-t)
-    ((rw (whole c.args.file.now 0, whole c.args.vertices.now 0, c.row_table.ensures) at c.read_row.ensures) ∙ entry_row c.args.file.now c.args.t c.args.vertices.now (lent_locator c.args.locator.now) linear c.args.q.now (slab_of c.args.t.grid c.args.q.now.r c.args.q.now.omega) c.slab_below-s.result c.items_inside-held.result c.items_inside-held.ensures (slab (goal.at.returns c).After-slab_below-s) (omega (arith, c.if-held-s.false)))
+    answered c.args.file.now c.args.t c.args.vertices.now (lent_locator c.args.locator.now) linear c.args.q.now _
+    (entry_row c.args.file.now c.args.t c.args.q.now c.args.vertices.now (lent_locator c.args.locator.now) linear true (asked (goal.at.returns c).Else-not-query_valid) refl (inner (goal.at.returns c).Else-outside) c.in-Some.at (place (goal.at.returns c).In-Some) _
+    (rw (whole c.args.file.now 0, whole c.args.vertices.now 0, c.row_table.ensures) at c.read_row.ensures))
