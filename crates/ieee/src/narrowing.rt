@@ -1,5 +1,6 @@
 // An f64 as an f32, to the nearest one, a tie to the even one.
-ghost use Rattle.std.specs.Prelude.{◌≡◌, ◌≤◌, min, true, map, length, take};
+ghost use Rattle.std.specs.Prelude.{◌≡◌, ℕ, ◌≤◌, ◌<◌, true, map, length, take, get_or, Float};
+ghost use Rattle.std.specs.Float.{nan};
 ghost use Rattle.lists.specs.Lists.{every, put};
 ghost use Rattle.ieee.specs.Narrow.{narrowed};
 ghost use Rattle.ieee.specs.Internal.{plain};
@@ -52,21 +53,15 @@ fn narrow_plain(x: f64) -> f32
     f64::from_bits(kept * 0x2000_0000) as f32
 }
 
-fn narrow_all_plain(from: &[f64], to: &mut [f32])
-    requires { (length from.now ≤ length to.old) × (every plain from.now ≡ true) }
+// Each entry by one of the two functions.
+fn narrow_by<F: Fn(f64) -> f32>(from: &[f64], to: &mut [f32], by: F)
+    requires room { length from.now ≤ length to.old }
+    requires may { (k : ℕ) → k < length from.now → F.pre by (get_or from.now k nan) }
+    requires narrows { (x : Float) (y : Float) → F.post by x y → y ≡ narrowed x }
     ensures { to.new ≡ put to.old 0 (map narrowed from.now) }
 {
     for (i, x) in from.iter().enumerate() {
-        to[i] = narrow_plain(*x);
-    }
-}
-
-fn narrow_each(from: &[f64], to: &mut [f32])
-    requires { length from.now ≤ length to.old }
-    ensures { to.new ≡ put to.old 0 (map narrowed from.now) }
-{
-    for (i, x) in from.iter().enumerate() {
-        to[i] = narrow(*x);
+        to[i] = by(*x);
     }
 }
 
@@ -75,9 +70,9 @@ fn narrow_all(from: &[f64], to: &mut [f32])
     ensures { to.new ≡ put to.old 0 (map narrowed from.now) }
 {
     if all_plain(from) {
-        narrow_all_plain(from, to);
+        narrow_by(from, to, narrow_plain);
     } else {
-        narrow_each(from, to);
+        narrow_by(from, to, narrow);
     }
 }
 
