@@ -115,20 +115,30 @@ module _ (g : Float → ℕ) (store : List Float) (p k : ℕ) where
   pub taken_bytes : p + k ≤ length store → length (packed (bytes_of 4) (map g (take k (drop p store)))) ≡ k * 4
   taken_bytes h = packed-length (bytes_of 4) 4 (bytes_length 4) (map g (take k (drop p store))) ∙ ap (λ (n : ℕ). n * 4) (taken-length h)
 
--- numbers that a loop writes, each made to bits by g
-module _ (g : Float → ℕ) where
-  pub numbers_bytes : (xs : List Float) → length (packed (bytes_of 4) (map g xs)) ≡ length xs * 4
-  numbers_bytes xs = packed-length (bytes_of 4) 4 (bytes_length 4) (map g xs) ∙ rw (length-map xs g)
+-- items that a loop writes, each made to w bytes
+module _ {A : Type 0} (enc : A → List ℕ) where
+  pub items_turn : (xs : List A) (i : ℕ) (d : A) → i < length xs → packed enc (drop i xs) ≡ enc (get_or xs i d) ++ packed enc (drop (i + 1) xs)
+  unfolding packed
+  items_turn xs i d h = rw (drop-cons xs i d h, add-one)
 
-  pub numbers_split : (xs ys : List Float) → packed (bytes_of 4) (map g (xs ++ ys)) ≡ packed (bytes_of 4) (map g xs) ++ packed (bytes_of 4) (map g ys)
-  numbers_split xs ys = ap (packed (bytes_of 4)) (map-append g xs ys) ∙ packed-append (bytes_of 4) (map g xs) (map g ys)
+  pub items_end : (xs : List A) (i : ℕ) → length xs ≤ i → packed enc (drop i xs) ≡ []
+  unfolding packed
+  items_end xs i h = rw (drop_of_length-le xs h)
+
+-- numbers that a loop writes, each made to bits by g and these to w bytes
+module _ (w : ℕ) (g : Float → ℕ) where
+  pub numbers_bytes : (xs : List Float) → length (packed (bytes_of w) (map g xs)) ≡ length xs * w
+  numbers_bytes xs = packed-length (bytes_of w) w (bytes_length w) (map g xs) ∙ rw (length-map xs g)
+
+  pub numbers_split : (xs ys : List Float) → packed (bytes_of w) (map g (xs ++ ys)) ≡ packed (bytes_of w) (map g xs) ++ packed (bytes_of w) (map g ys)
+  numbers_split xs ys = ap (packed (bytes_of w)) (map-append g xs ys) ∙ packed-append (bytes_of w) (map g xs) (map g ys)
 
   pub numbers_turn : (xs : List Float) (i : ℕ) → i < length xs
-      → packed (bytes_of 4) (map g (drop i xs)) ≡ bytes_of 4 (g (get_or xs i nan)) ++ packed (bytes_of 4) (map g (drop (i + 1) xs))
+      → packed (bytes_of w) (map g (drop i xs)) ≡ bytes_of w (g (get_or xs i nan)) ++ packed (bytes_of w) (map g (drop (i + 1) xs))
   unfolding packed
   numbers_turn xs i h = rw (drop-cons xs i nan h, add-one)
 
-  pub numbers_end : (xs : List Float) (i : ℕ) → length xs ≤ i → packed (bytes_of 4) (map g (drop i xs)) ≡ []
+  pub numbers_end : (xs : List Float) (i : ℕ) → length xs ≤ i → packed (bytes_of w) (map g (drop i xs)) ≡ []
   unfolding packed
   numbers_end xs i h = rw (drop_of_length-le xs h)
 

@@ -23,7 +23,7 @@ use Rattle.builder.specs.declared.AtomBuilder.{AtomBuilder}
 use Rattle.builder.proofs.Laws.{meshed, atom_meshed}
 use Rattle.table.specs.File.{file_of}
 use Rattle.table.specs.Atom.{atom_file_of}
-use Rattle.writer.specs.Write.{file_from, write_refusal, write_out}
+use Rattle.writer.specs.Write.{file_from}
 use Rattle.writer.specs.Atom.{atom_file_from, atom_write_refusal, atom_write_out}
 use Rattle.writer.specs.Internal.{resolutions, total, Sure, write_question, atom_write_question}
 use Rattle.writer.proofs.Whole.{bounded, total_few, file-length}
@@ -107,22 +107,6 @@ unfolding atom_file_from atom_file_of
 atom_write_length b l e s same = file-length vertex_count b.top b.grid.n_r l _ _ e s same
 
 -- ---- the outcome
-
-module _ (b : Builder) (m : Mesh) (l : BuilderLists) (out : List ℕ) where
-  pub write_refused : (k : ℕ) → k ≡ write_question b m l → eqb k 0 ≡ false
-      → write_out b m l out ≡ record { answer = record { number = k; length = 0 }; builder = b; lists = l; output = out }
-  unfolding write_out write_refusal
-  write_refused k e h = rw (refused (meshed_refusal b m l) _ (rows_known b.top l.rows 0 (slabs b.grid)) k e (eqb-false k 0 h), h)
-
-  module _ (h : write_question b m l ≡ 0) where
-    pub write_short : leb (length (file_from b l)) (length out) ≡ false → write_out b m l out ≡ record { answer = record { number = 12; length = 0 }; builder = b; lists = l; output = out }
-    unfolding write_out write_refusal ask
-    write_short e = rw (last (meshed_refusal b m l) (ask (leb (length (file_from b l)) (length out)) 12 0) (rows_known b.top l.rows 0 (slabs b.grid)) h, e)
-
-    pub write_done : leb (length (file_from b l)) (length out) ≡ true
-        → write_out b m l out ≡ record { answer = record { number = 0; length = length (file_from b l) }; builder = b; lists = l; output = put out 0 (file_from b l) }
-    unfolding write_out write_refusal ask
-    write_done e = rw (last (meshed_refusal b m l) (ask (leb (length (file_from b l)) (length out)) 12 0) (rows_known b.top l.rows 0 (slabs b.grid)) h, e)
 
 module _ (b : AtomBuilder) (m : Mesh) (l : BuilderLists) (out : List ℕ) where
   pub atom_write_refused : (k : ℕ) → k ≡ atom_write_question b m l → eqb k 0 ≡ false

@@ -1,6 +1,6 @@
 -- Bytes that are written one after another. Assumes nothing.
 use mathlib.Core.Path.{◌≡◌, refl, sym, ap, ◌∙◌}
-use mathlib.Core.List.{List, [], ◌∷◌, ◌++◌, append_assoc, append-nil}
+use mathlib.Core.List.{List, [], ◌∷◌, ◌++◌, append_assoc}
 use Prim.Native.Nat.{ℕ, ◌+◌, ◌/◌, ◌≤◌}
 use native.Mathlib.Omega.{arith}
 use borrow.Rule.Slice.PartMut.{put_mid}
@@ -9,8 +9,7 @@ use lib.ListN.{length, set, take, drop, length-append}
 use lib.Seq.{drop-drop}
 use Rattle.lists.specs.Lists.{put}
 use Rattle.lists.proofs.Written.{nothing, pushed, put_nil, put-put, length-put}
-use Rattle.table.specs.Bytes.{bytes_of, packed, section}
-use Rattle.table.proofs.Lengths.{bytes_length}
+use Rattle.table.specs.Bytes.{bytes_of}
 
 -- one list, then another behind it
 pub puts : (d : List ℕ) (at : ℕ) (l m : List ℕ) (to : ℕ) → to ≡ at + length l → to ≤ length d → put (put d at l) to m ≡ put d at (l ++ m)
@@ -84,31 +83,3 @@ puts_four d at k l m o p q r ep eq er h =
     ap (λ (x : List ℕ). put x r o) (puts_three d at k l m p q ep eq (omega (arith, er)))
     ∙ puts d at (k ++ (l ++ m)) o r (omega (arith, ep, eq, er, n)) h
     ∙ ap (λ (x : List ℕ). put d at x) (simp append_assoc)
-
-pub bins_put : (d : List ℕ) (n m : ℕ) → 40 ≤ length d
-    → put (put (put d 28 (bytes_of 4 2)) 32 (bytes_of 4 n)) 36 (bytes_of 4 m) ≡ put d 28 (section (bytes_of 4) (n ∷ m ∷ []))
-unfolding section packed
-bins_put d n m h =
-    puts_three d 28 (bytes_of 4 2) (bytes_of 4 n) (bytes_of 4 m) 32 36 (omega (arith, bytes_length 4 2)) (omega (arith, bytes_length 4 n)) (omega arith)
-    ∙ rw (append-nil (bytes_of 4 m))
-
-pub grid-put : (d : List ℕ) (x y z : ℕ) → 28 ≤ length d
-    → put (put (put (put d 0 (bytes_of 4 3)) 4 (bytes_of 8 x)) 12 (bytes_of 8 y)) 20 (bytes_of 8 z) ≡ put d 0 (section (bytes_of 8) (x ∷ y ∷ z ∷ []))
-unfolding section packed
-grid-put d x y z h =
-    puts_four d 0 (bytes_of 4 3) (bytes_of 8 x) (bytes_of 8 y) (bytes_of 8 z) 4 12 20
-    (omega (arith, bytes_length 4 3)) (omega (arith, bytes_length 8 x)) (omega (arith, bytes_length 8 y)) (omega arith)
-    ∙ rw (append-nil (bytes_of 8 z))
-
--- both heads of a table against an atom
-pub atom_head_put : (d : List ℕ) (x y n : ℕ) → 28 ≤ length d
-    → put (put (put (put (put d 0 (bytes_of 4 2)) 4 (bytes_of 8 x)) 12 (bytes_of 8 y)) 20 (bytes_of 4 1)) 24 (bytes_of 4 n)
-    ≡ put d 0 (section (bytes_of 8) (x ∷ y ∷ []) ++ section (bytes_of 4) (n ∷ []))
-unfolding section packed
-atom_head_put d x y n h =
-    let k = bytes_of 4 2 ++ (bytes_of 8 x ++ (bytes_of 8 y ++ bytes_of 4 1)) in
-    let e : length k ≡ length (bytes_of 4 2) + (length (bytes_of 8 x) + (length (bytes_of 8 y) + length (bytes_of 4 1))) = simp length-append in
-    ap (λ (o : List ℕ). put o 24 (bytes_of 4 n))
-    (puts_four d 0 (bytes_of 4 2) (bytes_of 8 x) (bytes_of 8 y) (bytes_of 4 1) 4 12 20 (omega (arith, bytes_length 4 2)) (omega (arith, bytes_length 8 x)) (omega (arith, bytes_length 8 y)) (omega arith))
-    ∙ puts d 0 k (bytes_of 4 n) 24 (omega (arith, e, bytes_length 4 2, bytes_length 8 x, bytes_length 8 y, bytes_length 4 1)) (omega arith)
-    ∙ ap (λ (o : List ℕ). put d 0 o) (simp (append_assoc, append-nil))

@@ -9,7 +9,7 @@ ghost use Rattle.writer.specs.Write.{written_values};
 ghost use Rattle.writer.specs.Atom.{AtomWriteOut, atom_file_from, atom_write_out};
 ghost use Rattle.writer.specs.Internal.{WriteReady, atom_write_question};
 
-use crate::sections::{put_atom_head, put_rest};
+use crate::sections::{put_head, put_rest};
 use crate::slabs::{Slabs, energy_total, file_size, rows_known};
 use builder::{AtomBuilder, Lengths};
 use mesh::Mesh;
@@ -63,7 +63,7 @@ fn put_atom_file(
         rows: LentRows::Lists(kinds, levels, values),
         n: b.grid.n_r,
     };
-    put_atom_head(out, b.grid);
+    put_head(out, &[b.grid.rmin, b.grid.dr], &[b.grid.n_r as u32]);
     put_rest(out, 28, b.top, e, store, &slabs);
 }
 

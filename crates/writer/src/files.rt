@@ -9,7 +9,8 @@ ghost use Rattle.writer.specs.Write.{WriteOut, written_values, file_from, write_
 ghost use Rattle.writer.specs.Internal.{WriteReady, write_question};
 
 use crate::sections::{put_head, put_rest};
-use crate::slabs::{Slabs, energy_total, file_size, rows_known};
+use crate::slabs::{Slabs, rows_known};
+use crate::tail::{LentTail, write_tail};
 use builder::Builder;
 use mesh::Mesh;
 use refusals::{Asked, Refusal};
@@ -41,11 +42,16 @@ pub(crate) fn put_file(b: Builder, store: &[f64], words: &[u64], e: u64, out: &m
         rows: LentRows::Words(words),
         n: b.grid.n_r * b.grid.n_omega,
     };
-    put_head(out, b.grid);
+    let g = b.grid;
+    put_head(
+        out,
+        &[g.rmin, g.dr, g.omega_step],
+        &[g.n_r as u32, g.n_omega as u32],
+    );
     put_rest(out, 40, b.top, e, store, &slabs);
 }
 
-// Writes the table file of a builder.
+// Writes the table file of a builder: that with a tail of no terms.
 pub fn write(
     b: Builder,
     store: &[f64],
@@ -57,16 +63,11 @@ pub fn write(
         (record { answer = written_values result; builder = b; lists = word_lists store.now words.now; output = output.new })
         (write_out b (lent mesh.now) (word_lists store.now words.now) output.old) }
 {
-    write_question(b, store, words, mesh)?;
-    let slabs = Slabs {
-        rows: LentRows::Words(words),
-        n: b.grid.n_r * b.grid.n_omega,
+    let no_tail = LentTail {
+        coefficients: &[],
+        kappas: &[],
+        powers: &[],
+        prefactor: &[],
     };
-    let e = energy_total(&slabs);
-    let size = file_size(40, b.top, slabs.n, e);
-    if (output.len() as u64) < size {
-        return Err(Refusal::ShortOutput);
-    }
-    put_file(b, store, words, e, output);
-    Ok(size)
+    write_tail(b, store, words, mesh, &no_tail, output)
 }

@@ -1,5 +1,5 @@
 // The bytes of each section of a table file.
-ghost use Rattle.std.specs.Prelude.{◌≡◌, [], ◌∷◌, map, ◌+◌, ◌*◌, ◌≤◌, length};
+ghost use Rattle.std.specs.Prelude.{◌≡◌, map, ◌+◌, ◌*◌, ◌≤◌, length};
 ghost use Rattle.std.specs.Float.{binary32, binary64};
 ghost use Rattle.std.specs.Float.Ieee.{to_bits};
 ghost use Rattle.lists.specs.Lists.{put, below};
@@ -12,46 +12,41 @@ ghost use Rattle.writer.specs.Internal.{entry_for, offset_of, entries_for, total
 
 use crate::bytes::{put_f64, put_u32};
 use crate::slabs::{Slabs, energies_at, energy_count};
-use grid::{AtomGrid, Grid};
 use rows::SlabResolution;
 
-fn put_grid(out: &mut [u8], g: Grid)
-    requires { 28 ≤ length out.old }
-    ensures { out.new ≡ put out.old 0 (section (bytes_of 8) (to_bits binary64 g.rmin ∷ to_bits binary64 g.dr ∷ to_bits binary64 g.omega_step ∷ [])) }
+// Whole numbers, one after another.
+fn put_numbers(out: &mut [u8], at: u64, list: &[u32])
+    requires { at + length list.now * 4 ≤ length out.old }
+    ensures { out.new ≡ put out.old at (packed (bytes_of 4) list.now) }
 {
-    put_u32(out, 0, 3);
-    put_f64(out, 4, g.rmin);
-    put_f64(out, 12, g.dr);
-    put_f64(out, 20, g.omega_step);
+    let mut to = at;
+    for x in list {
+        put_u32(out, to, *x);
+        to += 4;
+    }
 }
 
-fn put_bins(out: &mut [u8], n: u32, m: u32)
-    requires { 40 ≤ length out.old }
-    ensures { out.new ≡ put out.old 28 (section (bytes_of 4) (n ∷ m ∷ [])) }
+fn put_doubles(out: &mut [u8], at: u64, list: &[f64])
+    requires { at + length list.now * 8 ≤ length out.old }
+    ensures { out.new ≡ put out.old at (packed (bytes_of 8) (map (to_bits binary64) list.now)) }
 {
-    put_u32(out, 28, 2);
-    put_u32(out, 32, n);
-    put_u32(out, 36, m);
+    let mut to = at;
+    for x in list {
+        put_f64(out, to, *x);
+        to += 8;
+    }
 }
 
-// The two head sections of a grid.
-pub(crate) fn put_head(out: &mut [u8], g: Grid)
-    requires { (40 ≤ length out.old) × (g.n_r ≤ 65535) × (g.n_omega ≤ 65535) }
-    ensures { out.new ≡ put out.old 0 (head_bytes (to_bits binary64 g.rmin ∷ to_bits binary64 g.dr ∷ to_bits binary64 g.omega_step ∷ []) (g.n_r ∷ g.n_omega ∷ [])) }
+// The two head sections, of a grid's settings and of its bin counts.
+pub(crate) fn put_head(out: &mut [u8], settings: &[f64], counts: &[u32])
+    requires { (8 + length settings.now * 8 + length counts.now * 4 ≤ length out.old) × (length settings.now ≤ 3) × (length counts.now ≤ 2) }
+    ensures { out.new ≡ put out.old 0 (head_bytes (map (to_bits binary64) settings.now) counts.now) }
 {
-    put_grid(out, g);
-    put_bins(out, g.n_r as u32, g.n_omega as u32);
-}
-
-pub(crate) fn put_atom_head(out: &mut [u8], g: AtomGrid)
-    requires { (28 ≤ length out.old) × (g.n_r ≤ 65535) }
-    ensures { out.new ≡ put out.old 0 (head_bytes (to_bits binary64 g.rmin ∷ to_bits binary64 g.dr ∷ []) (g.n_r ∷ [])) }
-{
-    put_u32(out, 0, 2);
-    put_f64(out, 4, g.rmin);
-    put_f64(out, 12, g.dr);
-    put_u32(out, 20, 1);
-    put_u32(out, 24, g.n_r as u32);
+    let at = 4 + 8 * settings.len() as u64;
+    put_u32(out, 0, settings.len() as u32);
+    put_doubles(out, 4, settings);
+    put_u32(out, at, counts.len() as u32);
+    put_numbers(out, at + 4, counts);
 }
 
 fn put_vertex_counts(out: &mut [u8], at: u64, levels: u64)

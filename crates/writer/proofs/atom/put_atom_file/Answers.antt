@@ -19,6 +19,6 @@ unfolding atom_file_from atom_file_of
 returns c =
     let a = c.args in
     let g = a.b.grid in
-    rw (c.put_rest.ensures, c.put_atom_head.ensures)
+    rw (c.put_rest.ensures, c.put_head.ensures)
     (file-put vertex_count a.b.top g.n_r (lists_of a.store.now a.kinds.now a.levels.now a.values.now)
     (to_bits binary64 g.rmin ∷ to_bits binary64 g.dr ∷ []) (g.n_r ∷ []) a.out.now 28 refl (omega (arith, c.requires.0.fits)))

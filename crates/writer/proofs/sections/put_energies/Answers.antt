@@ -20,17 +20,17 @@ loop-part-init c =
     let all : chunks_rest c.into_iter-part-iterator.result ≡ c.args.energies.now = search rules in record {
       size = search rules;
       room = refl;
-      written = rw all (begun c.args.out.now c.args.at _ (omega (arith, c.requires, numbers_bytes narrow_bits c.args.energies.now)));
+      written = rw all (begun c.args.out.now c.args.at _ (omega (arith, c.requires, numbers_bytes 4 narrow_bits c.args.energies.now)));
     }
 
 -- the bytes of the part at hand, and of the parts behind it
 split : (c : In-Some) → bytes (chunks_rest c.loop-part.part-iterator) ≡ bytes c.in-Some.part.now ++ bytes (chunks_rest c.next.new.self)
-split c = ap bytes c.in-Some.ensures.steps.1.0 ∙ numbers_split narrow_bits _ _
+split c = ap bytes c.in-Some.ensures.steps.1.0 ∙ numbers_split 4 narrow_bits _ _
 
 pub put_block-requires : goal.put_block-requires
 put_block-requires c =
     let i = c.loop-part.invariant in (
-      omega (arith, fits i.written (bytes c.in-Some.part.now) _ (split (goal.at.put_block-requires c).In-Some), numbers_bytes narrow_bits c.in-Some.part.now),
+      omega (arith, fits i.written (bytes c.in-Some.part.now) _ (split (goal.at.put_block-requires c).In-Some), numbers_bytes 4 narrow_bits c.in-Some.part.now),
       omega (arith, c.in-Some.ensures.steps.1.1, i.size, i.room),
     )
 
@@ -41,8 +41,8 @@ loop-part-preserved c =
       room = c.put_block.auto.block ∙ i.room;
       written =
           step i.written (bytes c.in-Some.part.now) _ _ _ (split (goal.at.loop-part-preserved c).In-Some) c.put_block.ensures
-          (omega (arith, numbers_bytes narrow_bits c.in-Some.part.now));
+          (omega (arith, numbers_bytes 4 narrow_bits c.in-Some.part.now));
     }
 
 pub returns : goal.returns
-returns c = ended c.loop-part.invariant.written (numbers_end narrow_bits (chunks_rest c.loop-part.part-iterator) 0 (omega (arith, c.in-None.ensures.steps.1.0)))
+returns c = ended c.loop-part.invariant.written (numbers_end 4 narrow_bits (chunks_rest c.loop-part.part-iterator) 0 (omega (arith, c.in-None.ensures.steps.1.0)))

@@ -9,20 +9,20 @@ use Rattle.writer.proofs.Filed.{numbers_bytes, numbers_turn, numbers_end}
 use Rattle.writer.proofs.sections.put_floats.Goals as goal
 
 pub loop-x-init : goal.loop-x-init
-loop-x-init c = begun c.args.out.now c.args.at _ (omega (arith, c.requires, numbers_bytes (to_bits binary32) c.args.list.now))
+loop-x-init c = begun c.args.out.now c.args.at _ (omega (arith, c.requires, numbers_bytes 4 (to_bits binary32) c.args.list.now))
 
 pub put_u32-requires : goal.put_u32-requires
 put_u32-requires c =
     let i = c.loop-x.x-index in
     let x = to_bits binary32 (get_or c.args.list.now i nan) in
-    omega (arith, fits c.loop-x.invariant (bytes_of 4 x) _ (numbers_turn (to_bits binary32) c.args.list.now i c.loop-x-test.true), bytes_length 4 x)
+    omega (arith, fits c.loop-x.invariant (bytes_of 4 x) _ (numbers_turn 4 (to_bits binary32) c.args.list.now i c.loop-x-test.true), bytes_length 4 x)
 
 pub loop-x-preserved : goal.loop-x-preserved
 loop-x-preserved c =
     let i = c.loop-x.x-index in
     let x = to_bits binary32 (get_or c.args.list.now i nan) in
-    step c.loop-x.invariant (bytes_of 4 x) _ _ _ (numbers_turn (to_bits binary32) c.args.list.now i c.loop-x-test.true)
+    step c.loop-x.invariant (bytes_of 4 x) _ _ _ (numbers_turn 4 (to_bits binary32) c.args.list.now i c.loop-x-test.true)
     (c.put_u32.ensures ∙ rw c.bits32.ensures) (omega (arith, bytes_length 4 x))
 
 pub returns : goal.returns
-returns c = ended c.loop-x.invariant (numbers_end (to_bits binary32) c.args.list.now c.loop-x.x-index (omega arith))
+returns c = ended c.loop-x.invariant (numbers_end 4 (to_bits binary32) c.args.list.now c.loop-x.x-index (omega arith))
