@@ -9,14 +9,13 @@ use native.Mathlib.Omega.{arith}
 use lib.ListN.{length, get_or, set}
 use lib.Seq.{get_or-set_same, get_or-set_other}
 use lib.Ieee.{Float}
-use Rattle.mesh.specs.declared.Face.{Face}
-use Rattle.search.specs.declared.Weights.{Weights}
 use Rattle.table.specs.Bytes.{number_at}
 use Rattle.reading.specs.Resolve.{Reading, Energy, Refused, reading_of, plain, widened}
-use Rattle.reading.specs.Internal.{PlaceInside, RowInside, face_terms, finished, StagedInside, Ready}
+use Rattle.reading.specs.Internal.{PlaceInside, CornersInside, face_terms, finished, StagedInside, Ready}
 use Rattle.refusals.specs.Numbers.{number}
 use Rattle.refusals.specs.declared.Refusal.{Refusal}
 use Rattle.reading.specs.declared.Energy.{Energy as EnergyRead}
+use Rattle.reading.specs.declared.Corners.{Corners}
 use Rattle.reading.specs.declared.Staged.{Staged}
 use Rattle.reading.specs.declared.Staged.TheVariants.{Known, Pair, Faces}
 
@@ -33,10 +32,9 @@ module _ (file : List ℕ) (start : ℕ) (a : Reading) where
   unfolding finished StagedInside
   ready_pair k x y l v = record { inside = l; is = v }
 
-  pub ready_faces : (o n : ℕ) (f g : Face) (p q : Weights) → RowInside file start o (f.a * n) g × RowInside file start o (f.b * n) g × RowInside file start o (f.c * n) g
-      → plain (face_terms file start o n f g p q) ≡ a → Ready file start (Ok (Faces o n f g p q)) a
+  pub ready_faces : (c : Corners) → CornersInside file start c → plain (face_terms file start c.offset c.n c.f c.g c.p c.q) ≡ a → Ready file start (Ok (Faces c)) a
   unfolding finished StagedInside
-  ready_faces o n f g p q l v = record { inside = l; is = v }
+  ready_faces c l v = record { inside = l; is = v }
 
 pub ready_same : {file : List ℕ} {start : ℕ} {z : Result Staged Refusal} {a b : Reading} → Ready file start z a → a ≡ b → Ready file start z b
 ready_same r e = rw e at r

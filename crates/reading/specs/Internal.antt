@@ -23,6 +23,7 @@ use Rattle.reading.specs.Poses.{pose_at}
 use Rattle.reading.specs.declared.Energy.{Energy as EnergyRead}
 use Rattle.reading.specs.declared.Staged.{Staged}
 use Rattle.reading.specs.declared.Staged.TheVariants.{Known, Pair, Faces}
+use Rattle.reading.specs.declared.Corners.{Corners}
 use Rattle.reading.specs.declared.RowTable.{RowTable}
 use Rattle.refusals.specs.Numbers.{number}
 use Rattle.refusals.specs.declared.Refusal.{Refusal}
@@ -140,6 +141,10 @@ PlaceInside file start k = start + k * 4 + 4 ≤ length file
 abbrev pub RowInside : List ℕ → ℕ → ℕ → ℕ → Face → Type 0
 RowInside file start o k f = PlaceInside file start (o + (k + f.a)) × PlaceInside file start (o + (k + f.b)) × PlaceInside file start (o + (k + f.c))
 
+abbrev pub CornersInside : List ℕ → ℕ → Corners → Type 0
+CornersInside file start c =
+    RowInside file start c.offset (c.f.a * c.n) c.g × RowInside file start c.offset (c.f.b * c.n) c.g × RowInside file start c.offset (c.f.c * c.n) c.g
+
 -- a term added to x, and the terms of a vertex against a face
 abbrev term : List ℕ → ℕ → Float → ℕ → Float → Float → Float
 term file start w k v x = add binary64 x (mul binary64 (mul binary64 w (widened (number_at 4 file (start + k * 4)))) v)
@@ -185,14 +190,14 @@ unfoldable pub finished : List ℕ → ℕ → Result Staged Refusal → Reading
 finished file start (Err e) = Refused (number e)
 finished file start (Ok (Known e)) = Energy e.distance_a e.energy e.distance_b
 finished file start (Ok (Pair k x y)) = Energy x (widened (number_at 4 file (start + k * 4))) y
-finished file start (Ok (Faces o n f g p q)) = plain (face_terms file start o n f g p q)
+finished file start (Ok (Faces c)) = plain (face_terms file start c.offset c.n c.f c.g c.p c.q)
 
 -- what it loads is inside the file
 unfoldable pub StagedInside : List ℕ → ℕ → Result Staged Refusal → Type 0
 StagedInside file start (Err e) = Unit {0}
 StagedInside file start (Ok (Known e)) = Unit {0}
 StagedInside file start (Ok (Pair k x y)) = PlaceInside file start k
-StagedInside file start (Ok (Faces o n f g p q)) = RowInside file start o (f.a * n) g × RowInside file start o (f.b * n) g × RowInside file start o (f.c * n) g
+StagedInside file start (Ok (Faces c)) = CornersInside file start c
 
 -- .. and it makes this answer
 pub record Ready (file : List ℕ) (start : ℕ) (z : Result Staged Refusal) (answer : Reading) : Type 0 where

@@ -6,10 +6,10 @@ ghost use Rattle.std.specs.Float.{inf, binary64};
 ghost use Rattle.std.specs.Float.Ieee.{of_bits};
 ghost use Rattle.reading.specs.Resolve.{reading_of, linear, joint, nearest_pick, face_pick, widened};
 ghost use Rattle.reading.specs.Reading.{read_picks};
-ghost use Rattle.reading.specs.Internal.{plain_energy, table_for, way_of, IsSearched, NearestBelow, LocatedBelow, Small, RowInside, places_below, face_places_below, row_terms, face_terms, lesser, weighed, row_corners, face_corners, face_average};
+ghost use Rattle.reading.specs.Internal.{plain_energy, table_for, way_of, IsSearched, NearestBelow, LocatedBelow, Small, RowInside, CornersInside, places_below, face_places_below, row_terms, face_terms, lesser, weighed, row_corners, face_corners, face_average};
 
 use crate::places::items_inside;
-use crate::{Energy, RowTable};
+use crate::{Corners, Energy, RowTable};
 use mesh::Face;
 use refusals::{Asked, Refusal};
 use search::{Located, Nearest, Weights};
@@ -81,12 +81,13 @@ pub(crate) fn places_below(held: u64, offset: u64, k: u64, f: Face) -> bool
     (offset + (k + f.a) < held) & ((offset + (k + f.b) < held) & (offset + (k + f.c) < held))
 }
 
-pub(crate) fn face_places_below(held: u64, offset: u64, n: u64, f: Face, g: Face) -> bool
-    requires { (offset < 4294967296) × (n ≤ 655362) × Small f × Small g }
-    ensures { result ≡ face_places_below held offset n f g }
+pub(crate) fn face_places_below(held: u64, x: &Corners) -> bool
+    requires { (x.now.offset < 4294967296) × (x.now.n ≤ 655362) × Small x.now.f × Small x.now.g }
+    ensures { result ≡ face_places_below held x.now.offset x.now.n x.now.f x.now.g }
 {
-    places_below(held, offset, f.a * n, g)
-        & (places_below(held, offset, f.b * n, g) & places_below(held, offset, f.c * n, g))
+    places_below(held, x.offset, x.f.a * x.n, x.g)
+        & (places_below(held, x.offset, x.f.b * x.n, x.g)
+            & places_below(held, x.offset, x.f.c * x.n, x.g))
 }
 
 // A vertex's three terms of the sum, added to x.
@@ -110,22 +111,13 @@ pub(crate) fn row_terms(
 }
 
 #[tactic(auto, unfolding(crate::specs::Internal::face_terms))]
-fn face_terms(
-    file: &[u8],
-    start: u64,
-    offset: u64,
-    n: u64,
-    f: Face,
-    g: Face,
-    p: Weights,
-    q: Weights,
-) -> f64
-    requires { RowInside file.now start offset (f.a * n) g × RowInside file.now start offset (f.b * n) g × RowInside file.now start offset (f.c * n) g }
-    ensures { result ≡ face_terms file.now start offset n f g p q }
+fn face_terms(file: &[u8], start: u64, x: &Corners) -> f64
+    requires { CornersInside file.now start x.now }
+    ensures { result ≡ face_terms file.now start x.now.offset x.now.n x.now.f x.now.g x.now.p x.now.q }
 {
-    let x = row_terms(file, start, offset, f.a * n, g, p.a, q, 0.0);
-    let y = row_terms(file, start, offset, f.b * n, g, p.b, q, x);
-    row_terms(file, start, offset, f.c * n, g, p.c, q, y)
+    let a = row_terms(file, start, x.offset, x.f.a * x.n, x.g, x.p.a, x.q, 0.0);
+    let b = row_terms(file, start, x.offset, x.f.b * x.n, x.g, x.p.b, x.q, a);
+    row_terms(file, start, x.offset, x.f.c * x.n, x.g, x.p.c, x.q, b)
 }
 
 // The least energy so far and that of a corner of weight w, unless the corner is dropped.
@@ -165,22 +157,22 @@ fn row_least(
     lesser(w * q.c, energy(file, start, offset + (k + f.c)), z)
 }
 
-fn face_least(
-    file: &[u8],
-    start: u64,
-    offset: u64,
-    n: u64,
-    f: Face,
-    g: Face,
-    p: Weights,
-    q: Weights,
-) -> f64
-    requires { RowInside file.now start offset (f.a * n) g × RowInside file.now start offset (f.b * n) g × RowInside file.now start offset (f.c * n) g }
-    ensures { result ≡ face_corners file.now start lesser offset n f g p q (inf false) }
+fn face_least(file: &[u8], start: u64, x: &Corners) -> f64
+    requires { CornersInside file.now start x.now }
+    ensures { result ≡ face_corners file.now start lesser x.now.offset x.now.n x.now.f x.now.g x.now.p x.now.q (inf false) }
 {
-    let x = row_least(file, start, offset, f.a * n, g, p.a, q, 1.0 / 0.0);
-    let y = row_least(file, start, offset, f.b * n, g, p.b, q, x);
-    row_least(file, start, offset, f.c * n, g, p.c, q, y)
+    let a = row_least(
+        file,
+        start,
+        x.offset,
+        x.f.a * x.n,
+        x.g,
+        x.p.a,
+        x.q,
+        1.0 / 0.0,
+    );
+    let b = row_least(file, start, x.offset, x.f.b * x.n, x.g, x.p.b, x.q, a);
+    row_least(file, start, x.offset, x.f.c * x.n, x.g, x.p.c, x.q, b)
 }
 
 // A vertex's three terms of the weighted sum, added to x.
@@ -205,43 +197,55 @@ fn row_weighed(
     weighed(beta, u, w * q.c, energy(file, start, offset + (k + f.c)), z)
 }
 
-fn face_weighed(
-    file: &[u8],
-    start: u64,
-    offset: u64,
-    n: u64,
-    f: Face,
-    g: Face,
-    p: Weights,
-    q: Weights,
-    beta: f64,
-    u: f64,
-) -> f64
-    requires { RowInside file.now start offset (f.a * n) g × RowInside file.now start offset (f.b * n) g × RowInside file.now start offset (f.c * n) g }
-    ensures { result ≡ face_corners file.now start (weighed beta u) offset n f g p q (of_bits binary64 0) }
+fn face_weighed(file: &[u8], start: u64, x: &Corners, beta: f64, u: f64) -> f64
+    requires { CornersInside file.now start x.now }
+    ensures { result ≡ face_corners file.now start (weighed beta u) x.now.offset x.now.n x.now.f x.now.g x.now.p x.now.q (of_bits binary64 0) }
 {
-    let x = row_weighed(file, start, offset, f.a * n, g, p.a, q, beta, u, 0.0);
-    let y = row_weighed(file, start, offset, f.b * n, g, p.b, q, beta, u, x);
-    row_weighed(file, start, offset, f.c * n, g, p.c, q, beta, u, y)
+    let a = row_weighed(
+        file,
+        start,
+        x.offset,
+        x.f.a * x.n,
+        x.g,
+        x.p.a,
+        x.q,
+        beta,
+        u,
+        0.0,
+    );
+    let b = row_weighed(
+        file,
+        start,
+        x.offset,
+        x.f.b * x.n,
+        x.g,
+        x.p.b,
+        x.q,
+        beta,
+        u,
+        a,
+    );
+    row_weighed(
+        file,
+        start,
+        x.offset,
+        x.f.c * x.n,
+        x.g,
+        x.p.c,
+        x.q,
+        beta,
+        u,
+        b,
+    )
 }
 
 // The average over two faces, weighted by temperature.
-fn face_average(
-    file: &[u8],
-    start: u64,
-    offset: u64,
-    n: u64,
-    f: Face,
-    g: Face,
-    p: Weights,
-    q: Weights,
-    beta: f64,
-) -> f64
-    requires { RowInside file.now start offset (f.a * n) g × RowInside file.now start offset (f.b * n) g × RowInside file.now start offset (f.c * n) g }
-    ensures { result ≡ face_average file.now start offset n f g p q beta }
+fn face_average(file: &[u8], start: u64, x: &Corners, beta: f64) -> f64
+    requires { CornersInside file.now start x.now }
+    ensures { result ≡ face_average file.now start x.now.offset x.now.n x.now.f x.now.g x.now.p x.now.q beta }
 {
-    let u = face_least(file, start, offset, n, f, g, p, q);
-    let sum = face_weighed(file, start, offset, n, f, g, p, q, beta, u);
+    let u = face_least(file, start, x);
+    let sum = face_weighed(file, start, x, beta, u);
     if !ieee::is_finite(u) & !(u != u) {
         return 1.0 / 0.0;
     }
@@ -264,16 +268,21 @@ pub(crate) fn interpolated(
     requires { (offset < 4294967296) × (n ≤ 655362) × LocatedBelow n x × LocatedBelow n y }
     ensures { reading_of result ≡ read_picks file.now (table_for s) (way_of beta) true offset (face_pick n x y) }
 {
-    let start = s.energies.start;
     joint(x.number, y.number)?;
+    let corners = Corners {
+        offset,
+        n,
+        f: x.face,
+        g: y.face,
+        p: x.weights,
+        q: y.weights,
+    };
     let held = items_inside(s.energies, 4, file.len() as u64);
-    if !face_places_below(held, offset, n, x.face, y.face) {
+    if !face_places_below(held, &corners) {
         return Err(Refusal::NotLent);
     }
     if 0.0 < beta {
-        return Ok(plain(face_average(
-            file, start, offset, n, x.face, y.face, x.weights, y.weights, beta,
-        )));
+        return Ok(plain(face_average(file, s.energies.start, &corners, beta)));
     }
-    Ok(plain(face_terms(file, start, offset, n, x.face, y.face, x.weights, y.weights)))
+    Ok(plain(face_terms(file, s.energies.start, &corners)))
 }

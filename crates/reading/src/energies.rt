@@ -3,14 +3,13 @@
 ghost use Rattle.std.specs.Prelude.{◌≡◌, true, false, ◌*◌, ◌≤◌, ◌<◌};
 ghost use Rattle.reading.specs.Resolve.{reading_of, linear, nearest_pick, face_pick};
 ghost use Rattle.reading.specs.Reading.{read_picks};
-ghost use Rattle.reading.specs.Internal.{table_for, NearestBelow, LocatedBelow, RowInside, face_terms, finished, StagedInside, Ready};
+ghost use Rattle.reading.specs.Internal.{table_for, NearestBelow, LocatedBelow, CornersInside, face_terms, finished, StagedInside, Ready};
 
 use crate::combine::{energy, face_places_below, joint, plain, row_terms};
 use crate::places::items_inside;
-use crate::{Energy, RowTable, Staged};
-use mesh::Face;
+use crate::{Corners, Energy, RowTable, Staged};
 use refusals::Refusal;
-use search::{Located, Nearest, Weights};
+use search::{Located, Nearest};
 
 // `nearest` without its energy.
 pub(crate) fn stage_pair(
@@ -50,38 +49,30 @@ pub(crate) fn stage_faces(
     ensures { Ready file.now s.energies.start result (read_picks file.now (table_for s) linear true offset (face_pick n x y)) }
 {
     joint(x.number, y.number)?;
-    let held = items_inside(s.energies, 4, file.len() as u64);
-    if !face_places_below(held, offset, n, x.face, y.face) {
-        return Err(Refusal::NotLent);
-    }
-    Ok(Staged::Faces {
+    let corners = Corners {
         offset,
         n,
         f: x.face,
         g: y.face,
         p: x.weights,
         q: y.weights,
-    })
+    };
+    let held = items_inside(s.energies, 4, file.len() as u64);
+    if !face_places_below(held, &corners) {
+        return Err(Refusal::NotLent);
+    }
+    Ok(Staged::Faces(corners))
 }
 
 // The nine terms as `face_terms` has them, which is compiled into the single reading.
 #[tactic(auto, unfolding(crate::specs::Internal::face_terms))]
-fn nine_terms(
-    file: &[u8],
-    start: u64,
-    offset: u64,
-    n: u64,
-    f: Face,
-    g: Face,
-    p: Weights,
-    q: Weights,
-) -> f64
-    requires { RowInside file.now start offset (f.a * n) g × RowInside file.now start offset (f.b * n) g × RowInside file.now start offset (f.c * n) g }
-    ensures { result ≡ face_terms file.now start offset n f g p q }
+fn nine_terms(file: &[u8], start: u64, x: &Corners) -> f64
+    requires { CornersInside file.now start x.now }
+    ensures { result ≡ face_terms file.now start x.now.offset x.now.n x.now.f x.now.g x.now.p x.now.q }
 {
-    let x = row_terms(file, start, offset, f.a * n, g, p.a, q, 0.0);
-    let y = row_terms(file, start, offset, f.b * n, g, p.b, q, x);
-    row_terms(file, start, offset, f.c * n, g, p.c, q, y)
+    let a = row_terms(file, start, x.offset, x.f.a * x.n, x.g, x.p.a, x.q, 0.0);
+    let b = row_terms(file, start, x.offset, x.f.b * x.n, x.g, x.p.b, x.q, a);
+    row_terms(file, start, x.offset, x.f.c * x.n, x.g, x.p.c, x.q, b)
 }
 
 // The second stage.
@@ -104,13 +95,6 @@ pub(crate) fn finish(
             energy: energy(file, start, place),
             distance_b,
         }),
-        Staged::Faces {
-            offset,
-            n,
-            f,
-            g,
-            p,
-            q,
-        } => Ok(plain(nine_terms(file, start, offset, n, f, g, p, q))),
+        Staged::Faces(corners) => Ok(plain(nine_terms(file, start, &corners))),
     }
 }

@@ -52,8 +52,20 @@ struct RowTable {
     energies: Section,
 }
 
+// The corners of two faces, whose nine energies a reading makes one of: where the row's energies begin, the vertices of its
+// level, both faces, and their weights.
+#[derive(Clone, Copy)]
+struct Corners {
+    offset: u64,
+    n: u64,
+    f: mesh::Face,
+    g: mesh::Face,
+    p: search::Weights,
+    q: search::Weights,
+}
+
 // What the first stage of a reading leaves to the second: an energy that is known already; the place of a pair's energy, and
-// the distances; or the offset of a row's energies, the vertices of its level, both faces and their weights.
+// the distances; or the corners of two faces.
 #[derive(Clone, Copy)]
 enum Staged {
     Known(Energy),
@@ -62,12 +74,5 @@ enum Staged {
         distance_a: f64,
         distance_b: f64,
     },
-    Faces {
-        offset: u64,
-        n: u64,
-        f: mesh::Face,
-        g: mesh::Face,
-        p: search::Weights,
-        q: search::Weights,
-    },
+    Faces(Corners),
 }

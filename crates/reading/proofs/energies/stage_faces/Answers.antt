@@ -40,6 +40,6 @@ pub returns : goal.returns
 returns c =
     let a = c.args in
     let i : face_places_below c.items_inside-held.result a.offset a.n a.x.face a.y.face ≡ true = yes c.face_places_below.ensures c.if-not-face_places_below.false in
-    ready_faces a.file.now a.s.energies.start _ a.offset a.n a.x.face a.y.face a.x.weights a.y.weights
+    ready_faces a.file.now a.s.energies.start _ _
     (face_fits a.file.now (table_for a.s) c.items_inside-held.result c.items_inside-held.ensures a.offset a.n a.x.face a.y.face i)
     (face_in a.file.now (table_for a.s) c.items_inside-held.result c.items_inside-held.ensures a.offset a.n a.x a.y (found (goal.at.returns c).In_ok-joint) i)
