@@ -94,8 +94,8 @@ fn read_atom_row(
     read_atom_nearest(s, file, offset, e.level, cells, locator, vertices, d)
 }
 
-// Reads the energy against an atom at a distance and a direction: over the file's bytes, read's answer, and the meshes and
-// locators of all its levels one after another. Short answers and parts of lists are as in `lookup`.
+// Reads the energy against an atom at a distance and a direction: over the file's bytes, read's answer, and the
+// meshes and locators of all its levels one after another. Short answers and parts of lists are as in `lookup`.
 pub fn atom_lookup(
     t: AtomTable,
     file: &[u8],

@@ -26,7 +26,8 @@ fn searched(number: u64) -> Asked
 // The energy of a vertex.
 fn atom_nearest(s: RowTable, file: &[u8], offset: u64, x: Nearest) -> Result<Energy, Refusal>
     requires { (offset < 4294967296) × NearestBelow 655362 x }
-    ensures { reading_of result ≡ picks_by file.now (table_for s) (atom_combined linear false) offset (atom_nearest_pick x) }
+    ensures { reading_of result ≡ picks_by file.now (table_for s) (atom_combined linear false) offset
+        (atom_nearest_pick x) }
 {
     searched(x.number)?;
     let held = items_inside(s.energies, 4, file.len() as u64);
@@ -70,7 +71,8 @@ fn atom_interpolated(
     beta: f64,
 ) -> Result<Energy, Refusal>
     requires { (offset < 4294967296) × LocatedBelow 655362 x }
-    ensures { reading_of result ≡ picks_by file.now (table_for s) (atom_combined (way_of beta) true) offset (atom_face_pick x) }
+    ensures { reading_of result ≡ picks_by file.now (table_for s) (atom_combined (way_of beta) true) offset
+        (atom_face_pick x) }
 {
     searched(x.number)?;
     let held = items_inside(s.energies, 4, file.len() as u64);

@@ -159,7 +159,8 @@ fn row_least(
 
 fn face_least(file: &[u8], start: u64, x: &Corners) -> f64
     requires { CornersInside file.now start x.now }
-    ensures { result ≡ face_corners file.now start lesser x.now.offset x.now.n x.now.f x.now.g x.now.p x.now.q (inf false) }
+    ensures { result ≡ face_corners file.now start lesser x.now.offset x.now.n x.now.f x.now.g x.now.p x.now.q
+        (inf false) }
 {
     let a = row_least(
         file,
@@ -199,7 +200,8 @@ fn row_weighed(
 
 fn face_weighed(file: &[u8], start: u64, x: &Corners, beta: f64, u: f64) -> f64
     requires { CornersInside file.now start x.now }
-    ensures { result ≡ face_corners file.now start (weighed beta u) x.now.offset x.now.n x.now.f x.now.g x.now.p x.now.q (of_bits binary64 0) }
+    ensures { result ≡ face_corners file.now start
+        (weighed beta u) x.now.offset x.now.n x.now.f x.now.g x.now.p x.now.q (of_bits binary64 0) }
 {
     let a = row_weighed(
         file,

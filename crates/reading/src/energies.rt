@@ -1,5 +1,5 @@
-// A reading in two stages, so that many at a time wait for memory together: the first finds where the energies are, and the
-// second loads them and makes one of them.
+// A reading in two stages, so that many at a time wait for memory together: the first finds where the energies are,
+// and the second loads them and makes one of them.
 ghost use Rattle.std.specs.Prelude.{◌≡◌, true, false, ◌*◌, ◌≤◌, ◌<◌};
 ghost use Rattle.reading.specs.Resolve.{reading_of, linear, nearest_pick, face_pick};
 ghost use Rattle.reading.specs.Reading.{read_picks};
@@ -21,7 +21,8 @@ pub(crate) fn stage_pair(
     y: Nearest,
 ) -> Result<Staged, Refusal>
     requires { (offset < 4294967296) × (n ≤ 655362) × NearestBelow n x × NearestBelow n y }
-    ensures { Ready file.now s.energies.start result (read_picks file.now (table_for s) linear false offset (nearest_pick n x y)) }
+    ensures { Ready file.now s.energies.start result
+        (read_picks file.now (table_for s) linear false offset (nearest_pick n x y)) }
 {
     joint(x.number, y.number)?;
     let place = offset + (x.vertex * n + y.vertex);
@@ -46,7 +47,8 @@ pub(crate) fn stage_faces(
     y: Located,
 ) -> Result<Staged, Refusal>
     requires { (offset < 4294967296) × (n ≤ 655362) × LocatedBelow n x × LocatedBelow n y }
-    ensures { Ready file.now s.energies.start result (read_picks file.now (table_for s) linear true offset (face_pick n x y)) }
+    ensures { Ready file.now s.energies.start result
+        (read_picks file.now (table_for s) linear true offset (face_pick n x y)) }
 {
     joint(x.number, y.number)?;
     let corners = Corners {

@@ -1,6 +1,6 @@
-// The first stage of a reading in two: the search of both directions of a pose, as `gather` and `stages` have it, up to the
-// places of the energies. It is code of its own: with another caller theirs would no longer be compiled into the single
-// reading, which then takes longer.
+// The first stage of a reading in two: the search of both directions of a pose, as `gather` and `stages` have it, up
+// to the places of the energies. It is code of its own: with another caller theirs would no longer be compiled into
+// the single reading, which then takes longer.
 ghost use Rattle.std.specs.Prelude.{◌≡◌, true, false, ◌+◌, ◌≤◌, ◌<◌, length, take, drop};
 ghost use Rattle.mesh.specs.Levels.{vertex_count, grid_size, cell_offsets_below};
 ghost use Rattle.search.specs.Geometry.{unit};
@@ -33,9 +33,12 @@ fn stage_nearest_in(
     q: &Query,
 ) -> Result<Staged, Refusal>
     requires { offset < 4294967296 }
-    ensures { Ready file.now s.energies.start result (read_picks file.now (table_for s) linear false offset (nearest_pick (vertex_count level)
-        (nearest_in (lent_locator locator.now) vertices.now (vertex_count level) (grid_size (vertex_count level)) (unit q.now.a))
-        (nearest_in (lent_locator locator.now) vertices.now (vertex_count level) (grid_size (vertex_count level)) (unit q.now.b)))) }
+    ensures { Ready file.now s.energies.start result
+        (read_picks file.now (table_for s) linear false offset (nearest_pick (vertex_count level)
+        (nearest_in (lent_locator locator.now) vertices.now (vertex_count level) (grid_size (vertex_count level))
+        (unit q.now.a))
+        (nearest_in (lent_locator locator.now) vertices.now (vertex_count level) (grid_size (vertex_count level))
+        (unit q.now.b)))) }
 {
     let n = mesh::vertex_count(level);
     let a = search::unit(q.a);
@@ -55,9 +58,12 @@ fn stage_interpolated_in(
     q: &Query,
 ) -> Result<Staged, Refusal>
     requires { offset < 4294967296 }
-    ensures { Ready file.now s.energies.start result (read_picks file.now (table_for s) linear true offset (face_pick (vertex_count level)
-        (locate_in (lent_locator locator.now) vertices.now (vertex_count level) (grid_size (vertex_count level)) (unit q.now.a))
-        (locate_in (lent_locator locator.now) vertices.now (vertex_count level) (grid_size (vertex_count level)) (unit q.now.b)))) }
+    ensures { Ready file.now s.energies.start result
+        (read_picks file.now (table_for s) linear true offset (face_pick (vertex_count level)
+        (locate_in (lent_locator locator.now) vertices.now (vertex_count level) (grid_size (vertex_count level))
+        (unit q.now.a))
+        (locate_in (lent_locator locator.now) vertices.now (vertex_count level) (grid_size (vertex_count level))
+        (unit q.now.b)))) }
 {
     let n = mesh::vertex_count(level);
     let a = search::unit(q.a);
@@ -172,8 +178,9 @@ fn stage_row(
     stage_resolution(s, file, vertices, locator, q, e.kind, e.offset as u64, row)
 }
 
-// A pose, where 21 has been asked already; no beta is there where it was answered no. With a beta above 0 its reading is
-// made at once: the exponentials keep the processor from going on to the next pose, so a second stage would win nothing.
+// A pose, where 21 has been asked already; no beta is there where it was answered no. With a beta above 0 its reading
+// is made at once: the exponentials keep the processor from going on to the next pose, so a second stage would win
+// nothing.
 pub(crate) fn stage(
     t: Table,
     file: &[u8],

@@ -24,9 +24,12 @@ fn nearest_in(
     q: &Query,
 ) -> Result<Energy, Refusal>
     requires { offset < 4294967296 }
-    ensures { reading_of result ≡ read_picks file.now (table_for s) linear false offset (nearest_pick (vertex_count level)
-        (nearest_in (lent_locator locator.now) vertices.now (vertex_count level) (grid_size (vertex_count level)) (unit q.now.a))
-        (nearest_in (lent_locator locator.now) vertices.now (vertex_count level) (grid_size (vertex_count level)) (unit q.now.b))) }
+    ensures { reading_of result ≡ read_picks file.now (table_for s) linear false offset
+        (nearest_pick (vertex_count level)
+        (nearest_in (lent_locator locator.now) vertices.now (vertex_count level) (grid_size (vertex_count level))
+        (unit q.now.a))
+        (nearest_in (lent_locator locator.now) vertices.now (vertex_count level) (grid_size (vertex_count level))
+        (unit q.now.b))) }
 {
     let n = mesh::vertex_count(level);
     let a = search::unit(q.a);
@@ -47,9 +50,12 @@ fn interpolated_in(
     beta: f64,
 ) -> Result<Energy, Refusal>
     requires { offset < 4294967296 }
-    ensures { reading_of result ≡ read_picks file.now (table_for s) (way_of beta) true offset (face_pick (vertex_count level)
-        (locate_in (lent_locator locator.now) vertices.now (vertex_count level) (grid_size (vertex_count level)) (unit q.now.a))
-        (locate_in (lent_locator locator.now) vertices.now (vertex_count level) (grid_size (vertex_count level)) (unit q.now.b))) }
+    ensures { reading_of result ≡ read_picks file.now (table_for s) (way_of beta) true offset
+        (face_pick (vertex_count level)
+        (locate_in (lent_locator locator.now) vertices.now (vertex_count level) (grid_size (vertex_count level))
+        (unit q.now.a))
+        (locate_in (lent_locator locator.now) vertices.now (vertex_count level) (grid_size (vertex_count level))
+        (unit q.now.b))) }
 {
     let n = mesh::vertex_count(level);
     let a = search::unit(q.a);

@@ -1,4 +1,5 @@
-// The reading of a table file, in stages: the slab's row is resolved, energies are gathered by a search of both directions, and combined.
+// The reading of a table file, in stages: the slab's row is resolved, energies are gathered by a search of both
+// directions, and combined.
 #![tactic(auto)]
 
 use search::Vector3;
@@ -45,15 +46,16 @@ pub struct Energy {
     pub distance_b: f64,
 }
 
-// What a row's answer asks of a table: how many levels it has, and where its energies are. A whole table would be copied.
+// What a row's answer asks of a table: how many levels it has, and where its energies are. A whole table would be
+// copied.
 #[derive(Clone, Copy)]
 struct RowTable {
     levels: u64,
     energies: Section,
 }
 
-// The corners of two faces, whose nine energies a reading makes one of: where the row's energies begin, the vertices of its
-// level, both faces, and their weights.
+// The corners of two faces, whose nine energies a reading makes one of: where the row's energies begin, the vertices
+// of its level, both faces, and their weights.
 #[derive(Clone, Copy)]
 struct Corners {
     offset: u64,
@@ -64,8 +66,8 @@ struct Corners {
     q: search::Weights,
 }
 
-// What the first stage of a reading leaves to the second: an energy that is known already; the place of a pair's energy, and
-// the distances; or the corners of two faces.
+// What the first stage of a reading leaves to the second: an energy that is known already; the place of a pair's
+// energy, and the distances; or the corners of two faces.
 #[derive(Clone, Copy)]
 enum Staged {
     Known(Energy),

@@ -24,7 +24,8 @@ fn poses_held(poses: usize, numbers: usize, answers: usize) -> usize
 
 // Question 21, put once for all poses: the beta, or 0 for the plain sum; none where it is answered no.
 fn weighting(beta: &[f64]) -> Option<f64>
-    ensures { (beta_held result ≡ way_valid (way_by beta.now)) × (beta_held result ≡ true → weighed_by result ≡ way_by beta.now) }
+    ensures { (beta_held result ≡ way_valid (way_by beta.now))
+        × (beta_held result ≡ true → weighed_by result ≡ way_by beta.now) }
 {
     if beta.len() == 0 {
         return Some(0.0);
@@ -65,7 +66,8 @@ fn stage_pose(
     i: usize,
 ) -> Result<Staged, Refusal>
     requires { i * 8 + 8 ≤ length poses.now }
-    ensures { Ready file.now t.energies_start result (pose_reading file.now t vertices.now (lent_locator locator.now) beta poses.now i) }
+    ensures { Ready file.now t.energies_start result
+        (pose_reading file.now t vertices.now (lent_locator locator.now) beta poses.now i) }
 {
     let k = i * 8;
     let q = Query {
@@ -99,10 +101,13 @@ fn read_block(
     numbers: &mut [u64],
     answers: &mut [f64],
 )
-    requires { (count ≤ length kept.old) × ((from + count) * 8 ≤ length poses.now) × (from + count ≤ length numbers.old) × ((from + count) * 3 ≤ length answers.old) }
-    ensures { (numbers.new ≡ put numbers.old from (joined count (λ k. (reading_values (pose_reading file.now t vertices.now
+    requires { (count ≤ length kept.old) × ((from + count) * 8 ≤ length poses.now)
+        × (from + count ≤ length numbers.old) × ((from + count) * 3 ≤ length answers.old) }
+    ensures { (numbers.new ≡ put numbers.old from
+        (joined count (λ k. (reading_values (pose_reading file.now t vertices.now
         (lent_locator locator.now) beta poses.now (from + k))).number ∷ [])))
-        × (answers.new ≡ put answers.old (from * 3) (joined count (λ k. shown (reading_values (pose_reading file.now t vertices.now
+        × (answers.new ≡ put answers.old (from * 3)
+        (joined count (λ k. shown (reading_values (pose_reading file.now t vertices.now
         (lent_locator locator.now) beta poses.now (from + k)))))) }
 {
     for i in 0..count {
@@ -132,7 +137,8 @@ pub fn lookup_all(
 ) -> u64
     ensures { ◌≡◌ {A = ReadingsOut}
         (record { count = result; numbers = numbers.new; answers = answers.new })
-        (readings_out file.now t vertices.now (lent_locator locator.now) (way_by beta.now) poses.now numbers.old answers.old) }
+        (readings_out file.now t vertices.now (lent_locator locator.now)
+        (way_by beta.now) poses.now numbers.old answers.old) }
 {
     let n = poses_held(poses.len(), numbers.len(), answers.len());
     let beta = weighting(beta);

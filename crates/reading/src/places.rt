@@ -1,4 +1,5 @@
-// Places of rows and energies in a file. Counts and starts are any numbers that a host hands in, so nothing is added up before it is known to fit.
+// Places of rows and energies in a file. Counts and starts are any numbers that a host hands in, so nothing is added
+// up before it is known to fit.
 ghost use Rattle.std.specs.Prelude.{◌≡◌, ◌+◌, ◌*◌, ◌≤◌, min};
 ghost use Rattle.reading.specs.Internal.{items_inside};
 

@@ -90,9 +90,10 @@ pub(crate) fn read_row(
     )
 }
 
-// Reads a table's energy at a distance, a dihedral angle and two directions: over the file's bytes, read's answer, and the meshes and locators of all its levels one after another.
-// The short answers, a Scalar row's too, are given here, in the caller's own code. The question and the lists are handed on
-// as copies, the lists as parts, each from its first entry on: lent as they are they would be stored before a short answer.
+// Reads a table's energy at a distance, a dihedral angle and two directions: over the file's bytes, read's answer,
+// and the meshes and locators of all its levels one after another. The short answers, a Scalar row's too, are given
+// here, in the caller's own code. The question and the lists are handed on as copies, the lists as parts, each from
+// its first entry on: lent as they are they would be stored before a short answer.
 pub fn lookup(
     t: Table,
     file: &[u8],
@@ -100,7 +101,8 @@ pub fn lookup(
     locator: &Locator,
     q: &Query,
 ) -> Result<Energy, Refusal>
-    ensures { reading_values (reading_of result) ≡ reading_out file.now t vertices.now (lent_locator locator.now) q.now }
+    ensures { reading_values (reading_of result) ≡ reading_out file.now t vertices.now
+        (lent_locator locator.now) q.now }
 {
     if !query_valid(q) {
         return Err(Refusal::Query);

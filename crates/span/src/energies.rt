@@ -50,7 +50,8 @@ fn mesh_included(file: &[u8], start: u64, offset: u64, n: u64, x: Extremes) -> E
 
 // The energies of the row that starts at a byte.
 fn entry_included(t: Table, file: &[u8], at: u64, x: Extremes) -> Extremes
-    requires { (at + 10 ≤ length file.now) × (entry_touched file.now t (entry_of (take 10 (drop at file.now))) ≡ true) × (x.scalar_nans < 18446744073709551615) }
+    requires { (at + 10 ≤ length file.now) × (entry_touched file.now t (entry_of (take 10 (drop at file.now))) ≡ true)
+        × (x.scalar_nans < 18446744073709551615) }
     ensures { result ≡ entry_included file.now t (entry_of (take 10 (drop at file.now))) x }
 {
     let e = table::entry_in(file, at);

@@ -1,5 +1,5 @@
-// What a span asks: 18 of its ends and the dihedral angle, 26 of its ends, 19 of its rows and their energies. Counts and starts are any numbers
-// that a host hands in, so nothing is added up before it is known to fit.
+// What a span asks: 18 of its ends and the dihedral angle, 26 of its ends, 19 of its rows and their energies. Counts
+// and starts are any numbers that a host hands in, so nothing is added up before it is known to fit.
 ghost use Rattle.std.specs.Prelude.{◌≡◌, ◌&&◌, ◌+◌, ◌-◌, ◌*◌, ◌≤◌, ◌<◌, length, take, drop, leb, ltb};
 ghost use Rattle.lists.specs.Lists.{all_up_to};
 ghost use Rattle.table.specs.File.{entry_of};
@@ -78,8 +78,10 @@ fn slab_inside(rows: Section, i: u64, n: u64, oi: u64, length: u64) -> bool
 
 // Question 19 of the rows of `count` bins that are inside the file.
 fn entries_touched(t: Table, file: &[u8], first: u64, count: u64, oi: u64) -> bool
-    requires { (1 ≤ t.grid.n_omega) × (t.rows_start + ((first + (count - 1)) * t.grid.n_omega + oi) * 10 + 10 ≤ length file.now) }
-    ensures { result ≡ all_up_to count (λ i. entry_touched file.now t (entry_at file.now t ((first + i) * t.grid.n_omega + oi))) }
+    requires { (1 ≤ t.grid.n_omega)
+        × (t.rows_start + ((first + (count - 1)) * t.grid.n_omega + oi) * 10 + 10 ≤ length file.now) }
+    ensures { result ≡ all_up_to count (λ i. entry_touched file.now t
+        (entry_at file.now t ((first + i) * t.grid.n_omega + oi))) }
 {
     let mut touched = true;
     for i in 0..count {

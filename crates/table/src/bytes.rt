@@ -16,7 +16,8 @@ pub fn u32_in(file: &[u8], at: u64) -> u32
 #[tactic(auto, using(crate::proofs::Numbers::eight))]
 pub(crate) fn u64_in(file: &[u8], at: u64) -> u64
     requires { at + 8 ≤ length file.now }
-    ensures { (result ≡ number_at 8 file.now at) × (result % 4294967296 ≡ number_at 4 file.now at) × (result / 4294967296 ≡ number_at 4 file.now (at + 4)) }
+    ensures { (result ≡ number_at 8 file.now at) × (result % 4294967296 ≡ number_at 4 file.now at)
+        × (result / 4294967296 ≡ number_at 4 file.now (at + 4)) }
 {
     let low = u32_in(file, at) as u64;
     let high = u32_in(file, at + 4) as u64;

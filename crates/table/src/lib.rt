@@ -25,8 +25,8 @@ pub struct Layout {
     pub end: u64,
 }
 
-// What a file holds: its grid, the counts of levels, rows, energies and terms, and where each section starts, at the byte after its
-// count. A file without terms has no sixth section: its start is the file's length.
+// What a file holds: its grid, the counts of levels, rows, energies and terms, and where each section starts, at the
+// byte after its count. A file without terms has no sixth section: its start is the file's length.
 #[derive(Clone, Copy)]
 pub struct Table {
     pub grid: Grid,
@@ -63,7 +63,8 @@ pub struct Bound {
     pub rows: u64,
 }
 
-// A row as it stands in a file: its kind is 0 for a scalar, 1 for a repulsive row, and 2 or 3 for the energies of a mesh.
+// A row as it stands in a file: its kind is 0 for a scalar, 1 for a repulsive row, and 2 or 3 for the energies of a
+// mesh.
 #[derive(Clone, Copy)]
 pub struct Entry {
     pub kind: u8,

@@ -21,7 +21,8 @@ use refusals::{Asked, Refusal};
 #[tactic(auto, using(lists::proofs::Counting::all_turn, lists::proofs::Counting::all_fails), unfolding(lists::specs::Lists::all_up_to))]
 fn levels_valid(file: &[u8], levels: Section) -> bool
     requires { (levels.start + levels.count * 4 ≤ length file.now) × (levels.count ≤ 16) }
-    ensures { result ≡ all_up_to levels.count (λ m. eqb (number_at 4 file.now (levels.start + 4 * m)) (vertex_count m)) }
+    ensures { result ≡ all_up_to levels.count
+        (λ m. eqb (number_at 4 file.now (levels.start + 4 * m)) (vertex_count m)) }
 {
     for m in 0..levels.count {
         if u32_in(file, levels.start + 4 * m) as u64 != mesh::vertex_count(m as u8) {
@@ -180,11 +181,12 @@ fn rows_tiled(file: &[u8], pairs: bool, rows: Section, energies: u64) -> bool
     o == energies
 }
 
-// The two energies at a byte are numbers. They are read as one, since a test of a number made of four bytes is not compiled
-// to many at a time.
+// The two energies at a byte are numbers. They are read as one, since a test of a number made of four bytes is not
+// compiled to many at a time.
 fn pair_valid(file: &[u8], at: u64) -> bool
     requires { at + 8 ≤ length file.now }
-    ensures { result ≡ not (nan_bits binary32 (number_at 4 file.now at)) && not (nan_bits binary32 (number_at 4 file.now (at + 4))) }
+    ensures { result ≡ not (nan_bits binary32 (number_at 4 file.now at)) && not
+        (nan_bits binary32 (number_at 4 file.now (at + 4))) }
 {
     let y = u64_in(file, at);
     let low = (y % 4294967296) as u32;
@@ -195,7 +197,8 @@ fn pair_valid(file: &[u8], at: u64) -> bool
 // Question 17. With no way out of the loop, so that it is compiled to many energies at a time.
 pub(crate) fn energies_valid(file: &[u8], energies: Section) -> bool
     requires { energies.start + energies.count * 4 ≤ length file.now }
-    ensures { result ≡ every (λ x. not (nan_bits binary32 x)) (items number_of 4 file.now energies.start energies.count) }
+    ensures { result ≡ every (λ x. not (nan_bits binary32 x))
+        (items number_of 4 file.now energies.start energies.count) }
 {
     let pairs = energies.count / 2;
     let mut held = true;
@@ -211,8 +214,10 @@ pub(crate) fn energies_valid(file: &[u8], energies: Section) -> bool
 // Questions 15 to 17 of a table's rows and energies.
 #[tactic(auto, using(refusals::proofs::Numbers::numbered), unfolding(lists::specs::Questions::ask))]
 fn rows_question(file: &[u8], pairs: bool, levels: u64, rows: Section, energies: Section) -> Asked
-    requires { (rows.start + rows.count * 10 ≤ length file.now) × (energies.start + energies.count * 4 ≤ length file.now) }
-    ensures { asked result ≡ rows_question (each_of pairs) file.now levels rows.start rows.count energies.start energies.count }
+    requires { (rows.start + rows.count * 10 ≤ length file.now)
+        × (energies.start + energies.count * 4 ≤ length file.now) }
+    ensures { asked result ≡ rows_question
+        (each_of pairs) file.now levels rows.start rows.count energies.start energies.count }
 {
     if !rows_valid(file, rows, levels) {
         return Err(Refusal::Row);

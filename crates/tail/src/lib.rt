@@ -27,7 +27,8 @@ fn term_energy(file: &[u8], at: u64, r: f64) -> f64
 // The sum of the terms' energies, from -0.0 on.
 fn terms_sum(file: &[u8], terms: Section, r: f64) -> f64
     requires { terms.start + terms.count * 20 ≤ length file.now }
-    ensures { result ≡ sum_from r (of_bits binary64 0x8000_0000_0000_0000) (items term_of 20 file.now terms.start terms.count) }
+    ensures { result ≡ sum_from r (of_bits binary64 0x8000_0000_0000_0000)
+        (items term_of 20 file.now terms.start terms.count) }
 {
     let mut sum: f64 = -0.0;
     for i in 0..terms.count {
