@@ -38,19 +38,13 @@ pub(crate) fn table_valid(file: &[u8], t: Table) -> bool
     requires { t.levels_start + t.levels * 4 ≤ length file.now }
     ensures { result ≡ table_valid file.now t }
 {
-    if !grid::grid_valid(t.grid, t.levels) {
-        return false;
-    }
-    if t.rows != t.grid.n_r * t.grid.n_omega {
-        return false;
-    }
-    levels_valid(
-        file,
-        Section {
-            start: t.levels_start,
-            count: t.levels,
-        },
-    )
+    let levels = Section {
+        start: t.levels_start,
+        count: t.levels,
+    };
+    grid::grid_valid(t.grid, t.levels)
+        && t.rows == t.grid.n_r * t.grid.n_omega
+        && levels_valid(file, levels)
 }
 
 // Question 14 of a table against an atom.
@@ -59,19 +53,11 @@ fn atom_table_valid(file: &[u8], t: AtomTable) -> bool
     requires { t.levels_start + t.levels * 4 ≤ length file.now }
     ensures { result ≡ atom_table_valid file.now t }
 {
-    if !grid::atom_grid_valid(t.grid, t.levels) {
-        return false;
-    }
-    if t.rows != t.grid.n_r {
-        return false;
-    }
-    levels_valid(
-        file,
-        Section {
-            start: t.levels_start,
-            count: t.levels,
-        },
-    )
+    let levels = Section {
+        start: t.levels_start,
+        count: t.levels,
+    };
+    grid::atom_grid_valid(t.grid, t.levels) && t.rows == t.grid.n_r && levels_valid(file, levels)
 }
 
 // The bits of a NaN: above those of infinity, apart from the sign.
@@ -85,10 +71,7 @@ fn nan_bits(x: u32) -> bool
 fn scalar_valid(x: u32) -> bool
     ensures { result ≡ scalar_valid x }
 {
-    if nan_bits(x) {
-        return x == 0x7fc0_0000;
-    }
-    true
+    !nan_bits(x) || x == 0x7fc0_0000
 }
 
 // The row at a byte.
