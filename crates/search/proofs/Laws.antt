@@ -22,7 +22,7 @@ use Rattle.mesh.specs.Faces.{face}
 use Rattle.search.specs.Geometry.{cell_index}
 use Rattle.search.specs.Cells.{triples}
 use Rattle.search.specs.Search.{not_nearest, nearer, nearest_from, nearest_among, nearest_in_cells, nearest_in, no_fit, not_located, better, fit_from, located_fit, best_face, Locator, vertex_inside, entries_at, entries_inside, locate_in}
-use Rattle.search.specs.Internal.{entries_held, FaceInside, inside, nearest_over, fit_over}
+use Rattle.search.specs.Internal.{entries_held, inside, nearest_over, fit_over}
 use Rattle.search.specs.declared.Vector3.{Vector3}
 use Rattle.search.specs.declared.Nearest.{Nearest}
 use Rattle.search.specs.declared.Fit.{Fit}
@@ -121,16 +121,6 @@ module _ (vs : List Float) (n : ℕ) (p : Vector3) (v : Nearest) (l : List ℕ) 
   unfolding fit_over every triples vertex_inside
   fit_stop best a b c h x y z t =
       rw (three l a b c h x y z, stops (inside n (length vs) a) (inside n (length vs) b) (inside n (length vs) c) (every (vertex_inside vs n) (take (length l - 3) (drop 3 l))) t)
-
--- the coordinates of a face's vertices are among those that were lent
-pub face_room : (vs : List Float) (n a b c : ℕ) → (inside n (length vs) a && (inside n (length vs) b && inside n (length vs) c)) ≡ true → FaceInside vs (face a b c)
-face_room vs n a b c t =
-    let k = (and-eq-true_iff (inside n (length vs) a) (inside n (length vs) b && inside n (length vs) c)).0 t in
-    let m = (and-eq-true_iff (inside n (length vs) b) (inside n (length vs) c)).0 k.1 in
-    (room a k.0, room b m.0, room c m.1)
-  where
-    room : (v : ℕ) → inside n (length vs) v ≡ true → 3 * v + 3 ≤ length vs
-    room v h = leb-true _ _ ((and-eq-true_iff (ltb v n) (leb (3 * v + 3) (length vs))).0 h).1
 
 pub fit_end : (vs : List Float) (n : ℕ) (p : Vector3) (v : Nearest) (best : Fit) (l : List ℕ) → length l < 3 → length l % 3 ≡ 0 → fit_over vs n p v best l ≡ located_fit v best
 unfolding fit_over every triples fit_from
