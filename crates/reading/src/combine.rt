@@ -8,7 +8,7 @@ ghost use Rattle.reading.specs.Resolve.{reading_of, linear, joint, nearest_pick,
 ghost use Rattle.reading.specs.Reading.{read_picks};
 ghost use Rattle.reading.specs.Internal.{plain_energy, table_for, way_of, IsSearched, NearestBelow, LocatedBelow, Small, RowInside, CornersInside, places_below, face_places_below, row_terms, face_terms, lesser, weighed, row_corners, face_corners, face_average};
 
-use crate::places::items_inside;
+use crate::places::{items_inside, u32_inside};
 use crate::{Corners, Energy, RowTable};
 use mesh::Face;
 use refusals::{Asked, Refusal};
@@ -45,7 +45,7 @@ pub(crate) fn energy(file: &[u8], start: u64, k: u64) -> f64
     requires { start + k * 4 + 4 ≤ length file.now }
     ensures { result ≡ widened (number_at 4 file.now (start + k * 4)) }
 {
-    bits::widened(table::u32_in(file, start + k * 4))
+    bits::widened(u32_inside(file, start + k * 4))
 }
 
 // The energy of a pair of vertices, and how far they lie.

@@ -173,7 +173,7 @@ fn stage_row(
     ensures { Ready file.now s.energies.start result (read_entry file.now (table_for s) vertices.now
         (lent_locator locator.now) linear q.now (entry_of (take 10 (drop at file.now)))) }
 {
-    let e = table::entry_in(file, at);
+    let e = table::entry_at(file, at);
     let row = rows::resolution_of(e.kind, e.level, e.scalar);
     stage_resolution(s, file, vertices, locator, q, e.kind, e.offset as u64, row)
 }

@@ -1,6 +1,7 @@
 // Places of rows and energies in a file. Counts and starts are any numbers that a host hands in, so nothing is added
 // up before it is known to fit.
-ghost use Rattle.std.specs.Prelude.{◌≡◌, ◌+◌, ◌*◌, ◌≤◌, min};
+ghost use Rattle.std.specs.Prelude.{◌≡◌, ◌+◌, ◌*◌, ◌≤◌, length, min};
+ghost use Rattle.table.specs.Bytes.{number_at};
 ghost use Rattle.reading.specs.Internal.{items_inside};
 
 use table::Section;
@@ -15,6 +16,16 @@ pub(crate) fn items_inside(section: Section, w: u64, length: u64) -> u64
     }
     let n = (length - section.start) / w;
     if n < section.count { n } else { section.count }
+}
+
+// The number in four bytes that are inside the file.
+#[tactic(auto, using(table::proofs::Numbers::four), unfolding(table::specs::Bytes::number_of))]
+pub(crate) fn u32_inside(file: &[u8], at: u64) -> u32
+    requires { at + 4 ≤ length file.now }
+    ensures { result ≡ number_at 4 file.now at }
+{
+    let i = at as usize;
+    table::u32_from_le_bytes(file[i], file[i + 1], file[i + 2], file[i + 3])
 }
 
 // ri * n + oi, or the limit where that is no larger.

@@ -8,6 +8,7 @@ ghost use Rattle.reading.specs.Internal.{table_for, row_table, way_of, read_reso
 
 use crate::combine::plain;
 use crate::gather::{read_interpolated, read_nearest};
+use crate::places::u32_inside;
 use crate::resolve::{outside, query_valid, row_place};
 use crate::{Energy, Query, RowTable};
 use refusals::Refusal;
@@ -75,7 +76,7 @@ pub(crate) fn read_row(
     ensures { reading_of result ≡ read_entry file.now (table_for s) vertices.now (lent_locator locator.now)
         (way_of beta) q.now (entry_of (take 10 (drop at file.now))) }
 {
-    let e = table::entry_in(file, at);
+    let e = table::entry_at(file, at);
     let row = rows::resolution_of(e.kind, e.level, e.scalar);
     read_resolution(
         s,
@@ -114,7 +115,7 @@ pub fn lookup(
         return Err(Refusal::NotLent);
     };
     if file[at as usize] == 0 {
-        return Ok(plain(bits::widened(table::u32_in(file, at + 6))));
+        return Ok(plain(bits::widened(u32_inside(file, at + 6))));
     }
     let copy = *q;
     let lists = *locator;
@@ -155,7 +156,7 @@ pub fn lookup_boltzmann(
         return Err(Refusal::NotLent);
     };
     if file[at as usize] == 0 {
-        return Ok(plain(bits::widened(table::u32_in(file, at + 6))));
+        return Ok(plain(bits::widened(u32_inside(file, at + 6))));
     }
     let copy = *q;
     let lists = *locator;

@@ -41,7 +41,7 @@ fn mesh_included(file: &[u8], start: u64, offset: u64, n: u64, x: Extremes) -> E
     let mut y = x;
     for k in 0..n {
         y = included(
-            bits::widened(table::u32_in(file, start + (offset + k) * 4)),
+            bits::widened(table::u32_at(file, start + (offset + k) * 4)),
             y,
         );
     }
@@ -54,7 +54,7 @@ fn entry_included(t: Table, file: &[u8], at: u64, x: Extremes) -> Extremes
         × (x.scalar_nans < 18446744073709551615) }
     ensures { result ≡ entry_included file.now t (entry_of (take 10 (drop at file.now))) x }
 {
-    let e = table::entry_in(file, at);
+    let e = table::entry_at(file, at);
     match e.kind {
         0 => scalar_included(bits::widened(e.scalar), x),
         1 => included(1.0 / 0.0, x),

@@ -43,7 +43,7 @@ fn entry_touched(t: Table, file: &[u8], at: u64) -> bool
     requires { at + 10 ≤ length file.now }
     ensures { result ≡ entry_touched file.now t (entry_of (take 10 (drop at file.now))) }
 {
-    let e = table::entry_in(file, at);
+    let e = table::entry_at(file, at);
     if e.kind <= 1 {
         return true;
     }

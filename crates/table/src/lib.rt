@@ -9,9 +9,9 @@ mod questions;
 mod reader;
 mod walk;
 
-pub use bytes::{f64_in, u32_in};
+pub use bytes::{float_at, u32_at, u32_from_le_bytes};
 pub use loose::read_loose;
-pub use questions::{energies_of, entry_in};
+pub use questions::{energies_of, entry_at};
 pub use reader::{atom_read, read, read_over, view};
 pub use walk::tail_size;
 

@@ -13,7 +13,7 @@ ghost use Rattle.table.specs.View.{within};
 ghost use Rattle.table.specs.Atom.{atom_table_valid};
 ghost use Rattle.table.specs.Internal.{TableInside, TailInside, AtomTableInside, each_of, rows_question, table_question, atom_table_question, placed_at, next_place};
 
-use crate::bytes::{f64_in, u32_in, u64_in};
+use crate::bytes::{byte_at, f64_in, u32_at, u32_in, u64_in};
 use crate::{AtomTable, Bound, Entry, Section, Table};
 use refusals::{Asked, Refusal};
 
@@ -76,7 +76,7 @@ fn scalar_valid(x: u32) -> bool
 
 // The row at a byte.
 #[tactic(auto, using(crate::proofs::Items::entry_at_lem))]
-pub fn entry_in(file: &[u8], at: u64) -> Entry
+pub(crate) fn entry_in(file: &[u8], at: u64) -> Entry
     requires { at + 10 ≤ length file.now }
     ensures { result ≡ entry_of (take 10 (drop at file.now)) }
 {
@@ -86,6 +86,32 @@ pub fn entry_in(file: &[u8], at: u64) -> Entry
         level: file[i + 1],
         offset: u32_in(file, at + 2),
         scalar: u32_in(file, at + 6),
+    }
+}
+
+// The row at any byte; bytes beyond the file's end count as 0.
+#[tactic(auto, using(crate::proofs::Items::entry_at_lem, crate::proofs::Numbers::beyond, crate::proofs::Numbers::none_there))]
+pub fn entry_at(file: &[u8], at: u64) -> Entry
+    ensures { result ≡ entry_of (take 10 (drop at file.now)) }
+{
+    let n = file.len() as u64;
+    if n <= at {
+        return Entry {
+            kind: 0,
+            level: 0,
+            offset: 0,
+            scalar: 0,
+        };
+    }
+    if 10 <= n - at {
+        return entry_in(file, at);
+    }
+    let i = at as usize;
+    Entry {
+        kind: byte_at(file, i),
+        level: byte_at(file, i + 1),
+        offset: u32_at(file, at + 2),
+        scalar: u32_at(file, at + 6),
     }
 }
 

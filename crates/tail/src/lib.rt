@@ -10,7 +10,7 @@ ghost use Rattle.tail.specs.Rule.{term_energy, sum_from};
 ghost use Rattle.tail.specs.Reading.{tail_values, tail_out};
 
 use refusals::Refusal;
-use table::{Section, Table, f64_in, u32_in};
+use table::{Section, Table, float_at, u32_at};
 
 // The energy of the term at a byte. In a damaged file its power is any number.
 #[tactic(auto, using(table::proofs::Items::term_at_lem), unfolding(crate::specs::Rule::term_energy))]
@@ -18,9 +18,9 @@ fn term_energy(file: &[u8], at: u64, r: f64) -> f64
     requires { at + 20 ≤ length file.now }
     ensures { result ≡ term_energy r (term_of (take 20 (drop at file.now))) }
 {
-    let coefficient = f64_in(file, at);
-    let kappa = f64_in(file, at + 8);
-    let power = u32_in(file, at + 16);
+    let coefficient = float_at(file, at);
+    let kappa = float_at(file, at + 8);
+    let power = u32_at(file, at + 16);
     (coefficient * float::exp(-kappa * r)) / float::power(r, power)
 }
 
@@ -71,5 +71,5 @@ pub fn tail_energy(t: Table, file: &[u8], r: f64) -> Result<f64, Refusal>
         return Err(Refusal::NotLent);
     }
     let sum = terms_sum(file, terms, r);
-    Ok(f64_in(file, terms.start + terms.count * 20) * sum)
+    Ok(float_at(file, terms.start + terms.count * 20) * sum)
 }

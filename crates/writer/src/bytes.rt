@@ -6,7 +6,7 @@ ghost use Rattle.lists.specs.Lists.{put};
 ghost use Rattle.table.specs.Bytes.{bytes_of};
 
 // Four bytes, where there is room for them.
-pub fn put_u32(out: &mut [u8], at: u64, x: u32)
+pub(crate) fn put_u32(out: &mut [u8], at: u64, x: u32)
     requires { at + 4 ≤ length out.old }
     ensures { out.new ≡ put out.old at (bytes_of 4 x) }
 {

@@ -9,6 +9,5 @@ mod slabs;
 mod tail;
 
 pub use atom::atom_write;
-pub use bytes::put_u32;
 pub use files::write;
 pub use tail::{LentTail, write_tail};

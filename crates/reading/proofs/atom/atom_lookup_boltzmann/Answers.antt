@@ -49,12 +49,12 @@ pub returns-in_default : goal.returns-in_default
 returns-in_default c =
     row_none c.args.file.now c.args.t c.args.vertices.now (lent_locator c.args.locator.now) (boltzmann c.args.beta) c.args.q.now (asked (goal.at.returns-in_default c).Else-not-atom_query_valid) (weighted (goal.at.returns-in_default c).Else-not-is_finite-beta) (inner (goal.at.returns-in_default c).Else-atom_outside) c.in_default.ensures
 
-pub u32_in-requires : goal.u32_in-requires
-u32_in-requires c = omega (arith, fits (goal.at.u32_in-requires c).In-Some)
+pub u32_inside-requires : goal.u32_inside-requires
+u32_inside-requires c = omega (arith, fits (goal.at.u32_inside-requires c).In-Some)
 
 pub returns-then-file-at-eq0 : goal.returns-then-file-at-eq0
 returns-then-file-at-eq0 c =
-    rw (c.plain-then-file-at-eq0.ensures, c.widened.ensures, c.u32_in.ensures)
+    rw (c.plain-then-file-at-eq0.ensures, c.widened.ensures, c.u32_inside.ensures)
     (scalar_row c.args.file.now c.args.t c.args.vertices.now (lent_locator c.args.locator.now) (boltzmann c.args.beta) c.args.q.now (asked (goal.at.returns-then-file-at-eq0 c).Else-not-atom_query_valid) (weighted (goal.at.returns-then-file-at-eq0 c).Else-not-is_finite-beta) (inner (goal.at.returns-then-file-at-eq0 c).Else-atom_outside) c.in-Some.at (place (goal.at.returns-then-file-at-eq0 c).In-Some) c.if-file-at-eq0.true)
 
 pub read_atom_row-requires : goal.read_atom_row-requires

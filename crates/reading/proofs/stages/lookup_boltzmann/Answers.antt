@@ -63,12 +63,12 @@ bounds-file-at c = omega (arith, fits (goal.at.bounds-file-at c).In-Some)
 pub overflow_add-at : goal.overflow_add-at
 overflow_add-at c = omega (arith, fits (goal.at.overflow_add-at c).In-Some, c.well_formed.1.0)
 
-pub u32_in-requires : goal.u32_in-requires
-u32_in-requires c = omega (arith, fits (goal.at.u32_in-requires c).In-Some)
+pub u32_inside-requires : goal.u32_inside-requires
+u32_inside-requires c = omega (arith, fits (goal.at.u32_inside-requires c).In-Some)
 
 pub returns-then-file-at-eq0 : goal.returns-then-file-at-eq0
 returns-then-file-at-eq0 c =
-    rw (c.plain-then-file-at-eq0.ensures, c.widened.ensures, c.u32_in.ensures)
+    rw (c.plain-then-file-at-eq0.ensures, c.widened.ensures, c.u32_inside.ensures)
     (answered c.args.file.now c.args.t c.args.vertices.now (lent_locator c.args.locator.now) (boltzmann c.args.beta) c.args.q.now _
     (scalar_row c.args.file.now c.args.t c.args.q.now c.args.vertices.now (lent_locator c.args.locator.now) (boltzmann c.args.beta) (way_valid (boltzmann c.args.beta)) (asked (goal.at.returns-then-file-at-eq0 c).Else-not-query_valid) (weighted (goal.at.returns-then-file-at-eq0 c).Else-not-is_finite-beta) (inner (goal.at.returns-then-file-at-eq0 c).Else-outside) c.in-Some.at (place (goal.at.returns-then-file-at-eq0 c).In-Some) c.if-file-at-eq0.true))
 
