@@ -9,7 +9,7 @@ ghost use Rattle.reading.specs.Internal.{table_for, atom_row_table, way_of, atom
 
 use crate::atom_combine::{read_atom_interpolated, read_atom_nearest};
 use crate::combine::plain;
-use crate::places::{items_inside, u32_inside};
+use crate::places::{entry_inside, items_inside, u32_inside};
 use crate::{AtomQuery, Energy, RowTable};
 use grid::AtomGrid;
 use refusals::Refusal;
@@ -76,7 +76,7 @@ fn read_atom_row(
     ensures { reading_of result ≡ entry_by file.now (table_for s) (atom_combined (way_of beta))
         (atom_search_in vertices.now (lent_locator locator.now) d) (entry_of (take 10 (drop at file.now))) }
 {
-    let e = table::entry_at(file, at);
+    let e = entry_inside(file, at);
     if e.kind == 0 {
         return Ok(plain(bits::widened(e.scalar)));
     }

@@ -14,6 +14,7 @@ ghost use Rattle.reading.specs.Internal.{table_for, weighed_by, beta_held, read_
 use crate::combine::plain;
 use crate::energies::{stage_faces, stage_pair};
 use crate::gather::part_from;
+use crate::places::entry_inside;
 use crate::resolve::{outside, query_valid, row_place};
 use crate::stages::{read_row, row_table};
 use crate::{Query, RowTable, Staged};
@@ -173,7 +174,7 @@ fn stage_row(
     ensures { Ready file.now s.energies.start result (read_entry file.now (table_for s) vertices.now
         (lent_locator locator.now) linear q.now (entry_of (take 10 (drop at file.now)))) }
 {
-    let e = table::entry_at(file, at);
+    let e = entry_inside(file, at);
     let row = rows::resolution_of(e.kind, e.level, e.scalar);
     stage_resolution(s, file, vertices, locator, q, e.kind, e.offset as u64, row)
 }

@@ -8,7 +8,7 @@ ghost use Rattle.reading.specs.Internal.{table_for, row_table, way_of, read_reso
 
 use crate::combine::plain;
 use crate::gather::{read_interpolated, read_nearest};
-use crate::places::u32_inside;
+use crate::places::{entry_inside, u32_inside};
 use crate::resolve::{outside, query_valid, row_place};
 use crate::{Energy, Query, RowTable};
 use refusals::Refusal;
@@ -76,7 +76,7 @@ pub(crate) fn read_row(
     ensures { reading_of result ≡ read_entry file.now (table_for s) vertices.now (lent_locator locator.now)
         (way_of beta) q.now (entry_of (take 10 (drop at file.now))) }
 {
-    let e = table::entry_at(file, at);
+    let e = entry_inside(file, at);
     let row = rows::resolution_of(e.kind, e.level, e.scalar);
     read_resolution(
         s,

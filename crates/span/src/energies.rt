@@ -33,6 +33,16 @@ fn scalar_included(e: f64, x: Extremes) -> Extremes
     y
 }
 
+// The number in four bytes that are inside the file: `u32_at` of `table` would ask of each energy whether it is.
+#[tactic(auto, using(table::proofs::Numbers::four), unfolding(table::specs::Bytes::number_of))]
+fn u32_inside(file: &[u8], at: u64) -> u32
+    requires { at + 4 ≤ length file.now }
+    ensures { result ≡ number_at 4 file.now at }
+{
+    let i = at as usize;
+    table::u32_from_le_bytes(file[i], file[i + 1], file[i + 2], file[i + 3])
+}
+
 // A Mesh row's n energies, from place `offset` on.
 fn mesh_included(file: &[u8], start: u64, offset: u64, n: u64, x: Extremes) -> Extremes
     requires { start + (offset + n) * 4 ≤ length file.now }
@@ -40,10 +50,7 @@ fn mesh_included(file: &[u8], start: u64, offset: u64, n: u64, x: Extremes) -> E
 {
     let mut y = x;
     for k in 0..n {
-        y = included(
-            bits::widened(table::u32_at(file, start + (offset + k) * 4)),
-            y,
-        );
+        y = included(bits::widened(u32_inside(file, start + (offset + k) * 4)), y);
     }
     y
 }

@@ -11,5 +11,5 @@ returns c =
     let a = c.args in
     rw (entry_at_lem a.file.now a.at)
     (ready_same
-    (rw (c.resolution_of-row.ensures, c.entry_at-e.ensures, entry_at_lem a.file.now a.at) at c.stage_resolution.ensures)
+    (rw (c.resolution_of-row.ensures, c.entry_inside-e.ensures, entry_at_lem a.file.now a.at) at c.stage_resolution.ensures)
     (entry_by_lem a.file.now (table_for a.s) a.vertices.now (lent_locator a.locator.now) linear a.q.now (entry_at a.file.now a.at)))

@@ -16,7 +16,7 @@ loop-k-init c = refl
 pub loop-k-preserved : goal.loop-k-preserved
 loop-k-preserved c =
     let a = c.args in
-    rw (c.included-y.ensures, c.widened.ensures, c.u32_at.ensures)
+    rw (c.included-y.ensures, c.widened.ensures, c.u32_inside.ensures)
     (each_turn (λ (j : ℕ) (z : Extremes). included (widened (number_at 4 a.file.now (a.start + (a.offset + j) * 4))) z) c.loop-k.k a.x c.loop-k.y c.loop-k.invariant)
 
 pub returns : goal.returns
