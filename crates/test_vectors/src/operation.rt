@@ -78,7 +78,9 @@ impl Operation {
     }
 
     // How many operands the operation has.
-    pub fn operands(self) -> usize {
+    pub fn operands(self) -> usize
+        ensures { result ≤ 3 }
+    {
         match self {
             MulAdd => 3,
             TotalOrder | Max | Min | Power => 2,
@@ -87,7 +89,9 @@ impl Operation {
     }
 
     // How many digits an operand has.
-    pub fn operand_width(self) -> usize {
+    pub fn operand_width(self) -> usize
+        ensures { result ≤ 16 }
+    {
         match self {
             Widen => 8,
             _ => 16,
@@ -95,7 +99,9 @@ impl Operation {
     }
 
     // How many digits the result has.
-    pub fn result_width(self) -> usize {
+    pub fn result_width(self) -> usize
+        ensures { result ≤ 16 }
+    {
         match self {
             Narrow => 8,
             TotalOrder | IsFinite | NarrowCase => 1,
