@@ -128,9 +128,9 @@ fn put_energies(out: &mut [u8], at: u64, energies: &[f64])
     requires { at + length energies.now * 4 ≤ length out.old }
     ensures { out.new ≡ put out.old at (packed (bytes_of 4) (map narrow_bits energies.now)) }
 {
-    let mut block = [0.0f32; 256];
+    let mut block = [0.0f32; 248];
     let mut to = at;
-    for part in energies.chunks(256) {
+    for part in energies.chunks(248) {
         put_block(out, to, part, &mut block);
         to += 4 * part.len() as u64;
     }

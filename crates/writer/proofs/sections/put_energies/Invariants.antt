@@ -9,7 +9,7 @@ use Rattle.writer.proofs.sections.put_energies.Given as goal
 
 abbrev pub invariant-loop-part : goal.invariant-loop-part
 invariant-loop-part l = record {
-  size : chunks_size l.part-iterator ≡ 256;
-  room : length l.block ≡ 256;
+  size : chunks_size l.part-iterator ≡ 248;
+  room : length l.block ≡ 248;
   written : Left l.initial.out l.at (packed (bytes_of 4) (map narrow_bits l.energies)) l.out l.to (packed (bytes_of 4) (map narrow_bits (chunks_rest l.part-iterator)));
 }
