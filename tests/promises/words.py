@@ -51,7 +51,7 @@ class Words:
         for path, names in re.findall(r'^(?:pub(?:\(crate\))? )?use (\w+)::([^;]*);', text, re.M):
             for name in re.findall(r'\b[A-Z]\w*', names):
                 self.means[file][name] = ('use', path.replace('crate', crate, 1), name)
-        for found in re.finditer(r'^(?:pub )?(?:struct|enum) (\w+)\s*(\{[^}]*\}|\([^)]*\))', text, re.M):
+        for found in re.finditer(r'^(?:pub )?(?:struct|enum) (\w+)(?:<[^>]*>)?\s*(\{[^}]*\}|\([^)]*\))', text, re.M):
             self.means[file][found.group(1)] = file, found.group(1)
             self.inside[file, found.group(1)] = set(re.findall(r'\w+', found.group(2)))
         for found in re.finditer(r'\bfn (\w+)(.*?)\n\}', text, re.S):

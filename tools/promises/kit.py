@@ -14,6 +14,6 @@ RESULT = 'result'
 # fields are numbers
 FIELDS = {'now', 'old', 'new'}
 # of the kit's names, those that a pattern takes apart; any other that a pattern writes is an error
-CONSTRUCTORS = set('zero suc true false [] ◌∷◌ none some nan inf fin pos negsuc'.split())
+CONSTRUCTORS = set('zero suc true false [] ◌∷◌ none some Ok Err Some None nan inf fin pos negsuc'.split())
 # .. and those that a pattern may bind anew, as they are no constructors
 HIDDEN = set()

@@ -5,7 +5,7 @@ from tokens import escaped
 from wrong import Wrong
 
 CLOSERS = {'(': ')', '{': '}', '[': ']'}
-PRIMITIVE = set('bool f32 f64 i8 i16 i32 i64 isize u8 u16 u32 u64 usize'.split())
+PRIMITIVE = set('Result Option bool f32 f64 i8 i16 i32 i64 isize u8 u16 u32 u64 usize'.split())
 ITEM = re.compile(r'^((?:pub(?:\(crate\))? )?)(struct|enum|const|type) (\w+)', re.M)
 FUNCTION = re.compile(r'^(?:pub(?:\(crate\))? )?(?:extern "C" )?fn (\w+)(?:<[^>]*>)?\(', re.M)
 
@@ -107,7 +107,7 @@ class Source:
             item.fields = [([escaped(name)], None) for name, _ in found]
             item.types = [typed for _, typed in found]
         else:
-            found = re.findall(r'(\w+)(?:\(([^)]*)\)| ?\{([^}]*)\})?\s*(?:,|$)', inside)
+            found = re.findall(r'(\w+)(?:\(([^)]*)\)| ?\{([^}]*)\})?(?: = \d+)?\s*(?:,|$)', inside)
             item.constructors = [([name], None) for name, _, _ in found]
             item.types = [held or re.sub(r'\w+:', '', named) for _, held, named in found]
 

@@ -10,7 +10,7 @@ pub fn float64(b: u64) -> f64
     ensures { result ≡ of_bits binary64 b }
 {
     if b % 0x8000_0000_0000_0000 > 0x7ff0_0000_0000_0000 {
-        0.0 / 0.0
+        f64::NAN
     } else {
         f64::from_bits(b)
     }
@@ -20,7 +20,7 @@ pub fn float32(b: u32) -> f32
     ensures { result ≡ of_bits binary32 b }
 {
     if b % 0x8000_0000 > 0x7f80_0000 {
-        0.0 / 0.0
+        f32::NAN
     } else {
         f32::from_bits(b)
     }
@@ -31,9 +31,9 @@ pub fn widened(b: u32) -> f64
     ensures { result ≡ of_bits binary32 b }
 {
     if b % 0x8000_0000 > 0x7f80_0000 {
-        0.0 / 0.0
+        f64::NAN
     } else {
-        f32::from_bits(b) as f64
+        f64::from(f32::from_bits(b))
     }
 }
 
@@ -44,12 +44,12 @@ pub fn bits64(x: f64) -> u64
     if x != x {
         0x7ff8_0000_0000_0000
     } else {
-        f64::to_bits(x)
+        x.to_bits()
     }
 }
 
 pub fn bits32(x: f32) -> u32
     ensures { result ≡ to_bits binary32 x }
 {
-    if x != x { 0x7fc0_0000 } else { f32::to_bits(x) }
+    if x != x { 0x7fc0_0000 } else { x.to_bits() }
 }

@@ -1,55 +1,39 @@
 -- What an accepted settle may count on, and what it gives. Assumes nothing.
-use mathlib.Core.Path.{◌≡◌, refl, ap, ◌∙◌}
+use mathlib.Core.Path.{◌≡◌, refl, ◌∙◌}
 use Rattle.lists.proofs.Asking.{ask_yes, first_yes}
-use mathlib.Core.Bool.{true, cond}
-use mathlib.Core.List.{List, [], ◌∷◌, map}
-use Prim.Native.Nat.{ℕ, suc, ◌*◌, ◌^◌, ◌≤◌, ◌<◌}
+use mathlib.Core.Bool.{true}
+use mathlib.Core.List.{map}
+use Prim.Native.Nat.{ℕ, ◌*◌, ◌^◌, ◌≤◌, ◌<◌}
 use native.Mathlib.Nat.{mul-le-mul, zero-add}
 use native.Mathlib.Omega.{arith}
 use lib.Dec.{lit<}
 use lib.ListN.{length, length-map}
 use lib.Ieee.{Float}
 use borrow.Author.Tests.{ltb-true}
-use Rattle.mesh.specs.Levels.{vertex_count, vertices_below, per}
-use Rattle.mesh.specs.Mesh.{Mesh, level_part, mesh_long, mesh_of, neighbour_total}
-use Rattle.mesh.proofs.Laws.{below_le}
+use Rattle.mesh.specs.Levels.{vertex_count, per}
+use Rattle.mesh.specs.Mesh.{Mesh, level_part, neighbour_total}
 use Rattle.mesh.proofs.Sizes.{count_mono}
-use Rattle.mesh.proofs.Kept.{held}
 use Rattle.mesh.proofs.Totals.{kept-total_le}
-use Rattle.rows.specs.Rows.{Rows, Row, scalar, repulsive, mesh}
-use Rattle.settling.specs.Gradient.{all_repulsive, comparisons}
-use Rattle.settling.specs.Settling.{by_gradient, verdict, verdict_of, verdicts, drops, settled_slice, from_level, comparisons_for, comparisons_in, atom_verdict, atom_verdict_of, atom_level}
+use Rattle.rows.specs.Rows.{Rows, Row}
+use Rattle.settling.specs.Gradient.{comparisons}
+use Rattle.settling.specs.Settling.{verdict_of, verdicts, drops, settled_slice, from_level, comparisons_for, comparisons_in, atom_verdict_of, atom_level}
 use Rattle.builder.specs.BuilderLists.{BuilderLists, slab, slice_at}
-use Rattle.builder.specs.Calls.{settled_values, settled_lists, SettleOut, settle_accepted}
-use Rattle.builder.specs.Internal.{SettleReadyIn, MeshesLinked, AtomSettleReady, atom_settled_slab, part_links, tally_from, start, drops_by, dropped_by}
-use Rattle.builder.specs.Atom.{AtomSettleOut, atom_row, atom_meshed_refusal, atom_settle_refusal, atom_settled_values, atom_settle_accepted}
+use Rattle.builder.specs.Calls.{settled_lists, SettleOut, settle_accepted}
+use Rattle.builder.specs.Internal.{SettleReady, AtomSettleReady, atom_settled_slab, tally_from, start, drops_by, dropped_by}
+use Rattle.builder.specs.Atom.{AtomSettleOut, atom_row, atom_meshed_refusal, atom_settle_refusal, atom_settle_accepted}
 use Rattle.builder.specs.declared.Builder.{Builder}
 use Rattle.builder.specs.declared.AtomBuilder.{AtomBuilder}
-use Rattle.builder.specs.declared.AtomSettled.TheVariants.{Accepted as AtomSettles}
-use Rattle.builder.specs.declared.Settled.TheVariants.{Accepted as Settles}
 use Rattle.settling.specs.declared.Tally.{Tally}
 use Rattle.settling.specs.declared.Verdict.{Verdict}
 use Rattle.settling.specs.declared.AtomVerdict.{AtomVerdict}
-use Rattle.settling.specs.declared.Verdict.TheVariants.{Blocked}
 use Rattle.lists.proofs.Places.{place}
 use Rattle.builder.proofs.Laws.{Meshed, meshed, atom_meshed}
 use Rattle.builder.specs.Refusals.{meshed_refusal, settle_refusal}
-use Rattle.settling.proofs.Slopes.{gradient-links, atom_links}
 use Rattle.settling.proofs.Compared.{part_comparisons, part_line, in_times, in_few}
 use Rattle.builder.proofs.Turns.{row_energies_lem, rows_count}
 use Rattle.builder.proofs.Changes.{tally_gradient, tally_settled, tally_clear, tally_packed, tally_reached}
 
 -- ---- what an accepted settle may count on
-
-abbrev links_of : Mesh → Mesh
-links_of ms = mesh_of [] ms.counts ms.neighbours ms.angles
-
--- meshes as long as those up to the top hold the links of a level below
-pub linked : (c top : ℕ) (ms : Mesh) → c ≤ top → mesh_long (vertices_below (suc top)) ms ≡ true → MeshesLinked c (links_of ms)
-linked c top ms l e =
-    let h = held (vertices_below (suc top)) ms e in
-    let up = below_le (suc c) (suc top) (omega (arith, l)) in
-    record { counts_le = omega (arith, h.counts, up); neighbours_le = omega (arith, h.neighbours, up); angles_le = omega (arith, h.angles, up) }
 
 -- 1 to 7 were answered yes
 settle_meshed : (b : Builder) (ms : Mesh) (l : BuilderLists) (ri : ℕ) → settle_refusal b ms l ri ≡ 0
@@ -58,7 +42,7 @@ unfolding settle_refusal meshed_refusal
 settle_meshed b ms l ri e =
     meshed b ms (length l.store) (length l.rows.kinds) (length l.rows.levels) (length l.rows.values) (first_yes e).0
 
-pub ready : (b : Builder) (ms : Mesh) (l : BuilderLists) (ri : ℕ) → settle_refusal b ms l ri ≡ 0 → SettleReadyIn b (links_of ms) l ri
+pub ready : (b : Builder) (ms : Mesh) (l : BuilderLists) (ri : ℕ) → settle_refusal b ms l ri ≡ 0 → SettleReady b l ri
 unfolding settle_refusal
 ready b ms l ri e =
     let g = b.grid in
@@ -70,34 +54,19 @@ ready b ms l ri e =
     let in-bins = ltb-true ri g.n_r q8.0 in
     let a = f.asked in
     record {
-      ready = record {
-        top_le = a.top_le;
-        level_le = a.level_le;
-        slice_le = omega (arith, place ri g.n_r g.n_omega g.n_omega in-bins (omega arith));
-        few = omega (arith, mul-le-mul a.rs a.omegas);
-        store_le = f.room.store_le;
-        same_level = q11.0;
-      };
-      linked = linked b.level b.top ms a.level_le f.held;
+      top_le = a.top_le;
+      level_le = a.level_le;
+      slice_le = omega (arith, place ri g.n_r g.n_omega g.n_omega in-bins (omega arith));
+      few = omega (arith, mul-le-mul a.rs a.omegas);
+      store_le = f.room.store_le;
+      same_level = q11.0;
     }
 
 -- ---- what it gives
 
-verdict-links : (threshold beta : Float) (c : ℕ) (ms : Mesh) (r : Row Float)
-    → verdict_of threshold beta (part_links c (links_of ms)) (vertex_count c) r ≡ verdict_of threshold beta (level_part c ms) (vertex_count c) r
-unfolding verdict level_part
-verdict-links threshold beta c ms (scalar x) = refl
-verdict-links threshold beta c ms repulsive = refl
-verdict-links threshold beta c ms (mesh v b e) =
-    ap (λ (x : Float). cond (all_repulsive beta e) Blocked (by_gradient threshold e x)) (gradient-links (level_part c ms) (vertex_count c) beta e)
-
-map_same : {A B : Type 0} (f g : A → B) (l : List A) → ((x : A) → f x ≡ g x) → map f l ≡ map g l
-map_same f g [] h = refl
-map_same f g (x ∷ l) h = rw (h x, map_same f g l h)
-
 -- the verdict that the code finds of a row
 abbrev found_of : Builder → Mesh → Row Float → Verdict
-found_of b ms = verdict_of b.grid.threshold b.grid.beta (part_links b.level (links_of ms)) (vertex_count b.level)
+found_of b ms = verdict_of b.grid.threshold b.grid.beta (level_part b.level ms) (vertex_count b.level)
 
 -- how many slabs reach the gradient: no more than the slice has
 reached_is : (b : Builder) (ms : Mesh) (l : BuilderLists) (ri : ℕ) → settle_refusal b ms l ri ≡ 0 → (let vs = map (found_of b ms) (slice_at b l ri) in
@@ -123,22 +92,23 @@ count_ready b ms l ri t e h =
 pub settle_is : (b : Builder) (ms : Mesh) (l : BuilderLists) (ri : ℕ) (t : Tally) (rows : Rows) → b.packed < 2 ^ 64 → settle_refusal b ms l ri ≡ 0
     → (t ≡ tally_from (found_of b ms) b.level (start b.packed) (slice_at b l ri)) × (rows ≡ settled_lists b.level l.rows (slab b.grid ri 0) (map (found_of b ms) (slice_at b l ri)))
     → ◌≡◌ {A = SettleOut}
-    (record { answer = settled_values b (Settles (dropped_by b t) t.gradient (t.reached * (2 * vertex_count b.level * neighbour_total ms.counts b.level))); lists = record { store = l.store; rows = rows } })
+    (record {
+      answer = record { number = 0; gradient = t.gradient; comparisons = t.reached * (2 * vertex_count b.level * neighbour_total ms.counts b.level); builder = dropped_by b t };
+      lists = record { store = l.store; rows = rows };
+    })
     (settle_accepted b ms l ri)
 unfolding settle_accepted settled_slice dropped_by drops_by drops verdicts
 settle_is b ms l ri t rows few e h =
     let c = b.level in
     let rs = slice_at b l ri in
     let f = found_of b ms in
-    let g = verdict_of b.grid.threshold b.grid.beta (level_part c ms) (vertex_count c) in
-    let same = map_same f g rs (verdict-links b.grid.threshold b.grid.beta c ms) in
     let z = start b.packed in
-    rw (h.0, h.1, tally_gradient f c z rs, tally_settled f c z rs, tally_clear f c z rs, tally_packed f c z rs few, (reached_is b ms l ri e).0, same, in_times (comparisons (level_part c ms) (vertex_count c)) (map g rs), part_comparisons ms c) refl
+    rw (h.0, h.1, tally_gradient f c z rs, tally_settled f c z rs, tally_clear f c z rs, tally_packed f c z rs few, (reached_is b ms l ri e).0, in_times (comparisons (level_part c ms) (vertex_count c)) (map f rs), part_comparisons ms c) refl
 
 -- ---- the same of a table against an atom
 
 pub atom_ready : (b : AtomBuilder) (ms : Mesh) (l : BuilderLists) (ri : ℕ) → atom_settle_refusal b ms l ri ≡ 0
-    → AtomSettleReady b (links_of ms) l.store ri × (from_level b.level (atom_row b.top l ri) ≡ true)
+    → AtomSettleReady b l.store ri × (from_level b.level (atom_row b.top l ri) ≡ true)
 unfolding atom_settle_refusal atom_meshed_refusal
 atom_ready b ms l ri e =
     let q = first_yes e in
@@ -148,23 +118,20 @@ atom_ready b ms l ri e =
     let q11 = ask_yes (lit< tt) q15.1 in
     let a = f.asked in
     let fits = place ri b.grid.n_r (vertex_count b.level) (vertex_count b.top) (ltb-true ri b.grid.n_r q8.0) (count_mono b.level b.top a.level_le) in (
-      record { top_le = a.top_le; level_le = a.level_le; store_le = omega (arith, fits, f.room.store_le); linked = linked b.level b.top ms a.level_le f.held },
+      record { top_le = a.top_le; level_le = a.level_le; store_le = omega (arith, fits, f.room.store_le) },
       q11.0,
     )
 
-atom_verdict-links : (threshold beta : Float) (c : ℕ) (ms : Mesh) (r : Row Float)
-    → atom_verdict_of threshold beta (part_links c (links_of ms)) (vertex_count c) r ≡ atom_verdict_of threshold beta (level_part c ms) (vertex_count c) r
-unfolding atom_verdict level_part
-atom_verdict-links threshold beta c ms (scalar x) = refl
-atom_verdict-links threshold beta c ms repulsive = refl
-atom_verdict-links threshold beta c ms (mesh v b e) = rw (atom_links (level_part c ms) (vertex_count c) beta e)
-
 pub atom_settle_is : (b : AtomBuilder) (ms : Mesh) (l : BuilderLists) (ri : ℕ) (v : AtomVerdict) (rows : Rows) → from_level b.level (atom_row b.top l ri) ≡ true
-    → atom_settled_slab b (part_links b.level (links_of ms)) l.store ri l.rows v rows
+    → atom_settled_slab b (level_part b.level ms) l.store ri l.rows v rows
     → ◌≡◌ {A = AtomSettleOut}
     (record {
-      answer = atom_settled_values b
-          (AtomSettles (record { grid = b.grid; top = b.top; level = atom_level b.grid.threshold b.level v }) v.gradient (comparisons_for (neighbour_total ms.counts b.level) v.verdict));
+      answer = record {
+        number = 0;
+        gradient = v.gradient;
+        comparisons = comparisons_for (neighbour_total ms.counts b.level) v.verdict;
+        builder = record { grid = b.grid; top = b.top; level = atom_level b.grid.threshold b.level v };
+      };
       lists = record { store = l.store; rows = rows };
     })
     (atom_settle_accepted b ms l ri)
@@ -172,5 +139,5 @@ unfolding atom_settle_accepted
 atom_settle_is b ms l ri v rows h t =
     let row = row_energies_lem vertex_count b.top l ri b.level h in
     let found : v ≡ atom_verdict_of b.grid.threshold b.grid.beta (level_part b.level ms) (vertex_count b.level) (atom_row b.top l ri) =
-    t.0 ∙ rw (← row) (atom_verdict-links b.grid.threshold b.grid.beta b.level ms (atom_row b.top l ri)) in
+    t.0 ∙ rw (← row) in
     rw (t.1, found, part_line ms b.level) refl

@@ -56,9 +56,9 @@ module _ (f : Row Float → Verdict) (c : ℕ) where
       tally_reached (tallied c t r (f r)) rs next ∙ rw e (omega arith)
 
 -- the level drops only where it is above 0
-pub drops-above : (t : Tally) (threshold : Float) (level : ℕ) → drops_by t threshold level ≡ true → 0 < level
+pub drops_above : (t : Tally) (threshold : Float) (level : ℕ) → drops_by t threshold level ≡ true → 0 < level
 unfolding drops_by
-drops-above t threshold level e =
+drops_above t threshold level e =
     let a = ((and-eq-true_iff t.settled (t.clear && (lt t.gradient threshold && ltb 0 level))).0 e).1 in
     let b = ((and-eq-true_iff t.clear (lt t.gradient threshold && ltb 0 level)).0 a).1 in
     ltb-true 0 level ((and-eq-true_iff (lt t.gradient threshold) (ltb 0 level)).0 b).1

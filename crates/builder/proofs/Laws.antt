@@ -1,7 +1,6 @@
 -- What questions that were answered yes say of the numbers. Assumes nothing.
 use mathlib.Core.Path.{◌≡◌, refl, ◌∙◌}
 use Rattle.lists.proofs.Asking.{ask_yes, first_yes}
-use Rattle.lists.proofs.Counting.{yes, no}
 use mathlib.Core.Bool.{Bool, true, false, ◌&&◌, and-eq-true_iff}
 use mathlib.Core.List.{List, [], ◌∷◌, map, map-append}
 use Prim.Native.Nat.{ℕ, zero, suc, ◌+◌, ◌*◌, ◌≤◌, ◌<◌}
@@ -9,7 +8,7 @@ use native.Mathlib.Omega.{arith}
 use lib.Dec.{leb, ltb, lit<}
 use lib.Ieee.{Float}
 use lib.ListN.{length, drop, replicate}
-use borrow.Author.Tests.{leb-true, ltb-true, eqb-true, ne_eqb}
+use borrow.Author.Tests.{leb-true, ltb-true, eqb-true}
 use Rattle.lists.specs.Questions.{ask, first}
 use Rattle.lists.specs.Lists.{put}
 use Rattle.mesh.specs.Levels.{per, vertex_count, vertices_below}
@@ -31,13 +30,6 @@ use Rattle.builder.specs.Refusals.{builder_question, set_question}
 use Rattle.builder.specs.Atom.{atom_builder_question, atom_room, atom_set_question}
 use Rattle.builder.specs.declared.Builder.{Builder}
 use Rattle.builder.specs.declared.AtomBuilder.{AtomBuilder}
-
--- the first of two tests was passed before; the test of r, r being both, says that it was, or was not
-pub second_yes : {a q r : Bool} → r ≡ a && q → a ≡ true → r ≡ true → q ≡ true
-second_yes {a} {q} {r} e h t = let z : a && q ≡ true = yes e t in rw h at z
-
-pub second_no : {a q r : Bool} → r ≡ a && q → a ≡ true → r ≡ false → q ≡ false
-second_no {a} {q} {r} e h t = let z : a && q ≡ false = no e t in rw h at z
 
 -- 1 to 5 answered yes
 pub record Asked (g : Grid) (top level : ℕ) : Type 0 where
@@ -114,11 +106,6 @@ accepted b ri oi e store kinds levels values known p =
     }
 
 -- a chain in two parts, of which the code asked the second after it had the answer to the first
-pub chain_no : (p : ℕ) (room : Bool) (q rest r : ℕ) → p ≡ 0 → r ≡ ask room 6 q → (r ≡ 0 → ⊥) → r ≡ first p (ask room 6 (first q rest))
-unfolding ask first
-chain_no p true q rest r z e n = rw (z, ← e, ne_eqb r 0 n)
-chain_no p false q rest r z e n = rw z e
-
 pub chain_yes : (p : ℕ) (room : Bool) (q rest r : ℕ) → p ≡ 0 → r ≡ ask room 6 q → r ≡ 0 → first p (ask room 6 (first q rest)) ≡ rest
 unfolding ask first
 chain_yes p true q rest r z e n = rw (z, ← e, n)

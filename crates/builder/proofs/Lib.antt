@@ -4,4 +4,3 @@ pub mod SliceRows
 pub mod Changes
 pub mod Turns
 pub mod Accepted
-pub mod Cut

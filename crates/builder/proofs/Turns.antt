@@ -11,7 +11,7 @@ use lib.Seq.{get_or-set_other}
 use lib.Ieee.{Float, binary32, of_bits}
 use borrow.Author.Tests.{eqb-true}
 use Rattle.lists.specs.Lists.{every}
-use Rattle.mesh.specs.Levels.{vertex_count, per}
+use Rattle.mesh.specs.Levels.{per}
 use Rattle.rows.specs.declared.SlabResolution.{SlabResolution}
 use Rattle.rows.specs.declared.SlabResolution.TheVariants.{Scalar, Mesh, Repulsive}
 use Rattle.rows.specs.Rows.{Rows, kind_of, level_of, value_of, resolution_of, resolution_at, replaced, Row, row_with}
@@ -61,10 +61,9 @@ unfolding resolution_at
 same_row a b s h = rw (h.kinds, h.levels, h.values)
 
 -- the row that a turn reads is the row at entry
-pub read_row : (top c s apart : ℕ) (l : BuilderLists) (now : Rows) → apart ≡ per top → Same now l.rows s → from_level c (row_at top l s) ≡ true
-    → row_with (resolution_at now s) (take (vertex_count c * vertex_count c) (drop (s * apart) l.store)) ≡ row_at top l s
-unfolding per
-read_row top c s apart l now e h g = rw (e, same_row now l.rows s h) (sym (row_energies_lem per top l s c g))
+pub read_row : (top c s : ℕ) (l : BuilderLists) (now : Rows) → Same now l.rows s → from_level c (row_at top l s) ≡ true
+    → row_with (resolution_at now s) (take (per c) (drop (s * per top) l.store)) ≡ row_at top l s
+read_row top c s l now h g = rw (same_row now l.rows s h) (sym (row_energies_lem per top l s c g))
 
 past : (r : Rows) (at s : ℕ) (x : Option SlabResolution) → at < s → Same (replaced_by r at x) r s
 unfolding replaced

@@ -1,5 +1,5 @@
 -- Fresh, set and settle of a table against an atom: their questions, what each answers, and what it leaves in the lent lists. Definitions only.
-use Rattle.std.specs.Prelude.{Bool, true, not, cond, ◌&&◌, List, ℕ, suc, length, ltb, eqb, Float}
+use Rattle.std.specs.Prelude.{Bool, Result, Ok, Err, not, cond, ◌&&◌, List, ℕ, suc, length, ltb, eqb, Float}
 use Rattle.std.specs.Float.Ieee.{is_nan}
 use Rattle.lists.specs.Questions.{ask, first}
 use Rattle.lists.specs.Lists.{every}
@@ -13,10 +13,9 @@ use Rattle.settling.specs.Settling.{from_level, new_row, replaced_by, comparison
 use Rattle.builder.specs.BuilderLists.{BuilderLists, row_in, slab_room}
 use Rattle.builder.specs.Calls.{filled_slabs, slab_set}
 use Rattle.builder.specs.declared.AtomBuilder.{AtomBuilder}
-use Rattle.builder.specs.declared.AtomBuilt.{AtomBuilt}
-use Rattle.builder.specs.declared.AtomBuilt.TheVariants.{Accepted as Builds, Refused as NotBuilt}
-use Rattle.builder.specs.declared.AtomSettled.{AtomSettled}
-use Rattle.builder.specs.declared.AtomSettled.TheVariants.{Accepted as Settles, Refused as NotSettled}
+use Rattle.builder.specs.declared.Settled.{Settled}
+use Rattle.refusals.specs.Numbers.{number}
+use Rattle.refusals.specs.declared.Refusal.{Refusal}
 
 -- "A slab holds n energies and a slice is one slab." (S18.1)
 abbrev pub atom_row : ℕ → BuilderLists → ℕ → Row Float
@@ -63,14 +62,9 @@ pub record AtomBuiltValues : Type 0 where
   pub number : ℕ
   pub builder : AtomBuilder
 
-abbrev pub atom_built_values : AtomBuilder → AtomBuilt → AtomBuiltValues
-atom_built_values kept (Builds b) = record { number = 0; builder = b }
-atom_built_values kept (NotBuilt n) = record { number = n; builder = kept }
-
--- a refusal has a number: 0 is acceptance alone
-abbrev pub atom_built_numbered : AtomBuilt → Bool
-atom_built_numbered (Builds b) = true
-atom_built_numbered (NotBuilt n) = not (eqb n 0)
+abbrev pub atom_built_values : AtomBuilder → Result AtomBuilder Refusal → AtomBuiltValues
+atom_built_values kept (Ok b) = record { number = 0; builder = b }
+atom_built_values kept (Err e) = record { number = number e; builder = kept }
 
 -- "any other settling returns its slab's gradient"; document 02, paper 8: "Settling reports the comparisons it made"; beside a number that refuses stands 0
 pub record AtomSettledValues : Type 0 where
@@ -79,13 +73,9 @@ pub record AtomSettledValues : Type 0 where
   pub comparisons : ℕ
   pub builder : AtomBuilder
 
-abbrev pub atom_settled_values : AtomBuilder → AtomSettled → AtomSettledValues
-atom_settled_values kept (Settles b x k) = record { number = 0; gradient = x; comparisons = k; builder = b }
-atom_settled_values kept (NotSettled n) = record { number = n; gradient = zero; comparisons = 0; builder = kept }
-
-abbrev pub atom_settled_numbered : AtomSettled → Bool
-atom_settled_numbered (Settles b x k) = true
-atom_settled_numbered (NotSettled n) = not (eqb n 0)
+abbrev pub atom_settled_values : AtomBuilder → Result (Settled AtomBuilder) Refusal → AtomSettledValues
+atom_settled_values kept (Ok s) = record { number = 0; gradient = s.gradient; comparisons = s.comparisons; builder = s.builder }
+atom_settled_values kept (Err e) = record { number = number e; gradient = zero; comparisons = 0; builder = kept }
 
 -- what stands for a builder where fresh is refused
 abbrev pub no_atom_builder : AtomBuilder
@@ -111,8 +101,8 @@ atom_fresh_out g top m l =
     let b = atom_fresh_builder g top in
     let r = atom_meshed_refusal b m l in
     cond (eqb r 0)
-    (record { answer = atom_built_values no_atom_builder (Builds b); lists = filled_slabs b.grid.n_r (vertex_count top) l })
-    (record { answer = atom_built_values no_atom_builder (NotBuilt r); lists = l })
+    (record { answer = record { number = 0; builder = b }; lists = filled_slabs b.grid.n_r (vertex_count top) l })
+    (record { answer = record { number = r; builder = no_atom_builder }; lists = l })
 
 -- ---- set
 
@@ -120,8 +110,8 @@ unfoldable pub atom_set_out : AtomBuilder → BuilderLists → ℕ → List Floa
 atom_set_out b l ri e =
     let r = atom_set_refusal b l ri e in
     cond (eqb r 0)
-    (record { answer = atom_built_values b (Builds b); lists = slab_set (vertex_count b.top) b.level l ri e })
-    (record { answer = atom_built_values b (NotBuilt r); lists = l })
+    (record { answer = record { number = 0; builder = b }; lists = slab_set (vertex_count b.top) b.level l ri e })
+    (record { answer = record { number = r; builder = b }; lists = l })
 
 -- ---- settle
 
@@ -133,11 +123,11 @@ atom_settle_accepted b m l ri =
     let v = atom_verdict_of g.threshold g.beta (level_part c m) (vertex_count c) (atom_row b.top l ri) in
     let k = comparisons_for (line_comparisons (level_part c m) (vertex_count c)) v.verdict in
     record {
-      answer = atom_settled_values b (Settles (record { grid = g; top = b.top; level = atom_level g.threshold c v }) v.gradient k);
+      answer = record { number = 0; gradient = v.gradient; comparisons = k; builder = record { grid = g; top = b.top; level = atom_level g.threshold c v } };
       lists = record { store = l.store; rows = replaced_by l.rows ri (new_row c v.verdict) };
     }
 
 unfoldable pub atom_settle_out : AtomBuilder → Mesh → BuilderLists → ℕ → AtomSettleOut
 atom_settle_out b m l ri =
     let r = atom_settle_refusal b m l ri in
-    cond (eqb r 0) (atom_settle_accepted b m l ri) (record { answer = atom_settled_values b (NotSettled r); lists = l })
+    cond (eqb r 0) (atom_settle_accepted b m l ri) (record { answer = record { number = r; gradient = zero; comparisons = 0; builder = b }; lists = l })

@@ -1,5 +1,5 @@
 -- Fresh, set and settle: what each answers, and what it leaves in the lent lists. Definitions only.
-use Rattle.std.specs.Prelude.{Bool, true, not, cond, List, [], ◌∷◌, ℕ, suc, ◌*◌, replicate, eqb, Float}
+use Rattle.std.specs.Prelude.{Result, Ok, Err, true, cond, List, [], ◌∷◌, ℕ, suc, ◌*◌, replicate, eqb, Float}
 use Rattle.lists.specs.Lists.{put}
 use Rattle.mesh.specs.Levels.{vertex_count, per}
 use Rattle.mesh.specs.Mesh.{Mesh, level_part}
@@ -13,10 +13,9 @@ use Rattle.settling.specs.declared.Verdict.{Verdict}
 use Rattle.builder.specs.BuilderLists.{BuilderLists, slabs, slab, row_at, slice_at}
 use Rattle.builder.specs.Refusals.{meshed_refusal, set_refusal, settle_refusal}
 use Rattle.builder.specs.declared.Builder.{Builder}
-use Rattle.builder.specs.declared.Built.{Built}
-use Rattle.builder.specs.declared.Built.TheVariants.{Accepted as Builds, Refused as NotBuilt}
 use Rattle.builder.specs.declared.Settled.{Settled}
-use Rattle.builder.specs.declared.Settled.TheVariants.{Accepted as Settles, Refused as NotSettled}
+use Rattle.refusals.specs.Numbers.{number}
+use Rattle.refusals.specs.declared.Refusal.{Refusal}
 
 -- ---- 01's number and values for each case of an answer. A refused call hands no builder back: the caller keeps the one that it handed in
 
@@ -24,14 +23,9 @@ pub record BuiltValues : Type 0 where
   pub number : ℕ
   pub builder : Builder
 
-abbrev pub built_values : Builder → Built → BuiltValues
-built_values kept (Builds b) = record { number = 0; builder = b }
-built_values kept (NotBuilt n) = record { number = n; builder = kept }
-
--- a refusal has a number: 0 is acceptance alone
-abbrev pub built_numbered : Built → Bool
-built_numbered (Builds b) = true
-built_numbered (NotBuilt n) = not (eqb n 0)
+abbrev pub built_values : Builder → Result Builder Refusal → BuiltValues
+built_values kept (Ok b) = record { number = 0; builder = b }
+built_values kept (Err e) = record { number = number e; builder = kept }
 
 -- "settle returns the largest gradient"; document 02, paper 8: "Settling reports the comparisons it made"; beside a number that refuses stands 0
 pub record SettledValues : Type 0 where
@@ -40,13 +34,9 @@ pub record SettledValues : Type 0 where
   pub comparisons : ℕ
   pub builder : Builder
 
-abbrev pub settled_values : Builder → Settled → SettledValues
-settled_values kept (Settles b x k) = record { number = 0; gradient = x; comparisons = k; builder = b }
-settled_values kept (NotSettled n) = record { number = n; gradient = zero; comparisons = 0; builder = kept }
-
-abbrev pub settled_numbered : Settled → Bool
-settled_numbered (Settles b x k) = true
-settled_numbered (NotSettled n) = not (eqb n 0)
+abbrev pub settled_values : Builder → Result (Settled Builder) Refusal → SettledValues
+settled_values kept (Ok s) = record { number = 0; gradient = s.gradient; comparisons = s.comparisons; builder = s.builder }
+settled_values kept (Err e) = record { number = number e; gradient = zero; comparisons = 0; builder = kept }
 
 -- what stands for a builder where fresh is refused
 abbrev pub no_builder : Builder
@@ -80,7 +70,7 @@ unfoldable pub fresh_out : Grid → ℕ → Mesh → BuilderLists → BuiltOut
 fresh_out g top m l =
     let b = fresh_builder g top in
     let r = meshed_refusal b m l in
-    cond (eqb r 0) (record { answer = built_values no_builder (Builds b); lists = filled b l }) (record { answer = built_values no_builder (NotBuilt r); lists = l })
+    cond (eqb r 0) (record { answer = record { number = 0; builder = b }; lists = filled b l }) (record { answer = record { number = r; builder = no_builder }; lists = l })
 
 -- ---- set
 
@@ -100,8 +90,8 @@ set_out b l ri oi e =
     let r = set_refusal b l ri oi e in
     let s = slab b.grid ri oi in
     cond (eqb r 0)
-    (record { answer = built_values b (Builds (set_builder b (row_at b.top l s))); lists = set_lists b l s e })
-    (record { answer = built_values b (NotBuilt r); lists = l })
+    (record { answer = record { number = 0; builder = set_builder b (row_at b.top l s) }; lists = set_lists b l s e })
+    (record { answer = record { number = r; builder = b }; lists = l })
 
 -- ---- settle
 
@@ -122,12 +112,16 @@ settle_accepted b m l ri =
     let s = settled_slice b.grid b.level rs vs in
     let k = comparisons_in (comparisons (level_part b.level m) (vertex_count b.level)) vs in
     record {
-      answer = settled_values b
-          (Settles (record { grid = b.grid; top = b.top; level = s.level; packed = packed_after b.packed (packed_rows rs) (packed_rows s.rows) }) s.gradient k);
+      answer = record {
+        number = 0;
+        gradient = s.gradient;
+        comparisons = k;
+        builder = record { grid = b.grid; top = b.top; level = s.level; packed = packed_after b.packed (packed_rows rs) (packed_rows s.rows) };
+      };
       lists = record { store = l.store; rows = settled_lists b.level l.rows (slab b.grid ri 0) vs };
     }
 
 unfoldable pub settle_out : Builder → Mesh → BuilderLists → ℕ → SettleOut
 settle_out b m l ri =
     let r = settle_refusal b m l ri in
-    cond (eqb r 0) (settle_accepted b m l ri) (record { answer = settled_values b (NotSettled r); lists = l })
+    cond (eqb r 0) (settle_accepted b m l ri) (record { answer = record { number = r; gradient = zero; comparisons = 0; builder = b }; lists = l })

@@ -1,10 +1,10 @@
 -- What only the code and the proofs need; a reader need not believe it. Definitions only.
-use Rattle.std.specs.Prelude.{Bool, true, false, cond, ◌&&◌, List, [], ◌∷◌, map, ℕ, suc, ◌+◌, ◌*◌, ◌-◌, ◌≤◌, ◌≡◌, length, take, drop, ltb, Float}
+use Rattle.std.specs.Prelude.{Bool, true, false, cond, ◌&&◌, List, [], ◌∷◌, map, ℕ, ◌+◌, ◌*◌, ◌-◌, ◌≤◌, ◌≡◌, length, take, drop, ltb, Float}
 use Rattle.std.specs.Float.{binary64}
 use Rattle.std.specs.Float.Ieee.{of_bits, lt}
 use Rattle.lists.specs.Lists.{every, all_up_to}
-use Rattle.mesh.specs.Levels.{vertex_count, per, vertices_below}
-use Rattle.mesh.specs.Mesh.{Mesh, level_part, mesh_of}
+use Rattle.mesh.specs.Levels.{vertex_count, per}
+use Rattle.mesh.specs.Mesh.{Mesh}
 use Rattle.rows.specs.Rows.{Rows, Row, resolution_at, row_known, row_with}
 use Rattle.settling.specs.Settling.{verdict_of, new_row, from_level, replaced_by, atom_verdict_of}
 use Rattle.builder.specs.BuilderLists.{BuilderLists, slab, slabs, slice_at}
@@ -53,21 +53,6 @@ pub record SettleReady (b : Builder) (l : BuilderLists) (ri : ℕ) : Type 0 wher
   pub store_le : slabs b.grid * per b.top ≤ length l.store
   pub same_level : every (from_level b.level) (slice_at b l ri) ≡ true
 
--- the links of level m's part of several meshes
-abbrev pub part_links : ℕ → Mesh → Mesh
-part_links m ms = mesh_of [] (level_part m ms).counts (level_part m ms).neighbours (level_part m ms).angles
-
--- the links of the levels from 0 to m are there
-pub record MeshesLinked (m : ℕ) (ms : Mesh) : Type 0 where
-  pub counts_le : vertices_below (suc m) ≤ length ms.counts
-  pub neighbours_le : 6 * vertices_below (suc m) ≤ length ms.neighbours
-  pub angles_le : 6 * vertices_below (suc m) ≤ length ms.angles
-
--- what an accepted settle over them may count on
-pub record SettleReadyIn (b : Builder) (ms : Mesh) (l : BuilderLists) (ri : ℕ) : Type 0 where
-  pub ready : SettleReady b l ri
-  pub linked : MeshesLinked b.level ms
-
 -- nothing so far
 abbrev pub start : ℕ → Tally
 start packed = record { gradient = of_bits binary64 0; settled = false; clear = true; packed = packed; reached = 0 }
@@ -90,11 +75,10 @@ dropped_by b t =
 -- ---- against an atom
 
 -- what an accepted settle may count on
-pub record AtomSettleReady (b : AtomBuilder) (ms : Mesh) (store : List Float) (ri : ℕ) : Type 0 where
+pub record AtomSettleReady (b : AtomBuilder) (store : List Float) (ri : ℕ) : Type 0 where
   pub top_le : b.top ≤ 15
   pub level_le : b.level ≤ b.top
   pub store_le : ri * vertex_count b.top + vertex_count b.level ≤ length store
-  pub linked : MeshesLinked b.level ms
 
 -- 8, 15 and 11 of settle, whose slice is one row
 unfoldable pub atom_settle_question : ℕ → ℕ → ℕ → Rows → ℕ → ℕ

@@ -8,57 +8,46 @@ ghost use Rattle.builder.specs.Calls.{filled_slabs, slab_set};
 use rows::SlabResolution;
 
 // Writes a list into another from a place on.
+#[tactic(auto, unfolding(lists::specs::Lists::put))]
 fn copy_at(dst: &mut [f64], at: usize, src: &[f64])
     requires { at + length src.now ≤ length dst.old }
     ensures { dst.new ≡ put dst.old at src.now }
 {
-    let mut j = 0;
-    while j < src.len() {
-        dst[at + j] = src[j];
-        j += 1;
-    }
+    dst[at..at + src.len()].copy_from_slice(src);
 }
 
 // The first n energies 0.0.
+#[tactic(auto, unfolding(lists::specs::Lists::put))]
 fn clear_store(store: &mut [f64], n: usize)
     requires { n ≤ length store.old }
     ensures { store.new ≡ put store.old 0 (replicate n zero) }
 {
-    let mut i = 0;
-    while i < n {
-        store[i] = 0.0;
-        i += 1;
-    }
+    store[..n].fill(0.0);
 }
 
 // The first n rows Scalar 0.0.
+#[tactic(auto, unfolding(lists::specs::Lists::put))]
 fn clear_rows(kinds: &mut [u8], levels: &mut [u8], values: &mut [u32], n: usize)
     requires { (n ≤ length kinds.old) × (n ≤ length levels.old) × (n ≤ length values.old) }
     ensures { (kinds.new ≡ put kinds.old 0 (replicate n 0)) × (levels.new ≡ put levels.old 0 (replicate n 0))
         × (values.new ≡ put values.old 0 (replicate n 0)) }
 {
-    let mut i = 0;
-    while i < n {
-        kinds[i] = 0;
-        levels[i] = 0;
-        values[i] = 0;
-        i += 1;
-    }
+    kinds[..n].fill(0);
+    levels[..n].fill(0);
+    values[..n].fill(0);
 }
 
 // The first n words 0, the word of Scalar 0.0.
+#[tactic(auto, unfolding(lists::specs::Lists::put))]
 fn clear_words(words: &mut [u64], n: usize)
     requires { n ≤ length words.old }
     ensures { words.new ≡ put words.old 0 (replicate n 0) }
 {
-    let mut i = 0;
-    while i < n {
-        words[i] = 0;
-        i += 1;
-    }
+    words[..n].fill(0);
 }
 
 // n slabs of z energies each, with none set.
+#[tactic(auto, using(crate::proofs::Laws::filled_words))]
 pub(crate) fn clear_slabs(n: u64, z: u64, store: &mut [f64], words: &mut [u64])
     requires { (n * z ≤ length store.old) × (n ≤ length words.old) }
     ensures { ◌≡◌ {A = BuilderLists} (word_lists store.new words.new)
@@ -69,6 +58,7 @@ pub(crate) fn clear_slabs(n: u64, z: u64, store: &mut [f64], words: &mut [u64])
 }
 
 // The same, the rows being three lists.
+#[tactic(auto, unfolding(crate::specs::Calls::filled_slabs))]
 pub(crate) fn atom_clear_slabs(
     n: u64,
     z: u64,
@@ -86,6 +76,7 @@ pub(crate) fn atom_clear_slabs(
 }
 
 // Gives slab s its energies; a slab has room for z.
+#[tactic(auto, unfolding(crate::specs::Calls::slab_set))]
 pub(crate) fn set_slab(
     z: u64,
     level: u8,
@@ -103,6 +94,7 @@ pub(crate) fn set_slab(
 }
 
 // The same, the rows being three lists.
+#[tactic(auto, unfolding(crate::specs::Calls::slab_set))]
 pub(crate) fn atom_set_slab(
     z: u64,
     level: u8,

@@ -1,13 +1,15 @@
 // The builder of a table, by value; its store, rows and meshes are lent.
 #![tactic(auto)]
 
-ghost use Rattle.std.specs.Prelude.{◌≡◌, true, [], ◌≤◌};
-ghost use Rattle.mesh.specs.Mesh.{mesh_of};
+ghost use Rattle.std.specs.Prelude.{◌≡◌, [], ◌≤◌, length};
+ghost use Rattle.mesh.specs.Lent.{lent};
 ghost use Rattle.rows.specs.Rows.{row_with};
 ghost use Rattle.builder.specs.BuilderLists.{word_lists};
-ghost use Rattle.builder.specs.Calls.{BuiltOut, SettleOut, built_values, built_numbered, settled_values, settled_numbered, no_builder, fresh_builder, fresh_out, set_builder, set_out, settle_out};
+ghost use Rattle.builder.specs.Calls.{BuiltOut, SettleOut, built_values, settled_values, no_builder, fresh_builder, fresh_out, set_builder, set_out, settle_out};
 
 use grid::{AtomGrid, Grid};
+use mesh::Mesh;
+use refusals::Refusal;
 use rows::SlabResolution;
 
 mod atom;
@@ -37,33 +39,55 @@ pub struct AtomBuilder {
     pub level: u64,
 }
 
-// What fresh and set answer.
+// What settle answers: the builder after it, the largest gradient, and the neighbour comparisons made. Against an
+// atom the gradient is that of the slab.
 #[derive(Clone, Copy)]
-pub enum Built {
-    Accepted(Builder),
-    Refused(u64),
+pub struct Settled<B> {
+    pub builder: B,
+    pub gradient: f64,
+    pub comparisons: u64,
 }
 
-// What settle answers: the builder, the largest gradient, and the neighbour comparisons made.
+// The lengths of the lists that are lent to a builder's calls.
 #[derive(Clone, Copy)]
-pub enum Settled {
-    Accepted(Builder, f64, u64),
-    Refused(u64),
+pub struct Lengths {
+    pub store: u64,
+    pub kinds: u64,
+    pub levels: u64,
+    pub values: u64,
 }
 
-// The same of a table against an atom; settle's gradient is its slab's.
-#[derive(Clone, Copy)]
-pub enum AtomBuilt {
-    Accepted(AtomBuilder),
-    Refused(u64),
+impl Lengths {
+    fn of(store: &[f64], kinds: &[u8], levels: &[u8], values: &[u32]) -> Lengths
+        ensures { ◌≡◌ {A = Lengths} result (record {
+          store = length store.now;
+          kinds = length kinds.now;
+          levels = length levels.now;
+          values = length values.now;
+        }) }
+    {
+        Lengths {
+            store: store.len() as u64,
+            kinds: kinds.len() as u64,
+            levels: levels.len() as u64,
+            values: values.len() as u64,
+        }
+    }
+
+    // Rows as words are one list, as long as each of the three.
+    fn of_words(store: u64, words: u64) -> Lengths
+        ensures { ◌≡◌ {A = Lengths} result (record { store = store; kinds = words; levels = words; values = words }) }
+    {
+        Lengths {
+            store,
+            kinds: words,
+            levels: words,
+            values: words,
+        }
+    }
 }
 
-#[derive(Clone, Copy)]
-pub enum AtomSettled {
-    Accepted(AtomBuilder, f64, u64),
-    Refused(u64),
-}
-
+#[tactic(auto, unfolding(crate::specs::Calls::fresh_builder))]
 fn fresh_builder(g: Grid, top: u64) -> Builder
     ensures { result ≡ fresh_builder g top }
 {
@@ -76,61 +100,41 @@ fn fresh_builder(g: Grid, top: u64) -> Builder
 }
 
 // A builder of these settings, with no slab set; the counts in the settings are ignored.
+#[tactic(auto, using(refusals::proofs::Numbers::numbered, crate::proofs::Laws::words_long), unfolding(crate::specs::Calls::fresh_out, crate::specs::Refusals::meshed_refusal))]
 pub fn fresh(
     g: Grid,
     top: u64,
     store: &mut [f64],
     words: &mut [u64],
-    vertices: &[f64],
-    counts: &[u8],
-    neighbours: &[u16],
-    angles: &[f64],
-) -> Built
-    ensures { (built_numbered result ≡ true) × ◌≡◌ {A = BuiltOut}
+    mesh: &Mesh,
+) -> Result<Builder, Refusal>
+    ensures { ◌≡◌ {A = BuiltOut}
         (record { answer = built_values no_builder result; lists = word_lists store.new words.new })
-        (fresh_out g top (mesh_of vertices.now counts.now neighbours.now angles.now)
-        (word_lists store.old words.old)) }
+        (fresh_out g top (lent mesh.now) (word_lists store.old words.old)) }
 {
     let made = fresh_builder(g, top);
-    let no = questions::meshed_refusal(
-        made,
-        store.len() as u64,
-        words.len() as u64,
-        vertices,
-        counts,
-        neighbours,
-        angles,
-    );
-    if no != 0 {
-        return Built::Refused(no);
-    }
-    let n_r = made.grid.n_r;
-    let n_omega = made.grid.n_omega;
-    let most = made.top;
-    copies::clear_slabs(n_r * n_omega, mesh::per_level(most as u8), store, words);
-    Built::Accepted(made)
+    questions::meshed_refusal(made, store.len() as u64, words.len() as u64, mesh)?;
+    let slabs = made.grid.n_r * made.grid.n_omega;
+    copies::clear_slabs(slabs, mesh::per_level(made.top as u8), store, words);
+    Ok(made)
 }
 
 // The builder after a set that replaces this row.
+#[tactic(auto, unfolding(crate::specs::Calls::set_builder))]
 fn set_builder(b: Builder, row: SlabResolution) -> Builder
     requires { b.level ≤ 15 }
     ensures { result ≡ set_builder b (row_with row []) }
 {
-    let grid = b.grid;
-    let top = b.top;
-    let level = b.level;
-    let packed = b.packed;
     let old = settling::packed_row(row);
-    let new = mesh::per_level(level as u8);
+    let new = mesh::per_level(b.level as u8);
     Builder {
-        grid,
-        top,
-        level,
-        packed: settling::packed_after(packed, old, new),
+        packed: settling::packed_after(b.packed, old, new),
+        ..b
     }
 }
 
 // Gives a slab its energies, which are those of the current level.
+#[tactic(auto, using(refusals::proofs::Numbers::numbered, crate::proofs::Laws::words_long, crate::proofs::Laws::accepted), unfolding(crate::specs::Calls::set_out, crate::specs::Refusals::set_refusal))]
 pub fn set(
     b: Builder,
     store: &mut [f64],
@@ -138,52 +142,37 @@ pub fn set(
     ri: u64,
     oi: u64,
     energies: &[f64],
-) -> Built
-    ensures { (built_numbered result ≡ true) × ◌≡◌ {A = BuiltOut}
+) -> Result<Builder, Refusal>
+    ensures { ◌≡◌ {A = BuiltOut}
         (record { answer = built_values b result; lists = word_lists store.new words.new })
         (set_out b (word_lists store.old words.old) ri oi energies.now) }
 {
-    let no = questions::set_refusal(b, store.len() as u64, words, ri, oi, energies);
-    if no != 0 {
-        return Built::Refused(no);
-    }
-    let n_omega = b.grid.n_omega;
-    let top = b.top;
-    let level = b.level;
-    let s = ri * n_omega + oi;
+    questions::set_refusal(b, store.len() as u64, words, ri, oi, energies)?;
+    let s = ri * b.grid.n_omega + oi;
     let after = set_builder(b, rows::resolution_in(words, s));
-    copies::set_slab(
-        mesh::per_level(top as u8),
-        level as u8,
-        store,
-        words,
-        s,
-        energies,
-    );
-    Built::Accepted(after)
+    let z = mesh::per_level(b.top as u8);
+    copies::set_slab(z, b.level as u8, store, words, s, energies);
+    Ok(after)
 }
 
 // Settles a slice: each of its slabs that holds energies, and then the level.
+#[tactic(auto, using(refusals::proofs::Numbers::numbered, crate::proofs::Accepted::ready), unfolding(crate::specs::Calls::settle_out))]
 pub fn settle(
     b: Builder,
     store: &[f64],
     words: &mut [u64],
-    vertices: &[f64],
-    counts: &[u8],
-    neighbours: &[u16],
-    angles: &[f64],
+    mesh: &Mesh,
     ri: u64,
-) -> Settled
-    ensures { (settled_numbered result ≡ true) × ◌≡◌ {A = SettleOut}
+) -> Result<Settled<Builder>, Refusal>
+    ensures { ◌≡◌ {A = SettleOut}
         (record { answer = settled_values b result; lists = word_lists store.now words.new })
-        (settle_out b (mesh_of vertices.now counts.now neighbours.now angles.now)
-        (word_lists store.now words.old) ri) }
+        (settle_out b (lent mesh.now) (word_lists store.now words.old) ri) }
 {
-    let no = questions::settle_refusal(b, store, words, vertices, counts, neighbours, angles, ri);
-    if no != 0 {
-        return Settled::Refused(no);
-    }
-    let t = slices::settle_slice(b, ri, store, counts, neighbours, angles, words);
-    let comparisons = slices::compared(b, t, counts);
-    Settled::Accepted(slices::dropped(b, t), t.gradient, comparisons)
+    questions::settle_refusal(b, store, words, mesh, ri)?;
+    let t = slices::settle_rows(b, ri, store, &mesh.level_part(b.level as u8), words);
+    Ok(Settled {
+        builder: slices::dropped(b, t),
+        gradient: t.gradient,
+        comparisons: slices::compared(b, t, mesh.counts),
+    })
 }

@@ -1,5 +1,5 @@
 -- The power by its sentence: as many turns as the exponent are enough.
-use Rattle.std.proofs.Common.{◌≡◌, ℕ, zero, suc, ◌/◌, ◌<◌, ◌≤◌, refl, ap, le_refl, arith}
+use Rattle.std.proofs.Common.{◌≡◌, ℕ, zero, suc, ◌/◌, ◌≤◌, refl, ap, le_refl, arith}
 use lib.Ieee.{Float}
 use Rattle.float.specs.Exp.{bits}
 use Rattle.float.specs.Power.{squared_times, power_within, power}
@@ -27,8 +27,3 @@ pub power-halves : (r : Float) (n : ℕ) → ((n ≡ 0) → ⊥) → power r n �
 unfolding power_within power
 power-halves r zero f = absurd (f refl)
 power-halves r (suc n) f = ap (squared_times r (suc n)) (enough n (suc n / 2) (suc n / 2) r (half-below n n (le_refl (suc n))) (le_refl (suc n / 2)))
-
--- half of an exponent that is not 0 is below it
-pub half_falls : (n : ℕ) → ((n ≡ 0) → ⊥) → n / 2 < n
-half_falls zero f = absurd (f refl)
-half_falls (suc n) f = omega arith

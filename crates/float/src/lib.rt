@@ -24,7 +24,7 @@ pub fn abs(x: f64) -> f64
     if x != x {
         return x;
     }
-    f64::from_bits(f64::to_bits(x) % 0x8000_0000_0000_0000)
+    f64::from_bits(x.to_bits() % 0x8000_0000_0000_0000)
 }
 
 // The larger operand: the other one beside a NaN, and the first of zeros of both signs.
@@ -48,7 +48,7 @@ fn place(x: f64) -> u64
     if x != x {
         return 0xfff8_0000_0000_0000;
     }
-    let b = f64::to_bits(x);
+    let b = x.to_bits();
     if b < 0x8000_0000_0000_0000 {
         return 0x8000_0000_0000_0000 + b;
     }
@@ -82,7 +82,7 @@ pub fn to_u64(x: f64) -> u64
     ensures { result ≡ to_unsigned 64 x }
 {
     if 0.0 < x {
-        let b = f64::to_bits(x);
+        let b = x.to_bits();
         let field = b / 0x10_0000_0000_0000;
         if field <= 1074 {
             let digits = b % 0x10_0000_0000_0000 + 0x10_0000_0000_0000;
@@ -91,7 +91,7 @@ pub fn to_u64(x: f64) -> u64
         if x < 18446744073709551616.0 {
             return std::num::truncating_f64_to_u64(x);
         }
-        return 0xffff_ffff_ffff_ffff;
+        return u64::MAX;
     }
     0
 }
@@ -104,9 +104,9 @@ pub fn to_i64(x: f64) -> i64
         if x < 9223372036854775808.0 {
             return std::num::truncating_f64_to_i64(x);
         }
-        return 9223372036854775807;
+        return i64::MAX;
     }
-    if x != x { 0 } else { -9223372036854775808 }
+    if x != x { 0 } else { i64::MIN }
 }
 
 // The f64 nearest to n.
@@ -126,10 +126,8 @@ fn digits_by_tau(digits: u64, k: u64) -> u64
     ensures { (result ≡ digits * 2 ^ k % 0x19_21FB_5444_2D18) × (result < 2 ^ 53) }
 {
     let mut r = digits % TAU_DIGITS;
-    let mut i = 0;
-    while i < k {
+    for _i in 0..k {
         r = 2 * r % TAU_DIGITS;
-        i += 1;
     }
     r
 }
@@ -145,10 +143,10 @@ fn remainder(x: f64) -> f64
     if x != x {
         return x;
     }
-    let b = f64::to_bits(x);
+    let b = x.to_bits();
     let field = b % 0x8000_0000_0000_0000 / 0x10_0000_0000_0000;
     if field == 2047 {
-        return 0.0 / 0.0;
+        return f64::NAN;
     }
     let r = digits_by_tau(b % 0x10_0000_0000_0000 + 0x10_0000_0000_0000, field - 1025);
     if b < 0x8000_0000_0000_0000 {
@@ -173,7 +171,7 @@ fn truncated(x: f64) -> f64
     if x != x {
         return x;
     }
-    let b = f64::to_bits(x);
+    let b = x.to_bits();
     let field = b % 0x8000_0000_0000_0000 / 0x10_0000_0000_0000;
     if field > 1074 {
         return x;
@@ -236,7 +234,7 @@ fn exp_within(y: f64) -> f64
 {
     let k = doublings(y);
     let r = (y - k * 0.6931471803691238) - k * 1.9082149292705877e-10;
-    let fields = f64::to_bits(k + 6755399441057790.0) % 4096;
+    let fields = (k + 6755399441057790.0).to_bits() % 4096;
     let first = fields / 2;
     let p = series(r) * f64::from_bits(first * 0x10_0000_0000_0000);
     p * f64::from_bits((fields - first) * 0x10_0000_0000_0000)
@@ -265,7 +263,7 @@ pub fn exp(y: f64) -> f64
         return 0.0;
     }
     if y > 709.79 {
-        return 1.0 / 0.0;
+        return f64::INFINITY;
     }
     e
 }
@@ -274,10 +272,8 @@ pub fn exp(y: f64) -> f64
 pub fn exp_list(list: &mut [f64])
     ensures { list.new ≡ map exponential list.old }
 {
-    let mut i = 0;
-    while i < list.len() {
-        list[i] = exp(list[i]);
-        i += 1;
+    for y in list.iter_mut() {
+        *y = exp(*y);
     }
 }
 
@@ -332,9 +328,9 @@ pub fn ln(x: f64) -> f64
     ensures { result ≡ logarithm x }
 {
     if x > 0.0 {
-        let b = f64::to_bits(x);
+        let b = x.to_bits();
         if b < 0x10_0000_0000_0000 {
-            let z = u64::leading_zeros(b) as u64 - 11;
+            let z = b.leading_zeros() as u64 - 11;
             return ln_digits(b << z, 1023 + z);
         }
         if b < 0x7ff0_0000_0000_0000 {
@@ -343,9 +339,9 @@ pub fn ln(x: f64) -> f64
         return x;
     }
     if x == 0.0 {
-        return -1.0 / 0.0;
+        return f64::NEG_INFINITY;
     }
-    0.0 / 0.0
+    f64::NAN
 }
 
 // r to the power n. The exponent falls at each call: a u32 has at most 32 halves.

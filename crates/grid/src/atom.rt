@@ -1,22 +1,21 @@
 // The settings of a table against an atom.
 ghost use Rattle.std.specs.Prelude.{◌≡◌, ◌≤◌};
+ghost use Rattle.refusals.specs.Numbers.{asked};
 ghost use Rattle.grid.specs.Atom.{atom_in_range, bin_count, atom_count_valid, atom_slabs_fit, atom_question, atom_counted, atom_grid_range, atom_grid_valid};
 
 use crate::AtomGrid;
+use refusals::{Asked, Refusal};
 
 // Question 1.
+#[tactic(auto, unfolding(crate::specs::Atom::atom_in_range))]
 fn atom_in_range(g: AtomGrid) -> bool
     ensures { result ≡ atom_in_range g }
 {
-    let rmin = g.rmin;
-    let rmax = g.rmax;
-    let dr = g.dr;
-    let beta = g.beta;
-    let threshold = g.threshold;
-    ieee::is_finite(rmin)
-        & ((rmin < rmax)
-            & (crate::positive(dr)
-                & (crate::positive(beta) & (ieee::is_finite(threshold) & !(threshold < 0.0)))))
+    ieee::is_finite(g.rmin)
+        & ((g.rmin < g.rmax)
+            & (crate::positive(g.dr)
+                & (crate::positive(g.beta)
+                    & (ieee::is_finite(g.threshold) & !(g.threshold < 0.0)))))
 }
 
 fn bin_count(n: u64) -> bool
@@ -26,14 +25,11 @@ fn bin_count(n: u64) -> bool
 }
 
 // Question 3.
+#[tactic(auto, unfolding(crate::specs::Atom::atom_count_valid))]
 fn atom_count_valid(g: AtomGrid) -> bool
     ensures { result ≡ atom_count_valid g }
 {
-    let rmin = g.rmin;
-    let rmax = g.rmax;
-    let dr = g.dr;
-    let n_r = g.n_r;
-    bin_count(n_r) & (n_r == crate::distance_count(rmin, rmax, dr))
+    bin_count(g.n_r) & (g.n_r == crate::distance_count(g.rmin, g.rmax, g.dr))
 }
 
 // Question 5, once the others are answered yes.
@@ -44,47 +40,37 @@ fn atom_slabs_fit(n: u64, top: u64) -> bool
     n * mesh::vertex_count(top as u8) <= 4294967295
 }
 
-// Questions 1 to 5 of a held builder: the number of the first one that is answered no, or 0.
-pub fn atom_question(g: AtomGrid, top: u64, level: u64) -> u64
-    ensures { result ≡ atom_question g top level }
+// Questions 1 to 5 of a held builder: the first one that is answered no.
+#[tactic(auto, using(refusals::proofs::Numbers::numbered), unfolding(lists::specs::Questions::ask, crate::specs::Atom::atom_question))]
+pub fn atom_question(g: AtomGrid, top: u64, level: u64) -> Asked
+    ensures { asked result ≡ atom_question g top level }
 {
-    let rmin = g.rmin;
-    let dr = g.dr;
-    let n_r = g.n_r;
     if !atom_in_range(g) {
-        return 1;
+        return Err(Refusal::Settings);
     }
     if !crate::levels_valid(top, level) {
-        return 2;
+        return Err(Refusal::Level);
     }
     if !atom_count_valid(g) {
-        return 3;
+        return Err(Refusal::BinCount);
     }
-    if !crate::own_count(n_r, dr, rmin) {
-        return 4;
+    if !crate::own_count(g.n_r, g.dr, g.rmin) {
+        return Err(Refusal::OwnCount);
     }
-    if !atom_slabs_fit(n_r, top) {
-        return 5;
+    if !atom_slabs_fit(g.n_r, top) {
+        return Err(Refusal::TooManyEnergies);
     }
-    0
+    Ok(())
 }
 
 // The settings with the count that they give.
+#[tactic(auto, unfolding(crate::specs::Atom::atom_counted))]
 pub fn atom_counted(g: AtomGrid) -> AtomGrid
     ensures { result ≡ atom_counted g }
 {
-    let rmin = g.rmin;
-    let rmax = g.rmax;
-    let dr = g.dr;
-    let threshold = g.threshold;
-    let beta = g.beta;
     AtomGrid {
-        rmin,
-        rmax,
-        dr,
-        threshold,
-        beta,
-        n_r: crate::distance_count(rmin, rmax, dr),
+        n_r: crate::distance_count(g.rmin, g.rmax, g.dr),
+        ..g
     }
 }
 
@@ -92,22 +78,18 @@ pub fn atom_counted(g: AtomGrid) -> AtomGrid
 fn atom_grid_range(g: AtomGrid, levels: u64) -> bool
     ensures { result ≡ atom_grid_range g levels }
 {
-    let rmin = g.rmin;
-    let dr = g.dr;
-    let n_r = g.n_r;
-    ieee::is_finite(rmin)
-        & (crate::positive(dr)
+    ieee::is_finite(g.rmin)
+        & (crate::positive(g.dr)
             & ((1 <= levels)
-                & ((levels <= 16) & (bin_count(n_r) & crate::own_count(n_r, dr, rmin)))))
+                & ((levels <= 16) & (bin_count(g.n_r) & crate::own_count(g.n_r, g.dr, g.rmin)))))
 }
 
 // Question 14 of a table's grid and level count.
 pub fn atom_grid_valid(g: AtomGrid, levels: u64) -> bool
     ensures { result ≡ atom_grid_valid g levels }
 {
-    let n_r = g.n_r;
     if !atom_grid_range(g, levels) {
         return false;
     }
-    atom_slabs_fit(n_r, levels - 1)
+    atom_slabs_fit(g.n_r, levels - 1)
 }

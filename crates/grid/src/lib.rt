@@ -3,8 +3,11 @@
 
 ghost use Rattle.std.specs.Prelude.{◌≡◌, ◌≤◌};
 ghost use Rattle.std.specs.Float.Ieee.{lt};
+ghost use Rattle.refusals.specs.Numbers.{asked};
 ghost use Rattle.grid.specs.Bins.{nearest_bin, distance_count, dihedral_count, table_rmax, distance_bin, dihedral_bin};
 ghost use Rattle.grid.specs.Settings.{above, in_range, levels_valid, bins_in_range, counts_valid, own_count, slabs_fit, question, counted, fresh_question, grid_range, grid_valid};
+
+use refusals::{Asked, Refusal};
 
 mod atom;
 
@@ -37,18 +40,21 @@ pub struct AtomGrid {
 }
 
 // x / step, to the nearest whole number, in floats.
+#[tactic(auto, unfolding(crate::specs::Bins::nearest_bin))]
 fn nearest_bin(x: f64, step: f64) -> u64
     ensures { result ≡ nearest_bin x step }
 {
     float::to_u64(x / step + 0.5)
 }
 
+#[tactic(auto, unfolding(crate::specs::Bins::distance_count))]
 pub fn distance_count(rmin: f64, rmax: f64, dr: f64) -> u64
     ensures { result ≡ distance_count rmin rmax dr }
 {
     nearest_bin(rmax - rmin, dr)
 }
 
+#[tactic(auto, unfolding(crate::specs::Bins::dihedral_count))]
 pub fn dihedral_count(step: f64) -> u64
     ensures { result ≡ dihedral_count step }
 {
@@ -56,6 +62,7 @@ pub fn dihedral_count(step: f64) -> u64
 }
 
 // The table's own rmax, by one fused operation.
+#[tactic(auto, unfolding(crate::specs::Bins::table_rmax))]
 pub fn table_rmax(n: u64, dr: f64, rmin: f64) -> f64
     ensures { result ≡ table_rmax n dr rmin }
 {
@@ -78,6 +85,7 @@ pub fn above_rmax(r: f64, n: u64, dr: f64, rmin: f64) -> bool
 }
 
 // The bin of a distance; from rmax on it is the last one.
+#[tactic(auto, unfolding(crate::specs::Bins::distance_bin))]
 pub fn distance_bin(r: f64, rmin: f64, dr: f64, n: u64) -> u64
     ensures { result ≡ distance_bin r rmin dr n }
 {
@@ -106,6 +114,7 @@ pub fn dihedral_bin(omega: f64, step: f64, n: u64) -> u64
 }
 
 // Finite and above 0.
+#[tactic(auto, unfolding(crate::specs::Settings::above))]
 fn positive(x: f64) -> bool
     ensures { result ≡ above x }
 {
@@ -113,23 +122,19 @@ fn positive(x: f64) -> bool
 }
 
 // Question 1.
+#[tactic(auto, unfolding(crate::specs::Settings::in_range))]
 pub fn in_range(g: Grid) -> bool
     ensures { result ≡ in_range g }
 {
-    let rmin = g.rmin;
-    let rmax = g.rmax;
-    let dr = g.dr;
-    let step = g.omega_step;
-    let beta = g.beta;
-    let threshold = g.threshold;
-    ieee::is_finite(rmin)
-        & ((rmin < rmax)
-            & (positive(dr)
-                & (positive(step)
-                    & (positive(beta) & (ieee::is_finite(threshold) & !(threshold < 0.0))))))
+    ieee::is_finite(g.rmin)
+        & ((g.rmin < g.rmax)
+            & (positive(g.dr)
+                & (positive(g.omega_step)
+                    & (positive(g.beta) & (ieee::is_finite(g.threshold) & !(g.threshold < 0.0))))))
 }
 
 // Question 2.
+#[tactic(auto, unfolding(crate::specs::Settings::levels_valid))]
 pub fn levels_valid(top: u64, level: u64) -> bool
     ensures { result ≡ levels_valid top level }
 {
@@ -137,6 +142,7 @@ pub fn levels_valid(top: u64, level: u64) -> bool
 }
 
 // Question 3 of a fresh builder: both counts from 1 to 65,535.
+#[tactic(auto, unfolding(crate::specs::Settings::bins_in_range))]
 pub fn bins_in_range(n: u64, m: u64) -> bool
     ensures { result ≡ bins_in_range n m }
 {
@@ -144,20 +150,17 @@ pub fn bins_in_range(n: u64, m: u64) -> bool
 }
 
 // Question 3 of a held builder: they are also those that the settings give.
+#[tactic(auto, unfolding(crate::specs::Settings::counts_valid))]
 pub fn counts_valid(g: Grid) -> bool
     ensures { result ≡ counts_valid g }
 {
-    let rmin = g.rmin;
-    let rmax = g.rmax;
-    let dr = g.dr;
-    let step = g.omega_step;
-    let n_r = g.n_r;
-    let n_omega = g.n_omega;
-    bins_in_range(n_r, n_omega)
-        & ((n_r == distance_count(rmin, rmax, dr)) & (n_omega == dihedral_count(step)))
+    bins_in_range(g.n_r, g.n_omega)
+        & ((g.n_r == distance_count(g.rmin, g.rmax, g.dr))
+            & (g.n_omega == dihedral_count(g.omega_step)))
 }
 
 // Question 4: the distance count comes out the same with the table's own rmax.
+#[tactic(auto, unfolding(crate::specs::Settings::own_count))]
 pub fn own_count(n: u64, dr: f64, rmin: f64) -> bool
     ensures { result ≡ own_count n dr rmin }
 {
@@ -172,57 +175,44 @@ fn slabs_fit(n: u64, m: u64, top: u64) -> bool
     n * m * mesh::per_level(top as u8) <= 4294967295
 }
 
-// Questions 1 to 5 of a held builder: the number of the first one that is answered no, or 0.
-pub fn question(g: Grid, top: u64, level: u64) -> u64
-    ensures { result ≡ question g top level }
+// Questions 1 to 5 of a held builder: the first one that is answered no.
+#[tactic(auto, using(refusals::proofs::Numbers::numbered), unfolding(lists::specs::Questions::ask, crate::specs::Settings::question))]
+pub fn question(g: Grid, top: u64, level: u64) -> Asked
+    ensures { asked result ≡ question g top level }
 {
-    let rmin = g.rmin;
-    let dr = g.dr;
-    let n_r = g.n_r;
-    let n_omega = g.n_omega;
     if !in_range(g) {
-        return 1;
+        return Err(Refusal::Settings);
     }
     if !levels_valid(top, level) {
-        return 2;
+        return Err(Refusal::Level);
     }
     if !counts_valid(g) {
-        return 3;
+        return Err(Refusal::BinCount);
     }
-    if !own_count(n_r, dr, rmin) {
-        return 4;
+    if !own_count(g.n_r, g.dr, g.rmin) {
+        return Err(Refusal::OwnCount);
     }
-    if !slabs_fit(n_r, n_omega, top) {
-        return 5;
+    if !slabs_fit(g.n_r, g.n_omega, top) {
+        return Err(Refusal::TooManyEnergies);
     }
-    0
+    Ok(())
 }
 
 // The settings with the counts that they give.
+#[tactic(auto, unfolding(crate::specs::Settings::counted))]
 pub fn counted(g: Grid) -> Grid
     ensures { result ≡ counted g }
 {
-    let rmin = g.rmin;
-    let rmax = g.rmax;
-    let dr = g.dr;
-    let omega_step = g.omega_step;
-    let threshold = g.threshold;
-    let beta = g.beta;
     Grid {
-        rmin,
-        rmax,
-        dr,
-        omega_step,
-        threshold,
-        beta,
-        n_r: distance_count(rmin, rmax, dr),
-        n_omega: dihedral_count(omega_step),
+        n_r: distance_count(g.rmin, g.rmax, g.dr),
+        n_omega: dihedral_count(g.omega_step),
+        ..g
     }
 }
 
 // Questions 1 to 5 of a fresh builder.
-pub fn fresh_question(g: Grid, top: u64) -> u64
-    ensures { result ≡ fresh_question g top }
+pub fn fresh_question(g: Grid, top: u64) -> Asked
+    ensures { asked result ≡ fresh_question g top }
 {
     question(counted(g), top, top)
 }
@@ -231,28 +221,22 @@ pub fn fresh_question(g: Grid, top: u64) -> u64
 fn grid_range(g: Grid, levels: u64) -> bool
     ensures { result ≡ grid_range g levels }
 {
-    let rmin = g.rmin;
-    let dr = g.dr;
-    let step = g.omega_step;
-    let n_r = g.n_r;
-    let n_omega = g.n_omega;
-    ieee::is_finite(rmin)
-        & (positive(dr)
-            & (positive(step)
+    ieee::is_finite(g.rmin)
+        & (positive(g.dr)
+            & (positive(g.omega_step)
                 & ((1 <= levels)
                     & ((levels <= 16)
-                        & (bins_in_range(n_r, n_omega)
-                            & ((n_omega == dihedral_count(step)) & own_count(n_r, dr, rmin)))))))
+                        & (bins_in_range(g.n_r, g.n_omega)
+                            & ((g.n_omega == dihedral_count(g.omega_step))
+                                & own_count(g.n_r, g.dr, g.rmin)))))))
 }
 
 // Question 14 of a table's grid and level count.
 pub fn grid_valid(g: Grid, levels: u64) -> bool
     ensures { result ≡ grid_valid g levels }
 {
-    let n_r = g.n_r;
-    let n_omega = g.n_omega;
     if !grid_range(g, levels) {
         return false;
     }
-    slabs_fit(n_r, n_omega, levels - 1)
+    slabs_fit(g.n_r, g.n_omega, levels - 1)
 }

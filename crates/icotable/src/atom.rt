@@ -6,20 +6,22 @@ ghost use Rattle.builder.specs.BuilderLists.{lists_of};
 ghost use Rattle.builder.specs.Atom.{AtomBuiltOut, AtomSettleOut, atom_built_values, atom_settled_values, no_atom_builder, atom_fresh_out, atom_set_out, atom_settle_out};
 ghost use Rattle.writer.specs.Atom.{AtomWriteOut, atom_write_out};
 ghost use Rattle.table.specs.Atom.{atom_read_values, atom_read_out};
-ghost use Rattle.reading.specs.Resolve.{linear, boltzmann, reading_values};
+ghost use Rattle.reading.specs.Resolve.{linear, boltzmann, reading_values, reading_of};
 ghost use Rattle.reading.specs.Atom.{atom_reading_by};
 ghost use Rattle.reading.specs.Internal.{energy_alone};
 ghost use Rattle.sizing.specs.Sizing.{atom_sizing_out};
 ghost use Rattle.icotable.specs.Answers.{written_in};
 ghost use Rattle.icotable.specs.AtomAnswers.{atom_built_in, atom_settled_in, energy_in, atom_table_with, atom_table_answer, atom_table_from};
 
-use crate::{WriteAnswer, write_answer};
-use builder::{AtomBuilder, AtomBuilt, AtomSettled};
+use crate::WriteAnswer;
+use builder::{AtomBuilder, Settled};
 use grid::AtomGrid;
-use reading::Reading;
-use search::Vector3;
+use mesh::Mesh;
+use reading::{AtomQuery, Energy};
+use refusals::Refusal;
+use search::{Locator, Vector3};
 use sizing::Size;
-use table::{AtomReadAnswer, AtomTable};
+use table::AtomTable;
 
 // Of fresh and set.
 #[repr(C)]
@@ -80,30 +82,35 @@ fn no_atom_builder() -> AtomBuilder
     }
 }
 
-fn atom_built_answer(kept: AtomBuilder, a: AtomBuilt) -> AtomBuildAnswer
+#[tactic(auto, unfolding(crate::specs::AtomAnswers::atom_built_in))]
+fn atom_built_answer(kept: AtomBuilder, a: Result<AtomBuilder, Refusal>) -> AtomBuildAnswer
     ensures { atom_built_in result ≡ atom_built_values kept a }
 {
     match a {
-        AtomBuilt::Accepted(builder) => AtomBuildAnswer { number: 0, builder },
-        AtomBuilt::Refused(number) => AtomBuildAnswer {
-            number,
+        Ok(builder) => AtomBuildAnswer { number: 0, builder },
+        Err(e) => AtomBuildAnswer {
+            number: e.number(),
             builder: kept,
         },
     }
 }
 
-fn atom_settle_answer(kept: AtomBuilder, a: AtomSettled) -> AtomSettleAnswer
+#[tactic(auto, unfolding(crate::specs::AtomAnswers::atom_settled_in))]
+fn atom_settle_answer(
+    kept: AtomBuilder,
+    a: Result<Settled<AtomBuilder>, Refusal>,
+) -> AtomSettleAnswer
     ensures { atom_settled_in result ≡ atom_settled_values kept a }
 {
     match a {
-        AtomSettled::Accepted(builder, gradient, comparisons) => AtomSettleAnswer {
+        Ok(s) => AtomSettleAnswer {
             number: 0,
-            gradient,
-            comparisons,
-            builder,
+            gradient: s.gradient,
+            comparisons: s.comparisons,
+            builder: s.builder,
         },
-        AtomSettled::Refused(number) => AtomSettleAnswer {
-            number,
+        Err(e) => AtomSettleAnswer {
+            number: e.number(),
             gradient: 0.0,
             comparisons: 0,
             builder: kept,
@@ -111,77 +118,77 @@ fn atom_settle_answer(kept: AtomBuilder, a: AtomSettled) -> AtomSettleAnswer
     }
 }
 
+#[tactic(auto, unfolding(crate::specs::AtomAnswers::atom_table_with))]
 fn atom_table_with(number: u64, t: AtomTable) -> AtomTableAnswer
     ensures { result ≡ atom_table_with number t }
 {
-    let grid = t.grid;
-    let levels = t.levels;
-    let rows = t.rows;
-    let energies = t.energies;
-    let start = [
-        t.grid_start,
-        t.bins_start,
-        t.levels_start,
-        t.rows_start,
-        t.energies_start,
-    ];
     AtomTableAnswer {
         number,
-        grid,
-        levels,
-        rows,
-        energies,
-        start,
+        grid: t.grid,
+        levels: t.levels,
+        rows: t.rows,
+        energies: t.energies,
+        start: [
+            t.grid_start,
+            t.bins_start,
+            t.levels_start,
+            t.rows_start,
+            t.energies_start,
+        ],
     }
 }
 
-fn atom_table_answer(a: AtomReadAnswer) -> AtomTableAnswer
-    ensures { result ≡ atom_table_answer (atom_read_values a) }
-{
-    match a {
-        AtomReadAnswer::Accepted(t) => atom_table_with(0, t),
-        AtomReadAnswer::Refused(number) => AtomTableAnswer {
-            number,
-            grid: no_atom_grid(),
-            levels: 0,
-            rows: 0,
-            energies: 0,
-            start: [0; 5],
-        },
+impl From<Result<AtomTable, Refusal>> for AtomTableAnswer {
+    ghost from_gives = { λ a t. t ≡ atom_table_answer (atom_read_values a) };
+
+    #[tactic(auto, unfolding(crate::specs::AtomAnswers::atom_table_with, crate::specs::AtomAnswers::atom_table_answer))]
+    fn from(a: Result<AtomTable, Refusal>) -> AtomTableAnswer {
+        match a {
+            Ok(t) => atom_table_with(0, t),
+            Err(e) => AtomTableAnswer {
+                number: e.number(),
+                grid: no_atom_grid(),
+                levels: 0,
+                rows: 0,
+                energies: 0,
+                start: [0; 5],
+            },
+        }
     }
 }
 
 // Read's answer as it is handed back to a reading, whatever it holds by then.
-fn atom_table_from(t: AtomTableAnswer) -> AtomTable
-    ensures { result ≡ atom_table_from t }
-{
-    let grid = t.grid;
-    let levels = t.levels;
-    let rows = t.rows;
-    let energies = t.energies;
-    let start = t.start;
-    AtomTable {
-        grid,
-        levels,
-        rows,
-        energies,
-        grid_start: start[0],
-        bins_start: start[1],
-        levels_start: start[2],
-        rows_start: start[3],
-        energies_start: start[4],
+impl From<AtomTableAnswer> for AtomTable {
+    ghost from_gives = { λ a t. t ≡ atom_table_from a };
+
+    #[tactic(auto, unfolding(crate::specs::AtomAnswers::atom_table_from))]
+    fn from(t: AtomTableAnswer) -> AtomTable {
+        AtomTable {
+            grid: t.grid,
+            levels: t.levels,
+            rows: t.rows,
+            energies: t.energies,
+            grid_start: t.start[0],
+            bins_start: t.start[1],
+            levels_start: t.start[2],
+            rows_start: t.start[3],
+            energies_start: t.start[4],
+        }
     }
 }
 
-fn energy_answer(a: Reading) -> EnergyAnswer
-    ensures { energy_in result ≡ energy_alone (reading_values a) }
-{
-    match a {
-        Reading::Energy(_, energy, _) => EnergyAnswer { number: 0, energy },
-        Reading::Refused(number) => EnergyAnswer {
-            number,
-            energy: 0.0,
-        },
+impl From<Result<Energy, Refusal>> for EnergyAnswer {
+    ghost from_gives = { λ a e. energy_in e ≡ energy_alone (reading_values (reading_of a)) };
+
+    #[tactic(auto, unfolding(crate::specs::AtomAnswers::energy_in))]
+    fn from(a: Result<Energy, Refusal>) -> EnergyAnswer {
+        match a {
+            Ok(Energy { energy, .. }) => EnergyAnswer { number: 0, energy },
+            Err(e) => EnergyAnswer {
+                number: e.number(),
+                energy: 0.0,
+            },
+        }
     }
 }
 
@@ -203,20 +210,16 @@ pub extern "C" fn icotable_atom_fresh(
         (atom_fresh_out grid top (mesh_of vertices.now neighbour_counts.now neighbours.now angles.now)
         (lists_of store.old kinds.old levels.old values.old)) }
 {
-    let none = no_atom_builder();
-    let a = builder::atom_fresh(
-        grid,
-        top,
-        store,
-        kinds,
-        levels,
-        values,
+    let mesh = Mesh {
         vertices,
-        neighbour_counts,
+        counts: neighbour_counts,
         neighbours,
         angles,
-    );
-    atom_built_answer(none, a)
+    };
+    atom_built_answer(
+        no_atom_builder(),
+        builder::atom_fresh(grid, top, store, kinds, levels, values, &mesh),
+    )
 }
 
 #[unsafe(no_mangle)]
@@ -233,8 +236,10 @@ pub extern "C" fn icotable_atom_set(
         (record { answer = atom_built_in result; lists = lists_of store.new kinds.new levels.new values.new })
         (atom_set_out builder (lists_of store.old kinds.old levels.old values.old) ri energies.now) }
 {
-    let a = builder::atom_set(builder, store, kinds, levels, values, ri, energies);
-    atom_built_answer(builder, a)
+    atom_built_answer(
+        builder,
+        builder::atom_set(builder, store, kinds, levels, values, ri, energies),
+    )
 }
 
 #[unsafe(no_mangle)]
@@ -255,19 +260,16 @@ pub extern "C" fn icotable_atom_settle(
         (atom_settle_out builder (mesh_of vertices.now neighbour_counts.now neighbours.now angles.now)
         (lists_of store.now kinds.old levels.old values.old) ri) }
 {
-    let a = builder::atom_settle(
-        builder,
-        store,
-        kinds,
-        levels,
-        values,
+    let mesh = Mesh {
         vertices,
-        neighbour_counts,
+        counts: neighbour_counts,
         neighbours,
         angles,
-        ri,
-    );
-    atom_settle_answer(builder, a)
+    };
+    atom_settle_answer(
+        builder,
+        builder::atom_settle(builder, store, kinds, levels, values, &mesh, ri),
+    )
 }
 
 #[unsafe(no_mangle)]
@@ -288,64 +290,20 @@ pub extern "C" fn icotable_atom_write(
         (atom_write_out builder (mesh_of vertices.now neighbour_counts.now neighbours.now angles.now)
         (lists_of store.now kinds.now levels.now values.now) output.old) }
 {
-    let a = writer::atom_write(
-        builder,
-        store,
-        kinds,
-        levels,
-        values,
+    let mesh = Mesh {
         vertices,
-        neighbour_counts,
+        counts: neighbour_counts,
         neighbours,
         angles,
-        output,
-    );
-    write_answer(a)
+    };
+    writer::atom_write(builder, store, kinds, levels, values, &mesh, output).into()
 }
 
 #[unsafe(no_mangle)]
 pub extern "C" fn icotable_atom_read(file: &[u8]) -> AtomTableAnswer
     ensures { result ≡ atom_table_answer (atom_read_out file.now) }
 {
-    let a = table::atom_read(file);
-    atom_table_answer(a)
-}
-
-fn atom_reading_of(
-    table: AtomTableAnswer,
-    file: &[u8],
-    vertices: &[f64],
-    cell_offsets: &[u32],
-    cell_vertices: &[u16],
-    face_offsets: &[u32],
-    faces: &[u16],
-    r: f64,
-    dx: f64,
-    dy: f64,
-    dz: f64,
-) -> EnergyAnswer
-    ensures { energy_in result ≡ atom_reading_by file.now (atom_table_from table) vertices.now
-        (locator_of cell_offsets.now cell_vertices.now face_offsets.now faces.now)
-        linear (record { r = r; d = record { x = dx; y = dy; z = dz } }) }
-{
-    let t = atom_table_from(table);
-    let d = Vector3 {
-        x: dx,
-        y: dy,
-        z: dz,
-    };
-    let answer = reading::atom_lookup(
-        t,
-        file,
-        vertices,
-        cell_offsets,
-        cell_vertices,
-        face_offsets,
-        faces,
-        r,
-        d,
-    );
-    energy_answer(answer)
+    table::atom_read(file).into()
 }
 
 // The table is lent, so that a caller copies no struct for each reading.
@@ -367,58 +325,21 @@ pub extern "C" fn icotable_atom_reading(
         (locator_of cell_offsets.now cell_vertices.now face_offsets.now faces.now)
         linear (record { r = r; d = record { x = dx; y = dy; z = dz } }) }
 {
-    atom_reading_of(
-        *table,
-        file,
-        vertices,
+    let locator = Locator {
         cell_offsets,
         cell_vertices,
         face_offsets,
         faces,
-        r,
-        dx,
-        dy,
-        dz,
-    )
-}
-
-fn atom_boltzmann_of(
-    table: AtomTableAnswer,
-    file: &[u8],
-    vertices: &[f64],
-    cell_offsets: &[u32],
-    cell_vertices: &[u16],
-    face_offsets: &[u32],
-    faces: &[u16],
-    r: f64,
-    dx: f64,
-    dy: f64,
-    dz: f64,
-    beta: f64,
-) -> EnergyAnswer
-    ensures { energy_in result ≡ atom_reading_by file.now (atom_table_from table) vertices.now
-        (locator_of cell_offsets.now cell_vertices.now face_offsets.now faces.now)
-        (boltzmann beta) (record { r = r; d = record { x = dx; y = dy; z = dz } }) }
-{
-    let t = atom_table_from(table);
-    let d = Vector3 {
-        x: dx,
-        y: dy,
-        z: dz,
     };
-    let answer = reading::atom_lookup_boltzmann(
-        t,
-        file,
-        vertices,
-        cell_offsets,
-        cell_vertices,
-        face_offsets,
-        faces,
+    let q = AtomQuery {
         r,
-        d,
-        beta,
-    );
-    energy_answer(answer)
+        d: Vector3 {
+            x: dx,
+            y: dy,
+            z: dz,
+        },
+    };
+    reading::atom_lookup((*table).into(), file, vertices, &locator, &q).into()
 }
 
 // The same, weighted by temperature.
@@ -441,20 +362,21 @@ pub extern "C" fn icotable_atom_boltzmann(
         (locator_of cell_offsets.now cell_vertices.now face_offsets.now faces.now)
         (boltzmann beta) (record { r = r; d = record { x = dx; y = dy; z = dz } }) }
 {
-    atom_boltzmann_of(
-        *table,
-        file,
-        vertices,
+    let locator = Locator {
         cell_offsets,
         cell_vertices,
         face_offsets,
         faces,
+    };
+    let q = AtomQuery {
         r,
-        dx,
-        dy,
-        dz,
-        beta,
-    )
+        d: Vector3 {
+            x: dx,
+            y: dy,
+            z: dz,
+        },
+    };
+    reading::atom_lookup_boltzmann((*table).into(), file, vertices, &locator, &q, beta).into()
 }
 
 // What a build of these settings needs.

@@ -3,6 +3,7 @@ ghost use Rattle.std.specs.Prelude.{◌≡◌, []};
 ghost use Rattle.mesh.specs.Mesh.{mesh_of};
 ghost use Rattle.mesh_search.specs.MeshSearch.{search_out};
 
+use mesh::Mesh;
 use search::{Located, Vector3};
 
 // The nearest vertex and the square of its distance, its face that fits a direction best, and the direction's weights in it. The lists are those of one level, from
@@ -19,11 +20,11 @@ pub extern "C" fn icotable_search(
 ) -> Located
     ensures { result ≡ search_out level (mesh_of vertices.now neighbour_counts.now neighbours.now []) (record { x = x; y = y; z = z }) }
 {
-    mesh_search::search_mesh(
-        level,
+    let mesh = Mesh {
         vertices,
-        neighbour_counts,
+        counts: neighbour_counts,
         neighbours,
-        Vector3 { x, y, z },
-    )
+        angles: &[],
+    };
+    mesh_search::search_mesh(level, &mesh, Vector3 { x, y, z })
 }

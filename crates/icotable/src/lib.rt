@@ -17,19 +17,20 @@ ghost use Rattle.writer.specs.Write.{WriteOut, written_values, write_out};
 ghost use Rattle.table.specs.Read.{read_values, read_out};
 ghost use Rattle.table.specs.View.{viewer, read_over};
 ghost use Rattle.locator.specs.Locator.{LocatorOut, locator_out};
-ghost use Rattle.reading.specs.Resolve.{boltzmann, reading_values};
+ghost use Rattle.reading.specs.Resolve.{boltzmann, reading_values, reading_of};
 ghost use Rattle.reading.specs.Reading.{reading_by, reading_out};
 ghost use Rattle.sizing.specs.Sizing.{sizing_out};
 ghost use Rattle.icotable.specs.Sizes.{held_vertices, held_cells};
 ghost use Rattle.icotable.specs.Answers.{built_in, settled_in, written_in, value_in, table_with, table_answer, table_from};
 
-use builder::{Builder, Built, Settled};
+use builder::{Builder, Settled};
 use grid::Grid;
-use reading::Reading;
-use search::Vector3;
+use mesh::Mesh;
+use reading::{Energy, Query};
+use refusals::Refusal;
+use search::{Locator, Vector3};
 use sizing::Size;
-use table::{ReadAnswer, Table};
-use writer::Written;
+use table::Table;
 
 mod atom;
 mod found;
@@ -112,30 +113,32 @@ fn no_builder() -> Builder
     }
 }
 
-fn built_answer(kept: Builder, a: Built) -> BuildAnswer
+#[tactic(auto, unfolding(crate::specs::Answers::built_in))]
+fn built_answer(kept: Builder, a: Result<Builder, Refusal>) -> BuildAnswer
     ensures { built_in result ≡ built_values kept a }
 {
     match a {
-        Built::Accepted(builder) => BuildAnswer { number: 0, builder },
-        Built::Refused(number) => BuildAnswer {
-            number,
+        Ok(builder) => BuildAnswer { number: 0, builder },
+        Err(e) => BuildAnswer {
+            number: e.number(),
             builder: kept,
         },
     }
 }
 
-fn settle_answer(kept: Builder, a: Settled) -> SettleAnswer
+#[tactic(auto, unfolding(crate::specs::Answers::settled_in))]
+fn settle_answer(kept: Builder, a: Result<Settled<Builder>, Refusal>) -> SettleAnswer
     ensures { settled_in result ≡ settled_values kept a }
 {
     match a {
-        Settled::Accepted(builder, gradient, comparisons) => SettleAnswer {
+        Ok(s) => SettleAnswer {
             number: 0,
-            gradient,
-            comparisons,
-            builder,
+            gradient: s.gradient,
+            comparisons: s.comparisons,
+            builder: s.builder,
         },
-        Settled::Refused(number) => SettleAnswer {
-            number,
+        Err(e) => SettleAnswer {
+            number: e.number(),
             gradient: 0.0,
             comparisons: 0,
             builder: kept,
@@ -143,100 +146,104 @@ fn settle_answer(kept: Builder, a: Settled) -> SettleAnswer
     }
 }
 
-fn write_answer(a: Written) -> WriteAnswer
-    ensures { written_in result ≡ written_values a }
-{
-    match a {
-        Written::Accepted(length) => WriteAnswer { number: 0, length },
-        Written::Refused(number) => WriteAnswer { number, length: 0 },
+impl From<Result<u64, Refusal>> for WriteAnswer {
+    ghost from_gives = { λ a w. written_in w ≡ written_values a };
+
+    #[tactic(auto, unfolding(crate::specs::Answers::written_in))]
+    fn from(a: Result<u64, Refusal>) -> WriteAnswer {
+        match a {
+            Ok(length) => WriteAnswer { number: 0, length },
+            Err(e) => WriteAnswer {
+                number: e.number(),
+                length: 0,
+            },
+        }
     }
 }
 
+#[tactic(auto, unfolding(crate::specs::Answers::table_with))]
 fn table_with(number: u64, t: Table) -> TableAnswer
     ensures { result ≡ table_with number t }
 {
-    let grid = t.grid;
-    let levels = t.levels;
-    let rows = t.rows;
-    let energies = t.energies;
-    let terms = t.terms;
-    let start = [
-        t.grid_start,
-        t.bins_start,
-        t.levels_start,
-        t.rows_start,
-        t.energies_start,
-        t.tail_start,
-    ];
     TableAnswer {
         number,
-        grid,
-        levels,
-        rows,
-        energies,
-        terms,
-        start,
+        grid: t.grid,
+        levels: t.levels,
+        rows: t.rows,
+        energies: t.energies,
+        terms: t.terms,
+        start: [
+            t.grid_start,
+            t.bins_start,
+            t.levels_start,
+            t.rows_start,
+            t.energies_start,
+            t.tail_start,
+        ],
     }
 }
 
-fn table_answer(a: ReadAnswer) -> TableAnswer
-    ensures { result ≡ table_answer (read_values a) }
-{
-    match a {
-        ReadAnswer::Accepted(t) => table_with(0, t),
-        ReadAnswer::Refused(number) => TableAnswer {
-            number,
-            grid: no_grid(),
-            levels: 0,
-            rows: 0,
-            energies: 0,
-            terms: 0,
-            start: [0; 6],
-        },
+impl From<Result<Table, Refusal>> for TableAnswer {
+    ghost from_gives = { λ a t. t ≡ table_answer (read_values a) };
+
+    #[tactic(auto, unfolding(crate::specs::Answers::table_with, crate::specs::Answers::table_answer))]
+    fn from(a: Result<Table, Refusal>) -> TableAnswer {
+        match a {
+            Ok(t) => table_with(0, t),
+            Err(e) => TableAnswer {
+                number: e.number(),
+                grid: no_grid(),
+                levels: 0,
+                rows: 0,
+                energies: 0,
+                terms: 0,
+                start: [0; 6],
+            },
+        }
     }
 }
 
 // Read's answer as it is handed back to a reading, whatever it holds by then.
-fn table_from(t: TableAnswer) -> Table
-    ensures { result ≡ table_from t }
-{
-    let grid = t.grid;
-    let levels = t.levels;
-    let rows = t.rows;
-    let energies = t.energies;
-    let terms = t.terms;
-    let start = t.start;
-    Table {
-        grid,
-        levels,
-        rows,
-        energies,
-        terms,
-        grid_start: start[0],
-        bins_start: start[1],
-        levels_start: start[2],
-        rows_start: start[3],
-        energies_start: start[4],
-        tail_start: start[5],
+impl From<TableAnswer> for Table {
+    ghost from_gives = { λ a t. t ≡ table_from a };
+
+    #[tactic(auto, unfolding(crate::specs::Answers::table_from))]
+    fn from(t: TableAnswer) -> Table {
+        Table {
+            grid: t.grid,
+            levels: t.levels,
+            rows: t.rows,
+            energies: t.energies,
+            terms: t.terms,
+            grid_start: t.start[0],
+            bins_start: t.start[1],
+            levels_start: t.start[2],
+            rows_start: t.start[3],
+            energies_start: t.start[4],
+            tail_start: t.start[5],
+        }
     }
 }
 
-fn value_answer(a: Reading) -> ValueAnswer
-    ensures { value_in result ≡ reading_values a }
-{
-    match a {
-        Reading::Energy(distance_a, energy, distance_b) => ValueAnswer {
-            number: 0,
-            energy,
-            distance_a,
-            distance_b,
-        },
-        Reading::Refused(number) => ValueAnswer {
-            number,
-            energy: 0.0,
-            distance_a: 0.0,
-            distance_b: 0.0,
-        },
+impl From<Result<Energy, Refusal>> for ValueAnswer {
+    ghost from_gives = { λ a v. value_in v ≡ reading_values (reading_of a) };
+
+    #[tactic(auto, unfolding(crate::specs::Answers::value_in))]
+    fn from(a: Result<Energy, Refusal>) -> ValueAnswer {
+        match a {
+            Ok(e) => ValueAnswer {
+                number: 0,
+                energy: e.energy,
+                distance_a: e.distance_a,
+                distance_b: e.distance_b,
+            },
+            Err(e) => ValueAnswer {
+                number: e.number(),
+                energy: 0.0,
+                distance_a: 0.0,
+                distance_b: 0.0,
+            },
+        }
     }
 }
 
@@ -256,18 +263,13 @@ pub extern "C" fn icotable_fresh(
         (fresh_out grid top (mesh_of vertices.now neighbour_counts.now neighbours.now angles.now)
         (word_lists store.old words.old)) }
 {
-    let none = no_builder();
-    let a = builder::fresh(
-        grid,
-        top,
-        store,
-        words,
+    let mesh = Mesh {
         vertices,
-        neighbour_counts,
+        counts: neighbour_counts,
         neighbours,
         angles,
-    );
-    built_answer(none, a)
+    };
+    built_answer(no_builder(), builder::fresh(grid, top, store, words, &mesh))
 }
 
 #[unsafe(no_mangle)]
@@ -283,8 +285,10 @@ pub extern "C" fn icotable_set(
         (record { answer = built_in result; lists = word_lists store.new words.new })
         (set_out builder (word_lists store.old words.old) ri oi energies.now) }
 {
-    let a = builder::set(builder, store, words, ri, oi, energies);
-    built_answer(builder, a)
+    built_answer(
+        builder,
+        builder::set(builder, store, words, ri, oi, energies),
+    )
 }
 
 #[unsafe(no_mangle)]
@@ -303,17 +307,13 @@ pub extern "C" fn icotable_settle(
         (settle_out builder (mesh_of vertices.now neighbour_counts.now neighbours.now angles.now)
         (word_lists store.now words.old) ri) }
 {
-    let a = builder::settle(
-        builder,
-        store,
-        words,
+    let mesh = Mesh {
         vertices,
-        neighbour_counts,
+        counts: neighbour_counts,
         neighbours,
         angles,
-        ri,
-    );
-    settle_answer(builder, a)
+    };
+    settle_answer(builder, builder::settle(builder, store, words, &mesh, ri))
 }
 
 #[unsafe(no_mangle)]
@@ -332,25 +332,20 @@ pub extern "C" fn icotable_write(
         (write_out builder (mesh_of vertices.now neighbour_counts.now neighbours.now angles.now)
         (word_lists store.now words.now) output.old) }
 {
-    let a = writer::write(
-        builder,
-        store,
-        words,
+    let mesh = Mesh {
         vertices,
-        neighbour_counts,
+        counts: neighbour_counts,
         neighbours,
         angles,
-        output,
-    );
-    write_answer(a)
+    };
+    writer::write(builder, store, words, &mesh, output).into()
 }
 
 #[unsafe(no_mangle)]
 pub extern "C" fn icotable_read(file: &[u8]) -> TableAnswer
     ensures { result ≡ table_answer (read_out file.now) }
 {
-    let a = table::read(file);
-    table_answer(a)
+    table::read(file).into()
 }
 
 // The same for the viewer, which opens small tables alone.
@@ -358,8 +353,7 @@ pub extern "C" fn icotable_read(file: &[u8]) -> TableAnswer
 pub extern "C" fn icotable_view(file: &[u8]) -> TableAnswer
     ensures { result ≡ table_answer (read_over viewer file.now) }
 {
-    let a = table::view(file);
-    table_answer(a)
+    table::view(file).into()
 }
 
 #[unsafe(no_mangle)]
@@ -379,65 +373,20 @@ pub extern "C" fn icotable_locator(
         (locator_out level (mesh_of vertices.now neighbour_counts.now neighbours.now angles.now)
         (locator_of cell_offsets.old cell_vertices.old face_offsets.old faces.old)) }
 {
-    locator::locator(
-        level,
+    let mesh = Mesh {
         vertices,
-        neighbour_counts,
+        counts: neighbour_counts,
         neighbours,
         angles,
+    };
+    refusals::number_of(locator::locator(
+        level,
+        &mesh,
         cell_offsets,
         cell_vertices,
         face_offsets,
         faces,
-    )
-}
-
-fn reading_of(
-    table: TableAnswer,
-    file: &[u8],
-    vertices: &[f64],
-    cell_offsets: &[u32],
-    cell_vertices: &[u16],
-    face_offsets: &[u32],
-    faces: &[u16],
-    r: f64,
-    omega: f64,
-    ax: f64,
-    ay: f64,
-    az: f64,
-    bx: f64,
-    by: f64,
-    bz: f64,
-) -> ValueAnswer
-    ensures { value_in result ≡ reading_out file.now (table_from table) vertices.now
-        (locator_of cell_offsets.now cell_vertices.now face_offsets.now faces.now)
-        (record { r = r; omega = omega; a = record { x = ax; y = ay; z = az }; b = record { x = bx; y = by; z = bz } }) }
-{
-    let t = table_from(table);
-    let a = Vector3 {
-        x: ax,
-        y: ay,
-        z: az,
-    };
-    let b = Vector3 {
-        x: bx,
-        y: by,
-        z: bz,
-    };
-    let answer = reading::lookup(
-        t,
-        file,
-        vertices,
-        cell_offsets,
-        cell_vertices,
-        face_offsets,
-        faces,
-        r,
-        omega,
-        a,
-        b,
-    );
-    value_answer(answer)
+    ))
 }
 
 // The table is lent, so that a caller copies no struct for each reading.
@@ -463,73 +412,27 @@ pub extern "C" fn icotable_reading(
         (locator_of cell_offsets.now cell_vertices.now face_offsets.now faces.now)
         (record { r = r; omega = omega; a = record { x = ax; y = ay; z = az }; b = record { x = bx; y = by; z = bz } }) }
 {
-    reading_of(
-        *table,
-        file,
-        vertices,
+    let locator = Locator {
         cell_offsets,
         cell_vertices,
         face_offsets,
         faces,
+    };
+    let q = Query {
         r,
         omega,
-        ax,
-        ay,
-        az,
-        bx,
-        by,
-        bz,
-    )
-}
-
-fn boltzmann_of(
-    table: TableAnswer,
-    file: &[u8],
-    vertices: &[f64],
-    cell_offsets: &[u32],
-    cell_vertices: &[u16],
-    face_offsets: &[u32],
-    faces: &[u16],
-    r: f64,
-    omega: f64,
-    ax: f64,
-    ay: f64,
-    az: f64,
-    bx: f64,
-    by: f64,
-    bz: f64,
-    beta: f64,
-) -> ValueAnswer
-    ensures { value_in result ≡ reading_by file.now (table_from table) vertices.now
-        (locator_of cell_offsets.now cell_vertices.now face_offsets.now faces.now)
-        (boltzmann beta) (record { r = r; omega = omega; a = record { x = ax; y = ay; z = az }; b = record { x = bx; y = by; z = bz } }) }
-{
-    let t = table_from(table);
-    let a = Vector3 {
-        x: ax,
-        y: ay,
-        z: az,
+        a: Vector3 {
+            x: ax,
+            y: ay,
+            z: az,
+        },
+        b: Vector3 {
+            x: bx,
+            y: by,
+            z: bz,
+        },
     };
-    let b = Vector3 {
-        x: bx,
-        y: by,
-        z: bz,
-    };
-    let answer = reading::lookup_boltzmann(
-        t,
-        file,
-        vertices,
-        cell_offsets,
-        cell_vertices,
-        face_offsets,
-        faces,
-        r,
-        omega,
-        a,
-        b,
-        beta,
-    );
-    value_answer(answer)
+    reading::lookup((*table).into(), file, vertices, &locator, &q).into()
 }
 
 // The same, weighted by temperature.
@@ -556,24 +459,27 @@ pub extern "C" fn icotable_boltzmann(
         (locator_of cell_offsets.now cell_vertices.now face_offsets.now faces.now)
         (boltzmann beta) (record { r = r; omega = omega; a = record { x = ax; y = ay; z = az }; b = record { x = bx; y = by; z = bz } }) }
 {
-    boltzmann_of(
-        *table,
-        file,
-        vertices,
+    let locator = Locator {
         cell_offsets,
         cell_vertices,
         face_offsets,
         faces,
+    };
+    let q = Query {
         r,
         omega,
-        ax,
-        ay,
-        az,
-        bx,
-        by,
-        bz,
-        beta,
-    )
+        a: Vector3 {
+            x: ax,
+            y: ay,
+            z: az,
+        },
+        b: Vector3 {
+            x: bx,
+            y: by,
+            z: bz,
+        },
+    };
+    reading::lookup_boltzmann((*table).into(), file, vertices, &locator, &q, beta).into()
 }
 
 // What a build of these settings needs, with so many terms in its tail.

@@ -15,7 +15,7 @@ pub extern "C" fn icotable_rows_to_words(
         (record { number = result; words = words.new })
         (rows_to_words rows (rows_of kinds.now levels.now values.now) words.old) }
 {
-    words::rows_to_words(rows, kinds, levels, values, words)
+    refusals::number_of(words::rows_to_words(rows, kinds, levels, values, words))
 }
 
 #[unsafe(no_mangle)]
@@ -30,5 +30,5 @@ pub extern "C" fn icotable_words_to_rows(
         (record { number = result; rows = rows_of kinds.new levels.new values.new })
         (words_to_rows rows words.now (rows_of kinds.old levels.old values.old)) }
 {
-    words::words_to_rows(rows, words, kinds, levels, values)
+    refusals::number_of(words::words_to_rows(rows, words, kinds, levels, values))
 }

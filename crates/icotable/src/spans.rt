@@ -4,8 +4,9 @@ ghost use Rattle.span.specs.Spans.{span_values, span_out};
 ghost use Rattle.icotable.specs.Answers.{table_from};
 ghost use Rattle.icotable.specs.SpanAnswers.{spanned_in};
 
-use crate::{TableAnswer, table_from};
-use span::SpanAnswer;
+use crate::TableAnswer;
+use refusals::Refusal;
+use span::Spanned;
 
 // The first and the last distance bin of a span, the smallest and largest energy in their rows, and how many of the
 // Scalar rows hold a NaN.
@@ -20,35 +21,30 @@ pub struct SpannedAnswer {
     pub scalar_nans: u64,
 }
 
-fn spanned_answer(a: SpanAnswer) -> SpannedAnswer
-    ensures { spanned_in result ≡ span_values a }
-{
-    match a {
-        SpanAnswer::Accepted(s) => SpannedAnswer {
-            number: 0,
-            first: s.first,
-            last: s.last,
-            smallest: s.smallest,
-            largest: s.largest,
-            scalar_nans: s.scalar_nans,
-        },
-        SpanAnswer::Refused(number) => SpannedAnswer {
-            number,
-            first: 0,
-            last: 0,
-            smallest: 0.0,
-            largest: 0.0,
-            scalar_nans: 0,
-        },
-    }
-}
+impl From<Result<Spanned, Refusal>> for SpannedAnswer {
+    ghost from_gives = { λ a r. spanned_in r ≡ span_values a };
 
-fn span_of(table: TableAnswer, file: &[u8], low: f64, high: f64, omega: f64) -> SpannedAnswer
-    ensures { spanned_in result ≡ span_out file.now (table_from table) low high omega }
-{
-    let t = table_from(table);
-    let a = span::span(t, file, low, high, omega);
-    spanned_answer(a)
+    #[tactic(auto, unfolding(crate::specs::SpanAnswers::spanned_in))]
+    fn from(a: Result<Spanned, Refusal>) -> SpannedAnswer {
+        match a {
+            Ok(s) => SpannedAnswer {
+                number: 0,
+                first: s.first,
+                last: s.last,
+                smallest: s.smallest,
+                largest: s.largest,
+                scalar_nans: s.scalar_nans,
+            },
+            Err(e) => SpannedAnswer {
+                number: e.number(),
+                first: 0,
+                last: 0,
+                smallest: 0.0,
+                largest: 0.0,
+                scalar_nans: 0,
+            },
+        }
+    }
 }
 
 // The bins and the energies of the distances from `low` to `high`, at a dihedral angle; the table is lent, as to a reading.
@@ -62,5 +58,5 @@ pub extern "C" fn icotable_span(
 ) -> SpannedAnswer
     ensures { spanned_in result ≡ span_out file.now (table_from table.now) low high omega }
 {
-    span_of(*table, file, low, high, omega)
+    span::span((*table).into(), file, low, high, omega).into()
 }

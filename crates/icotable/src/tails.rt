@@ -7,9 +7,11 @@ ghost use Rattle.writer.specs.Tailed.{tail_lists, write_tail_out};
 ghost use Rattle.tail.specs.Reading.{tail_values, tail_out};
 ghost use Rattle.icotable.specs.Answers.{written_in, value_in, tail_shown, table_from};
 
-use crate::{TableAnswer, ValueAnswer, WriteAnswer, table_from, write_answer};
+use crate::{TableAnswer, ValueAnswer, WriteAnswer};
 use builder::Builder;
-use tail::TailAnswer;
+use mesh::Mesh;
+use refusals::Refusal;
+use writer::LentTail;
 
 #[unsafe(no_mangle)]
 pub extern "C" fn icotable_write_tail(
@@ -32,48 +34,37 @@ pub extern "C" fn icotable_write_tail(
         (word_lists store.now words.now)
         (tail_lists coefficients.now kappas.now powers.now prefactor.now) output.old) }
 {
-    let a = writer::write_tail(
-        builder,
-        store,
-        words,
+    let mesh = Mesh {
         vertices,
-        neighbour_counts,
+        counts: neighbour_counts,
         neighbours,
         angles,
+    };
+    let tail = LentTail {
         coefficients,
         kappas,
         powers,
         prefactor,
-        output,
-    );
-    write_answer(a)
+    };
+    writer::write_tail(builder, store, words, &mesh, &tail, output).into()
 }
 
-fn tail_answer(a: TailAnswer) -> ValueAnswer
-    ensures { value_in result ≡ tail_shown (tail_values a) }
-{
-    match a {
-        TailAnswer::Energy(energy) => ValueAnswer {
-            number: 0,
+impl From<Result<f64, Refusal>> for ValueAnswer {
+    ghost from_gives = { λ a v. value_in v ≡ tail_shown (tail_values a) };
+
+    #[tactic(auto, unfolding(crate::specs::Answers::value_in, crate::specs::Answers::tail_shown))]
+    fn from(a: Result<f64, Refusal>) -> ValueAnswer {
+        let (number, energy) = match a {
+            Ok(energy) => (0, energy),
+            Err(e) => (e.number(), 0.0),
+        };
+        ValueAnswer {
+            number,
             energy,
             distance_a: 0.0,
             distance_b: 0.0,
-        },
-        TailAnswer::Refused(number) => ValueAnswer {
-            number,
-            energy: 0.0,
-            distance_a: 0.0,
-            distance_b: 0.0,
-        },
+        }
     }
-}
-
-fn tail_of(table: TableAnswer, file: &[u8], r: f64) -> ValueAnswer
-    ensures { value_in result ≡ tail_shown (tail_out file.now (table_from table) r) }
-{
-    let t = table_from(table);
-    let a = tail::tail_energy(t, file, r);
-    tail_answer(a)
 }
 
 // The tail's energy at a distance; the table is lent, as to a reading.
@@ -81,5 +72,5 @@ fn tail_of(table: TableAnswer, file: &[u8], r: f64) -> ValueAnswer
 pub extern "C" fn icotable_tail(table: &TableAnswer, file: &[u8], r: f64) -> ValueAnswer
     ensures { value_in result ≡ tail_shown (tail_out file.now (table_from table.now) r) }
 {
-    tail_of(*table, file, r)
+    tail::tail_energy((*table).into(), file, r).into()
 }

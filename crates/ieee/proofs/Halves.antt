@@ -1,5 +1,5 @@
 -- What `cut_off` cuts off: a magnitude of a * 2 ^ 149 / c units, moved to the place of w, keeps its whole last places and its discarded part's order to a half. Assumes nothing.
-use Rattle.std.proofs.Common.{◌≡◌, ℕ, zero, suc, ◌+◌, ◌-◌, ◌*◌, ◌/◌, ◌%◌, ◌^◌, ◌<◌, ◌≤◌, min, Bool, true, false, cond, not, ◌&&◌, T, ltb, ◌⊎◌, ℤ, sym, refl, ap, ◌∙◌, subst, inl, inr, true≢false, le_trans, le_of_eq, lt_of_lt_of_le, le-add_right, add-zero, le_of_lt, lt_irrefl, mod-eq_of_lt, zero-lt-suc, mul_assoc, mul_comm, lt_of_mul-lt-mul_right, mul-lt-mul_of_pos_right, mul-pos, zero-add, zero-mul, mul-one, mul_right_comm, arith, lit<, lit≤, pow_pos, pow_mono, pow-add, ltb-false, ltb-true, le-ltb, lt-ltb}
+use Rattle.std.proofs.Common.{◌≡◌, ℕ, zero, suc, ◌+◌, ◌-◌, ◌*◌, ◌/◌, ◌%◌, ◌^◌, ◌<◌, ◌≤◌, min, Bool, true, false, cond, not, ◌&&◌, T, ltb, ◌⊎◌, ℤ, sym, refl, ap, ◌∙◌, subst, inl, inr, true≢false, le_trans, le_of_eq, lt_of_lt_of_le, le-add_right, le_of_lt, lt_irrefl, mod-eq_of_lt, zero-lt-suc, mul_assoc, mul_comm, lt_of_mul-lt-mul_right, mul-lt-mul_of_pos_right, mul-pos, zero-add, zero-mul, mul-one, mul_right_comm, arith, lit<, lit≤, pow_pos, pow_mono, pow-add, ltb-false, ltb-true, le-ltb, lt-ltb}
 use mathlib.Core.Bool.{false≢true}
 use native.Mathlib.Nat.{div-eq_of_lt, min-eq_left, min-eq_right}
 use lib.Count.{count_leading_zeros, leading_of_zero, leading_le}
@@ -11,13 +11,13 @@ use lib.Ieee.Nearest.{div_same}
 use lib.Ieee.Scale.{finite}
 use borrow.Author.Tests.{lt-leb}
 use Rattle.ieee.specs.Narrow.{narrowed}
-use Rattle.ieee.specs.Cases.{Case, overflow, belowHalf, halfEven, halfOdd, aboveHalf, bound, place, divisor, whole, rest, by_half, case_of, number, narrow_case, cut_pattern, infinite, act}
+use Rattle.ieee.specs.Cases.{Case, overflow, belowHalf, bound, place, divisor, whole, rest, by_half, case_of, number, narrow_case, cut_pattern, infinite, act}
 use Rattle.ieee.specs.Internal.{Unpacked, within, CutOff, Decided}
 use Rattle.ieee.proofs.Pack.{le_or_lt, whole_lt}
 use Rattle.ieee.proofs.Sticky.{cut_law}
 use Rattle.ieee.proofs.Steps.{lead}
 use Rattle.ieee.proofs.Fields.{narrowed_fits}
-use Rattle.ieee.proofs.ByCase.{half-same, rest-same, under_same, parity, act_le, an_infinity, by_case}
+use Rattle.ieee.proofs.ByCase.{half-same, rest-same, under_same, act_le, an_infinity, by_case}
 
 below_is : (q r d : ℕ) → r < d → by_half q r d ≡ belowHalf
 below_is q r d l = rw (lt-ltb r d l)
@@ -94,8 +94,8 @@ moved zero h = rw (leading_of_zero 64) (record { some = lit≤ tt; room = lit≤
 moved (suc s) h = let l = lead (suc s) 2 (zero-lt-suc s) (omega arith) in record { some = l.0; room = leading_le 64 (suc s); high = l.1.high; low = inr l.1.low }
 
 -- ---- what `cut_off` answers, for a last place of 2 ^ k units
-cut_off_at : (sig exp z w k m n part : ℕ) → Moved sig z w → w ≡ sig * 2 ^ (z - 2) → z - 2 + (1074 + k) ≡ exp + (149 + m) → 38 ≤ m → (0 < k → 2 ^ (23 + m) ≤ w) → k ≤ 2109 → n ≡ 38 + min (m - 38) 25
-    → part ≡ number (by_half (w / 2 ^ n) (w * 2 ^ (64 - n) % 2 ^ 64) (2 ^ 63)) → CutOff (sig * 2 ^ exp) (2 ^ 1074) (k * 2 ^ 23 + w / 2 ^ n) part
+cut_off_at : (sig exp z w k m n : ℕ) (part : Case) → Moved sig z w → w ≡ sig * 2 ^ (z - 2) → z - 2 + (1074 + k) ≡ exp + (149 + m) → 38 ≤ m → (0 < k → 2 ^ (23 + m) ≤ w) → k ≤ 2109 → n ≡ 38 + min (m - 38) 25
+    → part ≡ by_half (w / 2 ^ n) (w * 2 ^ (64 - n) % 2 ^ 64) (2 ^ 63) → CutOff (sig * 2 ^ exp) (2 ^ 1074) (k * 2 ^ 23 + w / 2 ^ n) part
 unfolding cut_pattern
 cut_off_at sig exp z w k m n part v is at M lo K N P =
     let a = sig * 2 ^ exp in
@@ -107,7 +107,7 @@ cut_off_at sig exp z w k m n part v is at M lo K N P =
     let few : w / 2 ^ n < 2 ^ 24 = subst (λ (x : ℕ). x < 2 ^ 24) q (whole_lt 24 (a * 2 ^ 149) c) in
     record {
       pattern = sym (ap (λ (x : ℕ). x * 2 ^ 23 + whole a c) p ∙ ap (λ (x : ℕ). k * 2 ^ 23 + x) q);
-      numbered = P ∙ ap number (sym h);
+      cased = P ∙ sym h;
       small = omega arith;
     }
   where
@@ -121,7 +121,7 @@ cut_off_at sig exp z w k m n part v is at M lo K N P =
         right s e f g = simp (pow-add, mul_assoc)
 
 -- a normal result
-pub cut_normal : (sig exp z w part : ℕ) → Moved sig z w → w ≡ sig * 2 ^ (z - 2) → exp ≤ 2045 → (sig ≡ 0 → exp ≡ 0) → 949 ≤ exp + 64 - z → part ≡ number (by_half (w / 2 ^ 38) (w * 2 ^ 26 % 2 ^ 64) (2 ^ 63))
+pub cut_normal : (sig exp z w : ℕ) (part : Case) → Moved sig z w → w ≡ sig * 2 ^ (z - 2) → exp ≤ 2045 → (sig ≡ 0 → exp ≡ 0) → 949 ≤ exp + 64 - z → part ≡ by_half (w / 2 ^ 38) (w * 2 ^ 26 % 2 ^ 64) (2 ^ 63)
     → CutOff (sig * 2 ^ exp) (2 ^ 1074) ((exp + 64 - z - 949) * 2 ^ 23 + w / 2 ^ 38) part
 cut_normal sig exp z w part v is E none l P = cut_off_at sig exp z w (exp + 64 - z - 949) 38 38 part v is (places z exp v.some v.room l) (lit≤ tt) (λ _. full) (omega arith) refl P
   where
@@ -135,7 +135,7 @@ cut_normal sig exp z w part v is E none l P = cut_off_at sig exp z w (exp + 64 -
         nothing exp z a b d = omega arith
 
 -- a subnormal one, or the least normal ones' range of it
-pub cut_subnormal : (sig exp z w g part : ℕ) → Moved sig z w → w ≡ sig * 2 ^ (z - 2) → exp + 64 - z < 949 → g ≡ min (949 - (exp + 64 - z)) 25 → part ≡ number (by_half (w / 2 ^ (38 + g)) (w * 2 ^ (64 - (38 + g)) % 2 ^ 64) (2 ^ 63))
+pub cut_subnormal : (sig exp z w g : ℕ) (part : Case) → Moved sig z w → w ≡ sig * 2 ^ (z - 2) → exp + 64 - z < 949 → g ≡ min (949 - (exp + 64 - z)) 25 → part ≡ by_half (w / 2 ^ (38 + g)) (w * 2 ^ (64 - (38 + g)) % 2 ^ 64) (2 ^ 63)
     → CutOff (sig * 2 ^ exp) (2 ^ 1074) (w / 2 ^ (38 + g)) part
 cut_subnormal sig exp z w g part v is l G P =
     subst (λ (x : ℕ). CutOff (sig * 2 ^ exp) (2 ^ 1074) x part) (zero-add (w / 2 ^ (38 + g)))
@@ -149,10 +149,6 @@ cut_subnormal sig exp z w g part v is l G P =
 
     back : (x : ℕ) → x ≡ 38 + x - 38
     back x = omega arith
-
--- ---- by the half
-pub tie_is : (q r d : ℕ) → d ≤ r → r ≤ d → 3 + q % 2 ≡ number (by_half q r d)
-tie_is q r d l g = rw (le-ltb r d l, le-ltb d r g) (elim (parity q) [ inl e ↦ rw e | inr e ↦ rw e ])
 
 -- ---- by the bound
 side_under : (t : Bool) (a b : ℕ) → 0 < b → (below t a false b && below true b t a) ≡ ltb a b
@@ -177,7 +173,7 @@ within_finite (inf true) h = absurd (false≢true h)
 within_finite (inf false) h = absurd (false≢true h)
 within_finite (fin s m e) h = refl
 
-pub decided : (x : Float) (s : Bool) (sig exp cut part : ℕ) → Unpacked x s sig exp → CutOff (sig * 2 ^ exp) (2 ^ 1074) cut part → within x ≡ true → Decided x s part cut
+pub decided : (x : Float) (s : Bool) (sig exp cut : ℕ) (part : Case) → Unpacked x s sig exp → CutOff (sig * 2 ^ exp) (2 ^ 1074) cut part → within x ≡ true → Decided x s part cut
 unfolding case_of
 decided x s sig exp cut part u k w =
     let a = sig * 2 ^ exp in
@@ -187,7 +183,7 @@ decided x s sig exp cut part u k w =
       c = 2 ^ 1074;
       some = pow_pos 1074;
       value = u.value;
-      numbered = rw (lt-leb (bound * 2 ^ 1074) a l) k.numbered;
+      cased = rw (lt-leb (bound * 2 ^ 1074) a l) k.cased;
       pattern = k.pattern;
       small = k.small;
     }
@@ -209,25 +205,10 @@ in_none nan h = refl
 in_none (inf s) h = refl
 in_none (fin s m e) h = absurd (true≢false h)
 
--- ---- what the case makes of the pattern
-pub act-infinite : (k : Case) (p : ℕ) → number k ≡ 1 → infinite ≡ act k p
-act-infinite overflow p e = refl
-act-infinite belowHalf p e = omega (arith, e)
-act-infinite halfEven p e = omega (arith, e)
-act-infinite halfOdd p e = omega (arith, e)
-act-infinite aboveHalf p e = omega (arith, e)
-
-pub act-kept : (k : Case) (p : ℕ) → (number k ≡ 1 → ⊥) → p + number k / 4 ≡ act k p
-act-kept overflow p n = absurd (n refl)
-act-kept belowHalf p n = add-zero p
-act-kept halfEven p n = add-zero p
-act-kept halfOdd p n = refl
-act-kept aboveHalf p n = refl
-
 -- ---- `narrow`, by its case
-module _ (x : Float) (s : Bool) (case cut m : ℕ) (d : Decided x s case cut) (f : (k : Case) → case ≡ number k → m ≡ act k cut) where
+module _ (x : Float) (s : Bool) (case : Case) (cut m : ℕ) (d : Decided x s case cut) (f : m ≡ act case cut) where
   acted : m ≡ act (case_of d.a d.c) (cut_pattern d.a d.c)
-  acted = f (case_of d.a d.c) d.numbered ∙ ap (act (case_of d.a d.c)) d.pattern
+  acted = f ∙ ap (λ (k : Case). act k cut) d.cased ∙ ap (act (case_of d.a d.c)) d.pattern
 
   pub decided_le : m ≤ infinite
   decided_le = le_trans (le_of_eq acted) (act_le d.a d.c d.some)

@@ -38,22 +38,12 @@ part_is q =
     small : (x y : ℕ) → x % 2 ^ 26 * 2 ^ 26 + y % 2 ^ 26 < 2 ^ 52
     small x y = omega arith
 
-pub part_fits : (q : ℕ) → q ≤ 2 ^ 53 → (let a = q / 2 ^ 26 in let b = q % 2 ^ 26 in (b * b ≤ 2 ^ 52) × (2 * a * b ≤ 2 ^ 54) × (a * a ≤ 2 ^ 54))
-part_fits q h =
-    let a : q / 2 ^ 26 ≤ 2 ^ 27 = omega arith in
-    let b : q % 2 ^ 26 ≤ 2 ^ 26 = omega arith in
-    let d : 2 * (q / 2 ^ 26) ≤ 2 ^ 28 = omega arith in
-    (mul-le-mul b b, mul-le-mul d b, mul-le-mul a a)
-
 -- ---- `bisect`: the root is between lo and hi
 pub record Between (w lo hi : ℕ) : Type 0 where
   pub order : lo < hi
   pub most : hi ≤ 2 ^ 53
   pub under : lo * lo + lo < w * 2 ^ 52
   pub over : w * 2 ^ 52 ≤ hi * hi + hi
-
-pub at_first : (w : ℕ) → 0 < w → w < 2 ^ 54 → Between w 0 (2 ^ 53)
-at_first w p h = record { order = omega arith; most = omega arith; under = omega arith; over = omega arith }
 
 pub lower : (w lo hi mid high low : ℕ) → Between w lo hi → mid < hi → high * 2 ^ 52 + low ≡ mid * mid + mid → low < 2 ^ 52 → high < w → Between w mid hi
 lower w lo hi mid high low b l e s h = record { order = l; most = b.most; under = omega arith; over = b.over }

@@ -1,5 +1,5 @@
 -- `lib.Ieee.sum` by its cases, and the sum of two numbers of which one may stand for a fraction by a sticky digit (`summed`). Assumes nothing.
-use Rattle.std.proofs.Common.{◌≡◌, ℕ, zero, suc, ◌+◌, ◌-◌, ◌*◌, ◌/◌, ◌%◌, ◌^◌, ◌<◌, ◌≤◌, Bool, true, false, cond, not, ◌&&◌, ◌||◌, eqb, ltb, ◌⊎◌, sym, refl, ap, ◌∙◌, subst, inl, inr, le_trans, le_of_eq, lt_of_lt_of_le, le-add_right, lt_of_le_of_lt, le_of_lt, mul-le-mul_right, zero-lt-suc, mul_assoc, mul_comm, add-mul, le_antisymm, lt_of_mul-lt-mul_right, mul-lt-mul_of_pos_right, mul-pos, one-mul, ne_of_gt, zero-add, suc-ne-zero, div-le_self, mul_left_comm, arith, lit≤, pow_pos, pow_mono, pow-add, shr_lt, ltb-false, ltb-true, le-ltb, lt-ltb, eq-eqb, ne_eqb}
+use Rattle.std.proofs.Common.{◌≡◌, ℕ, zero, suc, ◌+◌, ◌-◌, ◌*◌, ◌/◌, ◌%◌, ◌^◌, ◌<◌, ◌≤◌, Bool, true, false, cond, not, ◌&&◌, eqb, ltb, ◌⊎◌, sym, refl, ap, ◌∙◌, subst, inl, inr, le_trans, le_of_eq, lt_of_lt_of_le, le-add_right, lt_of_le_of_lt, le_of_lt, mul-le-mul_right, zero-lt-suc, mul_assoc, mul_comm, add-mul, le_antisymm, lt_of_mul-lt-mul_right, mul-lt-mul_of_pos_right, mul-pos, one-mul, ne_of_gt, zero-add, suc-ne-zero, div-le_self, mul_left_comm, arith, lit≤, pow_pos, pow_mono, pow-add, shr_lt, ltb-false, ltb-true, le-ltb, lt-ltb, eq-eqb, ne_eqb}
 use native.Mathlib.Nat.{mul-sub, mul-mod_left}
 use mathlib.Core.Bool.{beq, and-true, and-false}
 use lib.Arith.{digits_lt}
@@ -14,19 +14,6 @@ pub sub-mul : (a b c : ℕ) → (a - b) * c ≡ a * c - b * c
 sub-mul a b c = mul_comm (a - b) c ∙ mul-sub c a b ∙ ap (λ (x : ℕ). x - c * b) (mul_comm c a) ∙ ap (λ (x : ℕ). a * c - x) (mul_comm c b)
 
 -- ---- `sum`, by its cases
--- `sign`, with no branch
-pub sign_flat : (s t u z : Bool) → ((u && t) || ((not u && s) && (not z || beq s t))) ≡ cond (beq s t) s (cond u t (s && not z))
-sign_flat true true true z = refl
-sign_flat true true false true = refl
-sign_flat true true false false = refl
-sign_flat true false true z = refl
-sign_flat true false false true = refl
-sign_flat true false false false = refl
-sign_flat false true true z = refl
-sign_flat false true false z = refl
-sign_flat false false true z = refl
-sign_flat false false false z = refl
-
 -- which side is the larger is asked only where neither is below the other
 pub sign_is : (s t : Bool) (a b hi lo : ℕ) → wide hi lo ≡ sum_size s a t b → cond (beq s t) s (cond (ltb a b) t (s && not (eqb hi 0 && eqb lo 0))) ≡ sum_sign s a t b
 sign_is s t a b hi lo e = go (beq s t) (ltb a b) refl e

@@ -1,8 +1,7 @@
 -- The two sides of `mul_add` as two-word numbers, and `sum` at equal fractions. Assumes nothing.
-use Rattle.std.proofs.Common.{◌≡◌, ℕ, zero, suc, ◌+◌, ◌-◌, ◌*◌, ◌/◌, ◌%◌, ◌^◌, ◌<◌, ◌≤◌, Bool, true, false, ◌&&◌, ◌||◌, eqb, ◌⊎◌, sym, refl, ap, ◌∙◌, subst, inl, inr, true≢false, le_trans, le_of_eq, lt_of_lt_of_le, le_of_suc-le-suc, add-zero, mod-eq_of_lt, mul_assoc, mul_comm, add-mul, mul-le-mul, add_comm, le_antisymm, pos_of_ne-zero, lt_of_mul-lt-mul_right, mul-lt-mul_of_pos_right, mul-pos, one-mul, lt_of_not-le, zero-mul, mul-one, sub-add_cancel, suc-ne-zero, mul_right_comm, not-le_of_lt, mul_left_comm, arith, lit≤, pow_pos, pow_mono, pow-add, ne_eqb, eqb-true}
+use Rattle.std.proofs.Common.{◌≡◌, ℕ, zero, suc, ◌+◌, ◌-◌, ◌*◌, ◌/◌, ◌%◌, ◌^◌, ◌<◌, ◌≤◌, Bool, true, false, ◌&&◌, ◌||◌, eqb, ◌⊎◌, sym, refl, ap, ◌∙◌, subst, inl, inr, true≢false, le_trans, le_of_eq, lt_of_lt_of_le, le_of_suc-le-suc, add-zero, mod-eq_of_lt, mul_assoc, mul_comm, add-mul, mul-le-mul, add_comm, le_antisymm, lt_of_mul-lt-mul_right, mul-lt-mul_of_pos_right, mul-pos, one-mul, lt_of_not-le, zero-mul, mul-one, sub-add_cancel, suc-ne-zero, mul_right_comm, not-le_of_lt, mul_left_comm, arith, lit≤, pow_pos, pow_mono, pow-add, ne_eqb, eqb-true}
 use native.Mathlib.Nat.{mul-mod_left, eq_of_mul-eq-mul_right, mul-mul-mul_comm}
 use mathlib.Core.Bool.{beq, false≢true}
-use borrow.Author.Tests.{eqb-false}
 use lib.Arith.{digits_lt}
 use lib.Count.{count_leading_zeros}
 use lib.Ieee.{Float, nan, inf, fin, Format, binary64, up, down, unlike, round, sum, add, mul}
@@ -99,14 +98,6 @@ sum-exact f s u A B X Y t j a b =
 pub factors_zero : (m n : ℕ) → (eqb m 0 || eqb n 0) ≡ true → m * n ≡ 0
 factors_zero zero n h = zero-mul n
 factors_zero (suc m) n h = ap (λ (x : ℕ). suc m * x) (eqb-true n 0 (sym (ap (λ (b : Bool). b || eqb n 0) (ne_eqb (suc m) 0 (suc-ne-zero m))) ∙ h)) ∙ mul_comm (suc m) 0 ∙ zero-mul (suc m)
-
-pub factors_some : (m n : ℕ) → (eqb m 0 || eqb n 0) ≡ false → (0 < m) × (0 < n)
-factors_some m n h = go (eqb m 0) (eqb n 0) refl refl h
-  where
-    go : (a b : Bool) → eqb m 0 ≡ a → eqb n 0 ≡ b → (a || b) ≡ false → (0 < m) × (0 < n)
-    go true b e f h = absurd (true≢false h)
-    go false true e f h = absurd (true≢false h)
-    go false false e f h = (pos_of_ne-zero (eqb-false m 0 e), pos_of_ne-zero (eqb-false n 0 f))
 
 -- ---- a significand shifted up to r places below the top of a word ends in zeros
 pub normal : (m r : ℕ) → 0 < m → m < 2 ^ 53 → r ≤ 2 → (r ≤ count_leading_zeros 64 m) × Lead m r (count_leading_zeros 64 m - r) × (5 ≤ count_leading_zeros 64 m - r)

@@ -1,6 +1,6 @@
 -- Two-word numbers and the sticky bit, on plain numbers. Assumes nothing.
-use Rattle.std.proofs.Common.{◌≡◌, ℕ, suc, ◌+◌, ◌-◌, ◌*◌, ◌/◌, ◌%◌, ◌^◌, ◌<◌, ◌≤◌, Bool, true, false, cond, not, T, eqb, ltb, ◌⊎◌, sym, refl, ap, ◌∙◌, subst, inl, inr, suc-le-suc, zero-le, le_trans, le_of_eq, le_refl, lt_of_lt_of_le, le-add_right, lt_of_le_of_lt, add-zero, le_of_lt, add_assoc, add-le-add, mul-le-mul_right, mod-lt, mod-eq_of_lt, zero-lt-suc, mul_assoc, suc-mul, mul_comm, add-mul, eq-zero-or-pos, mul-le-mul, add_comm, pos_of_ne-zero, lt_of_mul-lt-mul_right, mul-lt-mul_of_pos_right, mul-pos, one-mul, ne_of_gt, div-add-mod', zero-add, zero-mul, mul-one, mul-add, mul_right_comm, div-one, mul-div_cancel, arith, lit<, lit≤, ltb→lt, nltb→le, pow_pos, pow_mono, pow-add, shr_lt, le-ltb, lt-ltb, eq-eqb, ne_eqb}
-use native.Mathlib.Nat.{mul-mod_left, add-mul-div_right, mul-add-mod_self_right, mod-one, div-eq_of_lt, div-div-eq-div-mul, mul-mul-mul_comm}
+use Rattle.std.proofs.Common.{◌≡◌, ℕ, suc, ◌+◌, ◌-◌, ◌*◌, ◌/◌, ◌%◌, ◌^◌, ◌<◌, ◌≤◌, Bool, true, false, cond, not, T, eqb, ltb, ◌⊎◌, sym, refl, ap, ◌∙◌, subst, inl, inr, suc-le-suc, zero-le, le_trans, le_of_eq, le_refl, lt_of_lt_of_le, le-add_right, lt_of_le_of_lt, add-zero, le_of_lt, add_assoc, mul-le-mul_right, mod-lt, mod-eq_of_lt, zero-lt-suc, mul_assoc, suc-mul, mul_comm, add-mul, eq-zero-or-pos, mul-le-mul, add_comm, pos_of_ne-zero, lt_of_mul-lt-mul_right, mul-lt-mul_of_pos_right, mul-pos, one-mul, ne_of_gt, div-add-mod', zero-add, zero-mul, mul-add, mul_right_comm, mul-div_cancel, arith, lit≤, ltb→lt, nltb→le, pow_pos, pow_mono, pow-add, shr_lt, eq-eqb, ne_eqb}
+use native.Mathlib.Nat.{mul-mod_left, add-mul-div_right, mul-add-mod_self_right, div-eq_of_lt, div-div-eq-div-mul, mul-mul-mul_comm}
 use mir.Val.{bool_byte}
 use lib.Ieee.Nearest.{div_same}
 use lib.Arith.{digits_lt, digits_div, mod-mul, digits_mod}
@@ -8,7 +8,7 @@ use lib.Pow.{pow-lt}
 use lib.Count.{count_leading_zeros, leading_top}
 use lib.Ieee.{Format, prec, round}
 use lib.Ieee.Scale.{round_same}
-use Rattle.ieee.proofs.Pack.{le_or_lt, before_next}
+use Rattle.ieee.proofs.Pack.{le_or_lt}
 use Rattle.ieee.specs.Internal.{wide, Sticky, stuck, jammed}
 use Rattle.ieee.proofs.Sticky.{round_sticky}
 use Rattle.ieee.proofs.Steps.{flag_yes, flag_no, normal_form}
@@ -48,15 +48,6 @@ stuck-twice q r s = elim (zero_or r) [
 
     still : (q : ℕ) → q + (1 - q % 2) + (1 - (q + (1 - q % 2)) % 2) ≡ q + (1 - q % 2)
     still q = omega arith
-
--- with no branch
-pub stick_flat : (q : ℕ) (b : Bool) → q + (1 - q % 2) * bool_byte (not b) ≡ q + cond b 0 (1 - q % 2)
-stick_flat q true = omega arith
-stick_flat q false = ap (λ (x : ℕ). q + x) (mul-one (1 - q % 2))
-
-pub stick_fits : (q : ℕ) (b : Bool) → q < 2 ^ 64 → ((1 - q % 2) * bool_byte b < 2 ^ 64) × (q + (1 - q % 2) * bool_byte b < 2 ^ 64)
-stick_fits q true h = (omega arith, omega arith)
-stick_fits q false h = (omega arith, omega arith)
 
 -- nothing is cut off
 pub whole_back : (v m : ℕ) → v % m ≡ 0 → v / m * m ≡ v
@@ -100,9 +91,6 @@ jammed_sticks v m M = elim (zero_or (v % m)) [
     ]
 
 -- ---- `jam`
-pub jam_none : (v k : ℕ) → k ≡ 0 → v ≡ jammed v (2 ^ k)
-jam_none v k e = sym (ap (λ (x : ℕ). jammed v (2 ^ x)) e ∙ none_left (v / 1) (v % 1) (mod-one v) ∙ div-one v)
-
 same-zero : (hi lo M : ℕ) → 0 < M → (hi + lo ≡ 0 → hi * M + lo ≡ 0) × (hi * M + lo ≡ 0 → hi + lo ≡ 0)
 same-zero hi lo M P = (
   λ e. ap (λ (x : ℕ). x * M + lo) (none_first hi lo e) ∙ ap (λ (x : ℕ). x + lo) (zero-mul M) ∙ zero-add lo ∙ none-second hi lo e,
@@ -391,35 +379,6 @@ pub record HalvesFit (a b : ℕ) : Type 0 where
   pub top : a / 2 ^ 32 * (b / 2 ^ 32) < 2 ^ 64
   pub high : a / 2 ^ 32 * (b / 2 ^ 32) + (a % 2 ^ 32 * (b / 2 ^ 32) + a / 2 ^ 32 * (b % 2 ^ 32) + a % 2 ^ 32 * (b % 2 ^ 32) / 2 ^ 32) / 2 ^ 32 < 2 ^ 64
 
-pub halves_fit : (a b : ℕ) → a < 2 ^ 63 → b < 2 ^ 63 → HalvesFit a b
-halves_fit a b h k =
-    let x = halves a h in
-    let y = halves b k in
-    sums (mul-le-mul x.0 y.0) (mul-le-mul x.0 y.1) (mul-le-mul x.1 y.0) (mul-le-mul x.1 y.1)
-  where
-    halves : (a : ℕ) → a < 2 ^ 63 → (a % 2 ^ 32 ≤ 4294967295) × (a / 2 ^ 32 ≤ 2147483647)
-    halves a h = (omega arith, omega arith)
-
-    middle : (l s t : ℕ) → l ≤ 4294967295 * 4294967295 → s ≤ 4294967295 * 2147483647 → t ≤ 2147483647 * 4294967295 → s + t + l / 2 ^ 32 < 2 ^ 64
-    middle l s t a b c = omega arith
-
-    last : (h m : ℕ) → h ≤ 2147483647 * 2147483647 → m < 2 ^ 64 → h + m / 2 ^ 32 < 2 ^ 64
-    last h m a b = omega arith
-
-    sums : a % 2 ^ 32 * (b % 2 ^ 32) ≤ 4294967295 * 4294967295 → a % 2 ^ 32 * (b / 2 ^ 32) ≤ 4294967295 * 2147483647
-        → a / 2 ^ 32 * (b % 2 ^ 32) ≤ 2147483647 * 4294967295 → a / 2 ^ 32 * (b / 2 ^ 32) ≤ 2147483647 * 2147483647 → HalvesFit a b
-    sums l s t h =
-        let m = middle (a % 2 ^ 32 * (b % 2 ^ 32)) (a % 2 ^ 32 * (b / 2 ^ 32)) (a / 2 ^ 32 * (b % 2 ^ 32)) l s t in
-        record {
-          low = lt_of_le_of_lt l (lit< tt);
-          left = lt_of_le_of_lt s (lit< tt);
-          right = lt_of_le_of_lt t (lit< tt);
-          sides = lt_of_le_of_lt (add-le-add s t) (lit< tt);
-          mid = m;
-          top = lt_of_le_of_lt h (lit< tt);
-          high = last (a / 2 ^ 32 * (b / 2 ^ 32)) (a % 2 ^ 32 * (b / 2 ^ 32) + a / 2 ^ 32 * (b % 2 ^ 32) + a % 2 ^ 32 * (b % 2 ^ 32) / 2 ^ 32) h m;
-        }
-
 -- the upper word of a product
 pub product_high : (a b hi lo : ℕ) → a < 2 ^ 63 → b < 2 ^ 63 → wide hi lo ≡ a * b → hi < 2 ^ 62
 product_high a b hi lo h k e =
@@ -562,29 +521,3 @@ module _ (hi lo : ℕ) (H : 0 < hi) (a : hi < 2 ^ 64) (b : lo < 2 ^ 64) where
           right W t x y j = simp (pow-add, mul_assoc)
 
 -- ---- `less`
-pub less_is : (ah al bh bl M : ℕ) → al < M → bl < M → ltb ah (bh + bool_byte (ltb al bl)) ≡ ltb (ah * M + al) (bh * M + bl)
-less_is ah al bh bl M a b = elim (le_or_lt bl al) [
-  | inl g ↦ ap (λ (x : ℕ). ltb ah (bh + x)) (flag_no al bl g) ∙ (elim (le_or_lt (bh + 0) ah) [
-    | inl l ↦ le-ltb ah (bh + 0) l ∙ sym (le-ltb (ah * M + al) (bh * M + bl) (at_least (ah * M) (bh * M) al bl g (mul-le-mul_right M (plain bh ah l))))
-    | inr l ↦ lt-ltb ah (bh + 0) l ∙ sym (lt-ltb (ah * M + al) (bh * M + bl) (lt_of_lt_of_le (digits_lt (plain_lt ah bh l) a) (le-add_right (bh * M) bl)))
-  ])
-  | inr g ↦ ap (λ (x : ℕ). ltb ah (bh + x)) (flag_yes al bl g) ∙ (elim (le_or_lt (bh + 1) ah) [
-    | inl l ↦ le-ltb ah (bh + 1) l ∙ sym (le-ltb (ah * M + al) (bh * M + bl) (le_of_lt (lt_of_lt_of_le (digits_lt (next bh ah l) b) (le-add_right (ah * M) al))))
-    | inr l ↦ lt-ltb ah (bh + 1) l ∙ sym (lt-ltb (ah * M + al) (bh * M + bl) (below (ah * M) (bh * M) al bl g (mul-le-mul_right M (before_next ah bh l))))
-  ])
-]
-  where
-    plain : (x y : ℕ) → x + 0 ≤ y → x ≤ y
-    plain x y h = omega arith
-
-    plain_lt : (x y : ℕ) → x < y + 0 → x < y
-    plain_lt x y h = omega arith
-
-    next : (x y : ℕ) → x + 1 ≤ y → x < y
-    next x y h = omega arith
-
-    at_least : (x y a b : ℕ) → b ≤ a → y ≤ x → y + b ≤ x + a
-    at_least x y a b h g = omega arith
-
-    below : (x y a b : ℕ) → a < b → x ≤ y → x + a < y + b
-    below x y a b h g = omega arith

@@ -4,7 +4,9 @@ use Rattle.std.specs.Float.Ieee.Order.{drop, kept}
 use Rattle.std.specs.Bool.{beq}
 use lib.Ieee.{Float, binary64, sum, of_bits, neg, lt, le, eq}
 use Rattle.std.specs.Float.Ieee.Exact.{HasValue}
-use Rattle.ieee.specs.Cases.{whole, rest, divisor, by_half, case_of, number, cut_pattern}
+use Rattle.ieee.specs.Cases.{Case, overflow, belowHalf, halfEven, halfOdd, aboveHalf, whole, rest, divisor, by_half, case_of, cut_pattern}
+use Rattle.ieee.specs.declared.cases.Case.{Case as Coded}
+use Rattle.ieee.specs.declared.cases.Case.TheVariants.{Overflow, BelowHalf, HalfEven, HalfOdd, AboveHalf}
 use Rattle.ieee.specs.declared.fused.Sides.{Sides}
 
 -- ---- the bit pattern of a rounded fraction, without its sign, and before it is held to the pattern of an infinity
@@ -30,19 +32,27 @@ unfoldable pub within : Float → Bool
 unfolding of_bits neg lt
 within x = lt x (of_bits binary64 0x47EF_FFFF_F000_0000) && lt (neg (of_bits binary64 0x47EF_FFFF_F000_0000)) x
 
--- the cut pattern of a / c, and the number of its case where it does not overflow
-pub record CutOff (a c cut part : ℕ) : Type 0 where
+-- the case that the code's case stands for
+abbrev pub named : Coded → Case
+named Overflow = overflow
+named BelowHalf = belowHalf
+named HalfEven = halfEven
+named HalfOdd = halfOdd
+named AboveHalf = aboveHalf
+
+-- the cut pattern of a / c, and its case where it does not overflow
+pub record CutOff (a c cut : ℕ) (part : Case) : Type 0 where
   pub pattern : cut ≡ cut_pattern a c
-  pub numbered : part ≡ number (by_half (whole a c) (rest a c * 2) (divisor a c))
+  pub cased : part ≡ by_half (whole a c) (rest a c * 2) (divisor a c)
   pub small : cut < 2 ^ 40
 
 -- its sign, and the case and the cut pattern of its magnitude a / c
-pub record Decided (x : Float) (neg : Bool) (case cut : ℕ) : Type 0 where
+pub record Decided (x : Float) (neg : Bool) (case : Case) (cut : ℕ) : Type 0 where
   pub a : ℕ
   pub c : ℕ
   pub some : 0 < c
   pub value : HasValue x neg a c
-  pub numbered : case ≡ number (case_of a c)
+  pub cased : case ≡ case_of a c
   pub pattern : cut ≡ cut_pattern a c
   pub small : cut < 2 ^ 40
 

@@ -1,7 +1,7 @@
 // The case of IEEE 754's clause 4.3.1 that an f64 is in when it is narrowed, and what the case says.
 ghost use Rattle.std.specs.Prelude.{◌≡◌, ◌*◌, ◌^◌, ◌<◌, ◌≤◌, true};
-ghost use Rattle.ieee.specs.Cases.{Case, by_half, number, narrow_case, act};
-ghost use Rattle.ieee.specs.Internal.{within, CutOff, Decided};
+ghost use Rattle.ieee.specs.Cases.{by_half, number, narrow_case, act};
+ghost use Rattle.ieee.specs.Internal.{within, named, CutOff, Decided};
 
 use crate::rounding::{capped, is_finite, unpack};
 
@@ -12,23 +12,42 @@ pub(crate) fn is_within(x: f64) -> bool
     (x < 3.4028235677973366e38) & (-3.4028235677973366e38 < x)
 }
 
-// By the discarded part r against a half d, and by the last digit of q.
-fn by_half(q: u64, r: u64, d: u64) -> u64
-    ensures { result ≡ number (by_half q r d) }
-{
-    if r < d {
-        2
-    } else if d < r {
-        5
-    } else {
-        3 + q % 2
+// The five cases. The C interface gives each by its number.
+#[derive(Clone, Copy, PartialEq, Eq)]
+pub(crate) enum Case {
+    Overflow = 1,
+    BelowHalf = 2,
+    HalfEven = 3,
+    HalfOdd = 4,
+    AboveHalf = 5,
+}
+
+impl Case {
+    fn number(self) -> u64
+        ensures { result ≡ number (named self) }
+    {
+        self as u64
     }
+}
+
+// By the discarded part r against a half d, and by the last digit of q. With no jump: each choice is between two cases
+// that are worked out before it.
+fn by_half(q: u64, r: u64, d: u64) -> Case
+    ensures { named result ≡ by_half q r d }
+{
+    let tie = if q % 2 == 0 {
+        Case::HalfEven
+    } else {
+        Case::HalfOdd
+    };
+    let rest = if d < r { Case::AboveHalf } else { tie };
+    if r < d { Case::BelowHalf } else { rest }
 }
 
 #[derive(Clone, Copy)]
 struct Cut {
     pattern: u64,
-    part: u64,
+    part: Case,
 }
 
 // sig * 2^exp / 2^1074 in whole last places of an f32, as a pattern, with the case that the discarded part makes.
@@ -36,9 +55,9 @@ struct Cut {
 // of them no digit is left, and less than a half is discarded.
 fn cut_off(sig: u64, exp: u64) -> Cut
     requires { (sig < 2 ^ 53) × (exp ≤ 2045) × (sig ≡ 0 → exp ≡ 0) }
-    ensures { CutOff (sig * 2 ^ exp) (2 ^ 1074) result.pattern result.part }
+    ensures { CutOff (sig * 2 ^ exp) (2 ^ 1074) result.pattern (named result.part) }
 {
-    let z = u64::leading_zeros(sig) as u64;
+    let z = sig.leading_zeros() as u64;
     let t = exp + 64 - z;
     let w = sig << (z - 2);
     if 949 <= t {
@@ -59,34 +78,35 @@ fn cut_off(sig: u64, exp: u64) -> Cut
 #[derive(Clone, Copy)]
 pub(crate) struct Decision {
     pub(crate) neg: bool,
-    pub(crate) case: u64,
+    pub(crate) case: Case,
     pub(crate) cut: u64,
 }
 
 // The sign, the case and the cut pattern of a number that does not overflow.
 pub(crate) fn decide(x: f64) -> Decision
     requires { within x ≡ true }
-    ensures { Decided x result.neg result.case result.cut }
+    ensures { Decided x result.neg (named result.case) result.cut }
 {
     let p = unpack(x);
-    let neg = p.neg;
-    let sig = p.sig;
-    let exp = p.exp;
-    let c = cut_off(sig, exp);
+    let c = cut_off(p.sig, p.exp);
     Decision {
-        neg,
+        neg: p.neg,
         case: c.part,
         cut: c.pattern,
     }
 }
 
 // The case alone says whether the pattern is made an infinity's, kept or raised by one.
-pub(crate) fn act_on(case: u64, cut: u64) -> u64
+pub(crate) fn act_on(case: Case, cut: u64) -> u64
     requires { cut < 2 ^ 40 }
-    ensures { (k : Case) → case ≡ number k → result ≡ act k cut }
+    ensures { result ≡ act (named case) cut }
 {
-    let kept = cut + case / 4;
-    if case == 1 { 0x7f80_0000 } else { kept }
+    // by the number, with no jump but for an overflow: the case cannot be foreseen
+    let kept = cut + case.number() / 4;
+    match case {
+        Case::Overflow => 0x7f80_0000,
+        _ => kept,
+    }
 }
 
 // 1 overflow, 2 below half, 3 half and even, 4 half and odd, 5 above half; 0 for an infinity and for NaN, which are in no case.
@@ -95,7 +115,11 @@ pub fn narrow_case(x: f64) -> u64
 {
     if is_within(x) {
         let d = decide(x);
-        return d.case;
+        return d.case.number();
     }
-    if is_finite(x) { 1 } else { 0 }
+    if is_finite(x) {
+        Case::Overflow.number()
+    } else {
+        0
+    }
 }

@@ -33,68 +33,52 @@ fn sum_sides(s: Sides) -> f64
     ensures { (B m : ℕ) → 0 < m → Addable (wide s.a.hi s.a.lo) (wide s.b.hi s.b.lo) B m
         → result ≡ sum binary64 s.sa (wide s.a.hi s.a.lo * m * 2 ^ s.t) s.sb (B * 2 ^ s.t) (m * 2 ^ 5170) }
 {
-    let a = s.a;
-    let b = s.b;
-    let sa = s.sa;
-    let sb = s.sb;
-    let t = s.t;
-    let under = less(a, b);
-    let w = joined(sa == sb, under, a, b);
-    let hi = w.hi;
-    let lo = w.lo;
-    round_wide(sign(sa, sb, under, (hi == 0) & (lo == 0)), w, t)
+    let under = less(s.a, s.b);
+    let w = joined(s.sa == s.sb, under, s.a, s.b);
+    round_wide(sign(s.sa, s.sb, under, (w.hi == 0) & (w.lo == 0)), w, s.t)
 }
 
-// A number that is not 0, with its leading digit near the top of two words: hi, lo * 2^t.
+// A number that is not 0, with its leading digit near the top of two words: w * 2^t.
 #[derive(Clone, Copy)]
 struct Term {
-    hi: u64,
-    lo: u64,
+    w: Wide,
     t: u64,
 }
 
 fn product_term(m: u64, n: u64, e: u64) -> Term
     requires { (0 < m) × (m < 2 ^ 53) × (0 < n) × (n < 2 ^ 53) × (e ≤ 4090) }
-    ensures { Placed (m * n) (e + 3022) result.hi result.lo result.t }
+    ensures { Placed (m * n) (e + 3022) result.w.hi result.w.lo result.t }
 {
-    let y = u64::leading_zeros(m) as u64 - 1;
-    let z = u64::leading_zeros(n) as u64 - 1;
-    let p = product(m << y, n << z);
+    let y = m.leading_zeros() as u64 - 1;
+    let z = n.leading_zeros() as u64 - 1;
     Term {
-        hi: p.hi,
-        lo: p.lo,
+        w: product(m << y, n << z),
         t: e + 3022 - y - z,
     }
 }
 
 fn addend_term(k: u64, g: u64) -> Term
     requires { (0 < k) × (k < 2 ^ 53) × (g ≤ 2045) }
-    ensures { Placed k (g + 4096) result.hi result.lo result.t }
+    ensures { Placed k (g + 4096) result.w.hi result.w.lo result.t }
 {
-    let z = u64::leading_zeros(k) as u64 - 2;
+    let z = k.leading_zeros() as u64 - 2;
     Term {
-        hi: k << z,
-        lo: 0,
+        w: Wide { hi: k << z, lo: 0 },
         t: g + 4032 - z,
     }
 }
 
 // Two terms of which a has the higher scale: b is cut to it.
 fn at_scale(sa: bool, a: Term, sb: bool, b: Term) -> Sides
-    requires { (2 ^ 60 ≤ a.hi) × (a.hi < 2 ^ 62) × (a.lo % 1024 ≡ 0) × (b.hi < 2 ^ 62) × (b.lo % 1024 ≡ 0) × (b.t ≤ a.t) × (a.t ≤ 7900) }
-    ensures { Aligned sa (wide a.hi a.lo * 2 ^ a.t) sb (wide b.hi b.lo * 2 ^ b.t) result }
+    requires { (2 ^ 60 ≤ a.w.hi) × (a.w.hi < 2 ^ 62) × (a.w.lo % 1024 ≡ 0) × (b.w.hi < 2 ^ 62) × (b.w.lo % 1024 ≡ 0) × (b.t ≤ a.t) × (a.t ≤ 7900) }
+    ensures { Aligned sa (wide a.w.hi a.w.lo * 2 ^ a.t) sb (wide b.w.hi b.w.lo * 2 ^ b.t) result }
 {
-    let t = a.t;
-    let bt = b.t;
-    let p = Wide { hi: a.hi, lo: a.lo };
-    let q = Wide { hi: b.hi, lo: b.lo };
-    let j = jam(q, t - bt);
     Sides {
         sa,
-        a: p,
+        a: a.w,
         sb,
-        b: j,
-        t,
+        b: jam(b.w, a.t - b.t),
+        t: a.t,
     }
 }
 
@@ -124,9 +108,7 @@ fn aligned_far(sp: bool, m: u64, n: u64, e: u64, sc: bool, k: u64, g: u64) -> Si
     }
     let p = product_term(m, n, e);
     let q = addend_term(k, g);
-    let tp = p.t;
-    let tq = q.t;
-    if tq <= tp {
+    if q.t <= p.t {
         return at_scale(sp, p, sc, q);
     }
     at_scale(sc, q, sp, p)
@@ -137,7 +119,7 @@ fn aligned(sp: bool, m: u64, n: u64, e: u64, sc: bool, k: u64, g: u64) -> Sides
     requires { (m < 2 ^ 53) × (n < 2 ^ 53) × (e ≤ 4090) × (k < 2 ^ 53) × (g ≤ 2045) }
     ensures { Aligned sp (m * n * 2 ^ (e + 3022)) sc (k * 2 ^ (g + 4096)) result }
 {
-    let d = std::num::wrapping_sub_u64(g + 1063, e);
+    let d = (g + 1063).wrapping_sub(e);
     if d < 63 {
         return Sides {
             sa: sp,

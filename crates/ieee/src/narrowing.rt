@@ -1,10 +1,11 @@
 // An f64 as an f32, to the nearest one, a tie to the even one.
-ghost use Rattle.std.specs.Prelude.{◌≡◌, ◌≤◌, min, true, map, length, take};
+ghost use Rattle.std.specs.Prelude.{◌≡◌, ℕ, ◌≤◌, ◌<◌, true, map, length, take, get_or, Float};
+ghost use Rattle.std.specs.Float.{nan};
 ghost use Rattle.lists.specs.Lists.{every, put};
 ghost use Rattle.ieee.specs.Narrow.{narrowed};
 ghost use Rattle.ieee.specs.Internal.{plain};
 
-use crate::cases::{act_on, decide, is_within};
+use crate::cases::{Case, act_on, decide, is_within};
 use crate::rounding::signed32;
 
 // By its case: the sign, and the cut pattern as it is, raised by one, or an infinity's. An infinity is left as if it overflowed.
@@ -13,15 +14,12 @@ pub fn narrow(x: f64) -> f32
 {
     if is_within(x) {
         let d = decide(x);
-        let neg = d.neg;
-        let case = d.case;
-        let cut = d.cut;
-        return signed32(neg, act_on(case, cut));
+        return signed32(d.neg, act_on(d.case, d.cut));
     }
     if x != x {
-        return 0.0 / 0.0;
+        return f32::NAN;
     }
-    signed32(x < 0.0, act_on(1, 0))
+    signed32(x < 0.0, act_on(Case::Overflow, 0))
 }
 
 // 0, or from 2^-126 up to 2^127.
@@ -38,10 +36,8 @@ fn all_plain(list: &[f64]) -> bool
     ensures { result ≡ every plain list.now }
 {
     let mut held = true;
-    let mut i = 0;
-    while i < list.len() {
-        held = held & is_plain(list[i]);
-        i += 1;
+    for x in list {
+        held &= is_plain(*x);
     }
     held
 }
@@ -51,31 +47,21 @@ fn narrow_plain(x: f64) -> f32
     requires { plain x ≡ true }
     ensures { result ≡ narrowed x }
 {
-    let b = f64::to_bits(x);
+    let b = x.to_bits();
     let odd = b / 0x2000_0000 % 2;
     let kept = (b + 0xfff_ffff + odd) / 0x2000_0000;
     f64::from_bits(kept * 0x2000_0000) as f32
 }
 
-fn narrow_all_plain(from: &[f64], to: &mut [f32])
-    requires { (length from.now ≤ length to.old) × (every plain from.now ≡ true) }
+// Each entry by one of the two functions.
+fn narrow_by<F: Fn(f64) -> f32>(from: &[f64], to: &mut [f32], by: F)
+    requires room { length from.now ≤ length to.old }
+    requires may { (k : ℕ) → k < length from.now → F.pre by (get_or from.now k nan) }
+    requires narrows { (x : Float) (y : Float) → F.post by x y → y ≡ narrowed x }
     ensures { to.new ≡ put to.old 0 (map narrowed from.now) }
 {
-    let mut i = 0;
-    while i < from.len() {
-        to[i] = narrow_plain(from[i]);
-        i += 1;
-    }
-}
-
-fn narrow_each(from: &[f64], to: &mut [f32])
-    requires { length from.now ≤ length to.old }
-    ensures { to.new ≡ put to.old 0 (map narrowed from.now) }
-{
-    let mut i = 0;
-    while i < from.len() {
-        to[i] = narrow(from[i]);
-        i += 1;
+    for (i, x) in from.iter().enumerate() {
+        to[i] = by(*x);
     }
 }
 
@@ -84,9 +70,9 @@ fn narrow_all(from: &[f64], to: &mut [f32])
     ensures { to.new ≡ put to.old 0 (map narrowed from.now) }
 {
     if all_plain(from) {
-        narrow_all_plain(from, to);
+        narrow_by(from, to, narrow_plain);
     } else {
-        narrow_each(from, to);
+        narrow_by(from, to, narrow);
     }
 }
 
@@ -94,12 +80,6 @@ fn narrow_all(from: &[f64], to: &mut [f32])
 pub fn narrow_list(from: &[f64], to: &mut [f32])
     ensures { to.new ≡ put to.old 0 (map narrowed (take (length to.old) from.now)) }
 {
-    let n = least(from.len(), to.len());
-    narrow_all(&from[0..n], to);
-}
-
-fn least(a: usize, b: usize) -> usize
-    ensures { result ≡ min a b }
-{
-    if a < b { a } else { b }
+    let n = from.len().min(to.len());
+    narrow_all(&from[..n], to);
 }

@@ -58,12 +58,11 @@ fn bisect(w: u64) -> u64
     requires { (0 < w) × (w < 2 ^ 54) }
     ensures { NearestRoot (w * 2 ^ 52) result }
 {
-    let mut lo: u64 = 0;
-    let mut hi: u64 = 0x20_0000_0000_0000;
+    let mut lo = 0;
+    let mut hi = 0x20_0000_0000_0000;
     while lo + 1 < hi {
         let mid = (lo + hi) / 2;
-        let p = part(mid);
-        if p.high < w {
+        if part(mid).high < w {
             lo = mid;
         } else {
             hi = mid;
@@ -80,19 +79,14 @@ fn near(m: u64, odd: u64) -> u64
     let w = m * (1 + odd);
     let q = seed(m, odd);
     let p = part(q);
-    let low = p.low;
     let h = p.high + 8;
-    if w <= h {
-        if h < w + 16 {
-            // q * q + q less w * 2^52, moved up by 2^55
-            let d = (h - w) * 0x10_0000_0000_0000 + low;
-            if 0x80_0000_0000_0000 <= d + 2 * q + 2 {
-                if d + 2 < 0x80_0000_0000_0000 + 4 * q {
-                    let up = (d < 0x80_0000_0000_0000) as u64;
-                    let down = (0x80_0000_0000_0000 + 2 * q <= d) as u64;
-                    return q + up - down;
-                }
-            }
+    if w <= h && h < w + 16 {
+        // q * q + q less w * 2^52, moved up by 2^55
+        let d = (h - w) * 0x10_0000_0000_0000 + p.low;
+        if 0x80_0000_0000_0000 <= d + 2 * q + 2 && d + 2 < 0x80_0000_0000_0000 + 4 * q {
+            let up = (d < 0x80_0000_0000_0000) as u64;
+            let down = (0x80_0000_0000_0000 + 2 * q <= d) as u64;
+            return q + up - down;
         }
     }
     bisect(w)
@@ -118,12 +112,10 @@ fn raised(p: Parts) -> Number
     requires { (0 < p.sig) × (p.sig < 2 ^ 53) × (p.exp ≤ 2045) }
     ensures { (2 ^ 52 ≤ result.m) × (result.m < 2 ^ 53) × (result.e < 3068) × (result.m * 2 ^ (result.e + 54) ≡ p.sig * 2 ^ p.exp * 2 ^ 1076) }
 {
-    let sig = p.sig;
-    let exp = p.exp;
-    let z = u64::leading_zeros(sig) as u64 - 11;
+    let z = p.sig.leading_zeros() as u64 - 11;
     Number {
-        m: sig << z,
-        e: exp + 1022 - z,
+        m: p.sig << z,
+        e: p.exp + 1022 - z,
     }
 }
 
@@ -133,16 +125,14 @@ pub fn root(x: f64) -> f64
     if x > 0.0 {
         if is_finite(x) {
             let n = raised(unpack(x));
-            let m = n.m;
-            let e = n.e;
-            return finish(m, e);
+            return finish(n.m, n.e);
         }
         return x;
     }
     if x == 0.0 {
         return x;
     }
-    0.0 / 0.0
+    f64::NAN
 }
 
 // The same root, sooner where x is next to 1, as the square of a unit's length is: it is half as far from 1, counted in
@@ -151,7 +141,7 @@ pub fn root_next_to_one(x: f64) -> f64
     ensures { result ≡ Root.root x }
 {
     if x > 0.0 {
-        let b = f64::to_bits(x);
+        let b = x.to_bits();
         if (0x3fef_ffff_fc00_0000 <= b) & (b < 0x3ff0_0000_0400_0000) {
             return f64::from_bits((0x3ff0_0000_0000_0000 + b) / 2);
         }

@@ -42,14 +42,14 @@ pub(crate) fn pattern_of(w: u64, e: u64, p: u64) -> u64
     if w == 0 {
         return 0;
     }
-    let z = u64::leading_zeros(w) as u64;
+    let z = w.leading_zeros() as u64;
     pattern_top(w << z, false, e + 64 - z, p)
 }
 
 pub(crate) fn capped(m: u64, most: u64) -> u64
     ensures { result ≡ min m most }
 {
-    if m < most { m } else { most }
+    m.min(most)
 }
 
 // The float of a sign and a pattern.
@@ -105,7 +105,7 @@ pub(crate) fn unpack(x: f64) -> Parts
     requires { Scale.finite x ≡ true }
     ensures { Unpacked x result.neg result.sig result.exp }
 {
-    let b = f64::to_bits(x);
+    let b = x.to_bits();
     let neg = b >= 0x8000_0000_0000_0000;
     let field = b / 0x10_0000_0000_0000 % 2048;
     let digits = b % 0x10_0000_0000_0000;

@@ -24,8 +24,7 @@ fn stick(q: u64, rest: u64) -> u64
 pub(crate) fn jam(w: Wide, k: u64) -> Wide
     ensures { wide result.hi result.lo ≡ jammed (wide w.hi w.lo) (2 ^ k) }
 {
-    let hi = w.hi;
-    let lo = w.lo;
+    let Wide { hi, lo } = w;
     if k == 0 {
         return w;
     }
@@ -47,13 +46,12 @@ pub(crate) fn round_wide(neg: bool, w: Wide, t: u64) -> f64
     requires { t ≤ 7900 }
     ensures { result ≡ round binary64 neg (wide w.hi w.lo * 2 ^ t) (2 ^ 5170) }
 {
-    let hi = w.hi;
+    let Wide { hi, lo } = w;
     if hi == 0 {
-        return round64(neg, w.lo, t);
+        return round64(neg, lo, t);
     }
     // the leading digit to the top; what is left of the lower word only says that the number goes on
-    let lo = w.lo;
-    let z = u64::leading_zeros(hi) as u64;
+    let z = hi.leading_zeros() as u64;
     let n = (hi << z) + ((lo / 2) >> (63 - z));
     signed64(neg, pattern_top(n, lo << z != 0, t + 128 - z, 53))
 }
@@ -92,11 +90,7 @@ pub(crate) fn less(a: Wide, b: Wide) -> bool
     requires { b.hi < 2 ^ 63 }
     ensures { result ≡ nat_lt (wide a.hi a.lo) (wide b.hi b.lo) }
 {
-    let ah = a.hi;
-    let al = a.lo;
-    let bh = b.hi;
-    let bl = b.lo;
-    ah < bh + (al < bl) as u64
+    a.hi < b.hi + (a.lo < b.lo) as u64
 }
 
 // With no jump: which of two is the larger cannot be foreseen.
@@ -118,18 +112,16 @@ fn combined(like: bool, a: Wide, b: Wide) -> Wide
     requires { (a.hi < 2 ^ 63) × (b.hi < 2 ^ 63) × (wide b.hi b.lo ≤ wide a.hi a.lo) }
     ensures { wide result.hi result.lo ≡ (if like then wide a.hi a.lo + wide b.hi b.lo else wide a.hi a.lo - wide b.hi b.lo) }
 {
-    let ah = a.hi;
-    let al = a.lo;
-    let bh = b.hi;
-    let bl = b.lo;
-    let x = flip(like, bl);
-    let y = flip(like, bh);
+    let x = flip(like, b.lo);
+    let y = flip(like, b.hi);
     let one = !like as u64;
-    let sum = std::num::wrapping_add_u64(al, x);
-    let lo = std::num::wrapping_add_u64(sum, one);
+    let sum = a.lo.wrapping_add(x);
+    let lo = sum.wrapping_add(one);
     let carry = (sum < x) as u64 + (lo < one) as u64;
-    let hi = std::num::wrapping_add_u64(std::num::wrapping_add_u64(ah, y), carry);
-    Wide { hi, lo }
+    Wide {
+        hi: a.hi.wrapping_add(y).wrapping_add(carry),
+        lo,
+    }
 }
 
 // The size of a + b where the signs are alike, and of a - b where they are not; `under` says whether a is below b.

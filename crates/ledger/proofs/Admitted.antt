@@ -21,9 +21,11 @@ use Rattle.search.specs.Search.{squared, not_nearest, nearer, nearest_from, near
 use Rattle.search.specs.declared.Vector3.{Vector3}
 use Rattle.search.specs.declared.Nearest.{Nearest}
 use Rattle.search.specs.declared.Located.{Located}
-use Rattle.reading.specs.Resolve.{reading_values, Query, Way, way_valid, query_valid, outside, Resolved, unresolved, beyond, slab_at, resolve, Picks, unpicked, picked, Combination, combined, joint, nearest_pick, face_pick}
+use Rattle.reading.specs.Resolve.{reading_values, Way, way_valid, query_valid, outside, Resolved, unresolved, beyond, slab_at, resolve, Picks, unpicked, picked, Combination, combined, joint, nearest_pick, face_pick}
+use Rattle.reading.specs.declared.Query.{Query}
 use Rattle.reading.specs.Rule.{search, rule_picks_by, rule_row_by, rule_slab_by, ruled_by}
-use Rattle.reading.specs.Atom.{AtomQuery, atom_query_valid, as_grid, atom_resolve, atom_nearest_pick, atom_face_pick, atom_combined, atom_search, atom_ruled_by}
+use Rattle.reading.specs.Atom.{atom_query_valid, as_grid, atom_resolve, atom_nearest_pick, atom_face_pick, atom_combined, atom_search, atom_ruled_by}
+use Rattle.reading.specs.declared.AtomQuery.{AtomQuery}
 use Rattle.ledger.specs.Promise.{Answered}
 
 -- 20 or nothing, of a search

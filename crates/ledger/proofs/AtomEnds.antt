@@ -12,8 +12,7 @@ use Rattle.grid.specs.Atom.{atom_counted}
 use Rattle.grid.specs.declared.AtomGrid.{AtomGrid}
 use Rattle.builder.specs.BuilderLists.{BuilderLists}
 use Rattle.builder.specs.Calls.{filled_slabs}
-use Rattle.builder.specs.Atom.{atom_built_values, no_atom_builder, atom_meshed_refusal, atom_fresh_builder, atom_fresh_out}
-use Rattle.builder.specs.declared.AtomBuilt.TheVariants.{Accepted as Builds}
+use Rattle.builder.specs.Atom.{atom_meshed_refusal, atom_fresh_builder, atom_fresh_out}
 use Rattle.builder.proofs.Laws.{AtomMeshed, atom_meshed}
 use Rattle.ledger.specs.Ledger.{Ledger}
 use Rattle.ledger.specs.AtomLedger.{atom_opened, atom_ledger}
@@ -30,7 +29,7 @@ fresh-number g top m l false d e = rw d at e
 
 fresh_is : (g : AtomGrid) (top : ℕ) (m : Mesh) (l : BuilderLists) → atom_meshed_refusal (atom_fresh_builder g top) m l ≡ 0
     → atom_fresh_out g top m l ≡ record {
-      answer = atom_built_values no_atom_builder (Builds (atom_builder_at (atom_counted g) top top));
+      answer = record { number = 0; builder = atom_builder_at (atom_counted g) top top };
       lists = filled_slabs (atom_counted g).n_r (vertex_count top) l;
     }
 unfolding atom_fresh_out atom_fresh_builder

@@ -3,9 +3,9 @@ use mathlib.Core.Path.{◌≡◌, refl, sym, subst}
 use Rattle.lists.proofs.Asking.{ask_yes}
 use mathlib.Core.Bool.{Bool, true, false, ◌&&◌}
 use mathlib.Core.List.{List, [], ◌∷◌}
-use Prim.Native.Nat.{ℕ, suc, ◌*◌, ◌≤◌, ◌<◌}
+use Prim.Native.Nat.{ℕ, suc, ◌≤◌, ◌<◌}
 use native.Mathlib.Omega.{arith}
-use lib.ListN.{length, get_or, set}
+use lib.ListN.{length, get_or}
 use lib.Dec.{eqb, ltb, lit<}
 use lib.Ieee.{Float, lt}
 use borrow.Author.Tests.{eqb-true, ltb-true, le-leb}
@@ -18,7 +18,7 @@ use Rattle.grid.specs.Atom.{atom_in_range, atom_count_valid, atom_slabs_fit, ato
 use Rattle.grid.specs.declared.AtomGrid.{AtomGrid}
 use Rattle.grid.proofs.Laws.{top_le}
 use Rattle.rows.specs.Rows.{Rows, Row, repulsive}
-use Rattle.settling.specs.Settling.{new_row, in_place_of, replaced_by, settles, atom_verdict_of, atom_level}
+use Rattle.settling.specs.Settling.{settles, atom_verdict_of, atom_level}
 use Rattle.settling.specs.declared.AtomVerdict.{AtomVerdict}
 use Rattle.settling.specs.declared.Verdict.{Verdict}
 use Rattle.builder.specs.BuilderLists.{BuilderLists, row_in}

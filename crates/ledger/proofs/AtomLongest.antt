@@ -7,7 +7,7 @@ use native.Mathlib.Omega.{arith}
 use lib.ListN.{length, length-replicate}
 use lib.Dec.{eqb}
 use lib.Ieee.{Float}
-use borrow.Author.Tests.{eqb-true, eqb-false, eq-eqb, lt-ltb}
+use borrow.Author.Tests.{eqb-true, eqb-false, eq-eqb, ne_eqb, lt-ltb}
 use Rattle.lists.specs.Questions.{ask, first}
 use Rattle.lists.proofs.Asking.{first_yes}
 use Rattle.mesh.specs.Levels.{vertex_count}
@@ -40,7 +40,7 @@ module _ (b : AtomBuilder) (m : Mesh) (l : BuilderLists) (out : List ℕ) where
   answers : Answers (atom_write_question b m l) (length (atom_file_from b l)) (length out) (atom_write_out b m l out).answer
   answers =
       record {
-        refused = λ z. rw (atom_write_refused b m l out (atom_write_question b m l) refl z) refl;
+        refused = λ z. rw (atom_write_refused b m l out (atom_write_question b m l) refl (ne_eqb _ 0 z)) refl;
         short = λ z e. rw (atom_write_short b m l out z e) refl;
         done = λ z e. rw (atom_write_done b m l out z e) (refl, refl);
       }

@@ -22,8 +22,9 @@ use Rattle.locator.proofs.Picked.{FaceBelow, nearest_vertex, located_face}
 use Rattle.table.specs.Atom.{atom_file_of}
 use Rattle.table.specs.declared.AtomTable.{AtomTable}
 use Rattle.table.proofs.AtomFile.{AtomFilable, atom_grid_in, atom_table_in, sized}
-use Rattle.reading.specs.Resolve.{reading_values, Way, way_valid, outside, Resolved, unresolved, beyond, slab_at}
-use Rattle.reading.specs.Atom.{AtomQuery, atom_query_valid, as_grid, as_table, atom_resolve, atom_nearest_pick, atom_face_pick, atom_combined, atom_search_in, atom_reading_by, atom_search, atom_ruled_by}
+use Rattle.reading.specs.Resolve.{reading_values, Way, way_valid, outside, unresolved, beyond, slab_at}
+use Rattle.reading.specs.Atom.{atom_query_valid, as_grid, as_table, atom_resolve, atom_nearest_pick, atom_face_pick, atom_combined, atom_search_in, atom_reading_by, atom_search, atom_ruled_by}
+use Rattle.reading.specs.declared.AtomQuery.{AtomQuery}
 use Rattle.ledger.proofs.Readings.{SlabBelow, PicksBelow, Laid, laid, slab_read}
 
 resolve-below : (valid : Bool) (g : AtomGrid) (q : AtomQuery) → 0 < g.n_r → SlabBelow g.n_r (atom_resolve valid g q)

@@ -26,7 +26,8 @@ use Rattle.table.proofs.OfRows.{fine_rows}
 use Rattle.table.proofs.AtomFile.{AtomFilable, atom_file_accepted, atom_file_holds}
 use Rattle.writer.specs.Atom.{atom_file_from, atom_write_refusal, atom_write_out}
 use Rattle.reading.specs.Resolve.{Way}
-use Rattle.reading.specs.Atom.{AtomQuery, atom_ruled_by}
+use Rattle.reading.specs.Atom.{atom_ruled_by}
+use Rattle.reading.specs.declared.AtomQuery.{AtomQuery}
 use Rattle.ledger.specs.Ledger.{Ledger}
 use Rattle.ledger.specs.AtomLedger.{atom_opened, atom_ledger}
 use Rattle.ledger.specs.AtomPromise.{AtomHistory, atom_fresh, atom_ended, atom_file, AtomAccepted, atom_rows, AtomSame, atom_reading_of, AtomKept, AtomPromise}

@@ -18,10 +18,9 @@ use Rattle.grid.specs.declared.Grid.{Grid}
 use Rattle.rows.specs.Rows.{Row, scalar, repulsive, mesh, narrow_bits, compared}
 use Rattle.settling.specs.Settling.{packed_row, packed_rows}
 use Rattle.builder.specs.BuilderLists.{BuilderLists, slabs}
-use Rattle.builder.specs.Calls.{built_values, no_builder, fresh_builder, filled, fresh_out}
+use Rattle.builder.specs.Calls.{fresh_builder, filled, fresh_out}
 use Rattle.builder.specs.Refusals.{meshed_refusal}
 use Rattle.builder.specs.declared.Builder.{Builder}
-use Rattle.builder.specs.declared.Built.TheVariants.{Accepted as Builds}
 use Rattle.builder.proofs.Laws.{Meshed, meshed}
 use Rattle.table.specs.Bytes.{bytes_of, section}
 use Rattle.table.specs.File.{entries, entry_bytes, energies_in, packed_energies, file_of}
@@ -48,7 +47,7 @@ fresh-number g top m l true d e = eqb-true _ 0 d
 fresh-number g top m l false d e = rw d at e
 
 fresh_is : (g : Grid) (top : ℕ) (m : Mesh) (l : BuilderLists) → meshed_refusal (fresh_builder g top) m l ≡ 0
-    → fresh_out g top m l ≡ record { answer = built_values no_builder (Builds (builder_at (counted g) top top 0)); lists = filled (builder_at (counted g) top top 0) l }
+    → fresh_out g top m l ≡ record { answer = record { number = 0; builder = builder_at (counted g) top top 0 }; lists = filled (builder_at (counted g) top top 0) l }
 unfolding fresh_out fresh_builder
 fresh_is g top m l e = rw e
 

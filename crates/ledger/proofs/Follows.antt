@@ -1,40 +1,34 @@
 -- After every call, accepted or refused, the builder's level and rows are the ledger's. Assumes nothing.
-use mathlib.Core.Path.{◌≡◌, refl, sym, ap, ◌∙◌, subst}
+use mathlib.Core.Path.{◌≡◌, refl, sym, ap, subst}
 use Rattle.lists.proofs.Asking.{ask_yes}
 use mathlib.Core.Bool.{Bool, true, false, cond, and-eq-true_iff}
 use mathlib.Core.List.{List, [], ◌∷◌, map}
-use mathlib.Core.Logic.{◌⊎◌, inl, inr}
 use Prim.Native.Nat.{ℕ, suc, ◌+◌, ◌*◌, ◌-◌, ◌≤◌, ◌<◌}
 use native.Mathlib.Omega.{arith}
-use lib.ListN.{length, get_or, set, drop, replicate, length-replicate, length-drop, get_or-replicate}
+use lib.ListN.{length, set, drop, length-drop}
 use lib.Seq.{length-take-le}
 use lib.Dec.{eqb, ltb, lit<}
-use lib.Ieee.{Float, fits, of_bits, to_bits}
+use lib.Ieee.{Float}
 use borrow.Author.Tests.{eqb-true, ltb-true, le-leb}
-use Rattle.ieee.proofs.Pack.{le_or_lt}
 use Rattle.lists.specs.Questions.{ask, first}
 use Rattle.lists.specs.Lists.{put}
 use Rattle.mesh.specs.Levels.{per, vertex_count, vertices_below}
 use Rattle.mesh.specs.Mesh.{Mesh, level_part, mesh_long, meshes_keep}
 use Rattle.mesh.proofs.Sizes.{per_mono}
 use Rattle.lists.proofs.Places.{place}
-use Rattle.lists.proofs.Written.{length-put}
 use Rattle.grid.specs.Settings.{in_range, levels_valid, counts_valid, own_count, slabs_fit, question}
 use Rattle.grid.specs.declared.Grid.{Grid}
 use Rattle.grid.proofs.Laws.{top_le}
 use Rattle.rows.specs.declared.SlabResolution.TheVariants.{Mesh as OnMesh}
-use Rattle.rows.specs.Rows.{Rows, replaced, row_room, Row, scalar, repulsive, mesh}
-use Rattle.locator.proofs.Entries.{get_d_put}
-use Rattle.settling.specs.Gradient.{zero as nought}
+use Rattle.rows.specs.Rows.{Rows, replaced, Row, mesh}
 use Rattle.settling.specs.Settling.{verdict_of, verdicts, settled_rows, settled_slice, drops}
 use Rattle.builder.specs.BuilderLists.{BuilderLists, slabs, slab, slice_at, list_room, lists_long}
-use Rattle.builder.specs.Calls.{settled_lists, filled_slabs, filled, slab_set, set_builder, set_out, settle_accepted, settle_out}
+use Rattle.builder.specs.Calls.{settled_lists, filled, slab_set, set_builder, set_out, settle_accepted, settle_out}
 use Rattle.builder.specs.Refusals.{meshed_refusal, set_question, set_refusal, settle_refusal}
 use Rattle.builder.specs.declared.Builder.{Builder}
 use Rattle.settling.specs.declared.Verdict.{Verdict}
 use Rattle.builder.proofs.Laws.{Roomy}
 use Rattle.writer.specs.Tailed.{TailLists, write_tail_refusal, write_tail_out}
-use Rattle.table.proofs.OfRows.{Good}
 use Rattle.ledger.specs.Ledger.{Call, set_call, settle_call, write_call, State, called, run, Ledger, opened, ledger_slice, ledger_question, set_entered, settle_entered, entered, ledger}
 use Rattle.ledger.proofs.Store.{put-sets}
 use Rattle.ledger.proofs.Invariant.{Fit, rows_are, row_known_lem, rows-known, room_held, slab-set_fit, filled_fit, settled_fit, verdict_fits}

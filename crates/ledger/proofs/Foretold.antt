@@ -1,10 +1,10 @@
 -- The comparisons that the sizing gives are those that settle reports. Assumes nothing.
 use mathlib.Core.Path.{◌≡◌, refl, sym, ap, ◌∙◌}
-use mathlib.Core.Bool.{true, cond, and-eq-true_iff}
+use mathlib.Core.Bool.{true, and-eq-true_iff}
 use mathlib.Core.List.{List, [], ◌∷◌}
-use Prim.Native.Nat.{ℕ, zero, suc, ◌+◌, ◌*◌, ◌≤◌}
+use Prim.Native.Nat.{ℕ, zero, suc, ◌*◌, ◌≤◌}
 use native.Mathlib.Omega.{arith}
-use lib.ListN.{length, get_or}
+use lib.ListN.{length}
 use lib.Ieee.{Float}
 use Rattle.lists.specs.Lists.{every}
 use Rattle.mesh.specs.Levels.{vertex_count}
@@ -16,8 +16,8 @@ use Rattle.builder.specs.declared.Builder.{Builder}
 use Rattle.builder.specs.declared.AtomBuilder.{AtomBuilder}
 use Rattle.sizing.specs.Sizing.{sized}
 use Rattle.sizing.proofs.Levels.{at_level}
-use Rattle.ledger.specs.Promise.{History, fresh, ended}
-use Rattle.ledger.specs.AtomPromise.{AtomHistory, atom_fresh, atom_ended}
+use Rattle.ledger.specs.Promise.{ended}
+use Rattle.ledger.specs.AtomPromise.{atom_ended}
 use Rattle.ledger.specs.Comparisons.{reaches, reaching}
 use Rattle.ledger.specs.Foretold.{Foretold, AtomForetold}
 use Rattle.ledger.proofs.Comparisons.{reports, atom_reports}

@@ -1,20 +1,20 @@
 -- The longest file: no list of calls writes a longer one, and every slab set at the top level reaches it. Assumes nothing.
 use mathlib.Core.Path.{◌≡◌, refl, sym, ap, ◌∙◌, subst}
-use mathlib.Core.Bool.{Bool, true, false, not, ◌&&◌}
+use mathlib.Core.Bool.{Bool, true, false}
 use mathlib.Core.List.{List, [], ◌∷◌, ◌++◌, map, map-append}
 use Prim.Native.Nat.{ℕ, zero, suc, ◌+◌, ◌*◌, ◌/◌, ◌%◌, ◌≤◌, ◌<◌}
 use native.Mathlib.Nat.{suc-mul, zero-mul, mul-zero, mod-lt, div-add-mod', div-lt_iff_lt-mul}
 use native.Mathlib.Omega.{arith}
-use lib.ListN.{length, get_or, set, take, drop, length-set, length-replicate}
+use lib.ListN.{length, get_or, take, drop, length-set, length-replicate}
 use lib.Seq.{take_all, take-suc-set}
 use lib.Dec.{leb, eqb}
-use lib.Ieee.{Float, is_nan}
-use borrow.Author.Tests.{eqb-true, eqb-false, eq-eqb, le-leb, lt-ltb}
+use lib.Ieee.{Float}
+use borrow.Author.Tests.{eqb-true, eqb-false, eq-eqb, ne_eqb, le-leb, lt-ltb}
 use Rattle.lists.specs.Questions.{ask, first}
 use Rattle.lists.proofs.Asking.{first_yes}
-use Rattle.lists.specs.Lists.{below, every, for_each}
+use Rattle.lists.specs.Lists.{below, for_each}
 use Rattle.mesh.specs.Levels.{per, vertex_count, grid_size, cell_count, vertices_below}
-use Rattle.mesh.specs.Mesh.{Mesh, mesh_of, mesh_long, meshes_keep, links_room, meshes_linked, neighbour_total}
+use Rattle.mesh.specs.Mesh.{Mesh, mesh_long, meshes_keep, links_room, neighbour_total}
 use Rattle.mesh.proofs.Kept.{held}
 use Rattle.mesh.proofs.Parts.{meshes_linked_lem}
 use Rattle.grid.specs.Settings.{counted, question, fresh_question}
@@ -23,12 +23,11 @@ use Rattle.rows.specs.declared.SlabResolution.{SlabResolution}
 use Rattle.rows.specs.declared.SlabResolution.TheVariants.{Scalar, Mesh as OnMesh, Repulsive}
 use Rattle.rows.specs.Rows.{Rows, row_room, resolution_at, Row, scalar, repulsive, mesh, compared, row_with}
 use Rattle.locator.specs.Locator.{locator_room}
-use Rattle.builder.specs.BuilderLists.{BuilderLists, slabs, slab, row_in, rows_in, slab_room}
+use Rattle.builder.specs.BuilderLists.{BuilderLists, slabs, row_in, rows_in}
 use Rattle.builder.specs.Refusals.{set_question}
 use Rattle.builder.specs.declared.Builder.{Builder}
 use Rattle.builder.proofs.Laws.{asked}
 use Rattle.sizing.specs.Sizing.{sizing_refusal, sized, no_size, sizing_out}
-use Rattle.sizing.specs.declared.Size.{Size}
 use Rattle.sizing.proofs.Levels.{at_level}
 use Rattle.sizing.proofs.Sizes.{size_done}
 use Rattle.table.specs.Tail.{tail_size}
@@ -42,11 +41,11 @@ use Rattle.writer.specs.Internal.{held_by, resolutions, total, Sure, write_quest
 use Rattle.writer.proofs.Whole.{total_few}
 use Rattle.writer.proofs.Outcome.{sure, write_length}
 use Rattle.writer.proofs.OfTail.{tail_asked, tailed_long, tailed_sure, tail_length, tail_refused, tail_short, tail_done}
-use Rattle.ledger.specs.Ledger.{Call, set_call, Ledger, opened, set_entered, entered, ledger}
+use Rattle.ledger.specs.Ledger.{set_call, Ledger, opened, set_entered, entered, ledger}
 use Rattle.ledger.specs.Promise.{History, fresh, ended, last_write}
 use Rattle.ledger.specs.Longest.{size_of, NoLonger, Longest, Settable, every_slab, Reaches, Handed, Reached, Fits, Fitting}
-use Rattle.ledger.proofs.Invariant.{Fit, rows_are, rows-known, room_held}
-use Rattle.ledger.proofs.Follows.{builder_at, meshed_yes}
+use Rattle.ledger.proofs.Invariant.{Fit, rows_are, rows-known}
+use Rattle.ledger.proofs.Follows.{meshed_yes}
 use Rattle.ledger.proofs.Ends.{basis, agree}
 
 -- ---- both kinds: what is accepted is sized
@@ -194,7 +193,7 @@ module _ (b : Builder) (m : Mesh) (l : BuilderLists) (t : TailLists) (out : List
   answers : Answers (tailed_question b m l t) (length (full_file_from b l t)) (length out) (write_tail_out b m l t out).answer
   answers =
       record {
-        refused = λ z. rw (tail_refused b m l t out (tailed_question b m l t) refl z) refl;
+        refused = λ z. rw (tail_refused b m l t out (tailed_question b m l t) refl (ne_eqb _ 0 z)) refl;
         short = λ z e. rw (tail_short b m l t out z e) refl;
         done = λ z e. rw (tail_done b m l t out z e) (refl, refl);
       }

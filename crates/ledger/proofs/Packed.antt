@@ -2,39 +2,34 @@
 use mathlib.Core.Path.{◌≡◌, refl, sym, ap, ◌∙◌}
 use mathlib.Core.Bool.{Bool, true, false}
 use mathlib.Core.List.{List, [], ◌∷◌}
-use Prim.Native.Nat.{ℕ, zero, suc, ◌+◌, ◌*◌, ◌^◌, ◌≤◌, ◌<◌}
-use native.Mathlib.Nat.{mul-le-mul}
+use Prim.Native.Nat.{ℕ, zero, suc, ◌*◌, ◌^◌, ◌≤◌, ◌<◌}
 use native.Mathlib.Omega.{arith}
 use lib.ListN.{length, replicate}
 use lib.Seq.{take_all}
 use lib.Dec.{eqb}
 use lib.Ieee.{Float}
-use borrow.Author.Tests.{eqb-true, eqb-false}
+use borrow.Author.Tests.{eqb-true}
 use Rattle.lists.specs.Lists.{put}
 use Rattle.lists.proofs.Asking.{first_yes}
 use Rattle.mesh.specs.Levels.{per, vertex_count}
 use Rattle.mesh.specs.Mesh.{Mesh, level_part}
-use Rattle.grid.specs.Settings.{counted, question}
 use Rattle.grid.specs.declared.Grid.{Grid}
 use Rattle.rows.specs.declared.SlabResolution.TheVariants.{Mesh as OnMesh}
-use Rattle.rows.specs.Rows.{Rows, resolution_at, replaced, Row, scalar}
+use Rattle.rows.specs.Rows.{scalar}
 use Rattle.settling.specs.Gradient.{zero as nought}
-use Rattle.settling.specs.Settling.{verdict_of, verdicts, settled_rows, settled_slice, packed_row, packed_rows, packed_after}
-use Rattle.settling.specs.Internal.{packed_in as packedOf}
-use Rattle.settling.specs.declared.Verdict.{Verdict}
-use Rattle.settling.proofs.Packed.{after_same, after_alike, after-plain, after_few}
-use Rattle.builder.specs.BuilderLists.{BuilderLists, slabs, slab, row_at, rows_from, slice_at}
-use Rattle.builder.specs.Calls.{slab_set, set_lists, set_builder, set_out, settled_lists, settle_accepted, settle_out}
+use Rattle.settling.specs.Settling.{verdict_of, verdicts, settled_slice, packed_row, packed_rows, packed_after}
+use Rattle.settling.proofs.Packed.{after_same, after_alike, after-plain}
+use Rattle.builder.specs.BuilderLists.{BuilderLists, slabs, slab, row_at, slice_at}
+use Rattle.builder.specs.Calls.{slab_set, set_lists, set_builder, set_out, settle_accepted, settle_out}
 use Rattle.builder.specs.Refusals.{set_refusal, meshed_refusal, settle_refusal}
 use Rattle.builder.specs.declared.Builder.{Builder}
 use Rattle.builder.proofs.Laws.{Roomy, Set, accepted, asked, meshed}
 use Rattle.builder.proofs.Accepted.{ready}
 use Rattle.writer.specs.Tailed.{TailLists, write_tail_refusal, write_tail_out}
-use Rattle.table.proofs.OfRows.{Good}
-use Rattle.ledger.specs.Ledger.{Call, set_call, settle_call, write_call, State, called, run, Ledger, opened, entered, ledger}
+use Rattle.ledger.specs.Ledger.{Call, set_call, settle_call, write_call, State, called, run, Ledger, entered, ledger}
 use Rattle.ledger.specs.Packed.{packed_in, PackedMoves}
-use Rattle.ledger.proofs.Invariant.{Fit, rows_are}
-use Rattle.ledger.proofs.Follows.{Basis, builder_at, Agree, step_agrees}
+use Rattle.ledger.proofs.Invariant.{rows_are}
+use Rattle.ledger.proofs.Follows.{Basis, Agree, step_agrees}
 use Rattle.ledger.proofs.PackedRows.{packed_at, one-sum, settled-sum, sum_few}
 
 -- ---- from any state
@@ -100,7 +95,7 @@ module _ (m : Mesh) (st : State) (few : st.builder.packed < 2 ^ 64) where
       let c = b.level in
       let room = room_of b m l ri p in
       let f = verdict_of b.grid.threshold b.grid.beta (level_part c m) (vertex_count c) in
-      let o = settled-sum b.top (slabs b.grid) c f l b.grid.n_omega (slab b.grid ri 0) l.rows (ready b m l ri p).ready.slice_le room.kinds_le room.levels_le (λ t i. refl) in
+      let o = settled-sum b.top (slabs b.grid) c f l b.grid.n_omega (slab b.grid ri 0) l.rows (ready b m l ri p).slice_le room.kinds_le room.levels_le (λ t i. refl) in
       after_alike b.packed (packed_rows (slice_at b l ri)) _ (packed_in st) _ o
 
   settle_moves : (ri : ℕ) (x : Bool) → eqb (settle_refusal b m l ri) 0 ≡ x

@@ -34,7 +34,8 @@ use Rattle.table.proofs.OfSections.{Sized}
 use Rattle.table.specs.Tail.{Tail}
 use Rattle.table.proofs.OfTail.{Tailable}
 use Rattle.table.proofs.OfFile.{Filable, grid_in, full_table_in, sized}
-use Rattle.reading.specs.Resolve.{reading_values, Query, Way, way_valid, query_valid, outside, Resolved, unresolved, beyond, slab_at, resolve, Picks, unpicked, picked, Combination, combined, joint, pair_place, nearest_pick, face_pick}
+use Rattle.reading.specs.Resolve.{reading_values, Way, way_valid, query_valid, outside, Resolved, unresolved, beyond, slab_at, resolve, Picks, unpicked, picked, Combination, combined, joint, pair_place, nearest_pick, face_pick}
+use Rattle.reading.specs.declared.Query.{Query}
 use Rattle.reading.specs.Reading.{row_inside, energy_inside, entry_at, energy_at, search_in, picks_by, entry_by, slab_by, read_entry, reading_by}
 use Rattle.reading.proofs.Picked.{both_found}
 use Rattle.reading.specs.Rule.{search, rule_picks_by, rule_row_by, rule_slab_by, ruled_by}

@@ -5,13 +5,11 @@ use mathlib.Core.List.{List, [], ◌∷◌, ◌++◌, map}
 use Prim.Native.Nat.{ℕ, zero, suc, ◌<◌}
 use native.Mathlib.Omega.{arith}
 use lib.ListN.{length, get_or, length-map}
-use lib.Dec.{T, leb, eqb, lit<}
+use lib.Dec.{T, leb, eqb}
 use lib.Ieee.{Float, nan, binary64, fits, to_bits}
 use lib.Ieee.Scale.{finite}
 use borrow.Author.Tests.{leb-true, eqb-true}
 use Rattle.lists.specs.Lists.{every}
-use Rattle.lists.specs.Questions.{ask}
-use Rattle.lists.proofs.Asking.{ask_yes}
 use Rattle.table.specs.Bytes.{bytes_of, packed, section}
 use Rattle.table.specs.Tail.{Term, Tail, term_bytes, term_valid, tail_valid, sixth, tail_bytes}
 use Rattle.table.proofs.Back.{All}

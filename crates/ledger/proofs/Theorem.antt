@@ -5,8 +5,8 @@ use mathlib.Core.Bool.{Bool, true, false}
 use mathlib.Core.List.{List, ◌++◌, map}
 use Prim.Native.Nat.{ℕ, suc, ◌+◌}
 use native.Mathlib.Omega.{arith}
-use lib.ListN.{length, get_or, take, drop, length-map}
-use lib.Seq.{take_all, take_at, ext_get_or}
+use lib.ListN.{length, get_or, take, drop}
+use lib.Seq.{take_at, ext_get_or}
 use lib.Dec.{eqb}
 use lib.Ieee.{binary64, to_bits}
 use borrow.Author.Tests.{eqb-true, eqb-false}
@@ -15,13 +15,9 @@ use Rattle.mesh.specs.Mesh.{Mesh}
 use Rattle.grid.specs.Settings.{counted}
 use Rattle.grid.specs.declared.Grid.{Grid}
 use Rattle.grid.proofs.Tables.{table_valid_lem, some_bins}
-use Rattle.rows.specs.Rows.{Row, repulsive, compared}
-use Rattle.builder.specs.BuilderLists.{BuilderLists, slabs}
-use Rattle.builder.specs.Calls.{built_values, no_builder, fresh_builder, filled, fresh_out}
-use Rattle.builder.specs.Refusals.{meshed_refusal}
+use Rattle.rows.specs.Rows.{Row, repulsive}
+use Rattle.builder.specs.BuilderLists.{BuilderLists}
 use Rattle.builder.specs.declared.Builder.{Builder}
-use Rattle.builder.specs.declared.Built.TheVariants.{Accepted as Builds}
-use Rattle.builder.proofs.Laws.{Meshed, meshed}
 use Rattle.table.specs.Tail.{Tail, tail_bytes}
 use Rattle.table.specs.File.{file_of, full_file}
 use Rattle.writer.specs.Write.{file_from}
@@ -30,7 +26,8 @@ use Rattle.writer.proofs.OfTail.{tailed_tail, full_is}
 use Rattle.search.specs.Search.{Locator}
 use Rattle.locator.specs.Several.{Roomy}
 use Rattle.locator.proofs.Laid.{made_yes}
-use Rattle.reading.specs.Resolve.{Query, Way}
+use Rattle.reading.specs.Resolve.{Way}
+use Rattle.reading.specs.declared.Query.{Query}
 use Rattle.reading.specs.Rule.{ruled_by}
 use Rattle.mesh.specs.Levels.{per}
 use Rattle.table.proofs.OfRows.{fine_rows}

@@ -21,15 +21,13 @@ use Rattle.rows.specs.Rows.{Rows, Row, row_room}
 use Rattle.rows.specs.Words.{word_rows}
 use Rattle.settling.specs.Settling.{verdicts}
 use Rattle.builder.specs.BuilderLists.{BuilderLists, slabs, slab, slice_at, list_room, lists_long}
-use Rattle.builder.specs.Calls.{BuiltOut, SettleOut, BuiltValues, SettledValues, built_values, fresh_builder, fresh_out, slab_set, set_builder, set_out, settle_accepted, settle_out}
+use Rattle.builder.specs.Calls.{BuiltOut, SettleOut, BuiltValues, SettledValues, fresh_builder, fresh_out, slab_set, set_builder, set_out, settle_accepted, settle_out}
 use Rattle.builder.specs.Refusals.{meshed_refusal, set_question, set_refusal, settle_refusal}
 use Rattle.builder.specs.declared.Builder.{Builder}
-use Rattle.builder.specs.declared.Built.TheVariants.{Accepted as Builds}
 use Rattle.builder.proofs.Laws.{Set, accepted, meshed}
 use Rattle.table.specs.Read.{read_out}
-use Rattle.writer.specs.Write.{WriteOut, written_values}
+use Rattle.writer.specs.Write.{WriteOut}
 use Rattle.writer.specs.Tailed.{TailLists, tail_lists, tailed_question, full_file_from, write_tail_refusal, write_tail_out}
-use Rattle.writer.specs.declared.Written.TheVariants.{Accepted as Writes, Refused as NotWritten}
 use Rattle.writer.proofs.OfTail.{plain_write}
 use Rattle.reading.specs.Reading.{reading_by}
 use Rattle.tail.specs.Reading.{tail_out}
@@ -45,7 +43,7 @@ use Rattle.ledger.proofs.Agreeing.{known_same, rows-known-same, row_same, rows_s
 
 -- what a write makes of its number and its file leaves lists as they are
 writes_agree : (b : Builder) (l k : BuilderLists) (out file : List ℕ) (n : ℕ) (x : Bool) → let o : BuilderLists → WriteOut = λ ls.
-    cond x (record { answer = written_values (Writes (length file)); builder = b; lists = ls; output = put out 0 file }) (record { answer = written_values (NotWritten n); builder = b; lists = ls; output = out }) in
+    cond x (record { answer = record { number = 0; length = length file }; builder = b; lists = ls; output = put out 0 file }) (record { answer = record { number = n; length = 0 }; builder = b; lists = ls; output = out }) in
     WritesAgree l k (o l) (o k)
 writes_agree b l k out file n true = record { answer = refl; builder = refl; output = refl; lists = λ i a. a }
 writes_agree b l k out file n false = record { answer = refl; builder = refl; output = refl; lists = λ i a. a }
@@ -80,10 +78,11 @@ module _ (b : Builder) (m : Mesh) (l k : BuilderLists) (a : ListsAgree (slabs b.
   unfolding set_out slab_set
   set_agrees ri oi e true d =
       let s = slab b.grid ri oi in
+      let answer : Row Float → BuiltValues = λ r. record { number = 0; builder = set_builder b r } in
       let f = set_sure l ri oi e (eqb-true _ 0 d) in
       let g = set_sure k ri oi e (sym (set-number ri oi e _ refl) ∙ eqb-true _ 0 d) in
       rw (← set-number ri oi e _ refl, d) (
-        ap (λ (r : Row Float). built_values b (Builds (set_builder b r))) (row_same per b.top a s f.row),
+        ap answer (row_same per b.top a s f.row),
         λ n i. record {
           store = ap (λ (d : List Float). put d (s * per b.top) e) i.store;
           rows = (replaced_both s f.row (OnMesh b.level true) (record { left = long f.room; right = long g.room; agree = i.rows })).agree;

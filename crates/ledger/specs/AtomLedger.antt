@@ -4,7 +4,7 @@ use Rattle.lists.specs.Questions.{ask}
 use Rattle.mesh.specs.Levels.{vertex_count}
 use Rattle.mesh.specs.Mesh.{Mesh, level_part}
 use Rattle.grid.specs.declared.AtomGrid.{AtomGrid}
-use Rattle.rows.specs.Rows.{Row, scalar, repulsive}
+use Rattle.rows.specs.Rows.{scalar, repulsive}
 use Rattle.settling.specs.Gradient.{zero}
 use Rattle.settling.specs.Settling.{from_level, new_row, in_place_of, atom_verdict_of, atom_level}
 use Rattle.builder.specs.BuilderLists.{BuilderLists}

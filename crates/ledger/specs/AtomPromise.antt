@@ -14,7 +14,8 @@ use Rattle.builder.specs.Atom.{AtomBuiltOut, atom_fresh_out}
 use Rattle.writer.specs.Atom.{AtomWriteOut, atom_write_out}
 use Rattle.table.specs.Atom.{atom_read_out}
 use Rattle.reading.specs.Resolve.{Way, ReadingValues}
-use Rattle.reading.specs.Atom.{AtomQuery, atom_reading_by, atom_ruled_by}
+use Rattle.reading.specs.Atom.{atom_reading_by, atom_ruled_by}
+use Rattle.reading.specs.declared.AtomQuery.{AtomQuery}
 use Rattle.ledger.specs.AtomLedger.{AtomCall, AtomState, atom_run, atom_opened, atom_ledger}
 use Rattle.ledger.specs.Promise.{Answered}
 

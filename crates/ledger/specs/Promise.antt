@@ -15,7 +15,8 @@ use Rattle.table.specs.Tail.{Term, Tail}
 use Rattle.table.specs.Read.{read_out}
 use Rattle.writer.specs.Write.{WriteOut}
 use Rattle.writer.specs.Tailed.{TailLists, handed, write_tail_out}
-use Rattle.reading.specs.Resolve.{Query, Way, way_valid, ReadingValues}
+use Rattle.reading.specs.Resolve.{Way, way_valid, ReadingValues}
+use Rattle.reading.specs.declared.Query.{Query}
 use Rattle.reading.specs.Reading.{reading_by}
 use Rattle.reading.specs.Rule.{ruled_by}
 use Rattle.tail.specs.Reading.{tail_out, ruled_tail}

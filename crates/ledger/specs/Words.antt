@@ -12,7 +12,8 @@ use Rattle.builder.specs.declared.Builder.{Builder}
 use Rattle.table.specs.Read.{read_out}
 use Rattle.writer.specs.Write.{WriteOut, write_out}
 use Rattle.writer.specs.Tailed.{TailLists, write_tail_out}
-use Rattle.reading.specs.Resolve.{Query, Way}
+use Rattle.reading.specs.Resolve.{Way}
+use Rattle.reading.specs.declared.Query.{Query}
 use Rattle.reading.specs.Reading.{reading_by}
 use Rattle.tail.specs.Reading.{tail_out}
 use Rattle.ledger.specs.Ledger.{State, run}

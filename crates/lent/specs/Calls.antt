@@ -1,12 +1,13 @@
 -- Set and settle with the builder lent: what each answers and leaves. Definitions only.
-use Rattle.std.specs.Prelude.{Bool, true, not, List, ℕ, eqb, Float}
+use Rattle.std.specs.Prelude.{Result, Ok, Err, List, ℕ, Float}
 use Rattle.mesh.specs.Mesh.{Mesh}
 use Rattle.settling.specs.Gradient.{zero}
 use Rattle.builder.specs.BuilderLists.{BuilderLists}
 use Rattle.builder.specs.declared.Builder.{Builder}
 use Rattle.builder.specs.Calls.{BuiltOut, SettleOut, set_out, settle_out}
 use Rattle.lent.specs.declared.LentSettled.{LentSettled}
-use Rattle.lent.specs.declared.LentSettled.TheVariants.{Accepted, Refused}
+use Rattle.refusals.specs.Numbers.{number}
+use Rattle.refusals.specs.declared.Refusal.{Refusal}
 
 -- 01's number and values for each case of settle's answer, and the comparisons of document 02's paper 8; beside a number that refuses stands 0
 pub record LentValues : Type 0 where
@@ -14,14 +15,9 @@ pub record LentValues : Type 0 where
   pub gradient : Float
   pub comparisons : ℕ
 
-abbrev pub lent_values : LentSettled → LentValues
-lent_values (Accepted x k) = record { number = 0; gradient = x; comparisons = k }
-lent_values (Refused n) = record { number = n; gradient = zero; comparisons = 0 }
-
--- a refusal has a number: 0 is acceptance alone
-abbrev pub lent_numbered : LentSettled → Bool
-lent_numbered (Accepted x k) = true
-lent_numbered (Refused n) = not (eqb n 0)
+abbrev pub lent_values : Result LentSettled Refusal → LentValues
+lent_values (Ok s) = record { number = 0; gradient = s.gradient; comparisons = s.comparisons }
+lent_values (Err e) = record { number = number e; gradient = zero; comparisons = 0 }
 
 -- what a call leaves: the answer, the builder that was lent and every list that is lent to be altered
 pub record LentOut (A : Type 0) : Type 0 where

@@ -13,7 +13,8 @@ use Rattle.builder.specs.Calls.{BuiltOut, fresh_out}
 use Rattle.writer.specs.Write.{WriteOut}
 use Rattle.writer.specs.Tailed.{TailLists, write_tail_out}
 use Rattle.table.specs.Read.{read_out}
-use Rattle.reading.specs.Resolve.{Query, Way}
+use Rattle.reading.specs.Resolve.{Way}
+use Rattle.reading.specs.declared.Query.{Query}
 use Rattle.reading.specs.Reading.{reading_by}
 use Rattle.tail.specs.Reading.{tail_out}
 use Rattle.ledger.specs.Ledger.{Call, set_call, settle_call, write_call, State}

@@ -1,4 +1,5 @@
-// The two forms whose proofs are walks by hand: rows as a slice of records, and set and settle with the builder lent to be altered.
+// Rows as a slice of records, and set and settle with the builder lent to be altered; and the law that these forms
+// answer as the calls by value over words do.
 #![tactic(auto)]
 
 mod calls;
@@ -18,7 +19,7 @@ pub struct RowRecord {
 
 // What settle answers where the builder is lent: the largest gradient, and the neighbour comparisons made.
 #[derive(Clone, Copy)]
-pub enum LentSettled {
-    Accepted(f64, u64),
-    Refused(u64),
+pub struct LentSettled {
+    pub gradient: f64,
+    pub comparisons: u64,
 }

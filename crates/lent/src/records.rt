@@ -1,27 +1,46 @@
-// Rows as a slice of records: read one, replace one, and the bridge to the words. A slab number is an index of the slice.
+// Rows as a slice of records: read one, replace one, and the bridge to the words. A slab number is an index of the
+// slice.
 ghost use Rattle.std.specs.Prelude.{◌≡◌, ◌<◌, ◌≤◌, ltb, length, get_or, set};
+ghost use Rattle.refusals.specs.Numbers.{asked};
 ghost use Rattle.rows.specs.Rows.{resolution_of};
 ghost use Rattle.rows.specs.Words.{word_kind, word_rows};
-ghost use Rattle.lent.specs.Records.{columns, record_at, record_of, word_in, gather_number, spread_number, taken, gathered, SpreadOut, spread_out};
+ghost use Rattle.lent.specs.Records.{columns, record_at, record_of, word_in, gather_number, gathered, SpreadOut, spread_out};
 
 use crate::RowRecord;
+use refusals::{Asked, Refusal};
 use rows::SlabResolution;
+
+impl From<SlabResolution> for RowRecord {
+    ghost from_gives = { λ x r. r ≡ record_of x };
+
+    fn from(x: SlabResolution) -> RowRecord {
+        RowRecord {
+            kind: rows::kind_of(x),
+            level: rows::level_of(x),
+            value: rows::value_of(x),
+        }
+    }
+}
+
+impl From<RowRecord> for SlabResolution {
+    ghost from_gives = { λ r x. x ≡ resolution_of r.kind r.level r.value };
+
+    fn from(r: RowRecord) -> SlabResolution {
+        rows::resolution_of(r.kind, r.level, r.value)
+    }
+}
 
 // The record of a row, and the row of a record, its kind being a known one.
 pub fn record_of(x: SlabResolution) -> RowRecord
     ensures { result ≡ record_of x }
 {
-    RowRecord {
-        kind: rows::kind_of(x),
-        level: rows::level_of(x),
-        value: rows::value_of(x),
-    }
+    x.into()
 }
 
 pub fn resolution_of(r: RowRecord) -> SlabResolution
     ensures { result ≡ resolution_of r.kind r.level r.value }
 {
-    rows::resolution_of(r.kind, r.level, r.value)
+    r.into()
 }
 
 // The record of slab s; zeros beyond the slice, as beyond a list of words.
@@ -51,36 +70,19 @@ pub fn replace_row(rows: &mut [RowRecord], s: usize, r: RowRecord) -> bool
     }
 }
 
-// What refuses a bridge: 6 where there are fewer words than records, then 15 where a word that goes to a record has a rest.
-fn gather_question(n: usize, words: &[u64]) -> u64
-    ensures { result ≡ gather_number n words.now }
+// What refuses a bridge: 6 where there are fewer words than records, then 15 where a word that goes to a record has a
+// rest.
+#[tactic(auto, using(refusals::proofs::Numbers::numbered), unfolding(lists::specs::Questions::ask, crate::specs::Records::gather_number))]
+fn gather_question(n: usize, words: &[u64]) -> Asked
+    ensures { asked result ≡ gather_number n words.now }
 {
     if words.len() < n {
-        return 6;
+        return Err(Refusal::ShortList);
     }
     if !words::rests_clear(words, n as u64) {
-        return 15;
+        return Err(Refusal::Row);
     }
-    0
-}
-
-fn spread_question(n: usize, words: usize) -> u64
-    ensures { result ≡ spread_number n words }
-{
-    if words < n {
-        return 6;
-    }
-    0
-}
-
-// How many rows a bridge takes over: all n, or none where it is refused.
-fn taken(number: u64, n: usize) -> usize
-    ensures { result ≡ taken number n }
-{
-    if number == 0 {
-        return n;
-    }
-    0
+    Ok(())
 }
 
 // The record of a word, and the word of a record.
@@ -102,38 +104,31 @@ fn word_in(r: RowRecord) -> u64
     rows::word_of(r.kind, r.level, r.value)
 }
 
-// The words into the records; the answer is document 01's number, 0 where it is done.
-pub fn gather(rows: &mut [RowRecord], words: &[u64]) -> u64
-    ensures { (result ≡ gather_number (length rows.old) words.now)
+// The words into the records: all of them, or none where it is refused.
+#[tactic(auto, using(refusals::proofs::Numbers::numbered, crate::proofs::Entries::copied_more), unfolding(lists::specs::Lists::for_each, crate::specs::Records::taken))]
+pub fn gather(rows: &mut [RowRecord], words: &[u64]) -> Asked
+    ensures { (asked result ≡ gather_number (length rows.old) words.now)
         × (rows.new ≡ gathered words.now rows.old) }
 {
-    let m = rows.len();
-    let no = gather_question(m, words);
-    let n = taken(no, m);
-    let mut i = 0;
-    while i < n {
-        let r = record_at(words, i);
-        rows[i] = r;
-        i += 1;
+    gather_question(rows.len(), words)?;
+    for i in 0..rows.len() {
+        rows[i] = record_at(words, i);
     }
-    no
+    Ok(())
 }
 
-// The records over the words.
-pub fn spread(rows: &[RowRecord], words: &mut [u64]) -> u64
+// The records over the words, likewise.
+#[tactic(auto, using(crate::proofs::Entries::copied_more, crate::proofs::Entries::word_read), unfolding(lists::specs::Lists::for_each, lists::specs::Questions::ask, crate::specs::Records::spread_number, crate::specs::Records::taken))]
+pub fn spread(rows: &[RowRecord], words: &mut [u64]) -> Asked
     ensures { ◌≡◌ {A = SpreadOut}
-        (record { number = result; words = words.new })
+        (record { number = asked result; words = words.new })
         (spread_out rows.now words.old) }
 {
-    let m = rows.len();
-    let no = spread_question(m, words.len());
-    let n = taken(no, m);
-    let mut i = 0;
-    while i < n {
-        let r = rows[i];
-        let w = word_in(r);
-        words[i] = w;
-        i += 1;
+    if words.len() < rows.len() {
+        return Err(Refusal::ShortList);
     }
-    no
+    for (i, r) in rows.iter().enumerate() {
+        words[i] = word_in(*r);
+    }
+    Ok(())
 }

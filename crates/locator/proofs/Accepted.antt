@@ -13,7 +13,6 @@ use Rattle.mesh.specs.Levels.{vertex_count, grid_size, cell_count}
 use Rattle.mesh.specs.Mesh.{Mesh, within, lists, vertex_kept, vertices_finite, keeps_rule, mesh_long}
 use Rattle.mesh.specs.Faces.{is_face, faces_from, extract_faces}
 use Rattle.lists.specs.Questions.{ask}
-use Rattle.mesh.specs.Internal.{links}
 use Rattle.mesh.proofs.Laws.{count_le}
 use Rattle.mesh.proofs.Tables.{grid_le, grid_ge}
 use Rattle.mesh.proofs.Kept.{Held, held}
@@ -72,16 +71,16 @@ module _ (n : ℕ) (m : Mesh) (h : keeps_rule n m ≡ true) where
   unfolding keeps_rule
   cells_fit g p q = Room.cells_fit m.vertices n g p q ((and-eq-true_iff (vertices_finite n m.vertices) (all_up_to n (vertex_kept n m))).0 h).0
 
-  pub faces_fit : 3 * length (joined n (faces_of (links m.counts m.neighbours) n)) ≤ 45 * n
+  pub faces_fit : 3 * length (joined n (faces_of m n)) ≤ 45 * n
   unfolding faces_of extract_faces faces_from is_face lists within
   faces_fit = Bound.room (Graphs.rule n m h)
 
-  pub graph : n ≤ 65535 → Graph n (links m.counts m.neighbours)
+  pub graph : n ≤ 65535 → Graph n m
   unfolding lists within
   graph few = let g = Graphs.graph n m h few in record { few = few; six = g.six; inside = g.inside; back = g.back }
 
 -- the first n places of the face offsets, where the keys were, do not count
-pub scratch : (m : Mesh) (n : ℕ) (d e fs : List ℕ) → drop n d ≡ drop n e → faces_out (links m.counts m.neighbours) n d fs ≡ faces_out m n e fs
+pub scratch : (m : Mesh) (n : ℕ) (d e fs : List ℕ) → drop n d ≡ drop n e → faces_out m n d fs ≡ faces_out m n e fs
 unfolding faces_out put faces_of extract_faces faces_from is_face lists within
 scratch m n d e fs h =
     let s = starts (n + 1) (faces_of m n) in

@@ -1,6 +1,6 @@
 -- The faces of a vertex, block by block: each block has those whose least vertex is one vertex.
 use mathlib.Core.Path.{◌≡◌, refl, sym, ap, ◌∙◌}
-use mathlib.Core.Bool.{Bool, true, false, cond, ◌&&◌, ◌||◌}
+use mathlib.Core.Bool.{Bool, true, false, cond, ◌&&◌, ◌||◌, and_comm}
 use mathlib.Core.List.{List, [], ◌∷◌, ◌++◌, append_assoc, append-nil}
 use mathlib.Core.Logic.{⊎_elim}
 use Prim.Native.Nat.{ℕ, zero, suc, ◌+◌, ◌*◌, ◌/◌, ◌%◌, ◌≤◌, ◌<◌}
@@ -101,6 +101,12 @@ no_thirds l v i d j h = joined-none d _ (λ y ly. rw (h (neighbour l i y)))
 pub not_above : (l : Mesh) (i j k v : ℕ) → j ≤ i → wanted l i j k v ≡ false
 unfolding wanted is_face
 not_above l i j k v h = rw (le-ltb i j h)
+
+-- the four tests in another order
+pub wanted_are : (p q r h : Bool) → ((p && (q && r)) && h) ≡ (p && (q && (h && r)))
+wanted_are true true r h = and_comm r h
+wanted_are true false r h = refl
+wanted_are false q r h = refl
 
 -- v is none of the three
 pub unwanted : (l : Mesh) (i j k v : ℕ) → (i ≡ v → ⊥) → (i < j → j ≡ v → ⊥) → (i < j → j < k → k ≡ v → ⊥) → wanted l i j k v ≡ false

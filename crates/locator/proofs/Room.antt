@@ -69,7 +69,7 @@ unfolding le lt eq of_bits
 below-zero m e = low (m * up e * 1) (0 * 1 * down e) (omega (arith, zero-mul (down e)))
 
 sides : (x : Float) → finite x ≡ true → one (not (le x Geometry.zero)) + one (not (le (neg x) Geometry.zero)) ≤ 1
-unfolding finite neg le lt eq of_bits
+unfolding neg le lt eq of_bits
 sides nan h = absurd (let z : ◌≡◌ {A = ℕ} 0 1 = cc in omega arith)
 sides (inf s) h = absurd (let z : ◌≡◌ {A = ℕ} 0 1 = cc in omega arith)
 sides (fin true m e) h = rw (below-zero m e) (by (not (le (fin false m e) Geometry.zero)))

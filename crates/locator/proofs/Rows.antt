@@ -7,11 +7,10 @@ use native.Mathlib.Nat.{mod-lt, mod-le, mul-pos, div-add-mod', mul-add-mod_self_
 use native.Mathlib.Numerals.{add-one}
 use native.Mathlib.Omega.{arith}
 use lib.ListN.{length, get_or, take, drop, set, length-append, take-append-drop}
-use lib.Seq.{take_at, take-suc, take-take, get_or-take, length-take-le}
+use lib.Seq.{take_at, take-suc, take-take}
 use lib.Dec.{leb, ltb}
 use lib.Ieee.{Float}
-use borrow.Author.Tests.{le-leb, lt-leb, leb-true, leb-false, lt-ltb, ltb-true}
-use Rattle.lists.proofs.Loops.{every_at}
+use borrow.Author.Tests.{le-leb, lt-leb, leb-true, leb-false, lt-ltb}
 use Rattle.lists.specs.Lists.{filter, below, every, put}
 use Rattle.lists.proofs.Written.{Written, pushed, filter-append}
 use Rattle.search.specs.Cells.{cell}
@@ -50,11 +49,6 @@ module _ {A : Type 0} where
       let e : filter p (take n l) ≡ filter p (take k l) ++ filter p (drop k (take n l)) =
       ap (filter p) (sym (take-append-drop k (take n l))) ∙ filter-append p (take k (take n l)) (drop k (take n l)) ∙ rw (take-take k n l h) in
       omega (arith, ap length e, length-append (filter p (take k l)) (filter p (drop k (take n l))))
-
-pub entry-below : (m held : ℕ) (row : List ℕ) (k : ℕ) → every (λ v. ltb v m) (take held row) ≡ true → held ≤ length row → k < held → get_or row k 0 < m
-entry-below m held row k e h l =
-    let f = every_at (λ v. ltb v m) (take held row) k 0 e (rw (length-take-le held row h) l) in
-    ltb-true (get_or row k 0) m (rw (get_or-take held row k 0 l) at f)
 
 -- ---- a turn of a loop that filters a list
 

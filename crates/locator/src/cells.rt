@@ -5,7 +5,7 @@ ghost use Rattle.lists.specs.Lists.{every, put, joined};
 ghost use Rattle.search.specs.Cells.{cell_number, cell};
 ghost use Rattle.locator.specs.Internal.{kept, near_kept, key_of, vertex_key, Keyed, key_row, in_column, CellsOut, cells_out};
 
-use search::Vector3;
+use search::{Seen, Vector3};
 
 // A cell number as a natural number. No cell of a grid is near one that is left out.
 fn kept(c: i64) -> u64
@@ -13,10 +13,7 @@ fn kept(c: i64) -> u64
 {
     if c >= 0 {
         let n = c as u64;
-        if n < 65533 {
-            return n + 2;
-        }
-        return 65535;
+        return if n < 65533 { n + 2 } else { 65535 };
     }
     if c >= -1 { 1 } else { 0 }
 }
@@ -29,14 +26,13 @@ fn cell_number(g: usize, u: f64, d: f64) -> u64
 }
 
 // Both cell numbers of a point that a face sees, 0 where it is not in front.
-fn key(g: usize, u: f64, w: f64, d: f64) -> u32
-    ensures { result ≡ key_of g u w d }
+fn key(g: usize, s: Seen) -> u32
+    ensures { result ≡ key_of g s.u s.w s.d }
 {
-    if d <= 0.0 {
+    if s.d <= 0.0 {
         return 0;
     }
-    let k = cell_number(g, u, d) * 65536 + cell_number(g, w, d);
-    k as u32
+    (cell_number(g, s.u, s.d) * 65536 + cell_number(g, s.w, s.d)) as u32
 }
 
 fn vertex_key(vertices: &[f64], g: usize, face: usize, v: usize) -> u32
@@ -44,14 +40,12 @@ fn vertex_key(vertices: &[f64], g: usize, face: usize, v: usize) -> u32
     ensures { result ≡ vertex_key vertices.now g face v }
 {
     let at = 3 * v;
-    let x = vertices[at];
-    let y = vertices[at + 1];
-    let z = vertices[at + 2];
-    let s = search::cube_face_project(face as u64, Vector3 { x, y, z });
-    let u = s.u;
-    let w = s.w;
-    let d = s.d;
-    key(g, u, w, d)
+    let vertex = Vector3 {
+        x: vertices[at],
+        y: vertices[at + 1],
+        z: vertices[at + 2],
+    };
+    key(g, search::cube_face_project(face as u64, vertex))
 }
 
 // A cell number that is kept so is i, or next to it: k - i is 1, 2 or 3, by one comparison, since two of them become two jumps.
@@ -73,10 +67,8 @@ fn fresh_keys(vertices: &[f64], n: usize, g: usize, c: usize, keys: &mut [u32])
         return;
     }
     let face = c / a;
-    let mut v: usize = 0;
-    while v < n {
+    for v in 0..n {
         keys[v] = vertex_key(vertices, g, face, v);
-        v += 1;
     }
 }
 
@@ -92,34 +84,29 @@ fn fresh_row(keys: &[u32], n: usize, g: usize, c: usize, held: usize, row: &mut 
         return held;
     }
     let i = (k / g) as u32;
-    let mut to: usize = 0;
-    let mut v: usize = 0;
-    while v < n {
+    let mut to = 0;
+    for v in 0..n {
         if near_kept(keys[v] / 65536, i) {
             row[to] = v as u16;
             to += 1;
         }
-        v += 1;
     }
     to
 }
 
 // Those of a row that are near column j.
-fn put_cell(keys: &[u32], row: &[u16], held: usize, j: u32, out: &mut [u16], at: usize) -> usize
-    requires { (held ≤ length row.now) × (every (λ v. ltb v (length keys.now)) (take held row.now) ≡ true) × (j < 65500)
-        × (at + length (in_column keys.now j (take held row.now)) ≤ length out.old) }
-    ensures { (result ≡ at + length (in_column keys.now j (take held row.now)))
-        × (out.new ≡ put out.old at (in_column keys.now j (take held row.now))) }
+fn put_cell(keys: &[u32], row: &[u16], j: u32, out: &mut [u16], at: usize) -> usize
+    requires { (every (λ v. ltb v (length keys.now)) row.now ≡ true) × (j < 65500)
+        × (at + length (in_column keys.now j row.now) ≤ length out.old) }
+    ensures { (result ≡ at + length (in_column keys.now j row.now))
+        × (out.new ≡ put out.old at (in_column keys.now j row.now)) }
 {
     let mut to = at;
-    let mut k: usize = 0;
-    while k < held {
-        let v = row[k];
-        if near_kept(keys[v as usize] % 65536, j) {
-            out[to] = v;
+    for v in row {
+        if near_kept(keys[*v as usize] % 65536, j) {
+            out[to] = *v;
             to += 1;
         }
-        k += 1;
     }
     to
 }
@@ -142,15 +129,13 @@ fn fill_cells(
         (cells_out vertices.now n g m offsets.old out.old)) × (drop n keys.new ≡ drop n keys.old) }
 {
     let a = g * g;
-    let mut held: usize = 0;
-    let mut to: usize = 0;
-    let mut c: usize = 0;
-    while c < m {
+    let mut held = 0;
+    let mut to = 0;
+    for c in 0..m {
         fresh_keys(vertices, n, g, c, keys);
         held = fresh_row(keys, n, g, c, held, row);
         offsets[c] = to as u32;
-        to = put_cell(keys, row, held, (c % a % g) as u32, out, to);
-        c += 1;
+        to = put_cell(keys, &row[..held], (c % a % g) as u32, out, to);
     }
     offsets[m] = to as u32;
 }
@@ -171,6 +156,6 @@ pub(crate) fn put_cells(
         (record { offsets = offsets.new; entries = out.new })
         (cells_out vertices.now n g m offsets.old out.old)) × (drop n keys.new ≡ drop n keys.old) }
 {
-    let mut row: [u16; 2562] = [0; 2562];
+    let mut row = [0; 2562];
     fill_cells(vertices, n, g, m, keys, &mut row, offsets, out);
 }

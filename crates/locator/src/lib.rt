@@ -2,13 +2,18 @@
 #![tactic(auto)]
 
 ghost use Rattle.std.specs.Prelude.{◌≡◌, ◌≤◌};
-ghost use Rattle.mesh.specs.Mesh.{mesh_of};
+ghost use Rattle.mesh.specs.Lent.{lent};
+ghost use Rattle.refusals.specs.Numbers.{asked};
 ghost use Rattle.search.specs.Search.{locator_of};
 ghost use Rattle.locator.specs.Locator.{locator_room, LocatorOut, locator_out};
 ghost use Rattle.locator.specs.Internal.{refusal};
 
 mod cells;
 mod faces;
+
+pub use faces::{touches, wanted};
+use mesh::Mesh;
+use refusals::{Asked, Refusal};
 
 // Question 6, of the four lists.
 fn locator_room(
@@ -28,34 +33,31 @@ fn locator_room(
         & ((27 * n <= cell_vertices) & ((n + 1 <= face_offsets) & (45 * n <= faces)))
 }
 
-// Questions 2, 6 and 7: the number of the first one that is answered no, or 0.
+// Questions 2, 6 and 7.
+#[tactic(auto, using(refusals::proofs::Numbers::numbered), unfolding(lists::specs::Questions::ask, crate::specs::Internal::refusal))]
 fn refusal(
     level: u64,
-    vertices: &[f64],
-    counts: &[u8],
-    neighbours: &[u16],
-    angles: &[f64],
+    mesh: &Mesh,
     cell_offsets: usize,
     cell_vertices: usize,
     face_offsets: usize,
     faces: usize,
-) -> u64
-    ensures { result ≡ refusal level (mesh_of vertices.now counts.now neighbours.now angles.now)
-        cell_offsets cell_vertices face_offsets faces }
+) -> Asked
+    ensures { asked result ≡ refusal level (lent mesh.now) cell_offsets cell_vertices face_offsets faces }
 {
     if 15 < level {
-        return 2;
+        return Err(Refusal::Level);
     }
     let k = level as u8;
     let n = mesh::vertex_count(k);
     if !mesh::mesh_room(
         n as u32,
-        vertices.len(),
-        counts.len(),
-        neighbours.len(),
-        angles.len(),
+        mesh.vertices.len(),
+        mesh.counts.len(),
+        mesh.neighbours.len(),
+        mesh.angles.len(),
     ) {
-        return 6;
+        return Err(Refusal::ShortList);
     }
     if !locator_room(
         n,
@@ -65,50 +67,40 @@ fn refusal(
         face_offsets,
         faces,
     ) {
-        return 6;
+        return Err(Refusal::ShortList);
     }
-    if !mesh::mesh_keeps(k, vertices, counts, neighbours, angles) {
-        return 7;
+    if !mesh::mesh_keeps(k, mesh) {
+        return Err(Refusal::Mesh);
     }
-    0
+    Ok(())
 }
 
 // The face offsets hold the cells' keys before they are written.
 pub fn locator(
     level: u64,
-    vertices: &[f64],
-    counts: &[u8],
-    neighbours: &[u16],
-    angles: &[f64],
+    mesh: &Mesh,
     cell_offsets: &mut [u32],
     cell_vertices: &mut [u16],
     face_offsets: &mut [u32],
     faces: &mut [u16],
-) -> u64
+) -> Asked
     ensures { ◌≡◌ {A = LocatorOut}
-        (record { number = result; lists = locator_of cell_offsets.new cell_vertices.new face_offsets.new faces.new })
-        (locator_out level (mesh_of vertices.now counts.now neighbours.now angles.now)
-        (locator_of cell_offsets.old cell_vertices.old face_offsets.old faces.old)) }
+        (record { number = asked result; lists = locator_of cell_offsets.new cell_vertices.new face_offsets.new faces.new })
+        (locator_out level (lent mesh.now) (locator_of cell_offsets.old cell_vertices.old face_offsets.old faces.old)) }
 {
-    let number = refusal(
+    refusal(
         level,
-        vertices,
-        counts,
-        neighbours,
-        angles,
+        mesh,
         cell_offsets.len(),
         cell_vertices.len(),
         face_offsets.len(),
         faces.len(),
-    );
-    if number != 0 {
-        return number;
-    }
+    )?;
     let k = level as u8;
     let n = mesh::vertex_count(k);
     let g = mesh::grid_size(k) as usize;
     cells::put_cells(
-        vertices,
+        mesh.vertices,
         n as usize,
         g,
         6 * (g * g),
@@ -116,6 +108,6 @@ pub fn locator(
         cell_offsets,
         cell_vertices,
     );
-    faces::put_faces(counts, neighbours, n as u32, face_offsets, faces);
-    0
+    faces::put_faces(mesh, n as u32, face_offsets, faces);
+    Ok(())
 }

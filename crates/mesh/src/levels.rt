@@ -2,6 +2,7 @@
 ghost use Rattle.std.specs.Prelude.{◌≡◌};
 ghost use Rattle.mesh.specs.Levels.{vertex_count, per, grid_size, vertices_below, cell_offsets_below};
 
+#[tactic(auto, unfolding(crate::specs::Levels::vertex_count))]
 pub fn vertex_count(level: u8) -> u64
     ensures { result ≡ vertex_count level }
 {
@@ -9,6 +10,7 @@ pub fn vertex_count(level: u8) -> u64
     10 * (k * k) + 2
 }
 
+#[tactic(auto, unfolding(crate::specs::Levels::per))]
 pub fn per_level(level: u8) -> u64
     ensures { result ≡ per level }
 {
@@ -37,11 +39,9 @@ fn cell_offsets_counted(level: u8) -> u64
     ensures { result ≡ cell_offsets_below level }
 {
     let mut sum: u64 = 0;
-    let mut m: u8 = 0;
-    while m < level {
+    for m in 0..level {
         let g = grid_size(m);
         sum += 6 * (g * g) + 1;
-        m += 1;
     }
     sum
 }

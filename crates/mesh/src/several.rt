@@ -1,37 +1,36 @@
 // The mesh rule over meshes of several levels, which are lent one after another.
-ghost use Rattle.std.specs.Prelude.{◌≡◌, ◌&&◌, true, [], suc, ◌+◌, ◌*◌, ◌≤◌, length};
+ghost use Rattle.std.specs.Prelude.{◌≡◌, ◌&&◌, suc, length};
+ghost use Rattle.std.proofs.Math.Seq.{slice};
 ghost use Rattle.mesh.specs.Levels.{vertex_count, vertices_below};
-ghost use Rattle.mesh.specs.Mesh.{keeps_rule, level_part, mesh_room, mesh_long, meshes_keep, mesh_of, neighbour_total, links_kept, links_room, meshes_linked};
+ghost use Rattle.mesh.specs.Mesh.{level_part, mesh_room, mesh_long, meshes_keep, neighbour_total, links_room, meshes_linked};
+ghost use Rattle.mesh.specs.Lent.{lent};
 
+use crate::Mesh;
 use crate::levels::{vertex_count, vertices_below};
 use crate::rule::{degree, keeps_rule, links_kept, mesh_room};
 
-// One level's part keeps the rule. The lists hold the levels up to it.
-fn level_keeps(
-    level: u8,
-    vertices: &[f64],
-    counts: &[u8],
-    neighbours: &[u16],
-    angles: &[f64],
-) -> bool
-    requires { (3 * vertices_below (suc level) ≤ length vertices.now) × (vertices_below (suc level) ≤ length counts.now)
-        × (6 * vertices_below (suc level) ≤ length neighbours.now) × (6 * vertices_below (suc level) ≤ length angles.now) }
-    ensures { result ≡ keeps_rule (vertex_count level) (level_part level (mesh_of vertices.now counts.now neighbours.now angles.now)) }
+// The entries of a list from one place to another, as far as there are any.
+fn cut<T>(list: &[T], from: usize, to: usize) -> &[T]
+    ensures { result.now ≡ slice from to list.now }
 {
-    let n = vertex_count(level);
-    let a = vertices_below(level) as usize;
-    let b = a + n as usize;
-    let a3 = 3 * a;
-    let b3 = 3 * b;
-    let a6 = 6 * a;
-    let b6 = 6 * b;
-    keeps_rule(
-        n as u32,
-        &vertices[a3..b3],
-        &counts[a..b],
-        &neighbours[a6..b6],
-        &angles[a6..b6],
-    )
+    let below = &list[..to.min(list.len())];
+    &below[from.min(below.len())..]
+}
+
+impl Mesh<'_> {
+    // The part of one level.
+    pub fn level_part(&self, level: u8) -> Mesh<'_>
+        ensures { lent result ≡ level_part level (lent self.now) }
+    {
+        let a = vertices_below(level) as usize;
+        let b = a + vertex_count(level) as usize;
+        Mesh {
+            vertices: cut(self.vertices, 3 * a, 3 * b),
+            counts: cut(self.counts, a, b),
+            neighbours: cut(self.neighbours, 6 * a, 6 * b),
+            angles: cut(self.angles, 6 * a, 6 * b),
+        }
+    }
 }
 
 // The lengths that the meshes of the levels from 0 to the top need.
@@ -48,63 +47,47 @@ pub fn meshes_room(
     mesh_room(n as u32, vertices, counts, neighbours, angles)
 }
 
-// The meshes of the levels from 0 to the top are as long as they need to be, and keep the rule.
-pub fn meshes_keep(
-    top: u8,
-    vertices: &[f64],
-    counts: &[u8],
-    neighbours: &[u16],
-    angles: &[f64],
-) -> bool
-    ensures { result ≡ mesh_long (vertices_below (suc top)) (mesh_of vertices.now counts.now neighbours.now angles.now)
-        && meshes_keep top (mesh_of vertices.now counts.now neighbours.now angles.now) }
+// The lists have the lengths that the meshes of the levels from 0 to the top need.
+pub fn meshes_long(top: u8, mesh: &Mesh) -> bool
+    ensures { result ≡ mesh_long (vertices_below (suc top)) (lent mesh.now) }
 {
-    if !meshes_room(
+    meshes_room(
         top,
-        vertices.len(),
-        counts.len(),
-        neighbours.len(),
-        angles.len(),
-    ) {
+        mesh.vertices.len(),
+        mesh.counts.len(),
+        mesh.neighbours.len(),
+        mesh.angles.len(),
+    )
+}
+
+// The meshes of the levels from 0 to the top are as long as they need to be, and keep the rule.
+#[tactic(auto, using(lists::proofs::Counting::all_fails), unfolding(lists::specs::Lists::all_up_to, crate::specs::Mesh::meshes_keep))]
+pub fn meshes_keep(top: u8, mesh: &Mesh) -> bool
+    ensures { result ≡ mesh_long (vertices_below (suc top)) (lent mesh.now) && meshes_keep top (lent mesh.now) }
+{
+    if !meshes_long(top, mesh) {
         return false;
     }
-    let levels = top as u64 + 1;
-    let mut m: u64 = 0;
-    while m < levels {
-        if !level_keeps(m as u8, vertices, counts, neighbours, angles) {
+    for m in 0..=top {
+        if !keeps_rule(vertex_count(m) as u32, &mesh.level_part(m)) {
             return false;
         }
-        m += 1;
     }
     true
 }
 
 // The neighbour counts of a level's vertices, added up; where no count was lent there is none.
+#[tactic(auto, using(crate::proofs::Laws::count_le), unfolding(lists::specs::Lists::sum, crate::specs::Mesh::neighbour_total))]
 pub fn neighbour_total(level: u8, counts: &[u8]) -> u64
     ensures { result ≡ neighbour_total counts.now level }
 {
     let a = vertices_below(level) as u32;
     let n = vertex_count(level) as u32;
     let mut total: u64 = 0;
-    let mut v: u32 = 0;
-    while v < n {
+    for v in 0..n {
         total += degree(counts, a + v) as u64;
-        v += 1;
     }
     total
-}
-
-// The links of one level's part. The lists hold the levels up to it.
-fn level_linked(level: u8, counts: &[u8], neighbours: &[u16]) -> bool
-    requires { (vertices_below (suc level) ≤ length counts.now) × (6 * vertices_below (suc level) ≤ length neighbours.now) }
-    ensures { result ≡ links_kept (vertex_count level) (level_part level (mesh_of [] counts.now neighbours.now [])) }
-{
-    let n = vertex_count(level);
-    let a = vertices_below(level) as usize;
-    let b = a + n as usize;
-    let a6 = 6 * a;
-    let b6 = 6 * b;
-    links_kept(n as u32, &counts[a..b], &neighbours[a6..b6])
 }
 
 // The lengths of neighbour counts and neighbours that the levels from 0 to the top need.
@@ -116,20 +99,18 @@ pub fn links_room(top: u8, counts: usize, neighbours: usize) -> bool
 }
 
 // Neighbour counts and neighbours of the levels from 0 to the top are as long as they need to be, and keep their part of the rule.
-pub fn meshes_linked(top: u8, counts: &[u8], neighbours: &[u16]) -> bool
-    ensures { result ≡ links_room (vertices_below (suc top)) (length counts.now) (length neighbours.now)
-        && meshes_linked top (mesh_of [] counts.now neighbours.now []) }
+#[tactic(auto, using(lists::proofs::Counting::all_fails), unfolding(lists::specs::Lists::all_up_to, crate::specs::Mesh::meshes_linked))]
+pub fn meshes_linked(top: u8, mesh: &Mesh) -> bool
+    ensures { result ≡ links_room (vertices_below (suc top)) (length mesh.now.counts.now) (length mesh.now.neighbours.now)
+        && meshes_linked top (lent mesh.now) }
 {
-    if !links_room(top, counts.len(), neighbours.len()) {
+    if !links_room(top, mesh.counts.len(), mesh.neighbours.len()) {
         return false;
     }
-    let levels = top as u64 + 1;
-    let mut m: u64 = 0;
-    while m < levels {
-        if !level_linked(m as u8, counts, neighbours) {
+    for m in 0..=top {
+        if !links_kept(vertex_count(m) as u32, &mesh.level_part(m)) {
             return false;
         }
-        m += 1;
     }
     true
 }

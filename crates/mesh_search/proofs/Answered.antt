@@ -7,7 +7,6 @@ use Rattle.lists.proofs.Asking.{ask_yes}
 use Rattle.mesh.specs.Levels.{vertex_count, grid_size}
 use Rattle.mesh.specs.Mesh.{Mesh, within, lists}
 use Rattle.mesh.specs.Faces.{is_face, faces_from, extract_faces}
-use Rattle.mesh.specs.Internal.{links}
 use Rattle.search.specs.Geometry.{unit, cell_index}
 use Rattle.search.specs.Cells.{cell, faces_of}
 use Rattle.search.specs.Search.{nearest_among, nearest_of, locate, no_fit, fit_from, best_face, located_fit, not_located}
@@ -42,7 +41,7 @@ module _ (level : ℕ) (m : Mesh) (d : Vector3) where
     unfolding locate nearest_of
     none-near ne = accepted r e z ∙ rw (← near, ne_eqb v.number 0 ne)
 
-    pub near-face : v.number ≡ 0 → (f : Fit) → f ≡ fit_from m.vertices (unit d) no_fit (faces_of (links m.counts m.neighbours) n v.vertex)
+    pub near-face : v.number ≡ 0 → (f : Fit) → f ≡ fit_from m.vertices (unit d) no_fit (faces_of m n v.vertex)
         → search_out level m d ≡ located_fit v f
     unfolding locate nearest_of best_face faces_of extract_faces faces_from is_face lists within
     near-face y f fits = accepted r e z ∙ rw (← near, eq-eqb v.number 0 y, fits)

@@ -1,6 +1,5 @@
 -- Laws that belong to no one function.
 pub mod Folds
 pub mod Numbers
-pub mod Choices
 pub mod Answered
 pub mod Promised

@@ -4,6 +4,7 @@ ghost use Rattle.search.specs.Geometry.{vertex_at, cube_face_project};
 ghost use Rattle.search.specs.Cells.{near, cell_number, near_cell, cell};
 ghost use Rattle.search.specs.Search.{not_nearest, nearer, nearest_among};
 
+use refusals::Refusal;
 use search::{Nearest, Vector3};
 
 // A coordinate that is not lent is a NaN.
@@ -40,39 +41,33 @@ fn in_row(g: u64, u: f64, d: f64, i: u32) -> bool
     near(float::to_i64(search::in_cells(g, u / d)), i)
 }
 
-// A point is in cell i, j of a face, or beside it.
-fn near_cell(g: u64, face: u64, i: u32, j: u32, v: Vector3) -> bool
-    ensures { result ≡ near_cell g i j (cube_face_project face v) }
-{
-    let s = search::cube_face_project(face, v);
-    let u = s.u;
-    let w = s.w;
-    let d = s.d;
-    if d <= 0.0 {
-        return false;
-    }
-    in_row(g, u, d, i) & in_row(g, w, d, j)
+// Cell i, j of a face of the cube, whose edges have g cells.
+#[derive(Clone, Copy)]
+struct Cell {
+    g: u64,
+    face: u64,
+    i: u32,
+    j: u32,
 }
 
-fn not_nearest(number: u64) -> Nearest
-    ensures { result ≡ not_nearest number }
+// A point is in a cell, or beside it.
+fn near_cell(c: Cell, v: Vector3) -> bool
+    ensures { result ≡ near_cell c.g c.i c.j (cube_face_project c.face v) }
 {
-    Nearest {
-        number,
-        vertex: 0,
-        distance: 0.0,
+    let s = search::cube_face_project(c.face, v);
+    if s.d <= 0.0 {
+        return false;
     }
+    in_row(c.g, s.u, s.d, c.i) & in_row(c.g, s.w, s.d, c.j)
 }
 
 // Vertex v, unless the one before is as near or nearer.
 fn nearer(vertices: &[f64], p: Vector3, best: Nearest, v: u32) -> Nearest
     ensures { result ≡ nearer vertices.now p best v }
 {
-    let number = best.number;
-    let least = best.distance;
     let d = search::difference(p, vertex_at(vertices, v));
     let distance = search::dot(d, d);
-    if (number == 0) & float::total_order(least, distance) {
+    if (best.number == 0) & float::total_order(best.distance, distance) {
         return best;
     }
     Nearest {
@@ -83,25 +78,16 @@ fn nearer(vertices: &[f64], p: Vector3, best: Nearest, v: u32) -> Nearest
 }
 
 // The same where vertex v is of the cell, and as before where it is not.
-fn tested(
-    vertices: &[f64],
-    g: u64,
-    face: u64,
-    i: u32,
-    j: u32,
-    p: Vector3,
-    best: Nearest,
-    v: u32,
-) -> Nearest
-    ensures { result ≡ cond (near_cell g i j (cube_face_project face (vertex_at vertices.now v))) (nearer vertices.now p best v) best }
+fn tested(vertices: &[f64], c: Cell, p: Vector3, best: Nearest, v: u32) -> Nearest
+    ensures { result ≡ cond (near_cell c.g c.i c.j (cube_face_project c.face (vertex_at vertices.now v))) (nearer vertices.now p best v) best }
 {
-    if !near_cell(g, face, i, j, vertex_at(vertices, v)) {
+    if !near_cell(c, vertex_at(vertices, v)) {
         return best;
     }
     nearer(vertices, p, best, v)
 }
 
-// The nearest of the n vertices that cell c has; 20 where it has none.
+// The nearest of the n vertices that cell c has; EmptyCell where it has none.
 pub(crate) fn nearest(vertices: &[f64], n: u32, g: u64, c: u64, p: Vector3) -> Nearest
     requires { (0 < g) × (g ≤ 400) }
     ensures { (result ≡ nearest_among vertices.now p (cell vertices.now n g c)) × (result.vertex ≤ n) }
@@ -111,11 +97,10 @@ pub(crate) fn nearest(vertices: &[f64], n: u32, g: u64, c: u64, p: Vector3) -> N
     let k = c % a;
     let i = (k / g) as u32;
     let j = (k % g) as u32;
-    let mut best = not_nearest(20);
-    let mut v: u32 = 0;
-    while v < n {
-        best = tested(vertices, g, face, i, j, p, best, v);
-        v += 1;
+    let cell = Cell { g, face, i, j };
+    let mut best = search::not_nearest(Refusal::EmptyCell);
+    for v in 0..n {
+        best = tested(vertices, cell, p, best, v);
     }
     best
 }

@@ -7,28 +7,30 @@ use native.Mathlib.Nat.{zero-add}
 use lib.ListN.{length}
 use lib.Dec.{ltb}
 use lib.Ieee.{Float}
-use borrow.Author.Tests.{lt-ltb, le-ltb, ne_eqb}
+use borrow.Author.Tests.{lt-ltb, le-ltb}
 use Rattle.lists.specs.Lists.{every}
 use Rattle.search.specs.declared.Nearest.{Nearest}
 use Rattle.search.specs.declared.Located.{Located}
 use Rattle.table.specs.Bytes.{number_at}
 use Rattle.table.specs.declared.Table.{Table}
-use Rattle.reading.specs.Resolve.{plain, Way, linear, boltzmann, Picks, unpicked, picked, Combination, widened}
+use Rattle.reading.specs.Resolve.{Refused, plain, Way, linear, boltzmann, Picks, unpicked, picked, Combination, widened}
 use Rattle.reading.specs.Reading.{energy_inside, energy_at, picks_by}
 use Rattle.reading.specs.Atom.{atom_nearest_pick, atom_face_pick, atom_combined, three_terms, atom_average}
 use Rattle.reading.specs.Internal.{items_inside, places_below, PlaceInside}
-use Rattle.reading.specs.declared.Reading.TheVariants.{Refused}
+use Rattle.refusals.specs.Numbers.{number}
+use Rattle.refusals.specs.declared.Refusal.{Refusal}
+use Rattle.refusals.proofs.Numbers.{numbered}
 use Rattle.reading.proofs.Picked.{energy-held, every-same, row_fits}
 
 -- a search that did not answer
 module _ (file : List ℕ) (t : Table) (f : Combination) (o : ℕ) where
-  pub vertex_none : (x : Nearest) → (x.number ≡ 0 → ⊥) → Refused x.number ≡ picks_by file t f o (atom_nearest_pick x)
+  pub vertex_none : (x : Nearest) (e : Refusal) → number e ≡ x.number → Refused (number e) ≡ picks_by file t f o (atom_nearest_pick x)
   unfolding atom_nearest_pick
-  vertex_none x h = rw (ne_eqb x.number 0 h)
+  vertex_none x e h = rw (← h, numbered e)
 
-  pub corners_none : (x : Located) → (x.number ≡ 0 → ⊥) → Refused x.number ≡ picks_by file t f o (atom_face_pick x)
+  pub corners_none : (x : Located) (e : Refusal) → number e ≡ x.number → Refused (number e) ≡ picks_by file t f o (atom_face_pick x)
   unfolding atom_face_pick
-  corners_none x h = rw (ne_eqb x.number 0 h)
+  corners_none x e h = rw (← h, numbered e)
 
 -- a nearest reading is the same by every way
 pub vertex_way : (file : List ℕ) (t : Table) (way : Way) (o : ℕ) (p : Picks) → picks_by file t (atom_combined linear false) o p ≡ picks_by file t (atom_combined way false) o p

@@ -13,15 +13,13 @@ use Rattle.search.specs.Search.{Locator, locator_from, vertices_from, nearest_in
 use Rattle.search.specs.declared.Nearest.{Nearest}
 use Rattle.search.specs.declared.Located.{Located}
 use Rattle.search.specs.declared.Vector3.{Vector3}
-use Rattle.table.specs.File.{Entry}
+use Rattle.table.specs.declared.Entry.{Entry}
 use Rattle.table.specs.declared.Table.{Table}
 use Rattle.table.specs.declared.AtomTable.{AtomTable}
-use Rattle.reading.specs.Resolve.{reading_values, no_distance, Way, way_valid, Resolved, unresolved, beyond, slab_at, Combination, Picks, unpicked, picked}
+use Rattle.reading.specs.Resolve.{Reading, Energy, Refused, reading_values, no_distance, Way, way_valid, Resolved, unresolved, beyond, slab_at, Combination, Picks, unpicked, picked}
 use Rattle.reading.specs.Reading.{row_inside, energy_inside, entry_at, picks_by, entry_by, slab_by}
 use Rattle.reading.specs.Atom.{AtomQuery, as_table, atom_resolve, atom_nearest_pick, atom_face_pick, atom_combined, atom_search_in, atom_reading_by}
 use Rattle.reading.specs.Internal.{energy_alone}
-use Rattle.reading.specs.declared.Reading.{Reading}
-use Rattle.reading.specs.declared.Reading.TheVariants.{Energy, Refused}
 
 abbrev Plain : Reading → Type 0
 Plain (Energy x e y) = (x ≡ no_distance) × (y ≡ no_distance)

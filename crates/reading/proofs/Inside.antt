@@ -3,6 +3,7 @@ use mathlib.Core.Path.{◌≡◌, refl, sym, ap, ◌∙◌}
 use mathlib.Core.Bool.{Bool, true, false, not, cond, ◌&&◌, ◌||◌, and-eq-true_iff}
 use mathlib.Core.List.{List}
 use mathlib.Core.Logic.{⊎_elim}
+use Rattle.std.proofs.Common.{Option, Some, None}
 use Prim.Native.Nat.{ℕ, ◌+◌, ◌-◌, ◌*◌, ◌/◌, ◌≤◌, ◌<◌, min}
 use native.Mathlib.Nat.{le-div_iff_mul-le, mul-le-mul}
 use native.Mathlib.Omega.{arith}
@@ -10,28 +11,23 @@ use lib.ListN.{length, take, drop, get_or}
 use lib.Dec.{leb, ltb, eqb}
 use lib.Ieee.{Float, inf, binary32, binary64, of_bits, lt}
 use lib.Ieee.Scale.{finite}
-use borrow.Author.Tests.{lt-ltb, le-ltb, le-leb, lt-leb, leb-true, eqb-true, eqb-false, ne_eqb}
+use borrow.Author.Tests.{lt-ltb, le-ltb, le-leb, lt-leb, leb-true, ltb-true, ltb-false, eqb-true, eqb-false, ne_eqb}
 use Rattle.ieee.proofs.Pack.{le_or_lt}
-use Rattle.lists.specs.Lists.{every}
-use Rattle.lists.proofs.Counting.{or_none, chosen}
+use Rattle.lists.proofs.Counting.{or_none}
 use Rattle.rows.specs.Rows.{resolution_of}
 use Rattle.rows.specs.declared.SlabResolution.{SlabResolution}
 use Rattle.rows.specs.declared.SlabResolution.TheVariants.{Scalar, Mesh, Repulsive}
 use Rattle.search.specs.Search.{Locator}
-use Rattle.search.specs.declared.Weights.{Weights}
-use Rattle.search.specs.declared.Nearest.{Nearest}
-use Rattle.search.specs.declared.Located.{Located}
 use Rattle.table.specs.Bytes.{number_at}
-use Rattle.table.specs.File.{Entry, entry_of}
+use Rattle.table.specs.File.{entry_of}
+use Rattle.table.specs.declared.Entry.{Entry}
 use Rattle.table.proofs.Items.{entry_at as row_at, entry_at_lem}
 use Rattle.grid.specs.Settings.{above}
 use Rattle.grid.specs.declared.Grid.{Grid}
 use Rattle.table.specs.declared.Table.{Table}
-use Rattle.reading.specs.Resolve.{reading_values, reading_numbered, plain, Query, Way, way_valid, Resolved, unresolved, beyond, slab_at, query_valid, outside, resolve, Picks, unpicked, picked, Combination, joint, nearest_pick, face_pick, widened, combined, boltzmann}
+use Rattle.reading.specs.Resolve.{Reading, Refused, reading_values, plain, Query, Way, way_valid, unresolved, beyond, slab_at, query_valid, outside, resolve, Picks, unpicked, picked, Combination, widened, combined, boltzmann}
 use Rattle.reading.specs.Reading.{row_inside, energy_inside, energy_at, entry_at, picks_by, entry_by, slab_by, read_entry, read_slab, reading_by, search_in, read_picks}
-use Rattle.reading.specs.Internal.{items_inside, slab_of, rows_table, way_of, toward, read_resolution}
-use Rattle.reading.specs.declared.Reading.{Reading}
-use Rattle.reading.specs.declared.Reading.TheVariants.{Refused}
+use Rattle.reading.specs.Internal.{items_inside, slab_of, rows_table, row_place, way_of, read_resolution}
 
 -- ---- the items of a section
 
@@ -84,42 +80,6 @@ module _ (file : List ℕ) (t : Table) where
   pub row_fits : (r held : ℕ) → held ≡ items_inside t.rows_start 10 t.rows (length file) → r < held → t.rows_start + r * 10 + 10 ≤ length file
   row_fits r held h l = held_fits t.rows_start 10 t.rows (length file) (omega arith) r held h l
 
--- a search that picks nothing says why, by a number that is not 0
-pub picks_numbered : Picks → Bool
-picks_numbered (unpicked n) = not (eqb n 0)
-picks_numbered (picked ks u v x y) = true
-
-pub found-numbered : (t : Bool) (n : ℕ) (ks : List ℕ) (u v : Weights) (x y : Float) → eqb n 0 ≡ t → picks_numbered (cond t (picked ks u v x y) (unpicked n)) ≡ true
-unfolding picks_numbered
-found-numbered true n ks u v x y e = refl
-found-numbered false n ks u v x y e = rw e
-
-vertices-numbered : (n : ℕ) (a b : Nearest) → picks_numbered (nearest_pick n a b) ≡ true
-unfolding nearest_pick
-vertices-numbered n a b = let r = joint a.number b.number in found-numbered (eqb r 0) r _ _ _ _ _ refl
-
-faces-numbered : (n : ℕ) (a b : Located) → picks_numbered (face_pick n a b) ≡ true
-unfolding face_pick
-faces-numbered n a b = let r = joint a.number b.number in found-numbered (eqb r 0) r _ _ _ _ _ refl
-
--- no refusal is numbered 0
-abbrev pub Numbered : Reading → Type 0
-Numbered z = reading_numbered z ≡ true
-
-pub resolved_numbered : Resolved → Bool
-resolved_numbered (unresolved n) = not (eqb n 0)
-resolved_numbered beyond = true
-resolved_numbered (slab_at s) = true
-
--- the first stage, by the answers of its questions
-pub stage_numbered : (a v b c : Bool) (s : ℕ) → resolved_numbered (cond a (cond v (cond b beyond (cond c (slab_at s) (unresolved 19))) (unresolved 21)) (unresolved 18)) ≡ true
-unfolding resolved_numbered
-stage_numbered true true true c s = refl
-stage_numbered true true false true s = refl
-stage_numbered true true false false s = refl
-stage_numbered true false b c s = refl
-stage_numbered false v b c s = refl
-
 -- by what reads a row
 module _ (file : List ℕ) (t : Table) (read : Entry → Reading) where
   -- the row of slab s, where r is s or the number of rows held
@@ -131,30 +91,8 @@ module _ (file : List ℕ) (t : Table) (read : Entry → Reading) where
     unfolding entry_at
     row_at_lem k = let z : r ≡ s = omega arith in rw (places-below file t s held h, lt-ltb s held (omega arith), z)
 
-  -- an answer of what is resolved
-  module _ (N : (e : Entry) → Numbered (read e)) where
-    slab-numbered : (x : Resolved) → resolved_numbered x ≡ true → Numbered (slab_by file t read x)
-    unfolding resolved_numbered
-    slab-numbered (unresolved n) e = e
-    slab-numbered beyond e = refl
-    slab-numbered (slab_at s) e = chosen Numbered (row_inside file t s) _ _ (λ h. N (entry_at file t s)) refl
-
-    pub answered_by : (x : Resolved) (z : Reading) → resolved_numbered x ≡ true → z ≡ slab_by file t read x → Numbered z × reading_values z ≡ reading_values (slab_by file t read x)
-    answered_by x z n e = (ap reading_numbered e ∙ slab-numbered x n, ap reading_values e)
-
 -- by a search of a level and what makes one energy of those that it picks
 module _ (file : List ℕ) (t : Table) (f : Bool → Combination) (find : ℕ → Bool → Picks) where
-  picks_numbered_lem : (i : Bool) (o : ℕ) (p : Picks) → picks_numbered p ≡ true → Numbered (picks_by file t (f i) o p)
-  unfolding picks_numbered
-  picks_numbered_lem i o (unpicked n) e = e
-  picks_numbered_lem i o (picked ks u v x y) e = chosen Numbered (every (λ k. energy_inside file t (o + k)) ks) _ _ (λ h. refl) refl
-
-  pub entry-numbered : ((v : ℕ) (i : Bool) → picks_numbered (find v i) ≡ true) → (e : Entry) → Numbered (entry_by file t f find e)
-  entry-numbered n e =
-      chosen Numbered (eqb e.kind 0) _ _ (λ h. refl)
-      (chosen Numbered (eqb e.kind 1) _ _ (λ h. refl)
-      (chosen Numbered (leb e.kind 3 && ltb e.level t.levels) _ _ (λ h. picks_numbered_lem (eqb e.kind 3) e.offset _ (n e.level (eqb e.kind 3))) refl))
-
   -- a Scalar row's short answer
   pub scalar-entry : (e : Entry) → e.kind ≡ 0 → plain (widened e.scalar) ≡ entry_by file t f find e
   scalar-entry e h = rw h
@@ -169,37 +107,14 @@ module _ (file : List ℕ) (t : Table) (f : Bool → Combination) (find : ℕ �
   entry-table e = rw (picks_table (eqb e.kind 3) e.offset (find e.level (eqb e.kind 3)))
 
 module _ (file : List ℕ) (t : Table) (vs : List Float) (l : Locator) (way : Way) (q : Query) where
-  search-numbered : (v : ℕ) (i : Bool) → picks_numbered (search_in vs l q v i) ≡ true
-  unfolding search_in
-  search-numbered v true = faces-numbered _ _ _
-  search-numbered v false = vertices-numbered _ _ _
-
-  pub answered : (x : Resolved) (z : Reading) → x ≡ resolve (way_valid way) t.grid q → z ≡ read_slab file t vs l way q x → Numbered z × reading_values z ≡ reading_by file t vs l way q
-  unfolding reading_by read_entry resolve
-  answered x z e a =
-      answered_by file t (read_entry file t vs l way q) (entry-numbered file t (combined way) (search_in vs l q) search-numbered) (resolve (way_valid way) t.grid q) z
-      (stage_numbered (query_valid q) (way_valid way) (outside t.grid q.r) (ltb 0 t.grid.n_r && ltb 0 t.grid.n_omega) _)
-      (a ∙ ap (λ (x : Resolved). read_slab file t vs l way q x) e)
-
-  pub row_none : (s r held : ℕ) → held ≡ items_inside t.rows_start 10 t.rows (length file) → r ≡ min s held → held ≤ r → Refused 19 ≡ read_slab file t vs l way q (slab_at s)
-  row_none s r held h e k = no_row file t (read_entry file t vs l way q) s r held h e k
+  -- an answer of what is resolved
+  pub answered : (z : Reading) → z ≡ read_slab file t vs l way q (resolve (way_valid way) t.grid q) → reading_values z ≡ reading_by file t vs l way q
+  unfolding reading_by
+  answered z a = ap reading_values a
 
   scalar_read : (e : Entry) → e.kind ≡ 0 → plain (widened e.scalar) ≡ read_entry file t vs l way q e
   unfolding read_entry
   scalar_read e h = scalar-entry file t (combined way) (search_in vs l q) e h
-
-  -- the answers of a row that is inside: a Scalar row's at once, and by the three numbers of the table and the two directions
-  module _ (s r held : ℕ) (h : held ≡ items_inside t.rows_start 10 t.rows (length file)) (e : r ≡ min s held) (k : r < held) where
-    pub scalar_row : get_or file (t.rows_start + r * 10) 0 ≡ 0 → plain (widened (number_at 4 file (t.rows_start + r * 10 + 6))) ≡ read_slab file t vs l way q (slab_at s)
-    scalar_row z =
-        scalar_read (row_at file (t.rows_start + r * 10)) z
-        ∙ rw (← entry_at_lem file (t.rows_start + r * 10)) (row_at_lem file t (read_entry file t vs l way q) s r held h e k)
-
-    pub entry_row : read_entry file (rows_table t.levels t.energies_start t.energies) vs l way (toward q.a q.b) (entry_of (take 10 (drop (t.rows_start + r * 10) file))) ≡ read_slab file t vs l way q (slab_at s)
-    unfolding read_entry search_in
-    entry_row =
-        entry-table file t (combined way) (search_in vs l q) (entry_of (take 10 (drop (t.rows_start + r * 10) file)))
-        ∙ row_at_lem file t (read_entry file t vs l way q) s r held h e k
 
   -- the answer by the row as the enum
   pub entry_by_lem : (e : Entry) → read_resolution file t vs l way q e.kind e.offset (resolution_of e.kind e.level e.scalar) ≡ read_entry file t vs l way q e
@@ -226,7 +141,7 @@ bins_some a b h = let k = or_none (eqb a 0) (eqb b 0) h in (some a (eqb-false a 
     some : (n : ℕ) → (n ≡ 0 → ⊥) → 1 ≤ n
     some n h = ⊎_elim (λ l. absurd (h (omega arith))) (λ l. l) (le_or_lt n 0)
 
-bins_none : (a b : ℕ) → (eqb a 0 || eqb b 0) ≡ true → (ltb 0 a && ltb 0 b) ≡ false
+pub bins_none : (a b : ℕ) → (eqb a 0 || eqb b 0) ≡ true → (ltb 0 a && ltb 0 b) ≡ false
 bins_none a b h =
     ⊎_elim
     (λ l. rw (le-ltb 0 a l))
@@ -255,13 +170,78 @@ module _ (valid : Bool) (g : Grid) (q : Query) where
     unfolding resolve
     beyond_out k = rw (h, v, k)
 
-    pub no_bins : outside g q.r ≡ false → (eqb g.n_r 0 || eqb g.n_omega 0) ≡ true → unresolved 19 ≡ resolve valid g q
-    unfolding resolve
-    no_bins k e = rw (h, v, k, bins_none g.n_r g.n_omega e)
+-- ---- the row's place
 
-    pub some_bins : outside g q.r ≡ false → (eqb g.n_r 0 || eqb g.n_omega 0) ≡ false → slab_at (slab_of g q.r q.omega) ≡ resolve valid g q
+abbrev place_in : Option ℕ → ℕ
+place_in (Some p) = p
+place_in None = 0
+
+abbrev is_some : Option ℕ → ℕ
+is_some (Some p) = 1
+is_some None = 0
+
+pub not_some : (p : ℕ) → Some p ≡ None → ⊥
+not_some p e = let z : ◌≡◌ {A = ℕ} 1 0 = ap is_some e in omega (arith, z)
+
+pub same_place : (p r : ℕ) → Some p ≡ Some r → p ≡ r
+same_place p r e = ap place_in e
+
+module _ (file : List ℕ) (t : Table) (q : Query) where
+  abbrev slab : ℕ
+  slab = slab_of t.grid q.r q.omega
+
+  abbrev held : ℕ
+  held = items_inside t.rows_start 10 t.rows (length file)
+
+  abbrev bins : Bool
+  bins = ltb 0 t.grid.n_r && ltb 0 t.grid.n_omega
+
+  -- a row that is placed
+  pub record Placed (p : ℕ) : Type 0 where
+    pub some : bins ≡ true
+    pub row : slab < held
+    pub at : p ≡ t.rows_start + slab * 10
+
+  placed_by : (p : ℕ) (x y : Bool) → bins ≡ x → ltb slab held ≡ y → Some p ≡ cond (x && y) (Some (t.rows_start + slab * 10)) None → Placed p
+  placed_by p true true f g e = record { some = f; row = ltb-true slab held g; at = same_place p (t.rows_start + slab * 10) e }
+  placed_by p true false f g e = absurd (not_some p e)
+  placed_by p false y f g e = absurd (not_some p e)
+
+  pub placed : (p : ℕ) → Some p ≡ row_place t (length file) q → Placed p
+  placed p e = placed_by p _ _ refl refl e
+
+  pub place_fits : (p : ℕ) → Some p ≡ row_place t (length file) q → p + 10 ≤ length file
+  place_fits p e = let k = placed p e in omega (arith, k.at, row_fits file t slab held refl k.row)
+
+  module _ (vs : List Float) (l : Locator) (way : Way) (valid : Bool) (h : query_valid q ≡ true) (v : valid ≡ true) (o : outside t.grid q.r ≡ false) where
+    abbrev Reads : Reading → Type 0
+    Reads z = z ≡ read_slab file t vs l way q (resolve valid t.grid q)
+
+    -- no row: there are no bins, or it is not held
+    none_by : (x y : Bool) → bins ≡ x → ltb slab held ≡ y → None ≡ cond (x && y) (Some (t.rows_start + slab * 10)) None → Reads (Refused 19)
     unfolding resolve
-    some_bins k e = let b = bins_some g.n_r g.n_omega e in rw (h, v, k, lt-ltb 0 g.n_r b.0, lt-ltb 0 g.n_omega b.1)
+    none_by true true f g e = absurd (not_some _ (sym e))
+    none_by true false f g e =
+        rw (h, v, o, f) (no_row file t (read_entry file t vs l way q) slab held held refl (omega (arith, ltb-false slab held g)) (omega arith))
+    none_by false y f g e = rw (h, v, o, f) refl
+
+    pub row_none : None ≡ row_place t (length file) q → Reads (Refused 19)
+    row_none e = none_by _ _ refl refl e
+
+    module _ (p : ℕ) (e : Some p ≡ row_place t (length file) q) where
+      row_read : read_entry file t vs l way q (entry_of (take 10 (drop p file))) ≡ read_slab file t vs l way q (resolve valid t.grid q)
+      unfolding resolve
+      row_read =
+          let k = placed p e in
+          rw (h, v, o, k.some, k.at) (row_at_lem file t (read_entry file t vs l way q) slab slab held refl (omega (arith, k.row)) k.row)
+
+      -- the answers of a row that is inside: a Scalar row's at once, and by what a row's answer asks of a table
+      pub scalar_row : get_or file p 0 ≡ 0 → Reads (plain (widened (number_at 4 file (p + 6))))
+      scalar_row z = scalar_read file t vs l way q (row_at file p) z ∙ rw (← entry_at_lem file p) row_read
+
+      pub entry_row : (z : Reading) → z ≡ read_entry file (rows_table t.levels t.energies_start t.energies) vs l way q (entry_of (take 10 (drop p file))) → Reads z
+      unfolding read_entry
+      entry_row z a = a ∙ entry-table file t (combined way) (search_in vs l q) (entry_of (take 10 (drop p file))) ∙ row_read
 
 -- ---- the row as the enum
 

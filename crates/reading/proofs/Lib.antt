@@ -8,3 +8,4 @@ pub mod AtomShown
 pub mod Ready
 pub mod Stored
 pub mod Ways
+pub mod Searched

@@ -1,5 +1,5 @@
 -- The energies that a search picked. Assumes nothing.
-use mathlib.Core.Path.{◌≡◌, refl, ap, ◌∙◌}
+use mathlib.Core.Path.{◌≡◌, refl, sym, ap, ◌∙◌}
 use mathlib.Core.Bool.{Bool, true, false, cond, ◌&&◌, ◌||◌, and-eq-true_iff, and-true}
 use mathlib.Core.List.{List, [], ◌∷◌, map}
 use Prim.Native.Nat.{ℕ, ◌+◌, ◌*◌, ◌≤◌, ◌<◌}
@@ -8,7 +8,7 @@ use native.Mathlib.Omega.{arith}
 use lib.ListN.{length}
 use lib.Dec.{ltb, eqb}
 use lib.Ieee.{Float}
-use borrow.Author.Tests.{lt-ltb, le-ltb, ltb-true, eqb-true, eqb-false, ne_eqb}
+use borrow.Author.Tests.{lt-ltb, le-ltb, ltb-true, eqb-true, eqb-false}
 use Rattle.lists.specs.Lists.{every, for_each}
 use Rattle.mesh.specs.declared.Face.{Face}
 use Rattle.search.specs.declared.Weights.{Weights}
@@ -16,10 +16,12 @@ use Rattle.search.specs.declared.Nearest.{Nearest}
 use Rattle.search.specs.declared.Located.{Located}
 use Rattle.table.specs.Bytes.{number_at}
 use Rattle.table.specs.declared.Table.{Table}
-use Rattle.reading.specs.Resolve.{plain, Way, linear, boltzmann, Picks, unpicked, picked, joint, nearest_pick, face_pick, combined, nine_terms, over_corners, boltzmann_average, widened}
+use Rattle.reading.specs.Resolve.{Energy, Refused, plain, Way, linear, boltzmann, Picks, unpicked, picked, joint, nearest_pick, face_pick, combined, nine_terms, over_corners, boltzmann_average, widened}
 use Rattle.reading.specs.Reading.{energy_inside, energy_at, read_picks}
 use Rattle.reading.specs.Internal.{Small, items_inside, places_below, face_places_below, PlaceInside, RowInside, row_terms, face_terms, row_corners, face_corners, face_average}
-use Rattle.reading.specs.declared.Reading.TheVariants.{Energy, Refused}
+use Rattle.refusals.specs.Numbers.{number}
+use Rattle.refusals.specs.declared.Refusal.{Refusal}
+use Rattle.refusals.proofs.Numbers.{numbered}
 use Rattle.reading.proofs.Inside.{items_inside_lem, held_fits}
 
 -- both searches answered
@@ -31,6 +33,16 @@ both_found a b = by (eqb a 19 || eqb b 19) (eqb a 0) refl
     by true u h e = absurd (omega arith)
     by false true h e = (eqb-true a 0 h, e)
     by false false h e = absurd (eqb-false a 0 h e)
+
+-- one search alone
+pub joint_alone : (n : ℕ) → joint n 0 ≡ n
+unfolding joint
+joint_alone n = by (eqb n 19) (eqb n 0) refl refl
+  where
+    by : (t u : Bool) → eqb n 19 ≡ t → eqb n 0 ≡ u → cond (t || false) 19 (cond u 0 n) ≡ n
+    by true u h e = sym (eqb-true n 19 h)
+    by false true h e = sym (eqb-true n 0 e)
+    by false false h e = refl
 
 -- the place of a pair of vertices below n, and a face's vertices
 pub pair_le : (i j n : ℕ) → i < n → j < n → n ≤ 655362 → i * n + j ≤ 429499351044
@@ -128,13 +140,13 @@ module _ (file : List ℕ) (t : Table) (held : ℕ) (H : held ≡ items_inside t
     face-weighted beta h = rw (e, nine_held o n x.face y.face, h, nine_average o n x.face y.face beta x.weights y.weights)
 
 -- a search that did not answer
-pub nearest_none : (file : List ℕ) (t : Table) (o n : ℕ) (x y : Nearest) (k : ℕ) → k ≡ joint x.number y.number → (k ≡ 0 → ⊥) → Refused k ≡ read_picks file t linear false o (nearest_pick n x y)
+pub nearest_none : (file : List ℕ) (t : Table) (o n : ℕ) (x y : Nearest) (e : Refusal) → number e ≡ joint x.number y.number → Refused (number e) ≡ read_picks file t linear false o (nearest_pick n x y)
 unfolding nearest_pick
-nearest_none file t o n x y k e h = rw (← e, ne_eqb k 0 h)
+nearest_none file t o n x y e h = rw (← h, numbered e)
 
-pub face-none : (file : List ℕ) (t : Table) (way : Way) (o n : ℕ) (x y : Located) (k : ℕ) → k ≡ joint x.number y.number → (k ≡ 0 → ⊥) → Refused k ≡ read_picks file t way true o (face_pick n x y)
+pub face-none : (file : List ℕ) (t : Table) (way : Way) (o n : ℕ) (x y : Located) (e : Refusal) → number e ≡ joint x.number y.number → Refused (number e) ≡ read_picks file t way true o (face_pick n x y)
 unfolding face_pick
-face-none file t way o n x y k e h = rw (← e, ne_eqb k 0 h)
+face-none file t way o n x y e h = rw (← h, numbered e)
 
 -- a nearest reading is the same by every way
 pub nearest_way : (file : List ℕ) (t : Table) (way : Way) (o : ℕ) (p : Picks) → read_picks file t linear false o p ≡ read_picks file t way false o p

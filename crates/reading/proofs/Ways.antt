@@ -2,6 +2,7 @@
 use mathlib.Core.Path.{◌≡◌, refl, ap}
 use mathlib.Core.Bool.{Bool, true, false, cond}
 use mathlib.Core.List.{List, [], ◌∷◌}
+use Rattle.std.proofs.Common.{Option}
 use Prim.Native.Nat.{ℕ, ◌<◌}
 use native.Mathlib.Omega.{arith}
 use lib.ListN.{length, get_or}
@@ -10,7 +11,7 @@ use Rattle.search.specs.Search.{Locator}
 use Rattle.table.specs.declared.Table.{Table}
 use Rattle.reading.specs.Resolve.{reading_values, Query, Way, linear, boltzmann, way_valid, unresolved, query_valid, resolve}
 use Rattle.reading.specs.Reading.{read_slab, reading_by}
-use Rattle.reading.specs.Internal.{way_of, pose_reading}
+use Rattle.reading.specs.Internal.{weighed_by, beta_held, pose_reading}
 use Rattle.reading.specs.Poses.{pose_at, way_by}
 
 pub way_none : (l : List Float) → length l ≡ 0 → way_by l ≡ linear
@@ -38,7 +39,7 @@ module _ (file : List ℕ) (t : Table) (vs : List Float) (l : Locator) where
   slab-same u w q false h = unresolved-same u w q
 
   -- a pose is read as by a call of its own
-  pub pose_values : (beta : Float) (valid : Bool) (betas poses : List Float) → valid ≡ way_valid (way_by betas) → (valid ≡ true → way_of beta ≡ way_by betas)
-      → (i : ℕ) → reading_values (pose_reading file t vs l beta valid poses i) ≡ reading_by file t vs l (way_by betas) (pose_at poses i)
+  pub pose_values : (beta : Option Float) (betas poses : List Float) → beta_held beta ≡ way_valid (way_by betas) → (beta_held beta ≡ true → weighed_by beta ≡ way_by betas)
+      → (i : ℕ) → reading_values (pose_reading file t vs l beta poses i) ≡ reading_by file t vs l (way_by betas) (pose_at poses i)
   unfolding pose_reading reading_by
-  pose_values beta valid betas poses e h i = rw (← e) (ap reading_values (slab-same (way_of beta) (way_by betas) (pose_at poses i) valid h))
+  pose_values beta betas poses e h i = rw (← e) (ap reading_values (slab-same (weighed_by beta) (way_by betas) (pose_at poses i) (beta_held beta) h))

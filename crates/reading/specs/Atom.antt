@@ -21,13 +21,9 @@ use Rattle.search.specs.declared.Located.{Located}
 use Rattle.table.specs.declared.AtomTable.{AtomTable}
 use Rattle.table.specs.declared.Table.{Table}
 use Rattle.reading.specs.Resolve.{ReadingValues, reading_values, no_distance, Way, linear, boltzmann, way_valid, outside, Resolved, unresolved, beyond, slab_at, Picks, unpicked, picked, Combination, widened, infinite}
+pub use Rattle.reading.specs.declared.AtomQuery.{AtomQuery}
 use Rattle.reading.specs.Reading.{entry_by, slab_by}
 use Rattle.reading.specs.Rule.{rule_row_by, rule_slab_by}
-
--- what is asked for: a distance and a direction
-pub record AtomQuery : Type 0 where
-  pub r : Float
-  pub d : Vector3
 
 -- 18: "the .. omega and second direction drop out" (S18.2)
 unfoldable pub atom_query_valid : AtomQuery → Bool

@@ -1,5 +1,5 @@
 -- What only the code and the proofs need; a reader need not believe it. Definitions only.
-use Rattle.std.specs.Prelude.{◌≡◌, Bool, false, cond, ◌&&◌, List, ℕ, ◌+◌, ◌-◌, ◌*◌, ◌/◌, ◌≤◌, ◌<◌, min, length, leb, ltb, eqb, Float}
+use Rattle.std.specs.Prelude.{◌≡◌, Bool, true, false, cond, ◌&&◌, List, ℕ, ◌+◌, ◌-◌, ◌*◌, ◌/◌, ◌≤◌, ◌<◌, min, length, leb, ltb, Float, Option, Some, None, Result, Ok, Err}
 use Rattle.std.specs.Float.{inf, binary64}
 use Rattle.std.specs.Float.Ieee.{of_bits, neg, add, sub, mul, div, lt, le}
 use Rattle.float.specs.Order.{smaller}
@@ -11,20 +11,22 @@ use Rattle.grid.specs.declared.Grid.{Grid}
 use Rattle.rows.specs.declared.SlabResolution.{SlabResolution}
 use Rattle.rows.specs.declared.SlabResolution.TheVariants.{Scalar, Mesh, Repulsive}
 use Rattle.search.specs.Search.{Locator}
-use Rattle.search.specs.declared.Vector3.{Vector3}
 use Rattle.search.specs.declared.Weights.{Weights}
 use Rattle.search.specs.declared.Nearest.{Nearest}
 use Rattle.search.specs.declared.Located.{Located}
 use Rattle.table.specs.Bytes.{number_at}
 use Rattle.table.specs.declared.Table.{Table}
 use Rattle.table.specs.declared.AtomTable.{AtomTable}
-use Rattle.reading.specs.Resolve.{ReadingValues, reading_values, no_distance, plain, Query, Way, linear, boltzmann, resolve, widened, infinite}
+use Rattle.reading.specs.Resolve.{Reading, Energy, Refused, ReadingValues, no_distance, plain, Query, Way, linear, boltzmann, resolve, widened, infinite}
 use Rattle.reading.specs.Reading.{search_in, read_picks, read_slab}
 use Rattle.reading.specs.Poses.{pose_at}
-use Rattle.reading.specs.declared.Reading.{Reading}
-use Rattle.reading.specs.declared.Reading.TheVariants.{Refused}
+use Rattle.reading.specs.declared.Energy.{Energy as EnergyRead}
 use Rattle.reading.specs.declared.Staged.{Staged}
-use Rattle.reading.specs.declared.Value.{Value}
+use Rattle.reading.specs.declared.Staged.TheVariants.{Known, Pair, Faces}
+use Rattle.reading.specs.declared.Corners.{Corners}
+use Rattle.reading.specs.declared.RowTable.{RowTable}
+use Rattle.refusals.specs.Numbers.{number}
+use Rattle.refusals.specs.declared.Refusal.{Refusal}
 
 -- how many of a section's items, w bytes each from byte start on, are below its count and inside a file of n bytes
 unfoldable pub items_inside : ℕ → ℕ → ℕ → ℕ → ℕ
@@ -57,20 +59,45 @@ rows_table levels start count =
       tail_start = 0;
     }
 
--- where the row of a distance starts in a file of n bytes, against an atom; n where there is none
-abbrev pub atom_row_place : AtomTable → ℕ → Float → ℕ
+-- what a row's answer asks of a table, and the table of which it asks no more
+abbrev pub row_table : Table → RowTable
+row_table t = record { levels = t.levels; energies = record { start = t.energies_start; count = t.energies } }
+
+abbrev pub atom_row_table : AtomTable → RowTable
+atom_row_table t = record { levels = t.levels; energies = record { start = t.energies_start; count = t.energies } }
+
+abbrev pub table_for : RowTable → Table
+table_for s = rows_table s.levels s.energies.start s.energies.count
+
+-- where the row of a distance and an angle starts in a file of n bytes, if there are bins and it is inside
+abbrev pub row_place : Table → ℕ → Query → Option ℕ
+row_place t n q =
+    let s = slab_of t.grid q.r q.omega in
+    cond ((ltb 0 t.grid.n_r && ltb 0 t.grid.n_omega) && ltb s (items_inside t.rows_start 10 t.rows n)) (Some (t.rows_start + s * 10)) None
+
+-- the same against an atom
+abbrev pub atom_row_place : AtomTable → ℕ → Float → Option ℕ
 atom_row_place t n r =
     let g = t.grid in
     let s = distance_bin r g.rmin g.dr g.n_r in
-    cond (ltb 0 g.n_r && ltb s (items_inside t.rows_start 10 t.rows n)) (t.rows_start + s * 10) n
+    cond (ltb 0 g.n_r && ltb s (items_inside t.rows_start 10 t.rows n)) (Some (t.rows_start + s * 10)) None
 
 -- the way that a number stands for once 21 has been asked: a beta, or 0 for the plain sum
 abbrev pub way_of : Float → Way
 way_of beta = cond (lt (of_bits binary64 0) beta) (boltzmann beta) linear
 
--- the two directions alone: neither a row nor a search asks for the distance and the angle
-abbrev pub toward : Vector3 → Vector3 → Query
-toward a b = record { r = of_bits binary64 0; omega = of_bits binary64 0; a = a; b = b }
+-- the same of a beta that is there where 21 was answered yes
+abbrev pub beta_held : Option Float → Bool
+beta_held (Some beta) = true
+beta_held None = false
+
+abbrev pub weighed_by : Option Float → Way
+weighed_by (Some beta) = way_of beta
+weighed_by None = linear
+
+-- an energy without distances
+abbrev pub plain_energy : Float → EnergyRead
+plain_energy x = record { distance_a = no_distance; energy = x; distance_b = no_distance }
 
 -- the row as the enum, of a kind and an offset
 abbrev pub read_resolution : List ℕ → Table → List Float → Locator → Way → Query → ℕ → ℕ → SlabResolution → Reading
@@ -84,12 +111,18 @@ part_from at n = min at n
 
 -- ---- the energies
 
--- the vertices that a search found are below n
-abbrev pub NearestBelow : ℕ → Nearest → Type 0
-NearestBelow n x = x.number ≡ 0 → x.vertex < n
+-- the numbers that a search may give: 0, 19 or 20
+abbrev pub IsSearched : ℕ → Type 0
+IsSearched n = (n ≡ 0 → ⊥) → (n ≡ 19 → ⊥) → n ≡ 20
 
-abbrev pub LocatedBelow : ℕ → Located → Type 0
-LocatedBelow n x = x.number ≡ 0 → (x.face.a < n) × (x.face.b < n) × (x.face.c < n)
+-- the vertices that a search found are below n
+pub record NearestBelow (n : ℕ) (x : Nearest) : Type 0 where
+  pub number : IsSearched x.number
+  pub below : x.number ≡ 0 → x.vertex < n
+
+pub record LocatedBelow (n : ℕ) (x : Located) : Type 0 where
+  pub number : IsSearched x.number
+  pub below : x.number ≡ 0 → (x.face.a < n) × (x.face.b < n) × (x.face.c < n)
 
 abbrev pub Small : Face → Type 0
 Small f = (f.a < 655362) × (f.b < 655362) × (f.c < 655362)
@@ -107,6 +140,10 @@ PlaceInside file start k = start + k * 4 + 4 ≤ length file
 
 abbrev pub RowInside : List ℕ → ℕ → ℕ → ℕ → Face → Type 0
 RowInside file start o k f = PlaceInside file start (o + (k + f.a)) × PlaceInside file start (o + (k + f.b)) × PlaceInside file start (o + (k + f.c))
+
+abbrev pub CornersInside : List ℕ → ℕ → Corners → Type 0
+CornersInside file start c =
+    RowInside file start c.offset (c.f.a * c.n) c.g × RowInside file start c.offset (c.f.b * c.n) c.g × RowInside file start c.offset (c.f.c * c.n) c.g
 
 -- a term added to x, and the terms of a vertex against a face
 abbrev term : List ℕ → ℕ → Float → ℕ → Float → Float → Float
@@ -148,33 +185,25 @@ face_terms file start o n f g p q =
 
 -- ---- the two stages of many readings
 
-abbrev pub staged_with : ℕ → ℕ → Float → Float → Float → Staged
-staged_with kind place energy da db =
-    let none : Face = record { a = 0; b = 0; c = 0 } in
-    let z = of_bits binary64 0 in
-    record { kind = kind; place = place; n = 0; f = none; g = none; p = record { a = energy; b = da; c = db }; q = record { a = z; b = z; c = z } }
-
 -- what the second stage makes of what the first left: the answer as it is, of one energy, or of nine
-unfoldable pub finished : List ℕ → ℕ → Staged → ReadingValues
-finished file start z =
-    cond (eqb z.kind 0) (record { number = z.place; energy = z.p.a; distance_a = z.p.b; distance_b = z.p.c })
-    (cond (eqb z.kind 1) (record { number = 0; energy = widened (number_at 4 file (start + z.place * 4)); distance_a = z.p.b; distance_b = z.p.c })
-    (record { number = 0; energy = face_terms file start z.place z.n z.f z.g z.p z.q; distance_a = no_distance; distance_b = no_distance }))
+unfoldable pub finished : List ℕ → ℕ → Result Staged Refusal → Reading
+finished file start (Err e) = Refused (number e)
+finished file start (Ok (Known e)) = Energy e.distance_a e.energy e.distance_b
+finished file start (Ok (Pair k x y)) = Energy x (widened (number_at 4 file (start + k * 4))) y
+finished file start (Ok (Faces c)) = plain (face_terms file start c.offset c.n c.f c.g c.p c.q)
 
 -- what it loads is inside the file
-pub record StagedInside (file : List ℕ) (start : ℕ) (z : Staged) : Type 0 where
-  pub one : z.kind ≡ 1 → PlaceInside file start z.place
-  pub nine : (z.kind ≡ 0 → ⊥) → (z.kind ≡ 1 → ⊥) → RowInside file start z.place (z.f.a * z.n) z.g × RowInside file start z.place (z.f.b * z.n) z.g × RowInside file start z.place (z.f.c * z.n) z.g
+unfoldable pub StagedInside : List ℕ → ℕ → Result Staged Refusal → Type 0
+StagedInside file start (Err e) = Unit {0}
+StagedInside file start (Ok (Known e)) = Unit {0}
+StagedInside file start (Ok (Pair k x y)) = PlaceInside file start k
+StagedInside file start (Ok (Faces c)) = CornersInside file start c
 
 -- .. and it makes this answer
-pub record Ready (file : List ℕ) (start : ℕ) (z : Staged) (answer : Reading) : Type 0 where
+pub record Ready (file : List ℕ) (start : ℕ) (z : Result Staged Refusal) (answer : Reading) : Type 0 where
   pub inside : StagedInside file start z
-  pub is : finished file start z ≡ reading_values answer
-
--- the number and values that the struct holds
-unfoldable pub value_in : Value → ReadingValues
-value_in v = record { number = v.number; energy = v.energy; distance_a = v.distance_a; distance_b = v.distance_b }
+  pub is : finished file start z ≡ answer
 
 -- pose i, where 21 was asked of the beta already
-unfoldable pub pose_reading : List ℕ → Table → List Float → Locator → Float → Bool → List Float → ℕ → Reading
-pose_reading file t vs l beta valid poses i = read_slab file t vs l (way_of beta) (pose_at poses i) (resolve valid t.grid (pose_at poses i))
+unfoldable pub pose_reading : List ℕ → Table → List Float → Locator → Option Float → List Float → ℕ → Reading
+pose_reading file t vs l beta poses i = read_slab file t vs l (weighed_by beta) (pose_at poses i) (resolve (beta_held beta) t.grid (pose_at poses i))

@@ -7,11 +7,10 @@ use Rattle.mesh.specs.Levels.{vertex_count, grid_size}
 use Rattle.search.specs.Geometry.{unit}
 use Rattle.search.specs.Search.{Locator, locator_from, vertices_from, nearest_in, locate_in}
 use Rattle.table.specs.Bytes.{number_at}
-use Rattle.table.specs.File.{Entry, entry_of}
+use Rattle.table.specs.File.{entry_of}
+use Rattle.table.specs.declared.Entry.{Entry}
 use Rattle.table.specs.declared.Table.{Table}
-use Rattle.reading.specs.Resolve.{ReadingValues, reading_values, plain, Query, Way, linear, way_valid, Resolved, unresolved, beyond, slab_at, resolve, Picks, unpicked, picked, Combination, nearest_pick, face_pick, widened, combined}
-use Rattle.reading.specs.declared.Reading.{Reading}
-use Rattle.reading.specs.declared.Reading.TheVariants.{Energy, Refused}
+use Rattle.reading.specs.Resolve.{Reading, Energy, Refused, ReadingValues, reading_values, plain, Query, Way, linear, way_valid, Resolved, unresolved, beyond, slab_at, resolve, Picks, unpicked, picked, Combination, nearest_pick, face_pick, widened, combined}
 
 -- 19: "every row, energy .. entry touched inside what was lent": below its count, and its bytes inside the file
 unfoldable pub row_inside : List ℕ → Table → ℕ → Bool

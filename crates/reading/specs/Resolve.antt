@@ -1,5 +1,5 @@
 -- The first stages of a reading, which the reading of a file and the rule share: 18, 21, the distance, the slab; and how energies are combined. Definitions only.
-use Rattle.std.specs.Prelude.{Bool, true, false, not, cond, ◌&&◌, ◌||◌, List, [], ◌∷◌, ◌++◌, ℕ, ◌+◌, ◌*◌, ◌/◌, ◌%◌, get_or, ltb, eqb, Float}
+use Rattle.std.specs.Prelude.{Bool, true, false, not, cond, ◌&&◌, ◌||◌, List, [], ◌∷◌, ◌++◌, ℕ, ◌+◌, ◌*◌, ◌/◌, ◌%◌, get_or, ltb, eqb, Float, Result, Ok, Err}
 use Rattle.std.specs.Float.{nan, inf, binary32, binary64}
 use Rattle.std.specs.Float.Ieee.{of_bits, neg, add, sub, mul, div, lt, le, is_nan}
 use Rattle.std.specs.Float.Ieee.Scale.{finite}
@@ -12,12 +12,23 @@ use Rattle.grid.specs.Bins.{table_rmax, distance_bin, dihedral_bin}
 use Rattle.grid.specs.Settings.{above}
 use Rattle.grid.specs.declared.Grid.{Grid}
 use Rattle.search.specs.Geometry.{norm}
-use Rattle.search.specs.declared.Vector3.{Vector3}
 use Rattle.search.specs.declared.Weights.{Weights}
 use Rattle.search.specs.declared.Nearest.{Nearest}
 use Rattle.search.specs.declared.Located.{Located}
-use Rattle.reading.specs.declared.Reading.{Reading}
-use Rattle.reading.specs.declared.Reading.TheVariants.{Energy, Refused}
+use Rattle.refusals.specs.Numbers.{number}
+use Rattle.refusals.specs.declared.Refusal.{Refusal}
+use Rattle.reading.specs.declared.Energy.{Energy as EnergyRead}
+pub use Rattle.reading.specs.declared.Query.{Query}
+
+-- an answer: the energy, between the squared distances of both directions, or the number of a refusal
+pub data Reading : Type 0 where
+  Energy : Float → Float → Float → Reading
+  Refused : ℕ → Reading
+
+-- what a call answered
+abbrev pub reading_of : Result EnergyRead Refusal → Reading
+reading_of (Ok e) = Energy e.distance_a e.energy e.distance_b
+reading_of (Err e) = Refused (number e)
 
 -- 01's number and value for each case of the answer: "reading returns the energy"; beside a number that refuses stands 0 (S12.10). And 02's squared distances
 -- of both directions to their vertices: "a nearest reading .. shows both distances, any other reading 0.0 for both"; as fields of the answer they are part of what
@@ -38,18 +49,6 @@ reading_values (Refused n) = record { number = n; energy = of_bits binary64 0; d
 -- an energy without distances
 abbrev pub plain : Float → Reading
 plain x = Energy no_distance x no_distance
-
--- a refusal has a number: 0 is acceptance alone
-abbrev pub reading_numbered : Reading → Bool
-reading_numbered (Energy a x b) = true
-reading_numbered (Refused n) = not (eqb n 0)
-
--- what is asked for: a distance, a dihedral angle and two directions
-pub record Query : Type 0 where
-  pub r : Float
-  pub omega : Float
-  pub a : Vector3
-  pub b : Vector3
 
 -- 18: "is r not a NaN, omega finite, and the length of each direction finite and above 0?" (S5.18)
 unfoldable pub query_valid : Query → Bool

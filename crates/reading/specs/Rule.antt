@@ -8,9 +8,7 @@ use Rattle.grid.specs.declared.Grid.{Grid}
 use Rattle.rows.specs.Rows.{Row, scalar, repulsive, mesh}
 use Rattle.search.specs.Geometry.{unit}
 use Rattle.search.specs.Search.{nearest_of, locate}
-use Rattle.reading.specs.Resolve.{ReadingValues, reading_values, plain, Query, Way, linear, way_valid, Resolved, unresolved, beyond, slab_at, resolve, Picks, unpicked, picked, Combination, nearest_pick, face_pick, widened, combined}
-use Rattle.reading.specs.declared.Reading.{Reading}
-use Rattle.reading.specs.declared.Reading.TheVariants.{Energy, Refused}
+use Rattle.reading.specs.Resolve.{Reading, Energy, Refused, ReadingValues, reading_values, plain, Query, Way, linear, way_valid, Resolved, unresolved, beyond, slab_at, resolve, Picks, unpicked, picked, Combination, nearest_pick, face_pick, widened, combined}
 
 -- the search of both directions over the mesh of level v
 unfoldable pub search : Mesh → Query → ℕ → Bool → Picks

@@ -1,26 +1,43 @@
 // The last stage: the energies that a search picked, and what they make together.
 ghost use Rattle.std.specs.Prelude.{◌≡◌, true, false, ◌+◌, ◌*◌, ◌≤◌, ◌<◌, length};
+ghost use Rattle.refusals.specs.Numbers.{asked};
 ghost use Rattle.table.specs.Bytes.{number_at};
 ghost use Rattle.std.specs.Float.{inf, binary64};
 ghost use Rattle.std.specs.Float.Ieee.{of_bits};
-ghost use Rattle.reading.specs.Resolve.{linear, joint, nearest_pick, face_pick, widened};
+ghost use Rattle.reading.specs.Resolve.{reading_of, linear, joint, nearest_pick, face_pick, widened};
 ghost use Rattle.reading.specs.Reading.{read_picks};
-ghost use Rattle.reading.specs.Internal.{way_of, NearestBelow, LocatedBelow, Small, RowInside, places_below, face_places_below, row_terms, face_terms, lesser, weighed, row_corners, face_corners, face_average};
+ghost use Rattle.reading.specs.Internal.{plain_energy, table_for, way_of, IsSearched, NearestBelow, LocatedBelow, Small, RowInside, CornersInside, places_below, face_places_below, row_terms, face_terms, lesser, weighed, row_corners, face_corners, face_average};
 
-use crate::Reading;
 use crate::places::{items_inside, u32_inside};
+use crate::{Corners, Energy, RowTable};
 use mesh::Face;
+use refusals::{Asked, Refusal};
 use search::{Located, Nearest, Weights};
-use table::Table;
 
-// 19 for either direction before 20 for either.
-pub(crate) fn joint(a: u64, b: u64) -> u64
-    ensures { result ≡ joint a b }
+// An energy without distances.
+pub(crate) fn plain(energy: f64) -> Energy
+    ensures { result ≡ plain_energy energy }
+{
+    Energy {
+        distance_a: 0.0,
+        energy,
+        distance_b: 0.0,
+    }
+}
+
+// What the numbers of two searches say: 19 for either direction before 20 for either.
+#[tactic(auto, unfolding(crate::specs::Resolve::joint))]
+pub(crate) fn joint(a: u64, b: u64) -> Asked
+    requires { IsSearched a × IsSearched b }
+    ensures { asked result ≡ joint a b }
 {
     if (a == 19) | (b == 19) {
-        return 19;
+        return Err(Refusal::NotLent);
     }
-    if a == 0 { b } else { a }
+    if (a != 0) | (b != 0) {
+        return Err(Refusal::EmptyCell);
+    }
+    Ok(())
 }
 
 // Energy k of those that start at a byte.
@@ -32,28 +49,28 @@ pub(crate) fn energy(file: &[u8], start: u64, k: u64) -> f64
 }
 
 // The energy of a pair of vertices, and how far they lie.
-pub(crate) fn nearest(t: Table, file: &[u8], offset: u64, n: u64, x: Nearest, y: Nearest) -> Reading
+pub(crate) fn nearest(
+    s: RowTable,
+    file: &[u8],
+    offset: u64,
+    n: u64,
+    x: Nearest,
+    y: Nearest,
+) -> Result<Energy, Refusal>
     requires { (offset < 4294967296) × (n ≤ 655362) × NearestBelow n x × NearestBelow n y }
-    ensures { result ≡ read_picks file.now t linear false offset (nearest_pick n x y) }
+    ensures { reading_of result ≡ read_picks file.now (table_for s) linear false offset (nearest_pick n x y) }
 {
-    let start = t.energies_start;
-    let count = t.energies;
-    let na = x.number;
-    let nb = y.number;
-    let va = x.vertex;
-    let vb = y.vertex;
-    let da = x.distance;
-    let db = y.distance;
-    let number = joint(na, nb);
-    if number != 0 {
-        return Reading::Refused(number);
-    }
-    let k = offset + (va * n + vb);
-    let held = items_inside(start, 4, count, file.len() as u64);
+    joint(x.number, y.number)?;
+    let k = offset + (x.vertex * n + y.vertex);
+    let held = items_inside(s.energies, 4, file.len() as u64);
     if held <= k {
-        return Reading::Refused(19);
+        return Err(Refusal::NotLent);
     }
-    Reading::Energy(da, energy(file, start, k), db)
+    Ok(Energy {
+        distance_a: x.distance,
+        energy: energy(file, s.energies.start, k),
+        distance_b: y.distance,
+    })
 }
 
 // The energies of a vertex, whose places begin at k, against those of a face are among the first ones held.
@@ -61,24 +78,20 @@ pub(crate) fn places_below(held: u64, offset: u64, k: u64, f: Face) -> bool
     requires { (offset < 4294967296) × (k ≤ 429499351044) × Small f }
     ensures { result ≡ places_below held offset k f }
 {
-    let a = f.a;
-    let b = f.b;
-    let c = f.c;
-    (offset + (k + a) < held) & ((offset + (k + b) < held) & (offset + (k + c) < held))
+    (offset + (k + f.a) < held) & ((offset + (k + f.b) < held) & (offset + (k + f.c) < held))
 }
 
-pub(crate) fn face_places_below(held: u64, offset: u64, n: u64, f: Face, g: Face) -> bool
-    requires { (offset < 4294967296) × (n ≤ 655362) × Small f × Small g }
-    ensures { result ≡ face_places_below held offset n f g }
+pub(crate) fn face_places_below(held: u64, x: &Corners) -> bool
+    requires { (x.now.offset < 4294967296) × (x.now.n ≤ 655362) × Small x.now.f × Small x.now.g }
+    ensures { result ≡ face_places_below held x.now.offset x.now.n x.now.f x.now.g }
 {
-    let a = f.a;
-    let b = f.b;
-    let c = f.c;
-    places_below(held, offset, a * n, g)
-        & (places_below(held, offset, b * n, g) & places_below(held, offset, c * n, g))
+    places_below(held, x.offset, x.f.a * x.n, x.g)
+        & (places_below(held, x.offset, x.f.b * x.n, x.g)
+            & places_below(held, x.offset, x.f.c * x.n, x.g))
 }
 
 // A vertex's three terms of the sum, added to x.
+#[tactic(auto, unfolding(crate::specs::Internal::row_terms))]
 pub(crate) fn row_terms(
     file: &[u8],
     start: u64,
@@ -92,33 +105,19 @@ pub(crate) fn row_terms(
     requires { RowInside file.now start offset k f }
     ensures { result ≡ row_terms file.now start offset k f w q x }
 {
-    let a = f.a;
-    let b = f.b;
-    let c = f.c;
-    let y = x + w * energy(file, start, offset + (k + a)) * q.a;
-    let z = y + w * energy(file, start, offset + (k + b)) * q.b;
-    z + w * energy(file, start, offset + (k + c)) * q.c
+    let y = x + w * energy(file, start, offset + (k + f.a)) * q.a;
+    let z = y + w * energy(file, start, offset + (k + f.b)) * q.b;
+    z + w * energy(file, start, offset + (k + f.c)) * q.c
 }
 
-fn face_terms(
-    file: &[u8],
-    start: u64,
-    offset: u64,
-    n: u64,
-    f: Face,
-    g: Face,
-    p: Weights,
-    q: Weights,
-) -> f64
-    requires { RowInside file.now start offset (f.a * n) g × RowInside file.now start offset (f.b * n) g × RowInside file.now start offset (f.c * n) g }
-    ensures { result ≡ face_terms file.now start offset n f g p q }
+#[tactic(auto, unfolding(crate::specs::Internal::face_terms))]
+fn face_terms(file: &[u8], start: u64, x: &Corners) -> f64
+    requires { CornersInside file.now start x.now }
+    ensures { result ≡ face_terms file.now start x.now.offset x.now.n x.now.f x.now.g x.now.p x.now.q }
 {
-    let a = f.a;
-    let b = f.b;
-    let c = f.c;
-    let x = row_terms(file, start, offset, a * n, g, p.a, q, 0.0);
-    let y = row_terms(file, start, offset, b * n, g, p.b, q, x);
-    row_terms(file, start, offset, c * n, g, p.c, q, y)
+    let a = row_terms(file, start, x.offset, x.f.a * x.n, x.g, x.p.a, x.q, 0.0);
+    let b = row_terms(file, start, x.offset, x.f.b * x.n, x.g, x.p.b, x.q, a);
+    row_terms(file, start, x.offset, x.f.c * x.n, x.g, x.p.c, x.q, b)
 }
 
 // The least energy so far and that of a corner of weight w, unless the corner is dropped.
@@ -139,6 +138,7 @@ fn weighed(beta: f64, u: f64, w: f64, e: f64, x: f64) -> f64
 }
 
 // The least energy of a vertex's three corners and x.
+#[tactic(auto, unfolding(crate::specs::Internal::row_corners))]
 fn row_least(
     file: &[u8],
     start: u64,
@@ -152,36 +152,32 @@ fn row_least(
     requires { RowInside file.now start offset k f }
     ensures { result ≡ row_corners file.now start lesser offset k f w q x }
 {
-    let a = f.a;
-    let b = f.b;
-    let c = f.c;
-    let y = lesser(w * q.a, energy(file, start, offset + (k + a)), x);
-    let z = lesser(w * q.b, energy(file, start, offset + (k + b)), y);
-    lesser(w * q.c, energy(file, start, offset + (k + c)), z)
+    let y = lesser(w * q.a, energy(file, start, offset + (k + f.a)), x);
+    let z = lesser(w * q.b, energy(file, start, offset + (k + f.b)), y);
+    lesser(w * q.c, energy(file, start, offset + (k + f.c)), z)
 }
 
-fn face_least(
-    file: &[u8],
-    start: u64,
-    offset: u64,
-    n: u64,
-    f: Face,
-    g: Face,
-    p: Weights,
-    q: Weights,
-) -> f64
-    requires { RowInside file.now start offset (f.a * n) g × RowInside file.now start offset (f.b * n) g × RowInside file.now start offset (f.c * n) g }
-    ensures { result ≡ face_corners file.now start lesser offset n f g p q (inf false) }
+fn face_least(file: &[u8], start: u64, x: &Corners) -> f64
+    requires { CornersInside file.now start x.now }
+    ensures { result ≡ face_corners file.now start lesser x.now.offset x.now.n x.now.f x.now.g x.now.p x.now.q
+        (inf false) }
 {
-    let a = f.a;
-    let b = f.b;
-    let c = f.c;
-    let x = row_least(file, start, offset, a * n, g, p.a, q, 1.0 / 0.0);
-    let y = row_least(file, start, offset, b * n, g, p.b, q, x);
-    row_least(file, start, offset, c * n, g, p.c, q, y)
+    let a = row_least(
+        file,
+        start,
+        x.offset,
+        x.f.a * x.n,
+        x.g,
+        x.p.a,
+        x.q,
+        1.0 / 0.0,
+    );
+    let b = row_least(file, start, x.offset, x.f.b * x.n, x.g, x.p.b, x.q, a);
+    row_least(file, start, x.offset, x.f.c * x.n, x.g, x.p.c, x.q, b)
 }
 
 // A vertex's three terms of the weighted sum, added to x.
+#[tactic(auto, unfolding(crate::specs::Internal::row_corners))]
 fn row_weighed(
     file: &[u8],
     start: u64,
@@ -197,54 +193,61 @@ fn row_weighed(
     requires { RowInside file.now start offset k f }
     ensures { result ≡ row_corners file.now start (weighed beta u) offset k f w q x }
 {
-    let a = f.a;
-    let b = f.b;
-    let c = f.c;
-    let y = weighed(beta, u, w * q.a, energy(file, start, offset + (k + a)), x);
-    let z = weighed(beta, u, w * q.b, energy(file, start, offset + (k + b)), y);
-    weighed(beta, u, w * q.c, energy(file, start, offset + (k + c)), z)
+    let y = weighed(beta, u, w * q.a, energy(file, start, offset + (k + f.a)), x);
+    let z = weighed(beta, u, w * q.b, energy(file, start, offset + (k + f.b)), y);
+    weighed(beta, u, w * q.c, energy(file, start, offset + (k + f.c)), z)
 }
 
-fn face_weighed(
-    file: &[u8],
-    start: u64,
-    offset: u64,
-    n: u64,
-    f: Face,
-    g: Face,
-    p: Weights,
-    q: Weights,
-    beta: f64,
-    u: f64,
-) -> f64
-    requires { RowInside file.now start offset (f.a * n) g × RowInside file.now start offset (f.b * n) g × RowInside file.now start offset (f.c * n) g }
-    ensures { result ≡ face_corners file.now start (weighed beta u) offset n f g p q (of_bits binary64 0) }
+fn face_weighed(file: &[u8], start: u64, x: &Corners, beta: f64, u: f64) -> f64
+    requires { CornersInside file.now start x.now }
+    ensures { result ≡ face_corners file.now start
+        (weighed beta u) x.now.offset x.now.n x.now.f x.now.g x.now.p x.now.q (of_bits binary64 0) }
 {
-    let a = f.a;
-    let b = f.b;
-    let c = f.c;
-    let x = row_weighed(file, start, offset, a * n, g, p.a, q, beta, u, 0.0);
-    let y = row_weighed(file, start, offset, b * n, g, p.b, q, beta, u, x);
-    row_weighed(file, start, offset, c * n, g, p.c, q, beta, u, y)
+    let a = row_weighed(
+        file,
+        start,
+        x.offset,
+        x.f.a * x.n,
+        x.g,
+        x.p.a,
+        x.q,
+        beta,
+        u,
+        0.0,
+    );
+    let b = row_weighed(
+        file,
+        start,
+        x.offset,
+        x.f.b * x.n,
+        x.g,
+        x.p.b,
+        x.q,
+        beta,
+        u,
+        a,
+    );
+    row_weighed(
+        file,
+        start,
+        x.offset,
+        x.f.c * x.n,
+        x.g,
+        x.p.c,
+        x.q,
+        beta,
+        u,
+        b,
+    )
 }
 
 // The average over two faces, weighted by temperature.
-fn face_average(
-    file: &[u8],
-    start: u64,
-    offset: u64,
-    n: u64,
-    f: Face,
-    g: Face,
-    p: Weights,
-    q: Weights,
-    beta: f64,
-) -> f64
-    requires { RowInside file.now start offset (f.a * n) g × RowInside file.now start offset (f.b * n) g × RowInside file.now start offset (f.c * n) g }
-    ensures { result ≡ face_average file.now start offset n f g p q beta }
+fn face_average(file: &[u8], start: u64, x: &Corners, beta: f64) -> f64
+    requires { CornersInside file.now start x.now }
+    ensures { result ≡ face_average file.now start x.now.offset x.now.n x.now.f x.now.g x.now.p x.now.q beta }
 {
-    let u = face_least(file, start, offset, n, f, g, p, q);
-    let sum = face_weighed(file, start, offset, n, f, g, p, q, beta, u);
+    let u = face_least(file, start, x);
+    let sum = face_weighed(file, start, x, beta, u);
     if !ieee::is_finite(u) & !(u != u) {
         return 1.0 / 0.0;
     }
@@ -256,39 +259,32 @@ fn face_average(
 
 // The sum over two faces, or the weighted average with a beta above 0.
 pub(crate) fn interpolated(
-    t: Table,
+    s: RowTable,
     file: &[u8],
     offset: u64,
     n: u64,
     x: Located,
     y: Located,
     beta: f64,
-) -> Reading
+) -> Result<Energy, Refusal>
     requires { (offset < 4294967296) × (n ≤ 655362) × LocatedBelow n x × LocatedBelow n y }
-    ensures { result ≡ read_picks file.now t (way_of beta) true offset (face_pick n x y) }
+    ensures { reading_of result ≡ read_picks file.now (table_for s) (way_of beta) true offset (face_pick n x y) }
 {
-    let start = t.energies_start;
-    let count = t.energies;
-    let na = x.number;
-    let nb = y.number;
-    let f = x.face;
-    let g = y.face;
-    let p = x.weights;
-    let q = y.weights;
-    let number = joint(na, nb);
-    if number != 0 {
-        return Reading::Refused(number);
-    }
-    let held = items_inside(start, 4, count, file.len() as u64);
-    if !face_places_below(held, offset, n, f, g) {
-        return Reading::Refused(19);
+    joint(x.number, y.number)?;
+    let corners = Corners {
+        offset,
+        n,
+        f: x.face,
+        g: y.face,
+        p: x.weights,
+        q: y.weights,
+    };
+    let held = items_inside(s.energies, 4, file.len() as u64);
+    if !face_places_below(held, &corners) {
+        return Err(Refusal::NotLent);
     }
     if 0.0 < beta {
-        return Reading::Energy(
-            0.0,
-            face_average(file, start, offset, n, f, g, p, q, beta),
-            0.0,
-        );
+        return Ok(plain(face_average(file, s.energies.start, &corners, beta)));
     }
-    Reading::Energy(0.0, face_terms(file, start, offset, n, f, g, p, q), 0.0)
+    Ok(plain(face_terms(file, s.energies.start, &corners)))
 }

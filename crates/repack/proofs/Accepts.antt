@@ -1,37 +1,37 @@
 -- The strict reader accepts the packed file of a loosely packed one. Assumes nothing.
 use mathlib.Core.Path.{◌≡◌, refl, sym, ap, ◌∙◌}
-use mathlib.Core.Bool.{Bool, true, false, not, cond, ◌&&◌, ◌||◌, and-eq-true_iff}
+use mathlib.Core.Bool.{Bool, true, false, not, cond, ◌&&◌, and-eq-true_iff}
 use mathlib.Core.List.{List, [], ◌∷◌, ◌++◌}
 use mathlib.Core.Logic.{⊎_elim}
 use Prim.Native.Nat.{ℕ, zero, suc, ◌+◌, ◌*◌, ◌-◌, ◌≤◌, ◌<◌}
 use native.Mathlib.Omega.{arith}
-use lib.ListN.{length, take, drop, length-drop}
-use lib.Seq.{drop-drop, take_all}
-use lib.Dec.{leb, ltb, eqb, lit<}
+use lib.ListN.{length, take, drop}
+use lib.Seq.{drop-drop}
+use lib.Dec.{leb, eqb}
 use lib.Ieee.{Float, binary32, binary64, nan_bits, of_bits}
 use borrow.Author.Tests.{eqb-true, eqb-false, eq-eqb, ne_eqb}
 use Rattle.ieee.proofs.Pack.{le_or_lt}
 use Rattle.lists.specs.Questions.{ask, first}
-use Rattle.lists.specs.Lists.{every, all_up_to}
+use Rattle.lists.specs.Lists.{every}
 use Rattle.mesh.specs.Levels.{vertex_count, per}
 use Rattle.table.specs.Bytes.{number_at, number_of, items}
-use Rattle.table.specs.File.{Entry, entry_of}
+use Rattle.table.specs.declared.Entry.{Entry}
 use Rattle.table.specs.Tail.{Term, Tail, term_of, tail_valid}
-use Rattle.table.specs.Read.{count_at, f64_at, layout, ended, table_laid_out, tail_at, grid_of, table_of, row_items, energy_items, tail_in, table_valid, grid_valid, entry_valid, tiled, read_values, read_out}
+use Rattle.table.specs.Read.{count_at, f64_at, layout, ended, table_laid_out, tail_at, grid_of, table_of, row_items, tail_in, table_valid, grid_valid, entry_valid, tiled, read_values, read_out}
 use Rattle.table.specs.View.{host}
 use Rattle.table.specs.Internal.{TableSections, rows_question, table_question}
 use Rattle.table.specs.declared.Layout.{Layout}
 use Rattle.table.specs.declared.Table.{Table}
-use Rattle.table.specs.declared.ReadAnswer.TheVariants.{Accepted as Reads}
+use Rattle.std.proofs.Common.{Ok}
 use Rattle.table.proofs.Accepted.{read_accepted, host-within, host-reads}
 use Rattle.table.proofs.Accepts.{all_is}
 use Rattle.table.proofs.Items.{items-many}
 use Rattle.table.proofs.OfLoose.{counts_held}
 use Rattle.repack.specs.Repack.{held, total, moved_to, placed, parts, repacked}
 use Rattle.repack.specs.Internal.{rows_at, Loose}
-use Rattle.repack.specs.Kept.{table_in, row_bytes, without_offset, Unchanged}
+use Rattle.repack.specs.Kept.{Unchanged}
 use Rattle.repack.proofs.Outcome.{Yes, sections, loose, repacked-length}
-use Rattle.repack.proofs.Packed.{whole, before_rows, from_rows, count_new, from_energies, behind, rows_back, rows-without, parts-every}
+use Rattle.repack.proofs.Packed.{before_rows, from_rows, count_new, from_energies, behind, rows_back, rows-without, parts-every}
 
 -- ---- small laws
 
@@ -284,8 +284,8 @@ module _ (f : List ℕ) (y : Yes f (table_of f (layout f))) where
   unfolding ask first
   asked = rw (table_new, valid_new, host-within g new_table valid_new, rows-asked, tail_valid_lem)
 
-  pub accepted_new : read_out g ≡ read_values (Reads new_table)
-  accepted_new = sym (host-reads g) ∙ read_accepted host g laid_out_new 0 asked refl ∙ ap (λ (k : Table). read_values (Reads k)) table_new
+  pub accepted_new : read_out g ≡ read_values (Ok new_table)
+  accepted_new = sym (host-reads g) ∙ read_accepted host g laid_out_new 0 asked refl ∙ ap (λ (k : Table). read_values (Ok k)) table_new
 
   -- ---- what is unchanged
 

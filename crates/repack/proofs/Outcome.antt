@@ -1,6 +1,6 @@
 -- What the loose reader's acceptance says of a file, how long its packed file is, and repack's outcome by the answers. Assumes nothing.
 use mathlib.Core.Path.{◌≡◌, refl, sym, ap, ◌∙◌}
-use mathlib.Core.Bool.{Bool, true, false, not, cond, and-eq-true_iff}
+use mathlib.Core.Bool.{Bool, true, false, not, and-eq-true_iff}
 use mathlib.Core.List.{List, [], ◌∷◌, ◌++◌}
 use Prim.Native.Nat.{ℕ, ◌+◌, ◌*◌, ◌-◌, ◌≤◌}
 use native.Mathlib.Nat.{suc-mul}
@@ -8,53 +8,58 @@ use native.Mathlib.Omega.{arith}
 use lib.ListN.{length, take, drop, length-append, length-drop}
 use lib.Dec.{leb, eqb, lit<}
 use lib.Ieee.{binary32, nan_bits}
-use borrow.Author.Tests.{not-true, leb-true, eqb-true, eqb-false, ne_eqb}
+use borrow.Author.Tests.{leb-true, eqb-true, eqb-false}
 use Rattle.lists.specs.Questions.{ask, first}
 use Rattle.lists.specs.Lists.{put, every}
 use Rattle.lists.proofs.Asking.{ask_yes}
 use Rattle.mesh.specs.Levels.{per}
 use Rattle.mesh.proofs.Sizes.{per_mono}
 use Rattle.grid.specs.Settings.{grid_range, slabs_fit}
-use Rattle.table.specs.Bytes.{bytes_of, number_at}
-use Rattle.table.specs.File.{Entry, entry_of}
+use Rattle.table.specs.Bytes.{bytes_of}
+use Rattle.table.specs.declared.Entry.{Entry}
+use Rattle.table.specs.File.{entry_of}
 use Rattle.table.specs.Tail.{tail_valid}
 use Rattle.table.specs.Read.{count_at, layout, table_laid_out, table_of, row_items, energy_items, tail_in, table_valid, entry_valid, grid_valid, ReadValues, read_values}
 use Rattle.table.specs.Checks.{slab_checked}
 use Rattle.table.specs.Loose.{loose_refusal, loose_out}
-use Rattle.table.specs.Internal.{TableSections, ends_below}
+use Rattle.table.specs.Internal.{TableSections}
 use Rattle.table.specs.declared.Table.{Table}
-use Rattle.table.specs.declared.ReadAnswer.TheVariants.{Accepted as Reads, Refused as NotRead}
+use Rattle.std.proofs.Common.{Ok, Err}
+use Rattle.refusals.specs.declared.Refusal.{Refusal}
+use Rattle.refusals.specs.Numbers.{number}
+use Rattle.refusals.proofs.Numbers.{numbered}
 use Rattle.table.proofs.Accepted.{table_laid}
 use Rattle.table.proofs.Checked.{mesh-held}
 use Rattle.table.proofs.Items.{items-many}
 use Rattle.table.proofs.Lengths.{bytes_length}
 use Rattle.table.proofs.OfLoose.{counts_held, rows_end}
-use Rattle.repack.specs.Repack.{RepackOut, repacked_values, held, total, placed, other_offsets, new_rows, parts, repacked, repack_refusal, repack_out}
+use Rattle.repack.specs.Repack.{held, total, placed, other_offsets, new_rows, parts, repacked, repack_refusal, repack_out}
 use Rattle.repack.specs.Internal.{rows_at, Loose}
-use Rattle.repack.specs.declared.Repacked.TheVariants.{Accepted as Packs, Refused as NotPacked}
 use Rattle.repack.proofs.Turns.{taken-length, rows-length, parts-length}
 
 -- ---- what the loose reader answered
 
-opened_by : (file : List ℕ) (t : Table) (x : Bool) → eqb (loose_refusal file (layout file) (table_of file (layout file))) 0 ≡ x → read_values (Reads t) ≡ loose_out file
-    → (t ≡ table_of file (layout file)) × (loose_refusal file (layout file) (table_of file (layout file)) ≡ 0)
-unfolding loose_out
-opened_by file t true d e = (ap (λ (v : ReadValues). v.table) (rw d at e), eqb-true _ 0 d)
-opened_by file t false d e = absurd (eqb-false _ 0 d (sym (ap (λ (v : ReadValues). v.number) (rw d at e))))
+module _ (file : List ℕ) where
+  abbrev loose_number : ℕ
+  loose_number = loose_refusal file (layout file) (table_of file (layout file))
 
-pub opened : (file : List ℕ) (t : Table) → read_values (Reads t) ≡ loose_out file → (t ≡ table_of file (layout file)) × (loose_refusal file (layout file) t ≡ 0)
-opened file t e =
-    let a = opened_by file t _ refl e in
-    (a.0, rw a.0 a.1)
+  opened_by : (t : Table) (x : Bool) → eqb loose_number 0 ≡ x → read_values (Ok t) ≡ loose_out file → (t ≡ table_of file (layout file)) × (loose_number ≡ 0)
+  unfolding loose_out
+  opened_by t true d e = (ap (λ (v : ReadValues). v.table) (rw d at e), eqb-true _ 0 d)
+  opened_by t false d e = absurd (eqb-false _ 0 d (sym (ap (λ (v : ReadValues). v.number) (rw d at e))))
 
-shut_by : (file : List ℕ) (n : ℕ) (x : Bool) → eqb (loose_refusal file (layout file) (table_of file (layout file))) 0 ≡ x → read_values (NotRead n) ≡ loose_out file
-    → (n ≡ 0 → ⊥) → loose_refusal file (layout file) (table_of file (layout file)) ≡ n
-unfolding loose_out
-shut_by file n true d e z = absurd (z (ap (λ (v : ReadValues). v.number) (rw d at e)))
-shut_by file n false d e z = sym (ap (λ (v : ReadValues). v.number) (rw d at e))
+  pub opened : (t : Table) → read_values (Ok t) ≡ loose_out file → (t ≡ table_of file (layout file)) × (loose_refusal file (layout file) t ≡ 0)
+  opened t e =
+      let a = opened_by t _ refl e in
+      (a.0, rw a.0 a.1)
 
-pub shut : (file : List ℕ) (n : ℕ) → read_values (NotRead n) ≡ loose_out file → (n ≡ 0 → ⊥) → loose_refusal file (layout file) (table_of file (layout file)) ≡ n
-shut file n e z = shut_by file n _ refl e z
+  shut_by : (r : Refusal) (x : Bool) → eqb loose_number 0 ≡ x → read_values (Err r) ≡ loose_out file → loose_number ≡ number r
+  unfolding loose_out
+  shut_by r true d e = absurd (eqb-false (number r) 0 (numbered r) (ap (λ (v : ReadValues). v.number) (rw d at e)))
+  shut_by r false d e = sym (ap (λ (v : ReadValues). v.number) (rw d at e))
+
+  pub shut : (r : Refusal) → read_values (Err r) ≡ loose_out file → loose_number ≡ number r
+  shut r e = shut_by r _ refl e
 
 -- ---- what its questions, answered yes, say
 
@@ -155,20 +160,19 @@ module _ (file out : List ℕ) where
   abbrev t₀ : Table
   t₀ = table_of file (layout file)
 
-  pub repack_refused : (n : ℕ) → loose_refusal file (layout file) t₀ ≡ n → (n ≡ 0 → ⊥) → repack_out file out ≡ record { answer = repacked_values (NotPacked n); output = out }
+  pub repack_refused : (n : ℕ) → loose_refusal file (layout file) t₀ ≡ n → eqb n 0 ≡ false → repack_out file out ≡ record { answer = record { number = n; length = 0; moved = 0 }; output = out }
   unfolding repack_out repack_refusal first
-  repack_refused n e z = rw (e, ne_eqb n 0 z, ne_eqb n 0 z)
+  repack_refused n e z = rw (e, z, z)
 
   module _ (e : loose_refusal file (layout file) t₀ ≡ 0) where
-    pub repack_short : leb (length (repacked file t₀)) (length out) ≡ false → repack_out file out ≡ record { answer = repacked_values (NotPacked 12); output = out }
+    pub repack_short : leb (length (repacked file t₀)) (length out) ≡ false → repack_out file out ≡ record { answer = record { number = 12; length = 0; moved = 0 }; output = out }
     unfolding repack_out repack_refusal first ask
     repack_short h = rw (e, h)
 
     pub repack_done : leb (length (repacked file t₀)) (length out) ≡ true
-        → repack_out file out ≡ record { answer = repacked_values (Packs (length (repacked file t₀)) (other_offsets (row_items file t₀) (placed 0 (row_items file t₀)))); output = put out 0 (repacked file t₀) }
+        → repack_out file out ≡ record {
+          answer = record { number = 0; length = length (repacked file t₀); moved = other_offsets (row_items file t₀) (placed 0 (row_items file t₀)) };
+          output = put out 0 (repacked file t₀);
+        }
     unfolding repack_out repack_refusal first ask
     repack_done h = rw (e, h)
-
--- a refusal's number is not 0
-pub refusal-numbered : (n : ℕ) → not (eqb n 0) ≡ true → (n ≡ 0 → ⊥)
-refusal-numbered n h z = eqb-false n 0 (not-true (eqb n 0) h) z

@@ -12,7 +12,8 @@ use borrow.Author.Tests.{leb-true}
 use Rattle.lists.specs.Lists.{every}
 use Rattle.mesh.specs.Levels.{per}
 use Rattle.table.specs.Bytes.{bytes_of, number_of, number_at, items}
-use Rattle.table.specs.File.{Entry, entry_of}
+use Rattle.table.specs.declared.Entry.{Entry}
+use Rattle.table.specs.File.{entry_of}
 use Rattle.table.specs.Internal.{ends_below}
 use Rattle.table.proofs.Lengths.{bytes_length}
 use Rattle.table.proofs.Back.{number_back, item_at}

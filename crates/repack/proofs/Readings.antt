@@ -1,14 +1,14 @@
 -- A reading of a loosely packed file and of its packed one agree. Assumes nothing.
 use mathlib.Core.Path.{◌≡◌, refl, sym, ap, ◌∙◌}
-use mathlib.Core.Bool.{Bool, true, false, not, cond, ◌&&◌, and-eq-true_iff}
+use mathlib.Core.Bool.{Bool, true, false, not, ◌&&◌, and-eq-true_iff}
 use mathlib.Core.List.{List, [], ◌∷◌, map}
 use mathlib.Core.Logic.{⊎_elim}
-use Prim.Native.Nat.{ℕ, zero, suc, ◌+◌, ◌*◌, ◌-◌, ◌≤◌, ◌<◌}
+use Prim.Native.Nat.{ℕ, zero, suc, ◌+◌, ◌*◌, ◌≤◌, ◌<◌}
 use native.Mathlib.Omega.{arith}
-use lib.ListN.{length, get_or, take, drop}
-use lib.Dec.{leb, ltb, eqb, lit<}
+use lib.ListN.{length, get_or, take}
+use lib.Dec.{leb, ltb, eqb}
 use lib.Ieee.{Float, binary64, of_bits, mul, is_nan}
-use borrow.Author.Tests.{lt-ltb, le-ltb, le-leb, lt-leb, leb-true, leb-false, eqb-true, eqb-false, ne_eqb}
+use borrow.Author.Tests.{lt-ltb, le-ltb, le-leb, lt-leb, leb-true, eqb-true, eqb-false}
 use Rattle.ieee.proofs.Pack.{le_or_lt}
 use Rattle.lists.specs.Lists.{every}
 use Rattle.lists.proofs.Counting.{chosen}
@@ -16,32 +16,30 @@ use Rattle.lists.proofs.Places.{place}
 use Rattle.mesh.specs.Levels.{vertex_count, grid_size, per}
 use Rattle.mesh.specs.declared.Face.{Face}
 use Rattle.search.specs.Geometry.{unit}
-use Rattle.search.specs.Search.{Locator, nearest_in_cells, nearest_in, locate_in, locator_from, vertices_from}
+use Rattle.search.specs.Search.{Locator, nearest_in, locator_from, vertices_from}
 use Rattle.search.specs.declared.Nearest.{Nearest}
 use Rattle.search.specs.declared.Located.{Located}
 use Rattle.search.proofs.Below.{nearest_below, located_below}
-use Rattle.table.specs.Bytes.{number_at}
-use Rattle.table.specs.File.{Entry, entry_of}
-use Rattle.table.specs.Read.{layout, table_of, row_items, tail_in, entry_valid, ReadValues, read_out}
+use Rattle.table.specs.declared.Entry.{Entry}
+use Rattle.table.specs.File.{entry_of}
+use Rattle.table.specs.Read.{layout, table_of, row_items}
 use Rattle.table.specs.Tail.{Tail}
 use Rattle.table.specs.Internal.{ends_below}
 use Rattle.table.specs.declared.Table.{Table}
 use Rattle.table.proofs.Back.{All, item_at}
 use Rattle.table.proofs.Items.{items-many}
-use Rattle.table.proofs.Checked.{mesh-held}
-use Rattle.reading.specs.Resolve.{reading_values, Query, Way, way_valid, Resolved, unresolved, beyond, slab_at, resolve, Picks, unpicked, picked, Combination, combined, joint, pair_place, nearest_pick, face_pick}
-use Rattle.reading.specs.Reading.{row_inside, energy_inside, entry_at, energy_at, search_in, picks_by, entry_by, slab_by, read_entry, reading_by}
-use Rattle.reading.specs.declared.Reading.{Reading}
+use Rattle.reading.specs.Resolve.{reading_values, Way, way_valid, Resolved, unresolved, beyond, slab_at, resolve, Picks, unpicked, picked, Combination, combined, joint, pair_place, nearest_pick, face_pick}
+use Rattle.reading.specs.Reading.{row_inside, energy_inside, entry_at, energy_at, search_in, picks_by, slab_by, read_entry, reading_by}
+use Rattle.reading.specs.declared.Query.{Query}
 use Rattle.reading.proofs.Picked.{both_found}
 use Rattle.tail.specs.Rule.{sum_from}
 use Rattle.tail.specs.Reading.{tail_values, tail_out}
-use Rattle.tail.specs.declared.TailAnswer.TheVariants.{Energy}
+use Rattle.std.proofs.Common.{Ok}
 use Rattle.tail.proofs.Laws.{no_distance_lem, no_terms_lem, summed}
-use Rattle.repack.specs.Repack.{held, total, moved_to, placed, repacked}
-use Rattle.repack.specs.Internal.{rows_at, Loose}
+use Rattle.repack.specs.Repack.{held, total, moved_to, repacked}
 use Rattle.repack.proofs.Outcome.{Yes}
 use Rattle.repack.proofs.Packed.{placed_at, total_at, part_at, energy-same}
-use Rattle.repack.proofs.Accepts.{t, g, T, l, s, end, new_end, long, new_table, rows_new, energies_new, tail_same, tail_starts, tail_inside, accepted_new}
+use Rattle.repack.proofs.Accepts.{T, l, long, new_table, rows_new, energies_new, tail_same, tail_starts, tail_inside}
 
 -- ---- places that a search picks are a slab's, whatever was lent
 
@@ -252,7 +250,7 @@ module _ (f : List ℕ) (y : Yes f (table_of f (layout f))) where
       let old = le-leb (o₀.tail_start + o₀.terms * 20 + 8) (length f) (tail_inside f y h) in
       let new = le-leb (k.tail_start + o₀.terms * 20 + 8) (length G) (omega (arith, tail_inside f y h, a.0, a.1, long f y)) in
       summed f o₀ r e n old
-      ∙ ap (λ (z : Tail). tail_values (Energy (mul binary64 z.prefactor (sum_from r (of_bits binary64 0x8000_0000_0000_0000) z.terms)))) (sym (tail_same f y h))
+      ∙ ap (λ (z : Tail). tail_values (Ok (mul binary64 z.prefactor (sum_from r (of_bits binary64 0x8000_0000_0000_0000) z.terms)))) (sym (tail_same f y h))
       ∙ sym (summed G k r e n new)
 
   tail_none : o₀.terms ≡ 0 → (r : Float) → is_nan r ≡ false → tail_out f o₀ r ≡ tail_out G k r

@@ -1,34 +1,32 @@
 -- A file that the strict reader accepts is its own packed file. Assumes nothing.
 use mathlib.Core.Path.{◌≡◌, refl, sym, ap, ◌∙◌}
-use mathlib.Core.Bool.{Bool, true, false, not, cond, ◌&&◌, true≢false, and-eq-true_iff}
-use mathlib.Core.List.{List, [], ◌∷◌, ◌++◌, append_assoc}
-use Prim.Native.Nat.{ℕ, zero, suc, ◌+◌, ◌*◌, ◌-◌, ◌/◌, ◌%◌, ◌≤◌, ◌<◌}
-use native.Mathlib.Nat.{suc-mul, zero-mul}
+use mathlib.Core.Bool.{Bool, true, false, cond, true≢false, and-eq-true_iff}
+use mathlib.Core.List.{List, [], ◌∷◌, ◌++◌}
+use Prim.Native.Nat.{ℕ, zero, suc, ◌+◌, ◌*◌, ◌/◌, ◌%◌, ◌≤◌}
 use native.Mathlib.Omega.{arith}
-use lib.ListN.{length, get_or, take, drop, length-drop, take-append-drop}
-use lib.Seq.{take-add, take-take, drop-drop, take_all}
+use lib.ListN.{length, get_or, take, drop, take-append-drop}
+use lib.Seq.{take-add, drop-drop}
 use lib.Dec.{leb, ltb, eqb, lit<}
-use lib.Ieee.{binary32, nan_bits}
 use borrow.Author.Tests.{ltb-true, eqb-true, eqb-false, eq-eqb, le-leb}
 use Rattle.lists.specs.Lists.{every}
 use Rattle.lists.specs.Questions.{ask}
 use Rattle.lists.proofs.Asking.{ask_yes}
 use Rattle.mesh.specs.Levels.{per}
 use Rattle.table.specs.Bytes.{bytes_of, number_of, number_at, items}
-use Rattle.table.specs.File.{Entry, entry_of}
-use Rattle.table.specs.Tail.{tail_valid}
-use Rattle.table.specs.Read.{count_at, layout, table_laid_out, table_of, row_items, energy_items, tail_in, table_valid, entry_valid, tiled, ReadValues, read_values, read_refusal, read_out}
+use Rattle.table.specs.declared.Entry.{Entry}
+use Rattle.table.specs.File.{entry_of}
+use Rattle.table.specs.Read.{layout, table_laid_out, table_of, row_items, table_valid, entry_valid, tiled, read_values, read_refusal, read_out}
 use Rattle.table.specs.Checks.{slab_checked, check_slabs}
 use Rattle.table.specs.Loose.{loose_refusal}
 use Rattle.table.specs.declared.Table.{Table}
-use Rattle.table.specs.declared.ReadAnswer.TheVariants.{Accepted as Reads}
-use Rattle.table.proofs.Items.{entry_at, entry_at_lem}
+use Rattle.std.proofs.Common.{Ok}
+use Rattle.table.proofs.Items.{entry_at_lem}
 use Rattle.table.proofs.Checked.{checked}
-use Rattle.repack.specs.Repack.{held, total, moved_to, placed, other_offsets, new_row, new_rows, parts, repacked, repack_out}
+use Rattle.repack.specs.Repack.{held, total, placed, other_offsets, new_row, new_rows, parts, repacked}
 use Rattle.repack.specs.Internal.{rows_at, Loose}
 use Rattle.repack.specs.Kept.{Bytes, PackedStays}
 use Rattle.repack.proofs.Turns.{row_goes, row_stays, taken-length}
-use Rattle.repack.proofs.Outcome.{Yes, answered, loose, repack_done}
+use Rattle.repack.proofs.Outcome.{answered, loose, repack_done}
 
 -- ---- bytes from the number that they are
 
@@ -156,7 +154,7 @@ all_yes a b d i rest p q r s z = rw (p, q, r, s, z)
 
 -- what the strict reader asked
 strict_by : (f : List ℕ) (x : Bool) → eqb (read_refusal f (layout f) (table_of f (layout f))) 0 ≡ x → (read_out f).number ≡ 0
-    → (read_refusal f (layout f) (table_of f (layout f)) ≡ 0) × (read_out f ≡ read_values (Reads (table_of f (layout f))))
+    → (read_refusal f (layout f) (table_of f (layout f)) ≡ 0) × (read_out f ≡ read_values (Ok (table_of f (layout f))))
 unfolding read_out
 strict_by f true d e = (eqb-true _ 0 d, rw d)
 strict_by f false d e = absurd (eqb-false _ 0 d (rw d at e))

@@ -1,22 +1,20 @@
 -- What is promised of repack, proved. Assumes nothing.
 use mathlib.Core.Path.{◌≡◌, refl, sym, ap, ◌∙◌}
 use mathlib.Core.Bool.{Bool, true, false}
-use mathlib.Core.List.{List, ◌++◌, append_assoc}
+use mathlib.Core.List.{List}
 use Prim.Native.Nat.{ℕ, ◌+◌}
-use native.Mathlib.Omega.{arith}
 use lib.ListN.{length, take, drop}
 use lib.Seq.{take_at}
 use lib.Dec.{leb, eqb, lit<}
-use borrow.Author.Tests.{leb-true, eqb-true, eqb-false}
-use Rattle.lists.specs.Questions.{ask, first}
+use borrow.Author.Tests.{eqb-true, eqb-false}
 use Rattle.lists.specs.Lists.{put}
 use Rattle.lists.proofs.Asking.{ask_yes, first_yes}
 use Rattle.table.specs.Read.{layout, table_of, row_items, ReadValues, read_values, read_out}
 use Rattle.table.specs.Loose.{loose_refusal}
 use Rattle.table.specs.declared.Table.{Table}
-use Rattle.table.specs.declared.ReadAnswer.TheVariants.{Accepted as Reads}
-use Rattle.repack.specs.Repack.{RepackOut, placed, other_offsets, repacked, repack_refusal, repack_out}
-use Rattle.repack.specs.Kept.{Kept, file_in, Repacks, PackedStays}
+use Rattle.std.proofs.Common.{Ok}
+use Rattle.repack.specs.Repack.{placed, other_offsets, repacked, repack_refusal, repack_out}
+use Rattle.repack.specs.Kept.{Kept, Repacks, PackedStays}
 use Rattle.repack.proofs.Outcome.{Yes, answered, repack_done}
 use Rattle.repack.proofs.Accepts.{new_table, table_new, rows_new, accepted_new, unchanged}
 use Rattle.repack.proofs.Readings.{readings-same, tails-same}
@@ -32,7 +30,7 @@ module _ (f : List ℕ) (y : Yes f (table_of f (layout f))) where
       let new = table_new f y in
       let read : (read_out g).table ≡ new_table f y = ap (λ (v : ReadValues). v.table) (accepted_new f y) in
       record {
-        accepted = accepted_new f y ∙ ap (λ (k : Table). read_values (Reads k)) (sym new);
+        accepted = accepted_new f y ∙ ap (λ (k : Table). read_values (Ok k)) (sym new);
         outside = unchanged f y;
         counted = ap (λ (k : Table). other_offsets (row_items f t) (placed 0 (row_items f t))) new ∙ rw (new, rows_new f y);
         readings = λ vertices l way q. rw read (readings-same f y vertices l way q);

@@ -1,44 +1,28 @@
 -- The rows of a file one after another, as the loops take them; and bytes that are copied. Assumes nothing.
-use mathlib.Core.Path.{◌≡◌, refl, sym, ap, ◌∙◌}
-use mathlib.Core.Bool.{Bool, true, false, not, cond, ◌&&◌, ◌||◌, and-eq-true_iff}
-use mathlib.Core.List.{List, [], ◌∷◌, ◌++◌, append-nil}
-use mathlib.Core.Logic.{⊎_elim}
+use mathlib.Core.Path.{◌≡◌, refl, ap, ◌∙◌}
+use mathlib.Core.Bool.{Bool, true, false, not, cond, ◌||◌, and-eq-true_iff}
+use mathlib.Core.List.{List, [], ◌∷◌, ◌++◌}
 use Prim.Native.Nat.{ℕ, zero, suc, ◌+◌, ◌*◌, ◌-◌, ◌≤◌, ◌<◌}
-use native.Mathlib.Nat.{add-zero}
-use native.Mathlib.Numerals.{add-one}
 use native.Mathlib.Omega.{arith}
-use lib.ListN.{length, get_or, set, take, drop, length-append, length-take, length-drop}
-use lib.Seq.{drop-cons, drop-drop, length-take-le}
+use lib.ListN.{length, get_or, take, drop, length-append, length-drop}
+use lib.Seq.{length-take-le}
 use lib.Dec.{leb, eqb}
 use borrow.Author.Tests.{leb-true, eq-eqb}
-use Rattle.lists.specs.Lists.{put, every}
-use Rattle.lists.proofs.Written.{put_nil, put_push}
+use Rattle.lists.specs.Lists.{every}
 use Rattle.mesh.specs.Levels.{per}
-use Rattle.table.specs.Bytes.{bytes_of, items, number_at}
-use Rattle.table.specs.File.{Entry, entry_of}
+use Rattle.table.specs.Bytes.{bytes_of, items}
+use Rattle.table.specs.declared.Entry.{Entry}
+use Rattle.table.specs.File.{entry_of}
 use Rattle.table.specs.Internal.{ends_below}
-use Rattle.table.proofs.Items.{items_cons, entry_at, entry_at_lem}
+use Rattle.table.proofs.Items.{items_cons, entry_at_lem}
 use Rattle.table.proofs.Lengths.{bytes_length}
-use Rattle.repack.specs.Repack.{held, total, moved_to, placed, other_offsets, new_row, new_rows, parts}
+use Rattle.repack.specs.Repack.{held, total, placed, other_offsets, new_row, new_rows, parts}
 use Rattle.repack.specs.Internal.{rows_at}
 
 -- ---- bytes
 
--- the next byte of those that are copied
-pub taken_cons : (file : List ℕ) (p n : ℕ) → 0 < n → p + n ≤ length file → take n (drop p file) ≡ get_or file p 0 ∷ take (n - 1) (drop (p + 1) file)
-taken_cons file p zero h l = absurd (omega arith)
-taken_cons file p (suc n) h l = let e : suc n - 1 ≡ n = omega arith in rw (e, drop-cons file p 0 (omega arith), add-one)
-
-pub taken_none : (l : List ℕ) (n : ℕ) → n ≤ 0 → take n l ≡ []
-taken_none l n h = let e : n ≡ 0 = omega arith in rw e
-
 pub taken-length : (file : List ℕ) (p n : ℕ) → p + n ≤ length file → length (take n (drop p file)) ≡ n
 taken-length file p n h = length-take-le n (drop p file) (omega (arith, length-drop p file))
-
-pub set-one : (d : List ℕ) (at x : ℕ) → at < length d → set d at x ≡ put d at (x ∷ [])
-set-one d at x h =
-    let e = put_push d at [] x (omega (arith, h)) in
-    ap (λ (l : List ℕ). set l at x) (sym (put_nil d at)) ∙ ap (λ (k : ℕ). set (put d at []) k x) (sym (add-zero at)) ∙ e
 
 -- ---- rows
 
@@ -50,62 +34,69 @@ module _ (file : List ℕ) where
   abbrev row : ℕ → Entry
   row at = entry_of (take 10 (drop at file))
 
-  -- how many energies the row at a byte has
-  pub held_at : (at e : ℕ) → e ≡ cond (leb (get_or file at 0) 1) 0 (per (get_or file (at + 1) 0)) → e ≡ held (row at)
-  held_at at e h = h ∙ rw (entry_at_lem file at)
+  -- row i of n from byte y on, and those behind it
+  module _ (y n i : ℕ) (l : i < n) where
+    abbrev at : ℕ
+    at = y + i * 10
 
-  module _ (at n : ℕ) (l : 0 < n) where
-    pub total_turn : total (rows_at file at n) ≡ held (row at) + total (rows_at file (at + 10) (n - 1))
+    abbrev behind : List Entry
+    behind = rows_at file (y + (i + 1) * 10) (n - (i + 1))
+
+    rows_cons : rows_at file at (n - i) ≡ row at ∷ behind
+    rows_cons =
+        let less : n - i - 1 ≡ n - (i + 1) = omega (arith, l) in
+        let next : at + 10 ≡ y + (i + 1) * 10 = omega arith in
+        items_cons entry_of 10 file at (n - i) (omega (arith, l)) ∙ rw (less, next)
+
+    pub total_turn : total (rows_at file at (n - i)) ≡ held (row at) + total behind
     unfolding total
-    total_turn = rw (items_cons entry_of 10 file at n l)
+    total_turn = rw rows_cons
 
-    pub moved_turn : (o : ℕ) → other_offsets (rows_at file at n) (placed o (rows_at file at n))
-        ≡ cond (leb (get_or file at 0) 1 || eqb (number_at 4 file (at + 2)) o) 0 1 + other_offsets (rows_at file (at + 10) (n - 1)) (placed (o + held (row at)) (rows_at file (at + 10) (n - 1)))
+    pub moved_turn : (o : ℕ) → other_offsets (rows_at file at (n - i)) (placed o (rows_at file at (n - i)))
+        ≡ cond (leb (row at).kind 1 || eqb (row at).offset o) 0 1 + other_offsets behind (placed (o + held (row at)) behind)
     unfolding other_offsets placed
-    moved_turn o = rw (items_cons entry_of 10 file at n l, entry_at_lem file at) (by (leb (get_or file at 0) 1))
+    moved_turn o = rw rows_cons (by (leb (row at).kind 1))
       where
         rest : ℕ
-        rest = other_offsets (rows_at file (at + 10) (n - 1)) (placed (o + held (entry_at file at)) (rows_at file (at + 10) (n - 1)))
+        rest = other_offsets behind (placed (o + held (row at)) behind)
 
-        by : (x : Bool) → cond (eqb (number_at 4 file (at + 2)) (cond x (number_at 4 file (at + 2)) o)) 0 1 + rest ≡ cond (x || eqb (number_at 4 file (at + 2)) o) 0 1 + rest
-        by true = rw (eq-eqb (number_at 4 file (at + 2)) (number_at 4 file (at + 2)) refl)
+        by : (x : Bool) → cond (eqb (row at).offset (cond x (row at).offset o)) 0 1 + rest ≡ cond (x || eqb (row at).offset o) 0 1 + rest
+        by true = rw (eq-eqb (row at).offset (row at).offset refl)
         by false = refl
 
-    pub rows_turn : (o : ℕ) → new_rows file at n o ≡ new_row file at o ++ new_rows file (at + 10) (n - 1) (o + held (row at))
+    pub rows_turn : (o : ℕ) → new_rows file at (n - i) o ≡ new_row file at o ++ new_rows file (y + (i + 1) * 10) (n - (i + 1)) (o + held (row at))
     unfolding new_rows
-    rows_turn o = by n l
-      where
-        by : (n : ℕ) → 0 < n → new_rows file at n o ≡ new_row file at o ++ new_rows file (at + 10) (n - 1) (o + held (row at))
-        by zero h = absurd (omega arith)
-        by (suc m) h = let e : suc m - 1 ≡ m = omega arith in rw e
+    rows_turn o =
+        let more : n - i ≡ suc (n - (i + 1)) = omega (arith, l) in
+        let next : at + 10 ≡ y + (i + 1) * 10 = omega arith in
+        rw (more, next)
 
-    pub parts_turn : (z : ℕ) → parts file z (rows_at file at n) ≡ take (held (row at) * 4) (drop (z + number_at 4 file (at + 2) * 4) file) ++ parts file z (rows_at file (at + 10) (n - 1))
+    pub parts_turn : (z : ℕ) → parts file z (rows_at file at (n - i)) ≡ take (held (row at) * 4) (drop (z + (row at).offset * 4) file) ++ parts file z behind
     unfolding parts
-    parts_turn z = rw (items_cons entry_of 10 file at n l, entry_at_lem file at)
+    parts_turn z = rw rows_cons
 
-    pub inside_turn : (k : ℕ) → every (ends_below k) (rows_at file at n) ≡ true → (ends_below k (row at) ≡ true) × (every (ends_below k) (rows_at file (at + 10) (n - 1)) ≡ true)
+    pub inside_turn : (k : ℕ) → every (ends_below k) (rows_at file at (n - i)) ≡ true → (ends_below k (row at) ≡ true) × (every (ends_below k) behind ≡ true)
     unfolding every
-    inside_turn k h = (and-eq-true_iff (ends_below k (row at)) _).0 (rw (items_cons entry_of 10 file at n l) at h)
+    inside_turn k h = (and-eq-true_iff (ends_below k (row at)) _).0 (rw rows_cons at h)
 
-  module _ (at n : ℕ) (l : n ≤ 0) where
-    none : rows_at file at n ≡ []
-    unfolding items
-    none = let e : n ≡ 0 = omega (arith, l) in rw e
+  module _ (y n i : ℕ) (l : n ≤ i) where
+    none : n - i ≡ 0
+    none = omega (arith, l)
 
-    pub total_end : total (rows_at file at n) ≡ 0
-    unfolding total
+    pub total_end : total (rows_at file (y + i * 10) (n - i)) ≡ 0
+    unfolding total items
     total_end = rw none
 
-    pub moved_end : (o : ℕ) → other_offsets (rows_at file at n) (placed o (rows_at file at n)) ≡ 0
-    unfolding other_offsets placed
+    pub moved_end : (o : ℕ) → other_offsets (rows_at file (y + i * 10) (n - i)) (placed o (rows_at file (y + i * 10) (n - i))) ≡ 0
+    unfolding other_offsets placed items
     moved_end o = rw none
 
-    pub rows_end : (o : ℕ) → new_rows file at n o ≡ []
+    pub rows_end : (o : ℕ) → new_rows file (y + i * 10) (n - i) o ≡ []
     unfolding new_rows
-    rows_end o = let e : n ≡ 0 = omega (arith, l) in rw e
+    rows_end o = rw none
 
-    pub parts_end : (z : ℕ) → parts file z (rows_at file at n) ≡ []
-    unfolding parts
+    pub parts_end : (z : ℕ) → parts file z (rows_at file (y + i * 10) (n - i)) ≡ []
+    unfolding parts items
     parts_end z = rw none
 
   -- the bytes of a row by its kind
@@ -134,18 +125,14 @@ module _ (file : List ℕ) where
       length-append (new_row file at o) _ ∙ omega (arith, row_length at o (omega (arith, h)), rows-length (at + 10) n (o + held (row at)) (omega (arith, h)))
 
   -- the energies of a row that ends among the first k
-  pub row_inside_lem : (z k at e : ℕ) → z + k * 4 ≤ length file → ends_below k (row at) ≡ true → e ≡ held (row at) → 0 < e → z + (e + number_at 4 file (at + 2)) * 4 ≤ length file
-  row_inside_lem z k at e h i q p = by (leb (row at).kind 1) refl
+  pub row_inside : (z k : ℕ) (r : Entry) → z + k * 4 ≤ length file → ends_below k r ≡ true → 0 < held r → z + (held r + r.offset) * 4 ≤ length file
+  row_inside z k r h i = by (leb r.kind 1) refl
     where
-      by : (x : Bool) → leb (row at).kind 1 ≡ x → z + (e + number_at 4 file (at + 2)) * 4 ≤ length file
-      by true s = let v : held (row at) ≡ 0 = rw s in absurd (omega (arith, p, q, v))
-      by false s =
-          let a = (and-eq-true_iff (not (eqb (row at).offset 0xFFFF_FFFF)) (leb (per (row at).level + (row at).offset) k)).0 (rw s at i) in
-          let b = leb-true (per (row at).level + (row at).offset) k a.1 in
-          let u : held (row at) ≡ per (row at).level = rw s in
-          let v : e ≡ per (row at).level = q ∙ u in
-          let w : (row at).offset ≡ number_at 4 file (at + 2) = ap (λ (r : Entry). r.offset) (entry_at_lem file at) in
-          omega (arith, b, v, w, h)
+      by : (x : Bool) → leb r.kind 1 ≡ x → 0 < cond x 0 (per r.level) → z + (cond x 0 (per r.level) + r.offset) * 4 ≤ length file
+      by true s p = absurd (omega (arith, p))
+      by false s p =
+          let a = (and-eq-true_iff (not (eqb r.offset 0xFFFF_FFFF)) (leb (per r.level + r.offset) k)).0 (rw s at i) in
+          omega (arith, leb-true (per r.level + r.offset) k a.1, h)
 
   -- what is copied of a row that ends among the first k; and of n rows
   pub part_length : (z k : ℕ) (r : Entry) → z + k * 4 ≤ length file → ends_below k r ≡ true → length (take (held r * 4) (drop (z + r.offset * 4) file)) ≡ held r * 4
@@ -164,8 +151,3 @@ module _ (file : List ℕ) where
   parts-length z k (r ∷ rs) h i =
       let a = (and-eq-true_iff (ends_below k r) (every (ends_below k) rs)).0 i in
       length-append (take (held r * 4) (drop (z + r.offset * 4) file)) (parts file z rs) ∙ omega (arith, part_length z k r h a.0, parts-length z k rs h a.1)
-
-  -- the same of the row at a byte
-  pub part_at_length : (z k at : ℕ) → z + k * 4 ≤ length file → ends_below k (row at) ≡ true
-      → length (take (held (row at) * 4) (drop (z + number_at 4 file (at + 2) * 4) file)) ≡ held (row at) * 4
-  part_at_length z k at h i = rw (← ap (λ (r : Entry). r.offset) (entry_at_lem file at)) (part_length z k (row at) h i)

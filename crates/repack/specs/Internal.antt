@@ -2,10 +2,9 @@
 use Rattle.std.specs.Prelude.{◌≡◌, true, List, ℕ, ◌+◌, ◌*◌, ◌≤◌, length}
 use Rattle.lists.specs.Lists.{every}
 use Rattle.table.specs.Bytes.{items}
-use Rattle.table.specs.File.{Entry, entry_of}
-use Rattle.table.specs.Read.{row_items}
+use Rattle.table.specs.declared.Entry.{Entry}
+use Rattle.table.specs.File.{entry_of}
 use Rattle.table.specs.Internal.{ends_below}
-use Rattle.table.specs.declared.Table.{Table}
 use Rattle.repack.specs.Repack.{total}
 
 -- n rows from a byte on

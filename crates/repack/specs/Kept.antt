@@ -1,12 +1,12 @@
 -- What is promised of repack. Definitions only.
-use Rattle.std.specs.Prelude.{◌≡◌, true, cond, List, ◌++◌, ℕ, ◌+◌, ◌*◌, ◌≤◌, ◌<◌, length, take, drop, leb, ltb, Float}
+use Rattle.std.specs.Prelude.{◌≡◌, true, cond, List, ◌++◌, ℕ, ◌+◌, ◌*◌, ◌≤◌, ◌<◌, length, take, drop, leb, ltb, Float, Ok}
 use Rattle.lists.specs.Lists.{every, put}
 use Rattle.search.specs.Search.{Locator}
 use Rattle.table.specs.File.{entry_of}
 use Rattle.table.specs.Read.{layout, table_of, row_items, read_values, read_out}
 use Rattle.table.specs.declared.Table.{Table}
-use Rattle.table.specs.declared.ReadAnswer.TheVariants.{Accepted as Reads}
-use Rattle.reading.specs.Resolve.{Way, Query}
+use Rattle.reading.specs.Resolve.{Way}
+use Rattle.reading.specs.declared.Query.{Query}
 use Rattle.reading.specs.Reading.{reading_by}
 use Rattle.tail.specs.Reading.{tail_out}
 use Rattle.repack.specs.Repack.{RepackOut, other_offsets, repack_out}
@@ -33,7 +33,7 @@ pub record Unchanged (f g : List ℕ) : Type 0 where
 -- f was repacked to g, and so many rows moved
 pub record Kept (f g : List ℕ) (moved : ℕ) : Type 0 where
   -- the strict reader accepts g: "The strict reader's offset rule, 16, still governs ordinary reading" (S23.7)
-  pub accepted : read_out g ≡ read_values (Reads (table_in g))
+  pub accepted : read_out g ≡ read_values (Ok (table_in g))
   pub outside : Unchanged f g
   pub counted : moved ≡ other_offsets (row_items f (table_in f)) (row_items g (table_in g))
   -- "Every admitted reading of the old rows and of the new file agrees", plain and weighted, with its distances, whatever is lent beside the file; and so does the tail (S23.8)

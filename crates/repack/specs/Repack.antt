@@ -1,15 +1,17 @@
 -- Repack (document 02, paper 13): a loosely packed file made a packed one, in a second buffer. Definitions only.
-use Rattle.std.specs.Prelude.{Bool, true, not, cond, List, [], ◌∷◌, ◌++◌, ℕ, zero, suc, ◌+◌, ◌*◌, length, take, drop, leb, eqb}
+use Rattle.std.specs.Prelude.{cond, List, [], ◌∷◌, ◌++◌, ℕ, zero, suc, ◌+◌, ◌*◌, length, take, drop, leb, eqb, Result, Ok, Err}
 use Rattle.lists.specs.Questions.{ask, first}
 use Rattle.lists.specs.Lists.{put}
 use Rattle.mesh.specs.Levels.{per}
 use Rattle.table.specs.Bytes.{bytes_of}
-use Rattle.table.specs.File.{Entry, entry_of}
+use Rattle.table.specs.declared.Entry.{Entry}
+use Rattle.table.specs.File.{entry_of}
 use Rattle.table.specs.Read.{layout, table_of, row_items}
 use Rattle.table.specs.Loose.{loose_refusal}
 use Rattle.table.specs.declared.Table.{Table}
+use Rattle.refusals.specs.Numbers.{number}
+use Rattle.refusals.specs.declared.Refusal.{Refusal}
 use Rattle.repack.specs.declared.Repacked.{Repacked}
-use Rattle.repack.specs.declared.Repacked.TheVariants.{Accepted as Packs, Refused as NotPacked}
 
 -- "return the new length with the number of rows whose offset is now another"; beside a number that refuses stand 0 and 0 (S23.1)
 pub record RepackedValues : Type 0 where
@@ -17,14 +19,9 @@ pub record RepackedValues : Type 0 where
   pub length : ℕ
   pub moved : ℕ
 
-abbrev pub repacked_values : Repacked → RepackedValues
-repacked_values (Packs n k) = record { number = 0; length = n; moved = k }
-repacked_values (NotPacked n) = record { number = n; length = 0; moved = 0 }
-
--- a refusal has a number: 0 is acceptance alone
-abbrev pub repacked_numbered : Repacked → Bool
-repacked_numbered (Packs n k) = true
-repacked_numbered (NotPacked n) = not (eqb n 0)
+abbrev pub repacked_values : Result Repacked Refusal → RepackedValues
+repacked_values (Ok r) = record { number = 0; length = r.length; moved = r.moved }
+repacked_values (Err e) = record { number = number e; length = 0; moved = 0 }
 
 -- ---- the packed places
 
@@ -99,5 +96,5 @@ repack_out file out =
     let rs = row_items file t in
     let r = repack_refusal file t (length out) in
     cond (eqb r 0)
-    (record { answer = repacked_values (Packs (length g) (other_offsets rs (placed 0 rs))); output = put out 0 g })
-    (record { answer = repacked_values (NotPacked r); output = out })
+    (record { answer = record { number = 0; length = length g; moved = other_offsets rs (placed 0 rs) }; output = put out 0 g })
+    (record { answer = record { number = r; length = 0; moved = 0 }; output = out })

@@ -1,5 +1,5 @@
 -- Document 02's paper 11, "A row in a word": a slab's row as one number. Definitions only.
-use Rattle.std.specs.Prelude.{Bool, cond, List, map, ℕ, ◌+◌, ◌*◌, ◌/◌, ◌%◌}
+use Rattle.std.specs.Prelude.{List, map, ℕ, ◌+◌, ◌*◌, ◌/◌, ◌%◌}
 use Rattle.rows.specs.Rows.{Rows, rows_of}
 
 -- "scalar or offset (0 for Repulsive, and for Mesh while building) in the low 32 bits, level in the next eight, kind in the eight above, the rest 0" (S25.1)
@@ -19,7 +19,3 @@ word_kind w = w / 1099511627776
 -- "In the place of document 01's three": the lists of numbers that a list of words stands for (S25.3)
 unfoldable pub word_rows : List ℕ → Rows
 word_rows words = rows_of (map word_kind words) (map word_level words) (map word_value words)
-
--- rows in either form: as words, or in three lists
-unfoldable pub rows_by : Bool → List ℕ → List ℕ → List ℕ → List ℕ → Rows
-rows_by worded words kinds levels values = cond worded (word_rows words) (rows_of kinds levels values)

@@ -1,129 +1,76 @@
 -- The turns of the search's loops, and its lists by their offsets.
-use mathlib.Core.Path.{◌≡◌, refl, sym, ap, ◌∙◌}
+use mathlib.Core.Path.{◌≡◌, refl, ap, ◌∙◌}
 use Rattle.lists.proofs.Written.{part, slice_none}
-use mathlib.Core.Bool.{Bool, true, false, ◌&&◌, ◌||◌, cond, true≢false, and-eq-true_iff}
+use mathlib.Core.Bool.{Bool, true, false, ◌&&◌, ◌||◌, true≢false, and-eq-true_iff, and-false}
 use mathlib.Core.List.{List, [], ◌∷◌}
 use Prim.Native.Nat.{ℕ, ◌+◌, ◌-◌, ◌*◌, ◌≤◌, ◌<◌}
-use native.Mathlib.Nat.{mul-le-mul_left}
+use native.Mathlib.Nat.{mul-lt-mul_of_pos_left, lt_of_mul-lt-mul_left}
 use native.Mathlib.Numerals.{add-one}
 use native.Mathlib.Omega.{arith}
-use lib.ListN.{length, get_or, take, drop, drop_of_length-le}
-use lib.Seq.{slice, drop-cons}
+use lib.ListN.{length, get_or, take, drop, drop_of_length-le, length-take, length-drop}
+use lib.Seq.{slice, drop-cons, take_all}
+use mathlib.Core.Logic.{◌⊎◌, inl, inr}
+use Rattle.ieee.proofs.Pack.{le_or_lt}
+use Rattle.std.proofs.Common.{Bor, Option, Some, None, ◌%◌}
+use Rattle.std.specs.Prelude.{MatchOption}
+use Rattle.std.specs.Slice.{IsGetRangeResult}
 use lib.Dec.{leb, ltb, eqb}
 use lib.Ieee.{Float}
-use borrow.Author.Tests.{lt-ltb, le-ltb, le-leb, leb-true, eq-eqb, ne_eqb, eqb-true}
+use borrow.Author.Tests.{lt-ltb, le-leb, lt-leb, leb-true, eq-eqb, ne_eqb, eqb-true}
 use Rattle.lists.specs.Lists.{every}
 use Rattle.mesh.specs.Faces.{face}
 use Rattle.search.specs.Geometry.{cell_index}
 use Rattle.search.specs.Cells.{triples}
 use Rattle.search.specs.Search.{not_nearest, nearer, nearest_from, nearest_among, nearest_in_cells, nearest_in, no_fit, not_located, better, fit_from, located_fit, best_face, Locator, vertex_inside, entries_at, entries_inside, locate_in}
-use Rattle.search.specs.Internal.{span_of, nearest_over, fit_over}
+use Rattle.search.specs.Internal.{entries_held, inside, nearest_over, fit_over}
 use Rattle.search.specs.declared.Vector3.{Vector3}
 use Rattle.search.specs.declared.Nearest.{Nearest}
-use Rattle.search.specs.declared.cells.Span.{Span}
 use Rattle.search.specs.declared.Fit.{Fit}
 
--- ---- the places between two offsets
-
-module _ (offsets : List ℕ) (w places i : ℕ) where
-  pub span-past : length offsets ≤ i + 1 → span_of w offsets places i ≡ record { held = false; from = 0; to = 0 }
-  unfolding span_of
-  span-past h = rw (le-ltb (i + 1) (length offsets) h)
-
-  -- the offsets are inside, and are a and b
-  module _ (a b : ℕ) (p : a ≡ get_or offsets i 0) (q : b ≡ get_or offsets (i + 1) 0) (h : i + 1 < length offsets) where
-    pub span-empty : a ≡ b → span_of w offsets places i ≡ record { held = true; from = 0; to = 0 }
-    unfolding span_of
-    span-empty e = rw (← p, ← q, lt-ltb (i + 1) (length offsets) h, eq-eqb a b e)
-
-    pub span_by : (t : Bool) → (a ≡ b → ⊥) → (leb a b && leb (w * b) places) ≡ t
-        → span_of w offsets places i ≡ cond t (record { held = true; from = w * a; to = w * b }) (record { held = false; from = 0; to = 0 })
-    unfolding span_of
-    span_by t d k = rw (← p, ← q, lt-ltb (i + 1) (length offsets) h, ne_eqb a b d, k)
-
--- places that are held, and those that are not
-abbrev at : ℕ → ℕ → Span
-at a b = record { held = true; from = a; to = b }
-
-abbrev none : Span
-none = record { held = false; from = 0; to = 0 }
-
--- what is known of places that are held
-pub record Held (vs : List Float) (n w : ℕ) (offsets entries : List ℕ) (i : ℕ) (s : Span) : Type 0 where
-  pub order : s.from ≤ s.to
-  pub room : s.to ≤ length entries
-  pub first : ℕ
-  pub start : s.from ≡ w * first
-  pub last : ℕ
-  pub end : s.to ≡ w * last
-  pub cut : take (s.to - s.from) (drop s.from entries) ≡ entries_at w offsets entries i
-  pub inside : entries_inside vs n w offsets entries i ≡ every (vertex_inside vs n) (entries_at w offsets entries i)
+-- ---- the entries between two offsets
 
 module _ (vs : List Float) (n w : ℕ) (offsets entries : List ℕ) (i : ℕ) where
-  pub not_held : (s : Span) → s ≡ span_of w offsets (length entries) i → s.held ≡ false → entries_inside vs n w offsets entries i ≡ false
-  unfolding span_of entries_inside
-  not_held s e h =
-      either (ltb (i + 1) (length offsets)) (eqb (get_or offsets i 0) (get_or offsets (i + 1) 0)) (leb (get_or offsets i 0) (get_or offsets (i + 1) 0))
-      (leb (w * get_or offsets (i + 1) 0) (length entries)) (every (vertex_inside vs n) (entries_at w offsets entries i))
-      (w * get_or offsets i 0) (w * get_or offsets (i + 1) 0) (sym (ap (λ (x : Span). x.held) e) ∙ h)
+  -- the entries that are held are inside where the vertices are
+  held_inside : entries_inside vs n w offsets entries i ≡ (entries_held w offsets (length entries) i && every (vertex_inside vs n) (entries_at w offsets entries i))
+  unfolding entries_inside entries_held
+  held_inside =
+      let start = get_or offsets i 0 in
+      let end = get_or offsets (i + 1) 0 in
+      same (ltb (i + 1) (length offsets)) (eqb start end) (leb start end) (leb (w * end) (length entries)) (every (vertex_inside vs n) (entries_at w offsets entries i))
+      (λ h. let e = eqb-true start end h in le-leb start end (omega arith))
     where
-      either : (p o q r t : Bool) (a b : ℕ) → (cond p (cond o (at 0 0) (cond (q && r) (at a b) none)) none).held ≡ false → (p && (q && ((o || r) && t))) ≡ false
-      either true true q r t a b h = absurd (true≢false h)
-      either true false true true t a b h = absurd (true≢false h)
-      either true false true false t a b h = refl
-      either true false false r t a b h = refl
-      either false o q r t a b h = refl
+      same : (p o q r t : Bool) → (o ≡ true → q ≡ true) → (p && (q && ((o || r) && t))) ≡ ((p && (o || (q && r))) && t)
+      same false o q r t h = refl
+      same true true q r t h = rw (h refl) refl
+      same true false false r t h = refl
+      same true false true r t h = refl
 
-  pub held : (s : Span) → s ≡ span_of w offsets (length entries) i → s.held ≡ true → Held vs n w offsets entries i s
-  unfolding span_of entries_at entries_inside
-  held s e h = made (ltb (i + 1) (length offsets)) (eqb x y) (leb x y) (leb (w * y) (length entries)) refl refl refl refl e
+-- what a range of the entries gives, where the offsets are a and b
+module _ (w : ℕ) (offsets entries : List ℕ) (i a b : ℕ) (low : 0 < w) (h : i + 1 < length offsets) (p : a ≡ get_or offsets i 0) (q : b ≡ get_or offsets (i + 1) 0) (d : a ≡ b → ⊥) where
+  pub entries_got : (r : Option (Bor (List ℕ))) → IsGetRangeResult entries (w * a) (w * b) r
+      → MatchOption r (entries_held w offsets (length entries) i ≡ false) (λ s. (entries_held w offsets (length entries) i ≡ true) × (s.now ≡ entries_at w offsets entries i))
+  unfolding entries_held entries_at
+  entries_got (Some s) g =
+      (rw (← p, ← q, lt-ltb (i + 1) (length offsets) h, ne_eqb a b d, le-leb a b (ordered (le_or_lt a b)), le-leb (w * b) (length entries) g.0.1), rw (← p, ← q) (g.0.2 ∙ part (w * a) (w * b) entries))
     where
-      x : ℕ
-      x = get_or offsets i 0
+      ordered : (a ≤ b) ⊎ (b < a) → a ≤ b
+      ordered (inl k) = k
+      ordered (inr k) = let m = mul-lt-mul_of_pos_left {k = w} k low in absurd (omega (arith, m, g.0.0))
+  entries_got None g = rw (← p, ← q, lt-ltb (i + 1) (length offsets) h, ne_eqb a b d) (past g.0)
+    where
+      past : (w * b < w * a) ⊎ (length entries < w * b) → (leb a b && leb (w * b) (length entries)) ≡ false
+      past (inl k) = rw (lt-leb a b (lt_of_mul-lt-mul_left w k))
+      past (inr k) = rw (lt-leb (w * b) (length entries) k) (and-false (leb a b))
 
-      y : ℕ
-      y = get_or offsets (i + 1) 0
-
-      never : s ≡ none → Held vs n w offsets entries i s
-      never e = absurd (true≢false (sym h ∙ ap (λ (x : Span). x.held) e))
-
-      made : (p o q r : Bool) → ltb (i + 1) (length offsets) ≡ p → eqb x y ≡ o → leb x y ≡ q → leb (w * y) (length entries) ≡ r
-          → s ≡ cond p (cond o (at 0 0) (cond (q && r) (at (w * x) (w * y)) none)) none → Held vs n w offsets entries i s
-      made true true q r hp ho hq hr e =
-          let j : x ≡ y = eqb-true x y ho in
-          let z : slice (w * x) (w * y) entries ≡ [] = rw (← j) (slice_none (w * x) entries) in
-          record {
-            order = rw e (omega arith);
-            room = rw e (omega arith);
-            first = 0;
-            start = rw e (omega arith);
-            last = 0;
-            end = rw e (omega arith);
-            cut = rw (e, z);
-            inside = rw (hp, ho, le-leb x y (omega arith));
-          }
-      made true false true true hp ho hq hr e = record {
-        order = rw e (mul-le-mul_left w (leb-true _ _ hq));
-        room = rw e (leb-true _ _ hr);
-        first = x;
-        start = ap (λ (x : Span). x.from) e;
-        last = y;
-        end = ap (λ (x : Span). x.to) e;
-        cut = part s.from s.to entries ∙ rw e;
-        inside = rw (hp, ho, hq, hr);
-      }
-      made true false true false hp ho hq hr e = never e
-      made true false false r hp ho hq hr e = never e
-      made false o q r hp ho hq hr e = never e
-
-module _ (offsets entries : List ℕ) (vs : List Float) (n g : ℕ) (p : Vector3) (s : Span) (e : s ≡ span_of 1 offsets (length entries) (cell_index g p)) where
-  pub cell_not_held : s.held ≡ false → nearest_in_cells offsets entries vs n g p ≡ not_nearest 19
+module _ (offsets entries : List ℕ) (vs : List Float) (n g : ℕ) (p : Vector3) where
+  pub cell_not_held : entries_held 1 offsets (length entries) (cell_index g p) ≡ false → nearest_in_cells offsets entries vs n g p ≡ not_nearest 19
   unfolding nearest_in_cells
-  cell_not_held h = rw (not_held vs n 1 offsets entries (cell_index g p) s e h)
+  cell_not_held h = rw (held_inside vs n 1 offsets entries (cell_index g p), h)
 
-  pub cell-held : s.held ≡ true → nearest_in_cells offsets entries vs n g p ≡ nearest_over vs n p (not_nearest 20) (take (s.to - s.from) (drop s.from entries))
+  pub cell-held : (s : List ℕ) → entries_held 1 offsets (length entries) (cell_index g p) ≡ true → s ≡ entries_at 1 offsets entries (cell_index g p)
+      → nearest_in_cells offsets entries vs n g p ≡ nearest_over vs n p (not_nearest 20) s
   unfolding nearest_in_cells nearest_over nearest_among
-  cell-held h = let k = held vs n 1 offsets entries (cell_index g p) s e h in rw (k.inside, k.cut)
+  cell-held s h e = rw (held_inside vs n 1 offsets entries (cell_index g p), h, e)
 
 -- ---- the loop over a cell
 
@@ -144,16 +91,11 @@ module _ (vs : List Float) (n : ℕ) (p : Vector3) (l : List ℕ) where
 
 -- ---- the loop over faces
 
-abbrev pub inside : List Float → ℕ → ℕ → Bool
-inside vs n v = ltb v n && leb (3 * v + 3) (length vs)
-
-entry : (l : List ℕ) (i j v : ℕ) → j ≡ i + 1 → i < length l → v ≡ get_or l i 0 → drop i l ≡ v ∷ drop j l
-entry l i j v e h p = rw (e, add-one i, p) (drop-cons l i 0 h)
-
-pub three : (l : List ℕ) (i a b c : ℕ) → i + 3 ≤ length l → a ≡ get_or l i 0 → b ≡ get_or l (i + 1) 0 → c ≡ get_or l (i + 2) 0 → drop i l ≡ a ∷ b ∷ c ∷ drop (i + 3) l
-three l i a b c h p q r =
-    entry l i (i + 1) a refl (omega arith) p
-    ∙ ap (λ (t : List ℕ). a ∷ t) (entry l (i + 1) (i + 2) b (omega arith) (omega arith) q ∙ ap (λ (t : List ℕ). b ∷ t) (entry l (i + 2) (i + 3) c (omega arith) (omega arith) r))
+pub three : (l : List ℕ) (a b c : ℕ) → 3 ≤ length l → a ≡ get_or l 0 0 → b ≡ get_or l 1 0 → c ≡ get_or l 2 0 → l ≡ a ∷ b ∷ c ∷ take (length l - 3) (drop 3 l)
+three [] a b c h p q r = absurd (omega (arith, h))
+three (x ∷ []) a b c h p q r = absurd (omega (arith, h))
+three (x ∷ y ∷ []) a b c h p q r = absurd (omega (arith, h))
+three (x ∷ y ∷ z ∷ l) a b c h p q r = rw (p, q, r, take_all (length (x ∷ y ∷ z ∷ l) - 3) l (omega arith))
 
 pub stops : (p q r s : Bool) → (p && (q && r)) ≡ false → (p && (q && (r && s))) ≡ false
 stops true true true s h = absurd (true≢false h)
@@ -162,23 +104,28 @@ stops true false r s h = refl
 stops false q r s h = refl
 
 module _ (vs : List Float) (n : ℕ) (p : Vector3) (v : Nearest) (l : List ℕ) where
-  pub fit_turn : (best : Fit) (i a b c : ℕ) → i + 3 ≤ length l → a ≡ get_or l i 0 → b ≡ get_or l (i + 1) 0 → c ≡ get_or l (i + 2) 0
-      → (inside vs n a && (inside vs n b && inside vs n c)) ≡ true
-      → fit_over vs n p v best (drop i l) ≡ fit_over vs n p v (better vs p best (face a b c)) (drop (i + 3) l)
+  pub fit_turn : (best : Fit) (a b c : ℕ) → 3 ≤ length l → a ≡ get_or l 0 0 → b ≡ get_or l 1 0 → c ≡ get_or l 2 0
+      → (inside n (length vs) a && (inside n (length vs) b && inside n (length vs) c)) ≡ true
+      → fit_over vs n p v best l ≡ fit_over vs n p v (better vs p best (face a b c)) (take (length l - 3) (drop 3 l))
   unfolding fit_over every triples fit_from vertex_inside
-  fit_turn best i a b c h x y z t =
-      let k = (and-eq-true_iff (inside vs n a) (inside vs n b && inside vs n c)).0 t in
-      let m = (and-eq-true_iff (inside vs n b) (inside vs n c)).0 k.1 in
-      rw (three l i a b c h x y z, k.0, m.0, m.1)
+  fit_turn best a b c h x y z t = ap (fit_over vs n p v best) (three l a b c h x y z) ∙ turn (take (length l - 3) (drop 3 l))
+    where
+      turn : (m : List ℕ) → fit_over vs n p v best (a ∷ b ∷ c ∷ m) ≡ fit_over vs n p v (better vs p best (face a b c)) m
+      turn m =
+          let k = (and-eq-true_iff (inside n (length vs) a) (inside n (length vs) b && inside n (length vs) c)).0 t in
+          let o = (and-eq-true_iff (inside n (length vs) b) (inside n (length vs) c)).0 k.1 in
+          rw (k.0, o.0, o.1)
 
-  pub fit_stop : (best : Fit) (i a b c : ℕ) → i + 3 ≤ length l → a ≡ get_or l i 0 → b ≡ get_or l (i + 1) 0 → c ≡ get_or l (i + 2) 0
-      → (inside vs n a && (inside vs n b && inside vs n c)) ≡ false → fit_over vs n p v best (drop i l) ≡ not_located 19
+  pub fit_stop : (best : Fit) (a b c : ℕ) → 3 ≤ length l → a ≡ get_or l 0 0 → b ≡ get_or l 1 0 → c ≡ get_or l 2 0
+      → (inside n (length vs) a && (inside n (length vs) b && inside n (length vs) c)) ≡ false → fit_over vs n p v best l ≡ not_located 19
   unfolding fit_over every triples vertex_inside
-  fit_stop best i a b c h x y z t = rw (three l i a b c h x y z, stops (inside vs n a) (inside vs n b) (inside vs n c) (every (vertex_inside vs n) (drop (i + 3) l)) t)
+  fit_stop best a b c h x y z t =
+      rw (three l a b c h x y z, stops (inside n (length vs) a) (inside n (length vs) b) (inside n (length vs) c) (every (vertex_inside vs n) (take (length l - 3) (drop 3 l))) t)
 
-  pub fit_end : (best : Fit) (i : ℕ) → length l ≤ i → fit_over vs n p v best (drop i l) ≡ located_fit v best
-  unfolding fit_over every triples fit_from
-  fit_end best i h = rw (drop_of_length-le l h)
+pub fit_end : (vs : List Float) (n : ℕ) (p : Vector3) (v : Nearest) (best : Fit) (l : List ℕ) → length l < 3 → length l % 3 ≡ 0 → fit_over vs n p v best l ≡ located_fit v best
+unfolding fit_over every triples fit_from
+fit_end vs n p v best [] h k = refl
+fit_end vs n p v best (a ∷ l) h k = absurd (omega (arith, h, k))
 
 -- ---- the faces of the nearest vertex
 
@@ -187,11 +134,32 @@ module _ (l : Locator) (vs : List Float) (n g : ℕ) (p : Vector3) (v : Nearest)
   unfolding locate_in nearest_in
   none-near h = rw (← e, ne_eqb v.number 0 h)
 
-  module _ (f : v.number ≡ 0) (s : Span) (k : s ≡ span_of 3 l.face_offsets (length l.faces) v.vertex) where
-    pub faces_not_held : s.held ≡ false → locate_in l vs n g p ≡ not_located 19
+  module _ (f : v.number ≡ 0) where
+    pub faces_not_held : entries_held 3 l.face_offsets (length l.faces) v.vertex ≡ false → locate_in l vs n g p ≡ not_located 19
     unfolding locate_in nearest_in
-    faces_not_held h = rw (← e, eq-eqb v.number 0 f, not_held vs n 3 l.face_offsets l.faces v.vertex s k h)
+    faces_not_held h = rw (← e, eq-eqb v.number 0 f, held_inside vs n 3 l.face_offsets l.faces v.vertex, h)
 
-    pub faces-held : s.held ≡ true → locate_in l vs n g p ≡ fit_over vs n p v no_fit (take (s.to - s.from) (drop s.from l.faces))
+    pub faces-held : (s : List ℕ) → entries_held 3 l.face_offsets (length l.faces) v.vertex ≡ true → s ≡ entries_at 3 l.face_offsets l.faces v.vertex
+        → locate_in l vs n g p ≡ fit_over vs n p v no_fit s
     unfolding locate_in nearest_in best_face fit_over
-    faces-held h = let q = held vs n 3 l.face_offsets l.faces v.vertex s k h in rw (← e, eq-eqb v.number 0 f, q.inside, q.cut)
+    faces-held s h k = rw (← e, eq-eqb v.number 0 f, held_inside vs n 3 l.face_offsets l.faces v.vertex, h, k)
+
+-- three places a face
+pub whole_faces : (offsets entries : List ℕ) (i : ℕ) → entries_held 3 offsets (length entries) i ≡ true → length (entries_at 3 offsets entries i) % 3 ≡ 0
+unfolding entries_held entries_at
+whole_faces offsets entries i h =
+    by (eqb a b) refl (((and-eq-true_iff (ltb (i + 1) (length offsets)) (eqb a b || (leb a b && leb (3 * b) (length entries)))).0 h).1)
+  where
+    a : ℕ
+    a = get_or offsets i 0
+
+    b : ℕ
+    b = get_or offsets (i + 1) 0
+
+    by : (t : Bool) → eqb a b ≡ t → (t || (leb a b && leb (3 * b) (length entries))) ≡ true → length (slice (3 * a) (3 * b) entries) % 3 ≡ 0
+    by true e k = rw (← eqb-true a b e, slice_none (3 * a) entries)
+    by false e k =
+        let m = (and-eq-true_iff (leb a b) (leb (3 * b) (length entries))).0 k in
+        let x = leb-true a b m.0 in
+        let y = leb-true (3 * b) (length entries) m.1 in
+        rw (← part (3 * a) (3 * b) entries) (simp (length-take, length-drop) (omega (arith, x, y)))

@@ -4,11 +4,11 @@ use mathlib.Core.Path.{◌≡◌, refl, sym, ap, ◌∙◌, subst}
 use mathlib.Core.Bool.{Bool, true, false, not, ◌&&◌, ◌||◌, cond, true≢false, and-eq-true_iff}
 use mathlib.Core.List.{List, [], ◌∷◌}
 use mathlib.Core.Logic.{◌⊎◌, inl, inr}
-use Prim.Native.Nat.{ℕ, zero, suc, ◌+◌, ◌*◌, ◌≤◌, ◌<◌}
+use Prim.Native.Nat.{ℕ, zero, suc, ◌+◌, ◌-◌, ◌*◌, ◌%◌, ◌≤◌, ◌<◌}
 use native.Mathlib.Nat.{le_trans, le_of_eq, add-zero, mul-pos}
 use native.Mathlib.Omega.{arith}
 use lib.Dec.{T, leb, ltb, eqb}
-use lib.ListN.{length, get_or, drop, drop_of_length-le}
+use lib.ListN.{length, get_or, take, drop}
 use lib.Seq.{get_or-drop, drop-drop}
 use lib.Ieee.{Float, nan, inf, fin, binary64, up, down, lt, le, eq, neg, fits, is_nan, of_bits}
 use lib.IntN.{pos}
@@ -25,14 +25,14 @@ use Rattle.mesh.specs.declared.Face.{Face}
 use Rattle.search.specs.Geometry.{one, plus, minus, times, over, weights, in_face, vertex_at, projected_barycentric}
 use Rattle.search.specs.Cells.{triples}
 use Rattle.search.specs.Search.{no_fit, better, fit_from, located_fit, vertex_inside}
-use Rattle.search.specs.Internal.{limit_of, fit_over, sides_of, past, past_face, sifted, sift, sift_over}
+use Rattle.search.specs.Internal.{inside, limit_of, fit_over, sides_of, past, past_face, sifted, sift, sift_over}
 use Rattle.search.specs.declared.Vector3.{Vector3}
 use Rattle.search.specs.declared.Weights.{Weights}
 use Rattle.search.specs.declared.Nearest.{Nearest}
 use Rattle.search.specs.declared.Fit.{Fit}
 use Rattle.search.specs.declared.faces.Within.{Within}
 use Rattle.search.specs.declared.triangle.Sides.{Sides}
-use Rattle.search.proofs.Laws.{inside, three, stops}
+use Rattle.search.proofs.Laws.{three, stops}
 use Rattle.search.proofs.Nearness.{all-within}
 use Rattle.search.proofs.Regions.{regions, by_regions}
 use Rattle.search.proofs.Signs.{not_above}
@@ -347,23 +347,28 @@ module _ (vs : List Float) (p : Vector3) where
 
 -- ---- the turns of the pass
 module _ (vs : List Float) (n : ℕ) (p : Vector3) (l : List ℕ) where
-  pub sift_turn : (w : Within) (i a b c : ℕ) → i + 3 ≤ length l → a ≡ get_or l i 0 → b ≡ get_or l (i + 1) 0 → c ≡ get_or l (i + 2) 0
-      → (inside vs n a && (inside vs n b && inside vs n c)) ≡ true
-      → sift_over vs n p i w (drop i l) ≡ sift_over vs n p (i + 3) (sifted vs p w i (face a b c)) (drop (i + 3) l)
+  pub sift_turn : (w : Within) (i a b c : ℕ) → 3 ≤ length l → a ≡ get_or l 0 0 → b ≡ get_or l 1 0 → c ≡ get_or l 2 0
+      → (inside n (length vs) a && (inside n (length vs) b && inside n (length vs) c)) ≡ true
+      → sift_over vs n p i w l ≡ sift_over vs n p (i + 3) (sifted vs p w i (face a b c)) (take (length l - 3) (drop 3 l))
   unfolding sift_over every sift vertex_inside
-  sift_turn w i a b c h x y z t =
-      let k = (and-eq-true_iff (inside vs n a) (inside vs n b && inside vs n c)).0 t in
-      let m = (and-eq-true_iff (inside vs n b) (inside vs n c)).0 k.1 in
-      rw (three l i a b c h x y z, k.0, m.0, m.1)
+  sift_turn w i a b c h x y z t = ap (sift_over vs n p i w) (three l a b c h x y z) ∙ turn (take (length l - 3) (drop 3 l))
+    where
+      turn : (m : List ℕ) → sift_over vs n p i w (a ∷ b ∷ c ∷ m) ≡ sift_over vs n p (i + 3) (sifted vs p w i (face a b c)) m
+      turn m =
+          let k = (and-eq-true_iff (inside n (length vs) a) (inside n (length vs) b && inside n (length vs) c)).0 t in
+          let o = (and-eq-true_iff (inside n (length vs) b) (inside n (length vs) c)).0 k.1 in
+          rw (k.0, o.0, o.1)
 
-  pub sift_stop : (w : Within) (i a b c : ℕ) → i + 3 ≤ length l → a ≡ get_or l i 0 → b ≡ get_or l (i + 1) 0 → c ≡ get_or l (i + 2) 0
-      → (inside vs n a && (inside vs n b && inside vs n c)) ≡ false → sift_over vs n p i w (drop i l) ≡ record { count = 2; at = 0 }
+  pub sift_stop : (w : Within) (i a b c : ℕ) → 3 ≤ length l → a ≡ get_or l 0 0 → b ≡ get_or l 1 0 → c ≡ get_or l 2 0
+      → (inside n (length vs) a && (inside n (length vs) b && inside n (length vs) c)) ≡ false → sift_over vs n p i w l ≡ record { count = 2; at = 0 }
   unfolding sift_over every vertex_inside
-  sift_stop w i a b c h x y z t = rw (three l i a b c h x y z, stops (inside vs n a) (inside vs n b) (inside vs n c) (every (vertex_inside vs n) (drop (i + 3) l)) t)
+  sift_stop w i a b c h x y z t =
+      rw (three l a b c h x y z, stops (inside n (length vs) a) (inside n (length vs) b) (inside n (length vs) c) (every (vertex_inside vs n) (take (length l - 3) (drop 3 l))) t)
 
-  pub sift_end : (w : Within) (i : ℕ) → length l ≤ i → sift_over vs n p i w (drop i l) ≡ w
-  unfolding sift_over every sift
-  sift_end w i h = rw (drop_of_length-le l h)
+pub sift_end : (vs : List Float) (n : ℕ) (p : Vector3) (i : ℕ) (w : Within) (l : List ℕ) → length l < 3 → length l % 3 ≡ 0 → sift_over vs n p i w l ≡ w
+unfolding sift_over every sift
+sift_end vs n p i w [] h k = refl
+sift_end vs n p i w (a ∷ l) h k = absurd (omega (arith, h, k))
 
 -- ---- what one pass tells
 -- the pass ended with none or one

@@ -1,5 +1,5 @@
 -- What only the code and the proofs need; a reader need not believe it. Definitions only.
-use Rattle.std.specs.Prelude.{Bool, true, false, not, cond, ◌&&◌, ◌||◌, ◌≡◌, List, [], ◌∷◌, ℕ, ◌+◌, ◌*◌, ◌/◌, length, get_or, T, leb, ltb, eqb, Float}
+use Rattle.std.specs.Prelude.{Bool, false, not, cond, ◌&&◌, ◌||◌, ◌≡◌, List, [], ◌∷◌, ℕ, ◌+◌, ◌*◌, ◌/◌, ◌≤◌, length, get_or, T, leb, ltb, eqb, Float}
 use Rattle.std.specs.Float.{nan, inf, fin, binary64}
 use Rattle.std.specs.Float.Ieee.{fits, lt, le}
 use Rattle.lists.specs.Lists.{every}
@@ -11,24 +11,25 @@ use Rattle.search.specs.Search.{vertex_inside, nearest_from, not_nearest, fit_fr
 use Rattle.search.specs.declared.Vector3.{Vector3}
 use Rattle.search.specs.declared.Nearest.{Nearest}
 use Rattle.search.specs.declared.Located.{Located}
-use Rattle.search.specs.declared.cells.Span.{Span}
 use Rattle.search.specs.declared.Fit.{Fit}
 use Rattle.search.specs.declared.faces.Within.{Within}
 use Rattle.search.specs.declared.triangle.Sides.{Sides}
 
--- where the entries between offsets i and i + 1 stand, each offset counting w places; not held where an offset or an entry is not inside what was
--- lent, or the end is below the start. Where there is no entry the places are those before the first, so that they can be cut out of any list
-unfoldable pub span_of : ℕ → List ℕ → ℕ → ℕ → Span
-span_of w offsets places i =
-    let a = get_or offsets i 0 in
-    let b = get_or offsets (i + 1) 0 in
-    cond (ltb (i + 1) (length offsets))
-    (cond (eqb a b)
-    (record { held = true; from = 0; to = 0 })
-    (cond (leb a b && leb (w * b) places)
-    (record { held = true; from = w * a; to = w * b })
-    (record { held = false; from = 0; to = 0 })))
-    (record { held = false; from = 0; to = 0 })
+-- the entries between offsets i and i + 1, each offset counting w places, are inside what was lent. Where there are none they are so wherever the
+-- offsets lie
+unfoldable pub entries_held : ℕ → List ℕ → ℕ → ℕ → Bool
+entries_held w offsets places i =
+    let start = get_or offsets i 0 in
+    let end = get_or offsets (i + 1) 0 in
+    ltb (i + 1) (length offsets) && (eqb start end || (leb start end && leb (w * end) places))
+
+-- the coordinates of a face's vertices are inside what was lent
+abbrev pub FaceInside : List Float → Face → Type 0
+FaceInside vs f = (3 * f.a + 3 ≤ length vs) × (3 * f.b + 3 ≤ length vs) × (3 * f.c + 3 ≤ length vs)
+
+-- a number below n whose coordinates are among this many places
+abbrev pub inside : ℕ → ℕ → ℕ → Bool
+inside n places v = ltb v n && leb (3 * v + 3) places
 
 -- the nearest of a list's vertices and of one that was there before, or 19
 unfoldable pub nearest_over : List Float → ℕ → Vector3 → Nearest → List ℕ → Nearest

@@ -1,84 +1,46 @@
 // The nearest vertex of a direction's cell, over lent lists that may be damaged.
-ghost use Rattle.std.specs.Prelude.{◌≡◌, false, cond, ◌&&◌, ◌+◌, ◌*◌, ◌≤◌, ◌<◌, length, leb, ltb};
+ghost use Rattle.std.specs.Prelude.{◌≡◌, ◌&&◌, true, false, ◌+◌, ◌*◌, ◌≤◌, ◌<◌, length, leb, ltb, MatchOption};
+ghost use Rattle.refusals.specs.Numbers.{number};
 ghost use Rattle.mesh.specs.Levels.{vertex_count, grid_size};
 ghost use Rattle.search.specs.Geometry.{vertex_at};
-ghost use Rattle.search.specs.Search.{not_nearest, nearer, nearest_in_cells};
-ghost use Rattle.search.specs.Internal.{span_of, nearest_over, Measured, limit_of};
+ghost use Rattle.search.specs.Search.{not_nearest, nearer, nearest_in, entries_at};
+ghost use Rattle.search.specs.Lent.{lent_locator};
+ghost use Rattle.search.specs.Internal.{entries_held, inside, nearest_over, Measured, limit_of};
 
 use crate::geometry::{cell_index, difference, dot};
-use crate::{Nearest, Vector3};
+use crate::{Locator, Nearest, Vector3};
+use refusals::Refusal;
 
-pub(crate) fn wide16(x: u16) -> usize
-    ensures { result ≡ x }
+// The entries between offsets i and i + 1, each offset counting w places; none where they are not inside what was lent.
+#[tactic(auto, unfolding(crate::specs::Internal::entries_held, crate::specs::Search::entries_at))]
+pub(crate) fn entries_of<'a>(
+    offsets: &[u32],
+    w: usize,
+    entries: &'a [u16],
+    i: usize,
+) -> Option<&'a [u16]>
+    requires { (0 < w) × (w ≤ 3) }
+    ensures { MatchOption result (entries_held w offsets.now (length entries.now) i ≡ false)
+        (λ s. (entries_held w offsets.now (length entries.now) i ≡ true) × (s.now ≡ entries_at w offsets.now entries.now i)) }
 {
-    x as usize
-}
-
-fn wide32(x: u32) -> usize
-    ensures { result ≡ x }
-{
-    x as usize
-}
-
-// Places of a list, from `from` on and before `to`; not held where they are not inside what was lent.
-#[derive(Clone, Copy)]
-pub(crate) struct Span {
-    pub(crate) held: bool,
-    pub(crate) from: usize,
-    pub(crate) to: usize,
-}
-
-fn no_span() -> Span
-    ensures { result ≡ record { held = false; from = 0; to = 0 } }
-{
-    Span {
-        held: false,
-        from: 0,
-        to: 0,
-    }
-}
-
-// The places between offsets i and i + 1, each offset counting w places.
-pub(crate) fn span_of(offsets: &[u32], w: usize, places: usize, i: usize) -> Span
-    requires { w ≤ 3 }
-    ensures { result ≡ span_of w offsets.now places i }
-{
-    if offsets.len() <= i {
-        return no_span();
-    }
-    if offsets.len() <= i + 1 {
-        return no_span();
-    }
-    let a = wide32(offsets[i]);
-    let b = wide32(offsets[i + 1]);
+    let start = *offsets.get(i)? as usize;
+    let end = *offsets.get(i + 1)? as usize;
     // no entry is touched, wherever the offsets lie
-    if a == b {
-        return Span {
-            held: true,
-            from: 0,
-            to: 0,
-        };
+    if start == end {
+        return Some(&entries[..0]);
     }
-    let from = w * a;
-    let to = w * b;
-    if (a <= b) & (to <= places) {
-        return Span {
-            held: true,
-            from,
-            to,
-        };
-    }
-    no_span()
+    entries.get(w * start..w * end)
 }
 
 // A vertex number below n whose coordinates are inside what was lent.
 pub(crate) fn inside(n: usize, places: usize, v: usize) -> bool
     requires { v < 65536 }
-    ensures { result ≡ (ltb v n && leb (3 * v + 3) places) }
+    ensures { result ≡ inside n places v }
 {
     (v < n) & (3 * v + 3 <= places)
 }
 
+#[tactic(auto, unfolding(crate::specs::Geometry::vertex_at))]
 pub(crate) fn vertex_at(vertices: &[f64], v: usize) -> Vector3
     requires { 3 * v + 3 ≤ length vertices.now }
     ensures { result ≡ vertex_at vertices.now v }
@@ -91,26 +53,26 @@ pub(crate) fn vertex_at(vertices: &[f64], v: usize) -> Vector3
     }
 }
 
-fn not_nearest(number: u64) -> Nearest
-    ensures { result ≡ not_nearest number }
+// No vertex, for a reason.
+pub fn not_nearest(why: Refusal) -> Nearest
+    ensures { result ≡ not_nearest (number why) }
 {
     Nearest {
-        number,
+        number: why.number(),
         vertex: 0,
         distance: 0.0,
     }
 }
 
 // Vertex v, unless the one before is as near or nearer.
+#[tactic(auto, unfolding(crate::specs::Search::nearer, crate::specs::Search::squared))]
 fn nearer(vertices: &[f64], p: Vector3, best: Nearest, v: usize) -> Nearest
     requires { 3 * v + 3 ≤ length vertices.now }
     ensures { result ≡ nearer vertices.now p best v }
 {
-    let number = best.number;
-    let least = best.distance;
     let d = difference(p, vertex_at(vertices, v));
     let distance = dot(d, d);
-    if (number == 0) & float::total_order(least, distance) {
+    if (best.number == 0) & float::total_order(best.distance, distance) {
         return best;
     }
     Nearest {
@@ -120,19 +82,17 @@ fn nearer(vertices: &[f64], p: Vector3, best: Nearest, v: usize) -> Nearest
     }
 }
 
-// The nearest of the vertices that a cell lists; 20 where it lists none.
+// The nearest of the vertices that a cell lists; EmptyCell where it lists none.
 fn nearest_by_order(cell: &[u16], vertices: &[f64], n: usize, p: Vector3) -> Nearest
     ensures { result ≡ nearest_over vertices.now n p (not_nearest 20) cell.now }
 {
-    let mut best = not_nearest(20);
-    let mut i = 0;
-    while i < cell.len() {
-        let v = wide16(cell[i]);
+    let mut best = not_nearest(Refusal::EmptyCell);
+    for v in cell {
+        let v = *v as usize;
         if !inside(n, vertices.len(), v) {
-            return not_nearest(19);
+            return not_nearest(Refusal::NotLent);
         }
         best = nearer(vertices, p, best, v);
-        i += 1;
     }
     best
 }
@@ -143,22 +103,16 @@ fn closer(vertices: &[f64], p: Vector3, best: Nearest, v: usize) -> Nearest
     requires { (3 * v + 3 ≤ length vertices.now) × Measured best }
     ensures { result ≡ nearer vertices.now p best v }
 {
-    let vertex = best.vertex;
-    let least = best.distance;
     let d = difference(p, vertex_at(vertices, v));
     let distance = dot(d, d);
-    if distance < least {
+    if distance < best.distance {
         return Nearest {
             number: 0,
             vertex: v as u64,
             distance,
         };
     }
-    Nearest {
-        number: 0,
-        vertex,
-        distance: least,
-    }
+    Nearest { number: 0, ..best }
 }
 
 // The nearest of the vertices that a list has and of one before; numbers below `limit` are inside.
@@ -167,14 +121,12 @@ fn nearest_of(list: &[u16], vertices: &[f64], limit: usize, p: Vector3, first: N
     ensures { result ≡ nearest_over vertices.now limit p first list.now }
 {
     let mut best = first;
-    let mut i = 0;
-    while i < list.len() {
-        let v = wide16(list[i]);
+    for v in list {
+        let v = *v as usize;
         if limit <= v {
-            return not_nearest(19);
+            return not_nearest(Refusal::NotLent);
         }
         best = closer(vertices, p, best, v);
-        i += 1;
     }
     best
 }
@@ -183,26 +135,25 @@ fn nearest_of(list: &[u16], vertices: &[f64], limit: usize, p: Vector3, first: N
 pub(crate) fn limit_of(n: usize, places: usize) -> usize
     ensures { result ≡ limit_of n places }
 {
-    let m = places / 3;
-    if n < m { n } else { m }
+    n.min(places / 3)
 }
 
-// The nearest of the vertices that a cell lists; 20 where it lists none. The first one sets the measure, unless its
-// distance is a NaN.
+// The nearest of the vertices that a cell lists; EmptyCell where it lists none. The first one sets the measure, unless
+// its distance is a NaN.
 fn nearest_in_cell(cell: &[u16], vertices: &[f64], n: usize, p: Vector3) -> Nearest
     ensures { result ≡ nearest_over vertices.now n p (not_nearest 20) cell.now }
 {
     let limit = limit_of(n, vertices.len());
-    if cell.len() == 0 {
-        return not_nearest(20);
-    }
-    let v = wide16(cell[0]);
+    let empty = not_nearest(Refusal::EmptyCell);
+    let [v, rest @ ..] = cell else {
+        return empty;
+    };
+    let v = *v as usize;
     if limit <= v {
-        return not_nearest(19);
+        return not_nearest(Refusal::NotLent);
     }
-    let first = nearer(vertices, p, not_nearest(20), v);
-    let distance = first.distance;
-    if distance != distance {
+    let first = nearer(vertices, p, empty, v);
+    if first.distance.is_nan() {
         // of its own parts, and over a list of its own, so that the common way goes through no memory
         let slow = nearest_by_order(cell, &vertices[0..], n, p);
         return Nearest {
@@ -211,27 +162,17 @@ fn nearest_in_cell(cell: &[u16], vertices: &[f64], n: usize, p: Vector3) -> Near
             distance: slow.distance,
         };
     }
-    nearest_of(&cell[1..cell.len()], vertices, limit, p, first)
+    nearest_of(rest, vertices, limit, p, first)
 }
 
 // The nearest vertex to a direction p of length 1. The lists are those of one level, from its first entry on.
-pub fn find_nearest_vertex(
-    level: u8,
-    cell_offsets: &[u32],
-    cell_vertices: &[u16],
-    vertices: &[f64],
-    p: Vector3,
-) -> Nearest
-    ensures { result ≡ nearest_in_cells cell_offsets.now cell_vertices.now vertices.now (vertex_count level) (grid_size (vertex_count level)) p }
+pub fn find_nearest_vertex(level: u8, locator: &Locator, vertices: &[f64], p: Vector3) -> Nearest
+    ensures { result ≡ nearest_in (lent_locator locator.now) vertices.now (vertex_count level)
+        (grid_size (vertex_count level)) p }
 {
     let cell = cell_index(level, p) as usize;
-    let s = span_of(cell_offsets, 1, cell_vertices.len(), cell);
-    let held = s.held;
-    let from = s.from;
-    let to = s.to;
-    if !held {
-        return not_nearest(19);
-    }
-    let n = mesh::vertex_count(level) as usize;
-    nearest_in_cell(&cell_vertices[from..to], vertices, n, p)
+    let Some(cell) = entries_of(locator.cell_offsets, 1, locator.cell_vertices, cell) else {
+        return not_nearest(Refusal::NotLent);
+    };
+    nearest_in_cell(cell, vertices, mesh::vertex_count(level) as usize, p)
 }

@@ -7,12 +7,14 @@ ghost use Rattle.search.specs.Geometry.{zero, dot, norm, unit, difference, cube_
 
 use crate::{Projected, Seen, Vector3};
 
+#[tactic(auto, unfolding(crate::specs::Geometry::dot))]
 pub fn dot(a: Vector3, b: Vector3) -> f64
     ensures { result ≡ dot a b }
 {
     a.x * b.x + a.y * b.y + a.z * b.z
 }
 
+#[tactic(auto, unfolding(crate::specs::Geometry::norm))]
 pub fn norm(a: Vector3) -> f64
     ensures { result ≡ norm a }
 {
@@ -29,6 +31,7 @@ pub fn length_valid(a: Vector3) -> bool
 }
 
 // A direction divided by its length.
+#[tactic(auto, unfolding(crate::specs::Geometry::unit))]
 pub fn unit(a: Vector3) -> Vector3
     ensures { result ≡ unit a }
 {
@@ -40,6 +43,7 @@ pub fn unit(a: Vector3) -> Vector3
     }
 }
 
+#[tactic(auto, unfolding(crate::specs::Geometry::difference))]
 pub fn difference(a: Vector3, b: Vector3) -> Vector3
     ensures { result ≡ difference a b }
 {
@@ -51,12 +55,11 @@ pub fn difference(a: Vector3, b: Vector3) -> Vector3
 }
 
 // A point as the face of a number sees it; 5 and every number beyond it are the last face.
+#[tactic(auto, unfolding(crate::specs::Geometry::cube_face_project))]
 pub fn cube_face_project(face: u64, v: Vector3) -> Seen
     ensures { result ≡ cube_face_project face v }
 {
-    let x = v.x;
-    let y = v.y;
-    let z = v.z;
+    let Vector3 { x, y, z } = v;
     match face {
         0 => Seen { u: y, w: z, d: x },
         1 => Seen { u: -y, w: z, d: -x },
@@ -96,9 +99,7 @@ fn pair_of(ax: f64, ay: f64, az: f64) -> u64
 pub fn cube_project(v: Vector3) -> Projected
     ensures { result ≡ cube_project v }
 {
-    let x = v.x;
-    let y = v.y;
-    let z = v.z;
+    let Vector3 { x, y, z } = v;
     let ax = float::abs(x);
     let ay = float::abs(y);
     let az = float::abs(z);
@@ -122,6 +123,7 @@ pub fn in_cells(g: u64, u: f64) -> f64
     (u * 0.5 + 0.5) * float::of_u64(g)
 }
 
+#[tactic(auto, unfolding(crate::specs::Geometry::clamp))]
 fn clamp(low: f64, high: f64, x: f64) -> f64
     ensures { result ≡ clamp low high x }
 {
@@ -144,8 +146,7 @@ pub fn cell_index(level: u8, v: Vector3) -> u64
 {
     let g = mesh::grid_size(level);
     let p = cube_project(v);
-    let face = p.face;
     let i = cell_coordinate(g, p.u);
     let j = cell_coordinate(g, p.w);
-    face * (g * g) + i * g + j
+    p.face * (g * g) + i * g + j
 }

@@ -8,8 +8,8 @@ mod faces;
 mod geometry;
 mod triangle;
 
-pub use cells::find_nearest_vertex;
-pub use faces::locate;
+pub use cells::{find_nearest_vertex, not_nearest};
+pub use faces::{fitted, locate, no_fit, not_located};
 pub use geometry::{
     cell_index, cube_face_project, cube_project, difference, dot, in_cells, length_valid, norm,
     unit,
@@ -56,6 +56,15 @@ pub struct Fit {
     pub face: Face,
     pub weights: Weights,
     pub least: f64,
+}
+
+// The lists of a level's locator, as they are lent: the vertices of each cell, and the faces of each vertex, with where each begins.
+#[derive(Clone, Copy)]
+pub struct Locator<'a> {
+    pub cell_offsets: &'a [u32],
+    pub cell_vertices: &'a [u16],
+    pub face_offsets: &'a [u32],
+    pub faces: &'a [u16],
 }
 
 // The nearest vertex of a cell and the square of its distance: number 0; or 19 or 20, and then nothing else counts.

@@ -15,6 +15,7 @@ fn weighed(a: f64, b: f64, c: f64) -> Weights
 }
 
 // Past every edge and corner.
+#[tactic(auto, unfolding(crate::specs::Geometry::in_face))]
 fn in_face(va: f64, vb: f64, vc: f64) -> Weights
     ensures { result ≡ in_face va vb vc }
 {
@@ -39,6 +40,7 @@ pub(crate) struct Sides {
     pub(crate) d6: f64,
 }
 
+#[tactic(auto, unfolding(crate::specs::Internal::sides_of))]
 pub(crate) fn sides_of(p: Vector3, a: Vector3, b: Vector3, c: Vector3) -> Sides
     ensures { result ≡ sides_of p a b c }
 {
@@ -58,15 +60,18 @@ pub(crate) fn sides_of(p: Vector3, a: Vector3, b: Vector3, c: Vector3) -> Sides
 }
 
 // Whether p is told to be past an edge or a corner by plain products alone; its least weight is then not above 0.
+#[tactic(auto, unfolding(crate::specs::Internal::past))]
 pub(crate) fn is_past(s: Sides) -> bool
     ensures { result ≡ past s }
 {
-    let d1 = s.d1;
-    let d2 = s.d2;
-    let d3 = s.d3;
-    let d4 = s.d4;
-    let d5 = s.d5;
-    let d6 = s.d6;
+    let Sides {
+        d1,
+        d2,
+        d3,
+        d4,
+        d5,
+        d6,
+    } = s;
     let at_a = (d1 <= 0.0) & (d2 <= 0.0);
     let at_b = (d3 >= 0.0) & (d4 <= d3);
     let on_ab = (d1 * d4 < d3 * d2) & ((d1 >= 0.0) & (d3 <= 0.0));
@@ -99,12 +104,14 @@ pub fn projected_barycentric(p: Vector3, a: Vector3, b: Vector3, c: Vector3) -> 
     ensures { result ≡ projected_barycentric p a b c }
 {
     let s = sides_of(p, a, b, c);
-    let d1 = s.d1;
-    let d2 = s.d2;
-    let d3 = s.d3;
-    let d4 = s.d4;
-    let d5 = s.d5;
-    let d6 = s.d6;
+    let Sides {
+        d1,
+        d2,
+        d3,
+        d4,
+        d5,
+        d6,
+    } = s;
     if (d1 <= 0.0) & (d2 <= 0.0) {
         return weighed(1.0, 0.0, 0.0);
     }

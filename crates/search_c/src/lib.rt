@@ -9,8 +9,10 @@ ghost use Rattle.search.specs.Search.{nearest_in_cells, locate_in, locator_of};
 ghost use Rattle.locator.specs.Locator.{LocatorOut, locator_out};
 ghost use Rattle.mesh_search.specs.MeshSearch.{search_out};
 
-use search::{Located, Nearest, Vector3};
+use mesh::Mesh;
+use search::{Located, Locator, Nearest, Vector3};
 
+#[tactic(auto, unfolding(search::specs::Search::nearest_in))]
 #[unsafe(no_mangle)]
 pub extern "C" fn search_find_nearest_vertex(
     level: u8,
@@ -24,7 +26,13 @@ pub extern "C" fn search_find_nearest_vertex(
     ensures { result ≡ nearest_in_cells cell_offsets.now cell_vertices.now vertices.now (vertex_count level) (grid_size (vertex_count level)) (unit (record { x = x; y = y; z = z })) }
 {
     let p = search::unit(Vector3 { x, y, z });
-    search::find_nearest_vertex(level, cell_offsets, cell_vertices, vertices, p)
+    let locator = Locator {
+        cell_offsets,
+        cell_vertices,
+        face_offsets: &[],
+        faces: &[],
+    };
+    search::find_nearest_vertex(level, &locator, vertices, p)
 }
 
 #[unsafe(no_mangle)]
@@ -42,15 +50,13 @@ pub extern "C" fn search_locate(
     ensures { result ≡ locate_in (locator_of cell_offsets.now cell_vertices.now face_offsets.now faces.now) vertices.now (vertex_count level) (grid_size (vertex_count level)) (unit (record { x = x; y = y; z = z })) }
 {
     let p = search::unit(Vector3 { x, y, z });
-    search::locate(
-        level,
+    let locator = Locator {
         cell_offsets,
         cell_vertices,
         face_offsets,
         faces,
-        vertices,
-        p,
-    )
+    };
+    search::locate(level, &locator, vertices, p)
 }
 
 #[unsafe(no_mangle)]
@@ -70,17 +76,20 @@ pub extern "C" fn search_locator(
         (locator_out level (mesh_of vertices.now counts.now neighbours.now angles.now)
         (locator_of cell_offsets.old cell_vertices.old face_offsets.old faces.old)) }
 {
-    locator::locator(
-        level,
+    let mesh = Mesh {
         vertices,
         counts,
         neighbours,
         angles,
+    };
+    refusals::number_of(locator::locator(
+        level,
+        &mesh,
         cell_offsets,
         cell_vertices,
         face_offsets,
         faces,
-    )
+    ))
 }
 
 // The search without a locator.
@@ -96,5 +105,11 @@ pub extern "C" fn search_mesh(
 ) -> Located
     ensures { result ≡ search_out level (mesh_of vertices.now counts.now neighbours.now []) (record { x = x; y = y; z = z }) }
 {
-    mesh_search::search_mesh(level, vertices, counts, neighbours, Vector3 { x, y, z })
+    let mesh = Mesh {
+        vertices,
+        counts,
+        neighbours,
+        angles: &[],
+    };
+    mesh_search::search_mesh(level, &mesh, Vector3 { x, y, z })
 }

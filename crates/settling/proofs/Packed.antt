@@ -19,13 +19,6 @@ module _ (w : ℕ) (pos : 0 < w) where
       let b : y + z + (w - z % w) ≡ y + (w - z % w) + z = omega arith in
       sym (back x z) ∙ ap (λ (k : ℕ). k % w) a ∙ also (x + z) (y + z) (w - z % w) e ∙ ap (λ (k : ℕ). k % w) b ∙ back y z
 
-  -- by a subtraction that wraps, as the code has it
-  pub by_steps : (r p old new : ℕ) → (r + old) % w ≡ p → (r + new) % w ≡ (p + new + (w - old % w)) % w
-  by_steps r p old new e =
-      let a : r + old + (new + (w - old % w)) ≡ r + new + (w - old % w) + old = omega arith in
-      let b : p + new + (w - old % w) ≡ p + (new + (w - old % w)) = omega arith in
-      sym (back (r + new) old) ∙ ap (λ (k : ℕ). k % w) (sym a) ∙ sym (mod-add-mod (r + old) w (new + (w - old % w))) ∙ ap (λ (k : ℕ). (k + (new + (w - old % w))) % w) e ∙ ap (λ (k : ℕ). k % w) (sym b)
-
 abbrev word : ℕ
 word = 2 ^ 64
 

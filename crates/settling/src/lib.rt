@@ -10,7 +10,8 @@ pub use verdicts::{
     packed_after, packed_row, replace_by, replace_word_by, settles, tallied, verdict_of,
 };
 
-// What settling finds of a slab: that its row holds no energies; that it is repulsive; or, by its gradient, that it becomes a scalar, is read at the nearest vertex or stays as it is.
+// What settling finds of a slab: that its row holds no energies; that it is repulsive; or, by its gradient, that it
+// becomes a scalar, is read at the nearest vertex or stays as it is.
 #[derive(Clone, Copy)]
 pub enum Verdict {
     Empty,
@@ -20,15 +21,16 @@ pub enum Verdict {
     Rough(f64),
 }
 
-// What settling finds of a slab against an atom, with the slab's gradient; 0 beside a slab that holds no energies or is repulsive.
+// What settling finds of a slab against an atom, with the slab's gradient; 0 beside a slab that holds no energies or
+// is repulsive.
 #[derive(Clone, Copy)]
 pub struct AtomVerdict {
     pub verdict: Verdict,
     pub gradient: f64,
 }
 
-// What a slice adds up to: the largest gradient of slabs left as Mesh, whether some slab was settled, whether no row is Repulsive, the
-// builder's number of packed energies, and how many slabs reached the gradient.
+// What a slice adds up to: the largest gradient of slabs left as Mesh, whether some slab was settled, whether no row
+// is Repulsive, the builder's number of packed energies, and how many slabs reached the gradient.
 #[derive(Clone, Copy)]
 pub struct Tally {
     pub gradient: f64,

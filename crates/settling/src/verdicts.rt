@@ -1,7 +1,7 @@
 // The settling of one slab.
-ghost use Rattle.std.specs.Prelude.{◌≡◌, ◌+◌, ◌%◌, ◌^◌, ◌&&◌, ◌||◌, [], if◌then◌else◌, from_bits, nat_le};
+ghost use Rattle.std.specs.Prelude.{◌≡◌, ◌+◌, ◌%◌, ◌^◌, ◌&&◌, ◌||◌, if◌then◌else◌, from_bits, nat_le};
 ghost use Rattle.std.specs.Float.{binary64};
-ghost use Rattle.mesh.specs.Mesh.{mesh_of};
+ghost use Rattle.mesh.specs.Lent.{lent};
 ghost use Rattle.mesh.specs.Levels.{vertex_count};
 ghost use Rattle.rows.specs.Words.{word_rows};
 ghost use Rattle.rows.specs.Rows.{Rows, row_with, rows_of};
@@ -10,47 +10,50 @@ ghost use Rattle.settling.specs.Settling.{by_gradient, verdict, verdict_of, new_
 ghost use Rattle.settling.specs.declared.Verdict.TheVariants.{Empty};
 ghost use Rattle.settling.specs.Internal.{stays, becomes, left_row, is_clear, packed_in};
 
+use crate::gradient::Slab;
 use crate::{Tally, Verdict, gradient};
+use mesh::Mesh;
 use rows::SlabResolution;
 
+#[tactic(auto, unfolding(crate::specs::Gradient::repulsive))]
 fn is_repulsive(beta: f64, e: f64) -> bool
     ensures { result ≡ repulsive beta e }
 {
     gradient::weight(beta, e) - 1.0 < 1e-4 - 1.0
 }
 
+#[tactic(auto, using(lists::proofs::Loops::every_fails, lists::proofs::Loops::every_next, lists::proofs::Loops::every_end), unfolding(crate::specs::Gradient::all_repulsive))]
 pub(crate) fn all_repulsive(beta: f64, energies: &[f64]) -> bool
     ensures { result ≡ all_repulsive beta energies.now }
 {
-    let mut i = 0;
-    while i < energies.len() {
-        if !is_repulsive(beta, energies[i]) {
+    for e in energies {
+        if !is_repulsive(beta, *e) {
             return false;
         }
-        i += 1;
     }
     true
 }
 
 // The sum in index order, from -0.0.
+#[tactic(auto, using(crate::proofs::Sums::sum_turn, crate::proofs::Sums::sum_end))]
 fn sum(energies: &[f64]) -> f64
     ensures { result ≡ sum_from (from_bits binary64 0x8000_0000_0000_0000) energies.now }
 {
     let mut x = -0.0;
-    let mut i = 0;
-    while i < energies.len() {
-        x = x + energies[i];
-        i += 1;
+    for e in energies {
+        x += *e;
     }
     x
 }
 
+#[tactic(auto, unfolding(crate::specs::Gradient::mean_narrowed))]
 fn mean_narrowed(energies: &[f64]) -> f32
     ensures { result ≡ mean_narrowed energies.now }
 {
     ieee::narrow(sum(energies) / float::of_u64(energies.len() as u64))
 }
 
+#[tactic(auto, unfolding(crate::specs::Settling::by_gradient))]
 pub(crate) fn by_gradient(threshold: f64, energies: &[f64], x: f64) -> Verdict
     ensures { result ≡ by_gradient threshold energies.now x }
 {
@@ -67,11 +70,8 @@ fn steeper_of(x: f64, v: Verdict) -> f64
     ensures { result ≡ steeper_of x v }
 {
     match v {
-        Verdict::Empty => x,
-        Verdict::Blocked => x,
-        Verdict::Isotropic(_) => x,
-        Verdict::Smooth(y) => float::max(x, y),
-        Verdict::Rough(y) => float::max(x, y),
+        Verdict::Smooth(y) | Verdict::Rough(y) => float::max(x, y),
+        Verdict::Empty | Verdict::Blocked | Verdict::Isotropic(_) => x,
     }
 }
 
@@ -79,26 +79,17 @@ fn steeper_of(x: f64, v: Verdict) -> f64
 pub fn settles(v: Verdict) -> bool
     ensures { result ≡ settles v }
 {
-    match v {
-        Verdict::Empty => false,
-        Verdict::Blocked => false,
-        Verdict::Isotropic(_) => true,
-        Verdict::Smooth(_) => true,
-        Verdict::Rough(_) => true,
-    }
+    matches!(
+        v,
+        Verdict::Isotropic(_) | Verdict::Smooth(_) | Verdict::Rough(_)
+    )
 }
 
 // What settling finds of a slab's energies, at a level that a builder can have.
-fn verdict(
-    threshold: f64,
-    beta: f64,
-    counts: &[u8],
-    neighbours: &[u16],
-    angles: &[f64],
-    energies: &[f64],
-    level: u8,
-) -> Verdict
-    ensures { result ≡ (if nat_le level 15 then verdict threshold beta (mesh_of [] counts.now neighbours.now angles.now) (vertex_count level) energies.now else Empty) }
+#[tactic(auto, using(crate::proofs::Slopes::by_lines_lem, mesh::proofs::Laws::count_le), unfolding(crate::specs::Settling::verdict, crate::specs::Internal::by_lines))]
+fn verdict(threshold: f64, beta: f64, mesh: &Mesh, energies: &[f64], level: u8) -> Verdict
+    ensures { result ≡ (if nat_le level 15
+        then verdict threshold beta (lent mesh.now) (vertex_count level) energies.now else Empty) }
 {
     if 15 < level {
         return Verdict::Empty;
@@ -107,7 +98,12 @@ fn verdict(
         return Verdict::Blocked;
     }
     let n = mesh::vertex_count(level) as u32;
-    let x = gradient::gradient(counts, neighbours, angles, energies, beta, n);
+    let x = gradient::gradient(&Slab {
+        mesh,
+        n,
+        energies,
+        beta,
+    });
     by_gradient(threshold, energies, x)
 }
 
@@ -115,34 +111,24 @@ fn verdict(
 pub fn verdict_of(
     threshold: f64,
     beta: f64,
-    counts: &[u8],
-    neighbours: &[u16],
-    angles: &[f64],
+    mesh: &Mesh,
     energies: &[f64],
     level: u8,
     row: SlabResolution,
 ) -> Verdict
-    ensures { result ≡ (if nat_le level 15 then verdict_of threshold beta (mesh_of [] counts.now neighbours.now angles.now) (vertex_count level) (row_with row energies.now) else Empty) }
+    ensures { result ≡ (if nat_le level 15
+        then verdict_of threshold beta (lent mesh.now) (vertex_count level) (row_with row energies.now) else Empty) }
 {
     match row {
-        SlabResolution::Scalar(_) => Verdict::Empty,
-        SlabResolution::Repulsive => Verdict::Empty,
-        SlabResolution::Mesh(_, _) => verdict(
-            threshold, beta, counts, neighbours, angles, energies, level,
-        ),
+        SlabResolution::Mesh(_, _) => verdict(threshold, beta, mesh, energies, level),
+        SlabResolution::Scalar(_) | SlabResolution::Repulsive => Verdict::Empty,
     }
 }
 
 fn stays(v: Verdict) -> bool
     ensures { result ≡ stays v }
 {
-    match v {
-        Verdict::Empty => true,
-        Verdict::Blocked => false,
-        Verdict::Isotropic(_) => false,
-        Verdict::Smooth(_) => false,
-        Verdict::Rough(_) => true,
-    }
+    matches!(v, Verdict::Empty | Verdict::Rough(_))
 }
 
 // The row that takes a slab's place; where the row stays, it is not used.
@@ -150,15 +136,14 @@ fn becomes(level: u8, v: Verdict) -> SlabResolution
     ensures { result ≡ becomes level v }
 {
     match v {
-        Verdict::Empty => SlabResolution::Repulsive,
-        Verdict::Blocked => SlabResolution::Repulsive,
         Verdict::Isotropic(x) => SlabResolution::Scalar(x),
         Verdict::Smooth(_) => SlabResolution::Mesh(level, false),
-        Verdict::Rough(_) => SlabResolution::Repulsive,
+        Verdict::Empty | Verdict::Blocked | Verdict::Rough(_) => SlabResolution::Repulsive,
     }
 }
 
 // The row after a verdict.
+#[tactic(auto, unfolding(crate::specs::Internal::left_row))]
 fn left_row(level: u8, row: SlabResolution, v: Verdict) -> SlabResolution
     ensures { result ≡ left_row level row v }
 {
@@ -171,11 +156,7 @@ fn left_row(level: u8, row: SlabResolution, v: Verdict) -> SlabResolution
 fn is_clear(row: SlabResolution) -> bool
     ensures { result ≡ is_clear row }
 {
-    match row {
-        SlabResolution::Scalar(_) => true,
-        SlabResolution::Mesh(_, _) => true,
-        SlabResolution::Repulsive => false,
-    }
+    !matches!(row, SlabResolution::Repulsive)
 }
 
 // The packed energies of a row: n·n of its level if it is Mesh.
@@ -183,13 +164,13 @@ pub fn packed_row(row: SlabResolution) -> u64
     ensures { result ≡ packed_in row }
 {
     match row {
-        SlabResolution::Scalar(_) => 0,
         SlabResolution::Mesh(level, _) => mesh::per_level(level),
-        SlabResolution::Repulsive => 0,
+        SlabResolution::Scalar(_) | SlabResolution::Repulsive => 0,
     }
 }
 
 // The number of packed energies after rows with `old` of them became rows with `new`, wrapping.
+#[tactic(auto, unfolding(crate::specs::Settling::packed_after))]
 pub fn packed_after(packed: u64, old: u64, new: u64) -> u64
     ensures { result ≡ packed_after packed old new }
 {
@@ -198,6 +179,7 @@ pub fn packed_after(packed: u64, old: u64, new: u64) -> u64
 }
 
 // How many slabs reached the gradient, with one slab more.
+#[tactic(auto, unfolding(crate::specs::Settling::comparisons_for))]
 fn reached_with(reached: u64, v: Verdict) -> u64
     ensures { result ≡ (reached + comparisons_for 1 v) % 2 ^ 64 }
 {
@@ -217,22 +199,18 @@ pub fn tallied(level: u8, t: Tally, row: SlabResolution, v: Verdict) -> Tally
       reached = (t.reached + comparisons_for 1 v) % 2 ^ 64;
     } }
 {
-    let gradient = t.gradient;
-    let settled = t.settled;
-    let clear = t.clear;
-    let packed = t.packed;
-    let reached = t.reached;
     let left = left_row(level, row, v);
     Tally {
-        gradient: steeper_of(gradient, v),
-        settled: settled | settles(v),
-        clear: clear & is_clear(left),
-        packed: packed_after(packed, packed_row(row), packed_row(left)),
-        reached: reached_with(reached, v),
+        gradient: steeper_of(t.gradient, v),
+        settled: t.settled | settles(v),
+        clear: t.clear & is_clear(left),
+        packed: packed_after(t.packed, packed_row(row), packed_row(left)),
+        reached: reached_with(t.reached, v),
     }
 }
 
 // Puts the settled row in its place; a row that stays keeps its bits.
+#[tactic(auto, using(crate::proofs::Changes::row_stays, crate::proofs::Changes::row_becomes))]
 pub fn replace_by(
     kinds: &mut [u8],
     levels: &mut [u8],
@@ -251,6 +229,7 @@ pub fn replace_by(
     rows::replace(kinds, levels, values, s, becomes(level, v));
 }
 
+#[tactic(auto, using(crate::proofs::Changes::row_stays, crate::proofs::Changes::row_becomes))]
 pub fn replace_word_by(words: &mut [u64], s: u64, level: u8, v: Verdict)
     ensures { ◌≡◌ {A = Rows} (word_rows words.new) (replaced_by (word_rows words.old) s (new_row level v)) }
 {

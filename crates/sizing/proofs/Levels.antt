@@ -1,5 +1,5 @@
 -- A number for each level: a turn of the loop that writes them, and one of them. Assumes nothing.
-use mathlib.Core.Path.{◌≡◌, refl, sym, ap, ◌∙◌, fun_ext}
+use mathlib.Core.Path.{◌≡◌, refl, sym, ap, ◌∙◌}
 use mathlib.Core.List.{List, [], ◌∷◌}
 use mathlib.Core.Logic.{⊎_elim}
 use Prim.Native.Nat.{ℕ, zero, suc, ◌+◌, ◌*◌, ◌≤◌, ◌<◌}
@@ -13,7 +13,7 @@ use Rattle.lists.proofs.Sums.{sum_le, sum_const}
 use Rattle.lists.proofs.Written.{put_push, put_nil, length-put, length-joined, joined-more}
 use Rattle.mesh.specs.Levels.{vertex_count, vertices_below}
 use Rattle.mesh.specs.Mesh.{neighbour_total}
-use Rattle.sizing.specs.Sizing.{by_level, sized}
+use Rattle.sizing.specs.Sizing.{by_level}
 
 module _ (f : ℕ → ℕ) where
   abbrev first : ℕ → List ℕ
@@ -46,13 +46,6 @@ module _ (f : ℕ → ℕ) where
       (λ e. rw e (get_or-set_same (by_level n f) n (f n) 0 (omega (arith, sixteen n (omega arith)))))
       (λ i. get_or-set_other (by_level n f) n m (f n) 0 (λ e. absurd (omega (arith, e, i))) ∙ at_level n m i (omega arith))
       (eq-or-lt_of_le (le_of_suc-le-suc l))
-
--- it goes by the numbers alone
-pub same_levels : (f g : ℕ → ℕ) → ((m : ℕ) → f m ≡ g m) → (n : ℕ) → by_level n f ≡ by_level n g
-same_levels f g h n = ap (λ (k : ℕ → ℕ). by_level n k) (fun_ext h)
-
-pub same_size : (f g : ℕ → ℕ) → ((m : ℕ) → f m ≡ g m) → (head n z top : ℕ) → sized head n z top f ≡ sized head n z top g
-same_size f g h head n z top = ap (λ (k : ℕ → ℕ). sized head n z top k) (fun_ext h)
 
 -- a total of neighbour counts that are below 256
 pub total_le : (counts : List ℕ) → ((i : ℕ) → get_or counts i 0 < 256) → (m : ℕ) → neighbour_total counts m ≤ vertex_count m * 255

@@ -13,7 +13,7 @@ use Rattle.lists.proofs.Counting.{chosen, or_none}
 use Rattle.float.specs.Order.{farther}
 use Rattle.float.proofs.Order.{lt_trans, lt_asym, le_not}
 use Rattle.mesh.specs.Levels.{per}
-use Rattle.table.specs.File.{Entry}
+use Rattle.table.specs.declared.Entry.{Entry}
 use Rattle.table.specs.declared.Table.{Table}
 use Rattle.reading.specs.Resolve.{widened}
 use Rattle.reading.specs.Reading.{energy_at}

@@ -11,7 +11,7 @@ use Rattle.lists.specs.Lists.{for_each}
 use Rattle.lists.proofs.Counting.{chosen}
 use Rattle.mesh.specs.Levels.{per}
 use Rattle.table.specs.Bytes.{number_at}
-use Rattle.table.specs.File.{Entry}
+use Rattle.table.specs.declared.Entry.{Entry}
 use Rattle.table.specs.declared.Table.{Table}
 use Rattle.reading.specs.Resolve.{widened}
 use Rattle.reading.specs.Reading.{energy_at}

@@ -15,8 +15,7 @@ use Rattle.grid.specs.declared.Grid.{Grid}
 use Rattle.grid.proofs.Rises.{bins_rise}
 use Rattle.table.specs.declared.Table.{Table}
 use Rattle.reading.specs.Resolve.{outside}
-use Rattle.span.specs.Spans.{span_values, bin_of, ends_valid, ends_inside, rows_touched, span_question, span_of, span_out}
-use Rattle.span.specs.declared.SpanAnswer.TheVariants.{Accepted, Refused}
+use Rattle.span.specs.Spans.{span_accepted, span_refused, bin_of, ends_valid, ends_inside, rows_touched, span_question, span_of, span_out}
 
 -- what the questions of the ends say
 pub record Ends (g : Grid) (low high : Float) : Type 0 where
@@ -45,12 +44,12 @@ ends_are g low high omega' v i =
     }
 
 module _ (file : List ℕ) (t : Table) (low high omega' : Float) where
-  pub refused_18 : ends_valid low high omega' ≡ false → span_out file t low high omega' ≡ span_values (Refused 18)
+  pub refused_18 : ends_valid low high omega' ≡ false → span_out file t low high omega' ≡ span_refused 18
   unfolding span_out span_question ask
   refused_18 h = rw h
 
   module _ (valid : ends_valid low high omega' ≡ true) where
-    pub refused_26 : ends_inside t.grid low high ≡ false → span_out file t low high omega' ≡ span_values (Refused 26)
+    pub refused_26 : ends_inside t.grid low high ≡ false → span_out file t low high omega' ≡ span_refused 26
     unfolding span_out span_question ask
     refused_26 h = rw (valid, h)
 
@@ -60,11 +59,11 @@ module _ (file : List ℕ) (t : Table) (low high omega' : Float) where
           let e = ends_are t.grid low high omega' valid inside in
           bins_rise low high t.grid.rmin t.grid.dr t.grid.n_r e.high_number e.above e.order
 
-      pub refused_19 : rows_touched file t (bin_of t.grid low) (bin_of t.grid high) omega' ≡ false → span_out file t low high omega' ≡ span_values (Refused 19)
+      pub refused_19 : rows_touched file t (bin_of t.grid low) (bin_of t.grid high) omega' ≡ false → span_out file t low high omega' ≡ span_refused 19
       unfolding span_out span_question ask
       refused_19 h = rw (valid, inside, h)
 
-      pub answered : rows_touched file t (bin_of t.grid low) (bin_of t.grid high) omega' ≡ true → span_out file t low high omega' ≡ span_values (Accepted (span_of file t low high omega'))
+      pub answered : rows_touched file t (bin_of t.grid low) (bin_of t.grid high) omega' ≡ true → span_out file t low high omega' ≡ span_accepted (span_of file t low high omega')
       unfolding span_out span_question ask
       answered h = rw (valid, inside, h)
 

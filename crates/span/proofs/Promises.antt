@@ -18,17 +18,15 @@ use Rattle.search.specs.declared.Weights.{Weights}
 use Rattle.search.proofs.Below.{nearest_below}
 use Rattle.grid.specs.Bins.{table_rmax}
 use Rattle.grid.proofs.Rises.{bins_within, span-within}
-use Rattle.table.specs.File.{Entry}
+use Rattle.table.specs.declared.Entry.{Entry}
 use Rattle.table.specs.declared.Table.{Table}
-use Rattle.reading.specs.Resolve.{reading_values, plain, Query, Way, linear, boltzmann, way_valid, query_valid, outside, resolve, Resolved, unresolved, Picks, unpicked, picked, joint, nearest_pick, pair_place, widened, combined}
+use Rattle.reading.specs.declared.Query.{Query}
+use Rattle.reading.specs.Resolve.{Reading, Energy, Refused, reading_values, plain, Way, linear, boltzmann, way_valid, query_valid, outside, resolve, Resolved, unresolved, Picks, unpicked, picked, joint, nearest_pick, pair_place, widened, combined}
 use Rattle.reading.specs.Reading.{row_inside, energy_inside, entry_at, energy_at, search_in, picks_by, slab_by, read_entry, reading_by}
-use Rattle.reading.specs.declared.Reading.{Reading}
-use Rattle.reading.specs.declared.Reading.TheVariants.{Energy, Refused}
 use Rattle.reading.proofs.Picked.{both_found}
-use Rattle.span.specs.Spans.{span_values, bin_of, slab_in, bins_in, span_question, entry_included, no_extremes, extremes_of, span_of, span_out}
+use Rattle.span.specs.Spans.{span_accepted, span_refused, bin_of, slab_in, bins_in, span_question, entry_included, no_extremes, extremes_of, span_of, span_out}
 use Rattle.span.specs.Bounds.{BinsPromise, interpolated, EnergyPromise}
 use Rattle.span.specs.declared.Extremes.{Extremes}
-use Rattle.span.specs.declared.SpanAnswer.TheVariants.{Accepted as Spans, Refused as NotSpanned}
 use Rattle.span.proofs.Outcome.{Ends, ends_are, answered}
 use Rattle.span.proofs.Between.{either, lt_self, le_is, Within, between, each_new, entry_kept, scalar_new, repulsive_new, mesh_new}
 
@@ -36,10 +34,10 @@ use Rattle.span.proofs.Between.{either, lt_self, le_is, Within, between, each_ne
 
 pub record AcceptedSpan (file : List ℕ) (t : Table) (low high omega' : Float) : Type 0 where
   pub ends : Ends t.grid low high
-  pub values : span_out file t low high omega' ≡ span_values (Spans (span_of file t low high omega'))
+  pub values : span_out file t low high omega' ≡ span_accepted (span_of file t low high omega')
 
 module _ (file : List ℕ) (t : Table) (low high omega' : Float) where
-  question-none : (n : ℕ) (b : Bool) → eqb n 0 ≡ b → (cond b (span_values (Spans (span_of file t low high omega'))) (span_values (NotSpanned n))).number ≡ 0 → n ≡ 0
+  question-none : (n : ℕ) (b : Bool) → eqb n 0 ≡ b → (cond b (span_accepted (span_of file t low high omega')) (span_refused n)).number ≡ 0 → n ≡ 0
   question-none n true e h = eqb-true n 0 e
   question-none n false e h = h
 

@@ -16,7 +16,8 @@ use Rattle.lists.specs.Lists.{all_up_to}
 use Rattle.lists.proofs.Counting.{and_no, all_fails, all_at}
 use Rattle.mesh.specs.Levels.{vertex_count, per}
 use Rattle.grid.specs.Bins.{dihedral_bin}
-use Rattle.table.specs.File.{Entry, entry_of}
+use Rattle.table.specs.File.{entry_of}
+use Rattle.table.specs.declared.Entry.{Entry}
 use Rattle.table.specs.declared.Table.{Table}
 use Rattle.table.proofs.Accepts.{all_is}
 use Rattle.reading.specs.Reading.{row_inside, energy_inside, entry_at}

@@ -3,7 +3,8 @@ use Rattle.std.specs.Prelude.{◌≡◌, Bool, true, false, List, ℕ, ◌≤◌
 use Rattle.std.specs.Float.Ieee.{le, is_nan}
 use Rattle.search.specs.Search.{Locator}
 use Rattle.table.specs.declared.Table.{Table}
-use Rattle.reading.specs.Resolve.{Query, Way}
+use Rattle.reading.specs.Resolve.{Way}
+use Rattle.reading.specs.declared.Query.{Query}
 use Rattle.reading.specs.Reading.{entry_at, reading_by}
 use Rattle.span.specs.Spans.{SpanValues, bin_of, slab_in, span_out}
 

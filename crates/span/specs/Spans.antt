@@ -1,5 +1,5 @@
 -- A span of distances: the bins that it touches, and the smallest and largest energy in their rows (document 02, paper 14). Definitions only.
-use Rattle.std.specs.Prelude.{Bool, true, false, not, cond, ◌&&◌, ◌||◌, List, ℕ, ◌+◌, ◌-◌, ◌*◌, leb, ltb, eqb, Float}
+use Rattle.std.specs.Prelude.{Bool, false, not, cond, ◌&&◌, ◌||◌, List, ℕ, ◌+◌, ◌-◌, ◌*◌, leb, ltb, eqb, Float, Result, Ok, Err}
 use Rattle.std.specs.Float.{nan, inf, binary64}
 use Rattle.std.specs.Float.Ieee.{of_bits, lt, is_nan}
 use Rattle.std.specs.Float.Ieee.Scale.{finite}
@@ -9,14 +9,14 @@ use Rattle.float.specs.Order.{larger, smaller}
 use Rattle.mesh.specs.Levels.{per}
 use Rattle.grid.specs.Bins.{distance_bin, dihedral_bin}
 use Rattle.grid.specs.declared.Grid.{Grid}
-use Rattle.table.specs.File.{Entry}
+use Rattle.table.specs.declared.Entry.{Entry}
 use Rattle.table.specs.declared.Table.{Table}
 use Rattle.reading.specs.Resolve.{outside, widened}
 use Rattle.reading.specs.Reading.{row_inside, energy_inside, entry_at, energy_at}
 use Rattle.span.specs.declared.Extremes.{Extremes}
 use Rattle.span.specs.declared.Spanned.{Spanned}
-use Rattle.span.specs.declared.SpanAnswer.{SpanAnswer}
-use Rattle.span.specs.declared.SpanAnswer.TheVariants.{Accepted, Refused}
+use Rattle.refusals.specs.Numbers.{number}
+use Rattle.refusals.specs.declared.Refusal.{Refusal}
 
 -- the number and the values for each case of the answer; beside a number that refuses all values are 0 (S24.1)
 pub record SpanValues : Type 0 where
@@ -27,14 +27,15 @@ pub record SpanValues : Type 0 where
   pub largest : Float
   pub scalar_nans : ℕ
 
-abbrev pub span_values : SpanAnswer → SpanValues
-span_values (Accepted s) = record { number = 0; first = s.first; last = s.last; smallest = s.smallest; largest = s.largest; scalar_nans = s.scalar_nans }
-span_values (Refused n) = record { number = n; first = 0; last = 0; smallest = of_bits binary64 0; largest = of_bits binary64 0; scalar_nans = 0 }
+abbrev pub span_accepted : Spanned → SpanValues
+span_accepted s = record { number = 0; first = s.first; last = s.last; smallest = s.smallest; largest = s.largest; scalar_nans = s.scalar_nans }
 
--- a refusal has a number: 0 is acceptance alone
-abbrev pub span_numbered : SpanAnswer → Bool
-span_numbered (Accepted s) = true
-span_numbered (Refused n) = not (eqb n 0)
+abbrev pub span_refused : ℕ → SpanValues
+span_refused n = record { number = n; first = 0; last = 0; smallest = of_bits binary64 0; largest = of_bits binary64 0; scalar_nans = 0 }
+
+abbrev pub span_values : Result Spanned Refusal → SpanValues
+span_values (Ok s) = span_accepted s
+span_values (Err e) = span_refused (number e)
 
 -- ---- bins and rows
 
@@ -123,4 +124,4 @@ span_of file t low high omega =
 unfoldable pub span_out : List ℕ → Table → Float → Float → Float → SpanValues
 span_out file t low high omega =
     let n = span_question file t low high omega in
-    cond (eqb n 0) (span_values (Accepted (span_of file t low high omega))) (span_values (Refused n))
+    cond (eqb n 0) (span_accepted (span_of file t low high omega)) (span_refused n)

@@ -7,10 +7,10 @@ ghost use Rattle.reading.specs.Resolve.{widened};
 ghost use Rattle.span.specs.Spans.{included, scalar_included, entry_touched, entry_included, rows_touched, extremes_of};
 
 use crate::Extremes;
-use crate::questions::u32_inside;
 use table::Table;
 
 // One more energy.
+#[tactic(auto, unfolding(crate::specs::Spans::included))]
 fn included(e: f64, x: Extremes) -> Extremes
     ensures { result ≡ included e x }
 {
@@ -26,16 +26,21 @@ fn scalar_included(e: f64, x: Extremes) -> Extremes
     requires { x.scalar_nans < 18446744073709551615 }
     ensures { result ≡ scalar_included e x }
 {
-    let y = included(e, x);
-    let n = x.scalar_nans;
+    let mut y = included(e, x);
     if e != e {
-        return Extremes {
-            smallest: y.smallest,
-            largest: y.largest,
-            scalar_nans: n + 1,
-        };
+        y.scalar_nans = x.scalar_nans + 1;
     }
     y
+}
+
+// The number in four bytes that are inside the file: `u32_at` of `table` would ask of each energy whether it is.
+#[tactic(auto, using(table::proofs::Numbers::four), unfolding(table::specs::Bytes::number_of))]
+fn u32_inside(file: &[u8], at: u64) -> u32
+    requires { at + 4 ≤ length file.now }
+    ensures { result ≡ number_at 4 file.now at }
+{
+    let i = at as usize;
+    table::u32_from_le_bytes(file[i], file[i + 1], file[i + 2], file[i + 3])
 }
 
 // A Mesh row's n energies, from place `offset` on.
@@ -44,34 +49,30 @@ fn mesh_included(file: &[u8], start: u64, offset: u64, n: u64, x: Extremes) -> E
     ensures { result ≡ for_each n (λ k y. included (widened (number_at 4 file.now (start + (offset + k) * 4))) y) x }
 {
     let mut y = x;
-    let mut k = 0;
-    while k < n {
-        let e = bits::widened(u32_inside(file, start + (offset + k) * 4));
-        y = included(e, y);
-        k += 1;
+    for k in 0..n {
+        y = included(bits::widened(u32_inside(file, start + (offset + k) * 4)), y);
     }
     y
 }
 
 // The energies of the row that starts at a byte.
 fn entry_included(t: Table, file: &[u8], at: u64, x: Extremes) -> Extremes
-    requires { (at + 10 ≤ length file.now) × (entry_touched file.now t (entry_of (take 10 (drop at file.now))) ≡ true) × (x.scalar_nans < 18446744073709551615) }
+    requires { (at + 10 ≤ length file.now) × (entry_touched file.now t (entry_of (take 10 (drop at file.now))) ≡ true)
+        × (x.scalar_nans < 18446744073709551615) }
     ensures { result ≡ entry_included file.now t (entry_of (take 10 (drop at file.now))) x }
 {
-    let start = t.energies_start;
-    let i = at as usize;
-    let kind = file[i];
-    let level = file[i + 1];
-    if kind == 0 {
-        let e = bits::widened(u32_inside(file, at + 6));
-        return scalar_included(e, x);
+    let e = table::entry_at(file, at);
+    match e.kind {
+        0 => scalar_included(bits::widened(e.scalar), x),
+        1 => included(1.0 / 0.0, x),
+        _ => mesh_included(
+            file,
+            t.energies_start,
+            e.offset as u64,
+            mesh::per_level(e.level),
+            x,
+        ),
     }
-    if kind == 1 {
-        return included(1.0 / 0.0, x);
-    }
-    let offset = u32_inside(file, at + 2) as u64;
-    let n = mesh::per_level(level);
-    mesh_included(file, start, offset, n, x)
 }
 
 // The energies of the rows of the bins from the first to the last.
@@ -79,21 +80,16 @@ pub(crate) fn extremes_of(t: Table, file: &[u8], first: u64, last: u64, omega: f
     requires { (first ≤ last) × (last < 18446744073709551615) × (rows_touched file.now t first last omega ≡ true) }
     ensures { result ≡ extremes_of file.now t first last omega }
 {
-    let g = t.grid;
-    let n = g.n_omega;
-    let start = t.rows_start;
-    let oi = grid::dihedral_bin(omega, g.omega_step, n);
+    let oi = grid::dihedral_bin(omega, t.grid.omega_step, t.grid.n_omega);
     let count = last - first + 1;
     let mut x = Extremes {
         smallest: 0.0 / 0.0,
         largest: 0.0 / 0.0,
         scalar_nans: 0,
     };
-    let mut i = 0;
-    while i < count {
-        let at = start + ((first + i) * n + oi) * 10;
+    for i in 0..count {
+        let at = t.rows_start + ((first + i) * t.grid.n_omega + oi) * 10;
         x = entry_included(t, file, at, x);
-        i += 1;
     }
     x
 }

@@ -1,11 +1,12 @@
 // Distances known within a span: the bins that the span touches, and the smallest and largest energy in their rows.
 #![tactic(auto)]
 
-ghost use Rattle.std.specs.Prelude.{◌≡◌, true};
-ghost use Rattle.span.specs.Spans.{span_values, span_numbered, span_out};
+ghost use Rattle.std.specs.Prelude.{◌≡◌};
+ghost use Rattle.span.specs.Spans.{span_values, span_out};
 
 use crate::energies::extremes_of;
 use crate::questions::{ends_inside, ends_valid, rows_touched};
+use refusals::Refusal;
 use table::Table;
 
 mod energies;
@@ -29,31 +30,23 @@ pub struct Spanned {
     pub scalar_nans: u64,
 }
 
-// What a span answers.
-#[derive(Clone, Copy)]
-pub enum SpanAnswer {
-    Accepted(Spanned),
-    Refused(u64),
-}
-
 // The bins and the energies of the distances from `low` to `high`, at a dihedral angle.
-pub fn span(t: Table, file: &[u8], low: f64, high: f64, omega: f64) -> SpanAnswer
-    ensures { (span_numbered result ≡ true) × (span_values result ≡ span_out file.now t low high omega) }
+pub fn span(t: Table, file: &[u8], low: f64, high: f64, omega: f64) -> Result<Spanned, Refusal>
+    ensures { span_values result ≡ span_out file.now t low high omega }
 {
-    let g = t.grid;
     if !ends_valid(low, high, omega) {
-        return SpanAnswer::Refused(18);
+        return Err(Refusal::Query);
     }
-    if !ends_inside(g, low, high) {
-        return SpanAnswer::Refused(26);
+    if !ends_inside(t.grid, low, high) {
+        return Err(Refusal::Span);
     }
-    let first = grid::distance_bin(low, g.rmin, g.dr, g.n_r);
-    let last = grid::distance_bin(high, g.rmin, g.dr, g.n_r);
+    let first = grid::distance_bin(low, t.grid.rmin, t.grid.dr, t.grid.n_r);
+    let last = grid::distance_bin(high, t.grid.rmin, t.grid.dr, t.grid.n_r);
     if !rows_touched(t, file, first, last, omega) {
-        return SpanAnswer::Refused(19);
+        return Err(Refusal::NotLent);
     }
     let x = extremes_of(t, file, first, last, omega);
-    SpanAnswer::Accepted(Spanned {
+    Ok(Spanned {
         first,
         last,
         smallest: x.smallest,

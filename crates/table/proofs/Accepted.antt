@@ -18,15 +18,14 @@ use Rattle.grid.specs.declared.Grid.{Grid}
 use Rattle.grid.specs.declared.AtomGrid.{AtomGrid}
 use Rattle.grid.proofs.Laws.{Ranged, ranged, AtomRanged, atom_ranged}
 use Rattle.table.specs.Tail.{tail_valid}
-use Rattle.table.specs.Read.{count_at, layout, laid_out, ended, table_laid_out, tail_at, table_of, row_items, energy_items, tail_in, table_valid, entry_valid, tiled, read_values, read_refusal, read_out}
+use Rattle.table.specs.Read.{count_at, layout, laid_out, ended, table_laid_out, tail_at, table_of, row_items, energy_items, tail_in, table_valid, entry_valid, tiled, no_table, ReadValues, read_refusal, read_out}
 use Rattle.table.specs.View.{host, within, read_refusal_over, read_over, Smaller, AcceptedAlike, HostReads}
 use Rattle.table.specs.declared.Bound.{Bound}
-use Rattle.table.specs.Atom.{atom_table_of, atom_read_values, atom_read_refusal, atom_read_out}
+use Rattle.table.specs.Atom.{atom_table_of, no_atom_table, AtomReadValues, atom_read_refusal, atom_read_out}
 use Rattle.table.specs.Internal.{SectionsInside, Inside, TailInside, TableSections, table_question, atom_table_question}
 use Rattle.table.specs.declared.Layout.{Layout}
-use Rattle.table.specs.declared.ReadAnswer.TheVariants.{Accepted as Reads, Refused as NotRead}
-use Rattle.table.specs.declared.AtomReadAnswer.TheVariants.{Accepted as AtomReads, Refused as AtomNotRead}
 use Rattle.table.specs.declared.Table.{Table}
+use Rattle.table.specs.declared.AtomTable.{AtomTable}
 use Rattle.table.proofs.Numbers.{none_there}
 
 heads : (i j : ℕ) (file : List ℕ) → eqb (count_at file 0) i ≡ true → eqb (count_at file (layout file).bins) j ≡ true → (layout file).end ≤ length file
@@ -103,20 +102,15 @@ pub held_ranged : (g : Grid) (levels : ℕ) → grid_valid g levels ≡ true →
 unfolding grid_valid
 held_ranged g levels h = ranged g levels ((and-eq-true_iff (grid_range g levels) (slabs_fit g.n_r g.n_omega (levels - 1))).0 h).0
 
+-- as many slabs as this number of 64 bits holds
+pub slabs_counted : (g : Grid) (levels : ℕ) → grid_valid g levels ≡ true → g.n_r * g.n_omega ≤ 4294836225
+slabs_counted g levels h = let r = held_ranged g levels h in omega (arith, mul-le-mul r.distances r.dihedrals)
+
 pub atom_held_ranged : (g : AtomGrid) (levels : ℕ) → atom_grid_valid g levels ≡ true → AtomRanged g levels
 unfolding atom_grid_valid
 atom_held_ranged g levels h = atom_ranged g levels ((and-eq-true_iff (atom_grid_range g levels) (atom_slabs_fit g.n_r (levels - 1))).0 h).0
 
 -- ---- the outcome
-
--- questions that a call answered by the number n, and those after them
-pub then_no : (n r x : ℕ) → n ≡ r → (n ≡ 0 → ⊥) → n ≡ first r x
-unfolding first
-then_no n r x e h = rw (← e, ne_eqb n 0 h)
-
-pub then-zero : (n r x : ℕ) → n ≡ r → n ≡ 0 → x ≡ first r x
-unfolding first
-then-zero n r x e h = rw (← e, eq-eqb n 0 h)
 
 -- 15 to 17, by the number that they gave, and what is asked after them
 rows_then : (a b d : Bool) (rest : ℕ) → ask a 15 (ask b 16 (ask d 17 rest)) ≡ first (ask a 15 (ask b 16 (ask d 17 0))) rest
@@ -126,15 +120,22 @@ rows_then true false d rest = refl
 rows_then true true false rest = refl
 rows_then true true true rest = refl
 
+-- the outcome of a file that is refused by a number, and of one with the table t
+abbrev pub refused : ℕ → ReadValues
+refused n = record { number = n; table = no_table }
+
+abbrev pub accepted : Table → ReadValues
+accepted t = record { number = 0; table = t }
+
 module _ (b : Bound) (file : List ℕ) where
-  pub read_unlaid : table_laid_out file (layout file) ≡ false → read_over b file ≡ read_values (NotRead 13)
+  pub read_unlaid : table_laid_out file (layout file) ≡ false → read_over b file ≡ refused 13
   unfolding read_over read_refusal_over ask
   read_unlaid h = rw h
 
   module _ (h : table_laid_out file (layout file) ≡ true) (n : ℕ) (e : n ≡ table_question b file (table_of file (layout file))) where
-    asked : read_refusal_over b file (layout file) (table_of file (layout file)) ≡ n
+    questioned : read_refusal_over b file (layout file) (table_of file (layout file)) ≡ n
     unfolding read_refusal_over ask
-    asked =
+    questioned =
         let t = table_of file (layout file) in
         rw h
         (ap (λ (m : ℕ). ask (table_valid file t) 14 (ask (within b t) 24 m))
@@ -142,13 +143,13 @@ module _ (b : Bound) (file : List ℕ) where
         (ask (tail_valid (tail_in file t)) 23 0))
         ∙ sym e)
 
-    pub read_refused : (n ≡ 0 → ⊥) → read_over b file ≡ read_values (NotRead n)
+    pub read_refused : eqb n 0 ≡ false → read_over b file ≡ refused n
     unfolding read_over
-    read_refused z = rw (asked, ne_eqb n 0 z)
+    read_refused z = rw (questioned, z)
 
-    pub read_accepted : n ≡ 0 → read_over b file ≡ read_values (Reads (table_of file (layout file)))
+    pub read_accepted : n ≡ 0 → read_over b file ≡ accepted (table_of file (layout file))
     unfolding read_over
-    read_accepted z = rw (asked, eq-eqb n 0 z)
+    read_accepted z = rw (questioned, eq-eqb n 0 z)
 
 -- ---- bounds
 
@@ -203,21 +204,28 @@ accepted_by b c s file false d e = absurd (eqb-false _ 0 d (rw d at e))
 pub accepted_alike : AcceptedAlike
 accepted_alike b c s file e = accepted_by b c s file _ refl e
 
+-- ---- against an atom
+
+abbrev pub atom_refused : ℕ → AtomReadValues
+atom_refused n = record { number = n; table = no_atom_table }
+
+abbrev pub atom_accepted : AtomTable → AtomReadValues
+atom_accepted t = record { number = 0; table = t }
+
 module _ (file : List ℕ) where
-  -- against an atom
-  pub atom_read_unlaid : laid_out 2 1 file (layout file) ≡ false → atom_read_out file ≡ atom_read_values (AtomNotRead 13)
+  pub atom_read_unlaid : laid_out 2 1 file (layout file) ≡ false → atom_read_out file ≡ atom_refused 13
   unfolding atom_read_out atom_read_refusal ask
   atom_read_unlaid h = rw h
 
   module _ (h : laid_out 2 1 file (layout file) ≡ true) (n : ℕ) (e : n ≡ atom_table_question file (atom_table_of file (layout file))) where
-    atom_asked : atom_read_refusal file (layout file) (atom_table_of file (layout file)) ≡ n
+    atom_questioned : atom_read_refusal file (layout file) (atom_table_of file (layout file)) ≡ n
     unfolding atom_read_refusal ask
-    atom_asked = rw h (sym e)
+    atom_questioned = rw h (sym e)
 
-    pub atom_read_refused : (n ≡ 0 → ⊥) → atom_read_out file ≡ atom_read_values (AtomNotRead n)
+    pub atom_read_refused : eqb n 0 ≡ false → atom_read_out file ≡ atom_refused n
     unfolding atom_read_out
-    atom_read_refused z = rw (atom_asked, ne_eqb n 0 z)
+    atom_read_refused z = rw (atom_questioned, z)
 
-    pub atom_read_accepted : n ≡ 0 → atom_read_out file ≡ atom_read_values (AtomReads (atom_table_of file (layout file)))
+    pub atom_read_accepted : n ≡ 0 → atom_read_out file ≡ atom_accepted (atom_table_of file (layout file))
     unfolding atom_read_out
-    atom_read_accepted z = rw (atom_asked, eq-eqb n 0 z)
+    atom_read_accepted z = rw (atom_questioned, eq-eqb n 0 z)

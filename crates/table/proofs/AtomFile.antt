@@ -2,6 +2,7 @@
 use mathlib.Core.Path.{◌≡◌, refl, sym, ap, ◌∙◌}
 use mathlib.Core.Bool.{true, and-eq-true_iff}
 use mathlib.Core.List.{List, [], ◌∷◌, append-nil}
+use Rattle.std.proofs.Common.{Ok}
 use Prim.Native.Nat.{ℕ, ◌+◌, ◌*◌, ◌-◌, ◌<◌}
 use native.Mathlib.Omega.{arith}
 use lib.ListN.{length, get_or, take, drop}
@@ -23,7 +24,6 @@ use Rattle.table.specs.Read.{layout}
 use Rattle.table.specs.Atom.{atom_file_of, AtomReadValues, atom_read_values, atom_grid_of, atom_table_of, atom_table_valid, atom_read_out}
 use Rattle.table.specs.Internal.{atom_table_question}
 use Rattle.table.specs.declared.AtomTable.{AtomTable}
-use Rattle.table.specs.declared.AtomReadAnswer.TheVariants.{Accepted as Reads}
 use Rattle.table.proofs.Accepted.{atom_read_accepted}
 use Rattle.table.proofs.Back.{All}
 use Rattle.table.proofs.Sound.{Fine}
@@ -115,8 +115,8 @@ module _ (g : AtomGrid) (levels : ℕ) (rows : List (Row ℕ)) (ok : AtomFilable
   asked = rw (table_is, held) (sym (rows-asked sized))
 
   -- the reader accepts the file
-  pub atom_file_accepted : atom_read_out (atom_file_of g levels rows) ≡ atom_read_values (Reads (atom_table_in g levels rows))
-  atom_file_accepted = atom_read_accepted file (laid_out_lem sized refl) 0 asked refl ∙ ap (λ (t : AtomTable). atom_read_values (Reads t)) table_is
+  pub atom_file_accepted : atom_read_out (atom_file_of g levels rows) ≡ atom_read_values (Ok (atom_table_in g levels rows))
+  atom_file_accepted = atom_read_accepted file (laid_out_lem sized refl) 0 asked refl ∙ ap (λ (t : AtomTable). atom_read_values (Ok t)) table_is
 
   -- ---- what stands in it
 

@@ -2,6 +2,7 @@
 use mathlib.Core.Path.{◌≡◌, refl, ap, ◌∙◌}
 use mathlib.Core.Bool.{Bool, true, false, and-eq-true_iff}
 use mathlib.Core.List.{List, [], ◌∷◌}
+use Rattle.std.proofs.Common.{Ok}
 use Prim.Native.Nat.{ℕ, ◌+◌, ◌*◌, ◌-◌, ◌≤◌, ◌<◌}
 use native.Mathlib.Nat.{suc-mul, mul-le-mul, mul-pos}
 use native.Mathlib.Omega.{arith}
@@ -25,7 +26,6 @@ use Rattle.table.specs.Read.{layout, table_laid_out, grid_of, table_of, row_item
 use Rattle.table.specs.Checks.{check_grid, slab_checked, check_slabs}
 use Rattle.table.specs.declared.Layout.{Layout}
 use Rattle.table.specs.declared.Table.{Table}
-use Rattle.table.specs.declared.ReadAnswer.TheVariants.{Accepted as Reads}
 use Rattle.table.proofs.Items.{items-many}
 use Rattle.table.proofs.Accepted.{held_ranged}
 
@@ -127,7 +127,7 @@ module _ (file : List ℕ) (t : Table) (few : t.energies ≤ 4294967295) (counts
 -- ---- the whole
 
 -- what an accepted file was asked
-accepted_by : (file : List ℕ) (t : Table) (x : Bool) → eqb (read_refusal file (layout file) (table_of file (layout file))) 0 ≡ x → read_out file ≡ read_values (Reads t)
+accepted_by : (file : List ℕ) (t : Table) (x : Bool) → eqb (read_refusal file (layout file) (table_of file (layout file))) 0 ≡ x → read_out file ≡ read_values (Ok t)
     → (read_refusal file (layout file) (table_of file (layout file)) ≡ 0) × (table_of file (layout file) ≡ t)
 unfolding read_out
 accepted_by file t true d e = (eqb-true _ 0 d, ap (λ (v : ReadValues). v.table) (rw d at e))
@@ -158,7 +158,7 @@ found_checked file p e =
     )
 
 -- "An accepted file also passes `check_grid` and `check_slabs`"
-pub checked : (file : List ℕ) (t : Table) → read_out file ≡ read_values (Reads t) → (check_grid t.grid ≡ true) × (check_slabs file t ≡ true)
+pub checked : (file : List ℕ) (t : Table) → read_out file ≡ read_values (Ok t) → (check_grid t.grid ≡ true) × (check_slabs file t ≡ true)
 checked file t e =
     let a = accepted_by file t _ refl e in
     rw (← a.1) (found_checked file (layout file) a.0)

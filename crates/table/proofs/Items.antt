@@ -4,13 +4,15 @@ use mathlib.Core.Bool.{Bool, true, false, cond, ◌&&◌, ◌||◌, and-true, an
 use mathlib.Core.List.{List, [], ◌∷◌}
 use Prim.Native.Nat.{ℕ, zero, suc, ◌+◌, ◌*◌, ◌-◌, ◌≤◌, ◌<◌}
 use native.Mathlib.Nat.{add-zero}
+use native.Mathlib.Numerals.{add-one}
 use native.Mathlib.Omega.{arith}
 use lib.ListN.{length, get_or, take, drop}
 use lib.Seq.{drop-drop}
 use lib.Dec.{leb, eqb}
 use lib.Ieee.{binary64, of_bits}
 use borrow.Author.Tests.{eqb-true}
-use Rattle.lists.specs.Lists.{every}
+use Rattle.lists.specs.Lists.{every, all_up_to}
+use Rattle.lists.proofs.Counting.{all_fails}
 use Rattle.mesh.proofs.Laws.{count_le, per_le}
 use Rattle.table.specs.Bytes.{number_of, number_at, items}
 use Rattle.table.specs.Tail.{Term, term_of}
@@ -18,6 +20,17 @@ use Rattle.table.specs.File.{Entry, entry_of}
 use Rattle.table.specs.Read.{tiled}
 use Rattle.table.specs.Internal.{each_of, placed_at, next_place}
 use Rattle.table.proofs.Numbers.{number-suc, no_bytes}
+
+-- a test of each number below n + 1: of the first, and of the others
+all_front : (p : ℕ → Bool) (n : ℕ) → all_up_to (suc n) p ≡ p 0 && all_up_to n (λ k. p (suc k))
+unfolding all_up_to
+all_front p zero = sym (and-true (p 0))
+all_front p (suc n) = rw (all_front p n) (and_assoc (p 0) (all_up_to n (λ k. p (suc k))) (p (suc n)))
+
+all_same : (p q : ℕ → Bool) (n : ℕ) → ((k : ℕ) → p k ≡ q k) → all_up_to n p ≡ all_up_to n q
+unfolding all_up_to
+all_same p q zero h = refl
+all_same p q (suc n) h = rw (all_same p q n h, h n) refl
 
 module _ {A : Type 0} (dec : List ℕ → A) (w : ℕ) (file : List ℕ) where
   pub items_cons : (at n : ℕ) → 0 < n → items dec w file at n ≡ dec (take w (drop at file)) ∷ items dec w file (at + w) (n - 1)
@@ -30,36 +43,31 @@ module _ {A : Type 0} (dec : List ℕ → A) (w : ℕ) (file : List ℕ) where
   items-many at zero = refl
   items-many at (suc n) = ap suc (items-many (at + w) n)
 
-  pub every_stop : (p : A → Bool) (at n : ℕ) → 0 < n → p (dec (take w (drop at file))) ≡ false → every p (items dec w file at n) ≡ false
-  unfolding every
-  every_stop p at n h e = rw (items_cons at n h, e)
+  -- a test of every item, as one of each number below their count
+  pub every_up_to : (p : A → Bool) (at n : ℕ) → every p (items dec w file at n) ≡ all_up_to n (λ k. p (dec (take w (drop (at + k * w) file))))
+  unfolding every items all_up_to
+  every_up_to p at zero = refl
+  every_up_to p at (suc n) =
+      let first : at + 0 * w ≡ at = omega arith in
+      rw (all_front (λ k. p (dec (take w (drop (at + k * w) file)))) n, first, every_up_to p (at + w) n)
+      (ap (λ (b : Bool). p (dec (take w (drop at file))) && b)
+      (all_same (λ k. p (dec (take w (drop (at + w + k * w) file)))) (λ k. p (dec (take w (drop (at + suc k * w) file)))) n
+      (λ k. let e : at + w + k * w ≡ at + suc k * w = omega arith in rw e refl)))
 
-  pub every_next : (p : A → Bool) (at n : ℕ) → 0 < n → p (dec (take w (drop at file))) ≡ true
-      → every p (items dec w file at n) ≡ every p (items dec w file (at + w) (n - 1))
-  unfolding every
-  every_next p at n h e = rw (items_cons at n h, e)
+  pub every_fails : (p : A → Bool) (at n i : ℕ) → i < n → p (dec (take w (drop (at + i * w) file))) ≡ false → every p (items dec w file at n) ≡ false
+  every_fails p at n i l e = every_up_to p at n ∙ all_fails (λ k. p (dec (take w (drop (at + k * w) file)))) i n l e
 
-  pub every_end : (p : A → Bool) (at n : ℕ) → n ≤ 0 → every p (items dec w file at n) ≡ true
-  unfolding every items
-  every_end p at n h = let e : n ≡ 0 = omega arith in rw e
+-- a test of each of the first 2·i numbers, two more of them
+pub two_more : (p : ℕ → Bool) (i : ℕ) (h : Bool) → h ≡ all_up_to (i * 2) p → (h && (p (i * 2) && p (i * 2 + 1))) ≡ all_up_to ((i + 1) * 2) p
+unfolding all_up_to
+two_more p i h e =
+    let n : (i + 1) * 2 ≡ suc (suc (i * 2)) = omega arith in
+    rw (n, e, add-one) (sym (and_assoc (all_up_to (i * 2) p) (p (i * 2)) (p (suc (i * 2)))))
 
-  -- the same in a loop that goes on to the end, two a turn, h being what was found so far; then the last one, or none
-  pub every_two : (p : A → Bool) (at n : ℕ) (h : Bool) → 1 < n
-      → ((h && (p (dec (take w (drop at file))) && p (dec (take w (drop (at + w) file))))) && every p (items dec w file (at + w + w) (n - 2))) ≡ (h && every p (items dec w file at n))
-  unfolding every
-  every_two p at n h l =
-      let x = p (dec (take w (drop at file))) in
-      let y = p (dec (take w (drop (at + w) file))) in
-      let r = every p (items dec w file (at + w + w) (n - 2)) in
-      let m : n - 1 - 1 ≡ n - 2 = omega arith in
-      rw (items_cons at n (omega arith), items_cons (at + w) (n - 1) (omega arith), m) (and_assoc h (x && y) r ∙ ap (λ (b : Bool). h && b) (and_assoc x y r))
-
-  pub every_one : (p : A → Bool) (at n : ℕ) (h : Bool) → n ≡ 1 → (h && p (dec (take w (drop at file)))) ≡ (h && every p (items dec w file at n))
-  unfolding every items
-  every_one p at n h e = rw e (ap (λ (x : Bool). h && x) (sym (and-true (p (dec (take w (drop at file)))))))
-
-  pub every-none : (p : A → Bool) (at n : ℕ) (h : Bool) → n ≤ 0 → h ≡ (h && every p (items dec w file at n))
-  every-none p at n h l = rw (every_end p at n l) (sym (and-true h))
+-- and one more, or none
+pub one_more : (p : ℕ → Bool) (i n : ℕ) (h : Bool) → h ≡ all_up_to (i * 2) p → n ≡ i * 2 + 1 → (h && p (i * 2)) ≡ all_up_to n p
+unfolding all_up_to
+one_more p i n h e l = rw (l, e, add-one) refl
 
 -- ---- rows
 

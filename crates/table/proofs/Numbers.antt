@@ -1,6 +1,6 @@
 -- The number in some bytes of a file, byte by byte. Assumes nothing.
 use mathlib.Core.Path.{◌≡◌, refl, ◌∙◌}
-use mathlib.Core.List.{List, [], ◌∷◌}
+use mathlib.Core.List.{List, []}
 use mathlib.Core.Logic.{⊎_elim}
 use Prim.Native.Nat.{ℕ, suc, ◌+◌, ◌*◌, ◌≤◌}
 use native.Mathlib.Numerals.{add-one}
@@ -49,10 +49,6 @@ four file at = above 0 file at ∙ omega (arith, no_bytes file (at + 4))
 pub none_there : (file : List ℕ) (at : ℕ) → length file ≤ at → number_at 4 file at ≡ 0
 none_there file at h =
     omega (arith, four file at, beyond file at h, beyond file (at + 1) (omega arith), beyond file (at + 2) (omega arith), beyond file (at + 3) (omega arith))
-
-pub four_bytes : (file : List ℕ) (at : ℕ) → number_of (get_or file at 0 ∷ get_or file (at + 1) 0 ∷ get_or file (at + 2) 0 ∷ get_or file (at + 3) 0 ∷ []) ≡ number_at 4 file at
-unfolding number_of
-four_bytes file at = omega (arith, four file at)
 
 pub eight : (file : List ℕ) (at : ℕ) → number_at 8 file at ≡ number_at 4 file (at + 4) * 4294967296 + number_at 4 file at
 eight file at = above 4 file at ∙ omega (arith, four file at)

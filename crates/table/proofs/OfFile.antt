@@ -2,6 +2,7 @@
 use mathlib.Core.Path.{◌≡◌, refl, sym, ap, ◌∙◌}
 use mathlib.Core.Bool.{true, cond, and-eq-true_iff}
 use mathlib.Core.List.{List, [], ◌∷◌, append-nil}
+use Rattle.std.proofs.Common.{Ok}
 use Prim.Native.Nat.{ℕ, ◌+◌, ◌*◌, ◌-◌, ◌<◌}
 use native.Mathlib.Nat.{mul-le-mul}
 use native.Mathlib.Omega.{arith}
@@ -25,7 +26,6 @@ use Rattle.table.specs.Read.{layout, table_laid_out, grid_of, table_of, tail_in,
 use Rattle.table.specs.View.{host}
 use Rattle.table.specs.Internal.{table_question}
 use Rattle.table.specs.declared.Table.{Table}
-use Rattle.table.specs.declared.ReadAnswer.TheVariants.{Accepted as Reads}
 use Rattle.table.proofs.Accepted.{read_accepted, host-within, host-reads}
 use Rattle.table.proofs.Back.{All}
 use Rattle.table.proofs.Sound.{Fine}
@@ -144,8 +144,8 @@ module _ (g : Grid) (levels : ℕ) (rows : List (Row ℕ)) (t : Tail) (ok : Fila
   asked = rw (table_is, held, host-within file (full_table_in g levels rows t) held, rows-asked sized, tail_valid_lem)
 
   -- the reader accepts the file
-  pub full_accepted : read_out (full_file g levels rows t) ≡ read_values (Reads (full_table_in g levels rows t))
-  full_accepted = sym (host-reads file) ∙ read_accepted host file laid_out_lem 0 asked refl ∙ ap (λ (k : Table). read_values (Reads k)) table_is
+  pub full_accepted : read_out (full_file g levels rows t) ≡ read_values (Ok (full_table_in g levels rows t))
+  full_accepted = sym (host-reads file) ∙ read_accepted host file laid_out_lem 0 asked refl ∙ ap (λ (k : Table). read_values (Ok k)) table_is
 
   -- ---- what stands in it
 
@@ -203,7 +203,7 @@ pub none_is : (g : Grid) (levels : ℕ) (rows : List (Row ℕ)) → full_file g 
 unfolding full_file
 none_is g levels rows = append-nil (file_of g levels rows)
 
-pub file_accepted : (g : Grid) (levels : ℕ) (rows : List (Row ℕ)) → Filable g levels rows → read_out (file_of g levels rows) ≡ read_values (Reads (table_in g levels rows))
+pub file_accepted : (g : Grid) (levels : ℕ) (rows : List (Row ℕ)) → Filable g levels rows → read_out (file_of g levels rows) ≡ read_values (Ok (table_in g levels rows))
 file_accepted g levels rows ok = ap read_out (sym (none_is g levels rows)) ∙ full_accepted g levels rows no_tail ok none_tailable
 
 pub file_holds : (g h : Grid) (m n : ℕ) (a b : List (Row ℕ)) → Filable g m a → Filable h n b → file_of g m a ≡ file_of h n b → Holds g h m n a b

@@ -1,5 +1,5 @@
 -- The file of a table against an atom, and its reader. Definitions only.
-use Rattle.std.specs.Prelude.{Bool, true, not, cond, ◌&&◌, List, [], ◌∷◌, ℕ, ◌+◌, ◌*◌, eqb}
+use Rattle.std.specs.Prelude.{Bool, not, cond, ◌&&◌, List, [], ◌∷◌, ℕ, ◌+◌, ◌*◌, eqb, Result, Ok, Err}
 use Rattle.std.specs.Float.{binary32, binary64}
 use Rattle.std.specs.Float.Ieee.{of_bits, to_bits, nan_bits}
 use Rattle.lists.specs.Questions.{ask}
@@ -8,14 +8,14 @@ use Rattle.mesh.specs.Levels.{vertex_count}
 use Rattle.grid.specs.Bins.{table_rmax}
 use Rattle.grid.specs.Atom.{atom_grid_valid}
 use Rattle.grid.specs.declared.AtomGrid.{AtomGrid}
+use Rattle.refusals.specs.Numbers.{number}
+use Rattle.refusals.specs.declared.Refusal.{Refusal}
 use Rattle.rows.specs.Rows.{Row}
 use Rattle.table.specs.Bytes.{number_of, number_at, items}
 use Rattle.table.specs.File.{Entry, entry_of, sections_of}
 use Rattle.table.specs.Read.{count_at, layout, laid_out, f64_at, entry_valid, tiled}
 use Rattle.table.specs.declared.Layout.{Layout}
 use Rattle.table.specs.declared.AtomTable.{AtomTable}
-use Rattle.table.specs.declared.AtomReadAnswer.{AtomReadAnswer}
-use Rattle.table.specs.declared.AtomReadAnswer.TheVariants.{Accepted as Reads, Refused as NotRead}
 
 -- "In the file, section 1 has count 2 (rmin, dr) and section 2 count 1." A Mesh row has n energies. (S18.6)
 unfoldable pub atom_file_of : AtomGrid → ℕ → List (Row ℕ) → List ℕ
@@ -23,7 +23,7 @@ atom_file_of g levels rows = sections_of vertex_count (to_bits binary64 g.rmin �
 
 -- ---- 01's number and values for each case of the answer; beside a number that refuses stands a table of zeros
 
-abbrev no_atom_table : AtomTable
+abbrev pub no_atom_table : AtomTable
 no_atom_table =
     let x = of_bits binary64 0 in
     record {
@@ -42,14 +42,9 @@ pub record AtomReadValues : Type 0 where
   pub number : ℕ
   pub table : AtomTable
 
-abbrev pub atom_read_values : AtomReadAnswer → AtomReadValues
-atom_read_values (Reads t) = record { number = 0; table = t }
-atom_read_values (NotRead n) = record { number = n; table = no_atom_table }
-
--- a refusal has a number: 0 is acceptance alone
-abbrev pub atom_read_numbered : AtomReadAnswer → Bool
-atom_read_numbered (Reads t) = true
-atom_read_numbered (NotRead n) = not (eqb n 0)
+abbrev pub atom_read_values : Result AtomTable Refusal → AtomReadValues
+atom_read_values (Ok t) = record { number = 0; table = t }
+atom_read_values (Err e) = record { number = number e; table = no_atom_table }
 
 -- ---- what the sections hold
 
@@ -104,4 +99,4 @@ atom_read_out file =
     let p = layout file in
     let t = atom_table_of file p in
     let r = atom_read_refusal file p t in
-    cond (eqb r 0) (atom_read_values (Reads t)) (atom_read_values (NotRead r))
+    cond (eqb r 0) (record { number = 0; table = t }) (record { number = r; table = no_atom_table })

@@ -8,14 +8,9 @@ use Rattle.grid.specs.declared.Grid.{Grid}
 use Rattle.rows.specs.Rows.{Row, scalar, repulsive, mesh}
 use Rattle.table.specs.Bytes.{bytes_of, number_of, section}
 use Rattle.table.specs.Tail.{Tail, tail_bytes}
+pub use Rattle.table.specs.declared.Entry.{Entry}
 
 -- "rows, ten bytes: kind u8 .., level u8, offset u32, scalar u32"
-pub record Entry : Type 0 where
-  pub kind : ℕ
-  pub level : ℕ
-  pub offset : ℕ
-  pub scalar : ℕ
-
 unfoldable pub entry_bytes : Entry → List ℕ
 entry_bytes r = bytes_of 1 r.kind ++ (bytes_of 1 r.level ++ (bytes_of 4 r.offset ++ bytes_of 4 r.scalar))
 

@@ -5,11 +5,10 @@ use Rattle.std.specs.Float.Ieee.{nan_bits}
 use Rattle.lists.specs.Questions.{ask}
 use Rattle.lists.specs.Lists.{every}
 use Rattle.table.specs.Tail.{tail_valid}
-use Rattle.table.specs.Read.{layout, table_laid_out, table_of, row_items, energy_items, tail_in, table_valid, entry_valid, ReadValues, read_values}
+use Rattle.table.specs.Read.{layout, table_laid_out, table_of, row_items, energy_items, tail_in, table_valid, entry_valid, ReadValues, no_table}
 use Rattle.table.specs.Checks.{slab_checked}
 use Rattle.table.specs.declared.Layout.{Layout}
 use Rattle.table.specs.declared.Table.{Table}
-use Rattle.table.specs.declared.ReadAnswer.TheVariants.{Accepted as Reads, Refused as NotRead}
 
 -- "Refused: 25, in the place of 16 for this tool, where a row fails `check_slabs`." 17 is put to all of section 5, gaps too (S23.2)
 unfoldable pub loose_refusal : List ℕ → Layout → Table → ℕ
@@ -26,4 +25,4 @@ loose_out file =
     let p = layout file in
     let t = table_of file p in
     let r = loose_refusal file p t in
-    cond (eqb r 0) (read_values (Reads t)) (read_values (NotRead r))
+    cond (eqb r 0) (record { number = 0; table = t }) (record { number = r; table = no_table })

@@ -1,5 +1,5 @@
 -- Read, in stages over one walk of the sections: layout (13), grid (14), rows (15), tiling (16), energies (17), terms (23). Definitions only.
-use Rattle.std.specs.Prelude.{Bool, true, not, cond, ◌&&◌, ◌||◌, List, [], ◌∷◌, ℕ, ◌+◌, ◌*◌, length, leb, ltb, eqb, Float}
+use Rattle.std.specs.Prelude.{Bool, true, not, cond, ◌&&◌, ◌||◌, List, [], ◌∷◌, ℕ, ◌+◌, ◌*◌, length, leb, ltb, eqb, Float, Result, Ok, Err}
 use Rattle.std.specs.Float.{binary32, binary64}
 use Rattle.std.specs.Float.Ieee.{of_bits, nan_bits}
 use Rattle.lists.specs.Questions.{ask}
@@ -8,18 +8,18 @@ use Rattle.mesh.specs.Levels.{vertex_count, per}
 use Rattle.grid.specs.Bins.{table_rmax}
 unfoldable pub use Rattle.grid.specs.Settings.{grid_valid}
 use Rattle.grid.specs.declared.Grid.{Grid}
+use Rattle.refusals.specs.Numbers.{number}
+use Rattle.refusals.specs.declared.Refusal.{Refusal}
 use Rattle.table.specs.Bytes.{number_of, number_at, items}
 use Rattle.table.specs.Tail.{Term, Tail, term_of, tail_valid}
 use Rattle.table.specs.File.{Entry, entry_of}
 use Rattle.table.specs.declared.Layout.{Layout}
 use Rattle.table.specs.declared.Table.{Table}
-use Rattle.table.specs.declared.ReadAnswer.{ReadAnswer}
-use Rattle.table.specs.declared.ReadAnswer.TheVariants.{Accepted as Reads, Refused as NotRead}
 
 abbrev no_grid : Grid
 no_grid = let x = of_bits binary64 0 in record { rmin = x; rmax = x; dr = x; omega_step = x; threshold = x; beta = x; n_r = 0; n_omega = 0 }
 
-abbrev no_table : Table
+abbrev pub no_table : Table
 no_table =
     record {
       grid = no_grid;
@@ -41,14 +41,9 @@ pub record ReadValues : Type 0 where
   pub number : ℕ
   pub table : Table
 
-abbrev pub read_values : ReadAnswer → ReadValues
-read_values (Reads t) = record { number = 0; table = t }
-read_values (NotRead n) = record { number = n; table = no_table }
-
--- a refusal has a number: 0 is acceptance alone
-abbrev pub read_numbered : ReadAnswer → Bool
-read_numbered (Reads t) = true
-read_numbered (NotRead n) = not (eqb n 0)
+abbrev pub read_values : Result Table Refusal → ReadValues
+read_values (Ok t) = record { number = 0; table = t }
+read_values (Err e) = record { number = number e; table = no_table }
 
 -- ---- 13, the layout
 
@@ -181,4 +176,4 @@ read_out file =
     let p = layout file in
     let t = table_of file p in
     let r = read_refusal file p t in
-    cond (eqb r 0) (read_values (Reads t)) (read_values (NotRead r))
+    cond (eqb r 0) (record { number = 0; table = t }) (record { number = r; table = no_table })

@@ -6,11 +6,10 @@ use Rattle.lists.specs.Questions.{ask}
 use Rattle.lists.specs.Lists.{every}
 use Rattle.mesh.specs.Levels.{per}
 use Rattle.table.specs.Tail.{tail_valid}
-use Rattle.table.specs.Read.{layout, table_laid_out, table_of, row_items, energy_items, tail_in, table_valid, entry_valid, tiled, ReadValues, read_values, read_out}
+use Rattle.table.specs.Read.{layout, table_laid_out, table_of, row_items, energy_items, tail_in, table_valid, entry_valid, tiled, ReadValues, no_table, read_out}
 use Rattle.table.specs.declared.Bound.{Bound}
 use Rattle.table.specs.declared.Layout.{Layout}
 use Rattle.table.specs.declared.Table.{Table}
-use Rattle.table.specs.declared.ReadAnswer.TheVariants.{Accepted as Reads, Refused as NotRead}
 
 -- "The bench viewer opens the same files under smaller bounds: at most 4 levels and 4,096 rows." (S21.1)
 abbrev pub viewer : Bound
@@ -40,7 +39,7 @@ read_over b file =
     let p = layout file in
     let t = table_of file p in
     let r = read_refusal_over b file p t in
-    cond (eqb r 0) (read_values (Reads t)) (read_values (NotRead r))
+    cond (eqb r 0) (record { number = 0; table = t }) (record { number = r; table = no_table })
 
 -- ---- what is promised
 

@@ -9,9 +9,9 @@ mod questions;
 mod reader;
 mod walk;
 
-pub use bytes::u32_from_le_bytes;
+pub use bytes::{float_at, u32_at, u32_from_le_bytes};
 pub use loose::read_loose;
-pub use questions::energies_of;
+pub use questions::{energies_of, entry_at};
 pub use reader::{atom_read, read, read_over, view};
 pub use walk::tail_size;
 
@@ -25,8 +25,8 @@ pub struct Layout {
     pub end: u64,
 }
 
-// What a file holds: its grid, the counts of levels, rows, energies and terms, and where each section starts, at the byte after its
-// count. A file without terms has no sixth section: its start is the file's length.
+// What a file holds: its grid, the counts of levels, rows, energies and terms, and where each section starts, at the
+// byte after its count. A file without terms has no sixth section: its start is the file's length.
 #[derive(Clone, Copy)]
 pub struct Table {
     pub grid: Grid,
@@ -63,15 +63,19 @@ pub struct Bound {
     pub rows: u64,
 }
 
-// What read answers.
+// A row as it stands in a file: its kind is 0 for a scalar, 1 for a repulsive row, and 2 or 3 for the energies of a
+// mesh.
 #[derive(Clone, Copy)]
-pub enum ReadAnswer {
-    Accepted(Table),
-    Refused(u64),
+pub struct Entry {
+    pub kind: u8,
+    pub level: u8,
+    pub offset: u32,
+    pub scalar: u32,
 }
 
+// Items of one size that follow one another in a file: the byte where they start, and how many they are.
 #[derive(Clone, Copy)]
-pub enum AtomReadAnswer {
-    Accepted(AtomTable),
-    Refused(u64),
+pub struct Section {
+    pub start: u64,
+    pub count: u64,
 }

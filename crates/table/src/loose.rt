@@ -1,89 +1,86 @@
 // The reader of loosely packed files: that of reader.rt with question 25 in the place of 16.
-ghost use Rattle.std.specs.Prelude.{◌≡◌, true, not, ◌&&◌, ◌||◌, ◌+◌, ◌*◌, ◌≤◌, length, leb, eqb};
+ghost use Rattle.std.specs.Prelude.{◌≡◌, ◌+◌, ◌*◌, ◌≤◌, length};
 ghost use Rattle.lists.specs.Lists.{every};
-ghost use Rattle.mesh.specs.Levels.{per};
+ghost use Rattle.refusals.specs.Numbers.{asked};
 ghost use Rattle.table.specs.Bytes.{items};
 ghost use Rattle.table.specs.File.{entry_of};
-ghost use Rattle.table.specs.Read.{read_values, read_numbered};
+ghost use Rattle.table.specs.Read.{read_values};
 ghost use Rattle.table.specs.Loose.{loose_out};
 ghost use Rattle.table.specs.Internal.{TableInside, ends_below, loose_question};
 
-use crate::bytes::u32_in;
-use crate::questions::{energies_of, energies_valid, rows_valid, table_valid, tail_valid};
+use crate::questions::{
+    energies_of, energies_valid, entry_in, rows_valid, table_valid, tail_valid,
+};
 use crate::walk::{sections, table_laid_out, table_of};
-use crate::{ReadAnswer, Table};
+use crate::{Entry, Section, Table};
+use refusals::{Asked, Refusal};
 
-// Question 25, of three numbers of a row.
-fn slab_inside(kind: u8, level: u8, offset: u32, energies: u64) -> bool
-    ensures { result ≡ leb kind 1 || (not (eqb offset 0xFFFF_FFFF) && leb (per level + offset) energies) }
+// Question 25, of a row.
+#[tactic(auto, using(crate::proofs::Items::each_le))]
+fn slab_inside(row: Entry, energies: u64) -> bool
+    ensures { result ≡ ends_below energies row }
 {
-    if kind <= 1 {
+    if row.kind <= 1 {
         return true;
     }
-    (offset != 0xffff_ffff) & (energies_of(true, level) + offset as u64 <= energies)
+    (row.offset != 0xffff_ffff) & (energies_of(true, row.level) + row.offset as u64 <= energies)
 }
 
 // Question 25, of every row.
-fn slabs_inside(file: &[u8], start: u64, rows: u64, energies: u64) -> bool
-    requires { start + rows * 10 ≤ length file.now }
-    ensures { result ≡ every (ends_below energies) (items entry_of 10 file.now start rows) }
+#[tactic(auto, using(lists::proofs::Counting::all_turn, lists::proofs::Counting::all_fails, crate::proofs::Items::every_up_to), unfolding(lists::specs::Lists::all_up_to))]
+fn slabs_inside(file: &[u8], rows: Section, energies: u64) -> bool
+    requires { rows.start + rows.count * 10 ≤ length file.now }
+    ensures { result ≡ every (ends_below energies) (items entry_of 10 file.now rows.start rows.count) }
 {
-    let mut at = start;
-    let mut left = rows;
-    while 0 < left {
-        let i = at as usize;
-        let kind = file[i];
-        let level = file[i + 1];
-        let offset = u32_in(file, at + 2);
-        if !slab_inside(kind, level, offset, energies) {
+    for i in 0..rows.count {
+        if !slab_inside(entry_in(file, rows.start + i * 10), energies) {
             return false;
         }
-        at += 10;
-        left -= 1;
     }
     true
 }
 
 // Questions 14, 15, 25, 17, then 23.
-fn loose_question(file: &[u8], t: Table) -> u64
+#[tactic(auto, using(refusals::proofs::Numbers::numbered, crate::proofs::OfLoose::ends_are), unfolding(lists::specs::Questions::ask))]
+fn loose_question(file: &[u8], t: Table) -> Asked
     requires { TableInside file.now t }
-    ensures { result ≡ loose_question file.now t }
+    ensures { asked result ≡ loose_question file.now t }
 {
-    let rows = t.rows;
-    let levels = t.levels;
-    let energies = t.energies;
-    let rows_start = t.rows_start;
-    let energies_start = t.energies_start;
+    let rows = Section {
+        start: t.rows_start,
+        count: t.rows,
+    };
+    let energies = Section {
+        start: t.energies_start,
+        count: t.energies,
+    };
     if !table_valid(file, t) {
-        return 14;
+        return Err(Refusal::FileGrid);
     }
-    if !rows_valid(file, rows_start, rows, levels) {
-        return 15;
+    if !rows_valid(file, rows, t.levels) {
+        return Err(Refusal::Row);
     }
-    if !slabs_inside(file, rows_start, rows, energies) {
-        return 25;
+    if !slabs_inside(file, rows, t.energies) {
+        return Err(Refusal::SlabPlace);
     }
-    if !energies_valid(file, energies_start, energies) {
-        return 17;
+    if !energies_valid(file, energies) {
+        return Err(Refusal::FileNan);
     }
     if !tail_valid(file, t) {
-        return 23;
+        return Err(Refusal::Term);
     }
-    0
+    Ok(())
 }
 
 // Reads a loosely packed file: the questions 13, 14, 15, 25, 17, then 23, each put to the whole file before the next.
-pub fn read_loose(file: &[u8]) -> ReadAnswer
-    ensures { (read_numbered result ≡ true) × (read_values result ≡ loose_out file.now) }
+pub fn read_loose(file: &[u8]) -> Result<Table, Refusal>
+    ensures { read_values result ≡ loose_out file.now }
 {
     let p = sections(file);
     if !table_laid_out(file, p) {
-        return ReadAnswer::Refused(13);
+        return Err(Refusal::Sections);
     }
     let t = table_of(file, p);
-    let no = loose_question(file, t);
-    if no != 0 {
-        return ReadAnswer::Refused(no);
-    }
-    ReadAnswer::Accepted(t)
+    loose_question(file, t)?;
+    Ok(t)
 }

@@ -4,6 +4,7 @@ ghost use Rattle.std.specs.Float.{binary32};
 ghost use Rattle.std.specs.Float.Ieee.{nan_bits};
 ghost use Rattle.lists.specs.Lists.{all_up_to, every};
 ghost use Rattle.mesh.specs.Levels.{vertex_count};
+ghost use Rattle.refusals.specs.Numbers.{asked};
 ghost use Rattle.table.specs.Bytes.{number_of, number_at, items};
 ghost use Rattle.table.specs.Tail.{term_of, term_valid, tail_valid};
 ghost use Rattle.table.specs.File.{entry_of};
@@ -12,62 +13,51 @@ ghost use Rattle.table.specs.View.{within};
 ghost use Rattle.table.specs.Atom.{atom_table_valid};
 ghost use Rattle.table.specs.Internal.{TableInside, TailInside, AtomTableInside, each_of, rows_question, table_question, atom_table_question, placed_at, next_place};
 
-use crate::bytes::{u32_in, u64_in};
-use crate::walk::f64_in;
-use crate::{AtomTable, Bound, Table};
+use crate::bytes::{byte_at, f64_in, u32_at, u32_in, u64_in};
+use crate::{AtomTable, Bound, Entry, Section, Table};
+use refusals::{Asked, Refusal};
 
 // Each vertex count is its level's.
-fn levels_valid(file: &[u8], start: u64, levels: u64) -> bool
-    requires { (start + levels * 4 ≤ length file.now) × (levels ≤ 16) }
-    ensures { result ≡ all_up_to levels (λ m. eqb (number_at 4 file.now (start + 4 * m)) (vertex_count m)) }
+#[tactic(auto, using(lists::proofs::Counting::all_turn, lists::proofs::Counting::all_fails), unfolding(lists::specs::Lists::all_up_to))]
+fn levels_valid(file: &[u8], levels: Section) -> bool
+    requires { (levels.start + levels.count * 4 ≤ length file.now) × (levels.count ≤ 16) }
+    ensures { result ≡ all_up_to levels.count
+        (λ m. eqb (number_at 4 file.now (levels.start + 4 * m)) (vertex_count m)) }
 {
-    let mut m: u64 = 0;
-    while m < levels {
-        if u32_in(file, start + 4 * m) as u64 != mesh::vertex_count(m as u8) {
+    for m in 0..levels.count {
+        if u32_in(file, levels.start + 4 * m) as u64 != mesh::vertex_count(m as u8) {
             return false;
         }
-        m += 1;
     }
     true
 }
 
 // Question 14.
+#[tactic(auto, using(crate::proofs::Accepted::held_ranged, crate::proofs::Accepted::slabs_counted), unfolding(crate::specs::Read::table_valid))]
 pub(crate) fn table_valid(file: &[u8], t: Table) -> bool
     requires { t.levels_start + t.levels * 4 ≤ length file.now }
     ensures { result ≡ table_valid file.now t }
 {
-    let g = t.grid;
-    let n_r = t.grid.n_r;
-    let n_omega = t.grid.n_omega;
-    let levels = t.levels;
-    let rows = t.rows;
-    let start = t.levels_start;
-    if !grid::grid_valid(g, levels) {
-        return false;
-    }
-    if rows != n_r * n_omega {
-        return false;
-    }
-    levels_valid(file, start, levels)
+    let levels = Section {
+        start: t.levels_start,
+        count: t.levels,
+    };
+    grid::grid_valid(t.grid, t.levels)
+        && t.rows == t.grid.n_r * t.grid.n_omega
+        && levels_valid(file, levels)
 }
 
 // Question 14 of a table against an atom.
+#[tactic(auto, using(crate::proofs::Accepted::atom_held_ranged), unfolding(crate::specs::Atom::atom_table_valid))]
 fn atom_table_valid(file: &[u8], t: AtomTable) -> bool
     requires { t.levels_start + t.levels * 4 ≤ length file.now }
     ensures { result ≡ atom_table_valid file.now t }
 {
-    let g = t.grid;
-    let n_r = t.grid.n_r;
-    let levels = t.levels;
-    let rows = t.rows;
-    let start = t.levels_start;
-    if !grid::atom_grid_valid(g, levels) {
-        return false;
-    }
-    if rows != n_r {
-        return false;
-    }
-    levels_valid(file, start, levels)
+    let levels = Section {
+        start: t.levels_start,
+        count: t.levels,
+    };
+    grid::atom_grid_valid(t.grid, t.levels) && t.rows == t.grid.n_r && levels_valid(file, levels)
 }
 
 // The bits of a NaN: above those of infinity, apart from the sign.
@@ -77,66 +67,91 @@ fn nan_bits(x: u32) -> bool
     x % 0x8000_0000 > 0x7f80_0000
 }
 
+#[tactic(auto, unfolding(crate::specs::Read::scalar_valid))]
 fn scalar_valid(x: u32) -> bool
     ensures { result ≡ scalar_valid x }
 {
-    if nan_bits(x) {
-        return x == 0x7fc0_0000;
-    }
-    true
+    !nan_bits(x) || x == 0x7fc0_0000
 }
 
-// Question 15, of the four numbers of a row.
-fn entry_valid(n: u64, kind: u8, level: u8, offset: u32, scalar: u32) -> bool
-    ensures { result ≡ entry_valid n (record { kind = kind; level = level; offset = offset; scalar = scalar }) }
-{
-    if kind == 0 {
-        return (level == 0) & ((offset == 0xffff_ffff) & scalar_valid(scalar));
-    }
-    if kind == 1 {
-        return (level == 0) & ((offset == 0xffff_ffff) & (scalar == 0));
-    }
-    (kind <= 3) & (((level as u64) < n) & (scalar == 0))
-}
-
-// Question 15, of the row at a byte.
-fn row_valid(file: &[u8], at: u64, n: u64) -> bool
+// The row at a byte.
+#[tactic(auto, using(crate::proofs::Items::entry_at_lem))]
+pub(crate) fn entry_in(file: &[u8], at: u64) -> Entry
     requires { at + 10 ≤ length file.now }
-    ensures { result ≡ entry_valid n (entry_of (take 10 (drop at file.now))) }
+    ensures { result ≡ entry_of (take 10 (drop at file.now)) }
 {
     let i = at as usize;
-    let kind = file[i];
-    let level = file[i + 1];
-    let offset = u32_in(file, at + 2);
-    let scalar = u32_in(file, at + 6);
-    entry_valid(n, kind, level, offset, scalar)
+    Entry {
+        kind: file[i],
+        level: file[i + 1],
+        offset: u32_in(file, at + 2),
+        scalar: u32_in(file, at + 6),
+    }
+}
+
+// The row at any byte; bytes beyond the file's end count as 0.
+#[tactic(auto, using(crate::proofs::Items::entry_at_lem, crate::proofs::Numbers::beyond, crate::proofs::Numbers::none_there))]
+pub fn entry_at(file: &[u8], at: u64) -> Entry
+    ensures { result ≡ entry_of (take 10 (drop at file.now)) }
+{
+    let n = file.len() as u64;
+    if n <= at {
+        return Entry {
+            kind: 0,
+            level: 0,
+            offset: 0,
+            scalar: 0,
+        };
+    }
+    if 10 <= n - at {
+        return entry_in(file, at);
+    }
+    let i = at as usize;
+    Entry {
+        kind: byte_at(file, i),
+        level: byte_at(file, i + 1),
+        offset: u32_at(file, at + 2),
+        scalar: u32_at(file, at + 6),
+    }
+}
+
+// Question 15, of a row of a table of so many levels.
+#[tactic(auto, unfolding(crate::specs::Read::entry_valid))]
+fn entry_valid(levels: u64, row: Entry) -> bool
+    ensures { result ≡ entry_valid levels row }
+{
+    if row.kind == 0 {
+        return (row.level == 0) & ((row.offset == 0xffff_ffff) & scalar_valid(row.scalar));
+    }
+    if row.kind == 1 {
+        return (row.level == 0) & ((row.offset == 0xffff_ffff) & (row.scalar == 0));
+    }
+    (row.kind <= 3) & (((row.level as u64) < levels) & (row.scalar == 0))
 }
 
 // Question 15.
-pub(crate) fn rows_valid(file: &[u8], start: u64, rows: u64, levels: u64) -> bool
-    requires { start + rows * 10 ≤ length file.now }
-    ensures { result ≡ every (entry_valid levels) (items entry_of 10 file.now start rows) }
+#[tactic(auto, using(lists::proofs::Counting::all_turn, lists::proofs::Counting::all_fails, crate::proofs::Items::every_up_to), unfolding(lists::specs::Lists::all_up_to))]
+pub(crate) fn rows_valid(file: &[u8], rows: Section, levels: u64) -> bool
+    requires { rows.start + rows.count * 10 ≤ length file.now }
+    ensures { result ≡ every (entry_valid levels) (items entry_of 10 file.now rows.start rows.count) }
 {
-    let mut at = start;
-    let mut left = rows;
-    while 0 < left {
-        if !row_valid(file, at, levels) {
+    for i in 0..rows.count {
+        if !entry_valid(levels, entry_in(file, rows.start + i * 10)) {
             return false;
         }
-        at += 10;
-        left -= 1;
     }
     true
 }
 
 // A row has no energies, or they start at place o.
-fn placed(kind: u8, offset: u32, o: u64) -> bool
-    ensures { result ≡ placed_at kind offset o }
+fn placed(row: Entry, o: u64) -> bool
+    ensures { result ≡ placed_at row.kind row.offset o }
 {
-    (kind <= 1) | (offset as u64 == o)
+    (row.kind <= 1) | (row.offset as u64 == o)
 }
 
 // The energies of a Mesh row of a level: n·n where two directions are paired, n against an atom.
+#[tactic(auto, using(mesh::proofs::Laws::per_le), unfolding(mesh::specs::Levels::per))]
 pub fn energies_of(pairs: bool, level: u8) -> u64
     ensures { result ≡ each_of pairs level }
 {
@@ -148,44 +163,39 @@ pub fn energies_of(pairs: bool, level: u8) -> u64
 }
 
 // Where the energies of the next row start. From the offset, which is the place, since an offset is known to be small.
-fn next_place(pairs: bool, kind: u8, level: u8, offset: u32, o: u64) -> u64
+#[tactic(auto, using(crate::proofs::Items::each_le))]
+fn next_place(pairs: bool, row: Entry, o: u64) -> u64
     requires { o ≤ 433794318339 }
-    ensures { (result ≡ next_place (each_of pairs) kind level offset o) × (result ≤ 433794318339) }
+    ensures { (result ≡ next_place (each_of pairs) row.kind row.level row.offset o) × (result ≤ 433794318339) }
 {
-    if kind <= 1 {
+    if row.kind <= 1 {
         return o;
     }
-    offset as u64 + energies_of(pairs, level)
+    row.offset as u64 + energies_of(pairs, row.level)
 }
 
 // Question 16.
-fn rows_tiled(file: &[u8], pairs: bool, start: u64, rows: u64, energies: u64) -> bool
-    requires { start + rows * 10 ≤ length file.now }
-    ensures { result ≡ tiled (each_of pairs) 0 energies (items entry_of 10 file.now start rows) }
+fn rows_tiled(file: &[u8], pairs: bool, rows: Section, energies: u64) -> bool
+    requires { rows.start + rows.count * 10 ≤ length file.now }
+    ensures { result ≡ tiled (each_of pairs) 0 energies (items entry_of 10 file.now rows.start rows.count) }
 {
-    let mut at = start;
-    let mut left = rows;
     let mut o: u64 = 0;
-    while 0 < left {
-        let i = at as usize;
-        let kind = file[i];
-        let level = file[i + 1];
-        let offset = u32_in(file, at + 2);
-        if !placed(kind, offset, o) {
+    for i in 0..rows.count {
+        let row = entry_in(file, rows.start + i * 10);
+        if !placed(row, o) {
             return false;
         }
-        o = next_place(pairs, kind, level, offset, o);
-        at += 10;
-        left -= 1;
+        o = next_place(pairs, row, o);
     }
     o == energies
 }
 
-// The two energies at a byte are numbers. They are read as one, since a test of a number made of four bytes is not compiled
-// to many at a time.
+// The two energies at a byte are numbers. They are read as one, since a test of a number made of four bytes is not
+// compiled to many at a time.
 fn pair_valid(file: &[u8], at: u64) -> bool
     requires { at + 8 ≤ length file.now }
-    ensures { result ≡ not (nan_bits binary32 (number_at 4 file.now at)) && not (nan_bits binary32 (number_at 4 file.now (at + 4))) }
+    ensures { result ≡ not (nan_bits binary32 (number_at 4 file.now at)) && not
+        (nan_bits binary32 (number_at 4 file.now (at + 4))) }
 {
     let y = u64_in(file, at);
     let low = (y % 4294967296) as u32;
@@ -194,50 +204,44 @@ fn pair_valid(file: &[u8], at: u64) -> bool
 }
 
 // Question 17. With no way out of the loop, so that it is compiled to many energies at a time.
-pub(crate) fn energies_valid(file: &[u8], start: u64, energies: u64) -> bool
-    requires { start + energies * 4 ≤ length file.now }
-    ensures { result ≡ every (λ x. not (nan_bits binary32 x)) (items number_of 4 file.now start energies) }
+pub(crate) fn energies_valid(file: &[u8], energies: Section) -> bool
+    requires { energies.start + energies.count * 4 ≤ length file.now }
+    ensures { result ≡ every (λ x. not (nan_bits binary32 x))
+        (items number_of 4 file.now energies.start energies.count) }
 {
-    let mut at = start;
-    let mut left = energies / 2;
+    let pairs = energies.count / 2;
     let mut held = true;
-    while 0 < left {
-        held = held & pair_valid(file, at);
-        at += 8;
-        left -= 1;
+    for i in 0..pairs {
+        held &= pair_valid(file, energies.start + i * 8);
     }
-    if energies % 2 == 1 {
-        return held & !nan_bits(u32_in(file, at));
+    if energies.count % 2 == 1 {
+        return held & !nan_bits(u32_in(file, energies.start + pairs * 8));
     }
     held
 }
 
-// Questions 15 to 17 of a table's rows and energies: the number of the first one that is answered no, or 0.
-fn rows_question(
-    file: &[u8],
-    pairs: bool,
-    levels: u64,
-    rows_start: u64,
-    rows: u64,
-    energies_start: u64,
-    energies: u64,
-) -> u64
-    requires { (rows_start + rows * 10 ≤ length file.now) × (energies_start + energies * 4 ≤ length file.now) }
-    ensures { result ≡ rows_question (each_of pairs) file.now levels rows_start rows energies_start energies }
+// Questions 15 to 17 of a table's rows and energies.
+#[tactic(auto, using(refusals::proofs::Numbers::numbered), unfolding(lists::specs::Questions::ask))]
+fn rows_question(file: &[u8], pairs: bool, levels: u64, rows: Section, energies: Section) -> Asked
+    requires { (rows.start + rows.count * 10 ≤ length file.now)
+        × (energies.start + energies.count * 4 ≤ length file.now) }
+    ensures { asked result ≡ rows_question
+        (each_of pairs) file.now levels rows.start rows.count energies.start energies.count }
 {
-    if !rows_valid(file, rows_start, rows, levels) {
-        return 15;
+    if !rows_valid(file, rows, levels) {
+        return Err(Refusal::Row);
     }
-    if !rows_tiled(file, pairs, rows_start, rows, energies) {
-        return 16;
+    if !rows_tiled(file, pairs, rows, energies.count) {
+        return Err(Refusal::Tiling);
     }
-    if !energies_valid(file, energies_start, energies) {
-        return 17;
+    if !energies_valid(file, energies) {
+        return Err(Refusal::FileNan);
     }
-    0
+    Ok(())
 }
 
 // Question 23, of the term at a byte.
+#[tactic(auto, using(crate::proofs::Items::term_at_lem), unfolding(crate::specs::Tail::term_valid))]
 fn term_valid(file: &[u8], at: u64) -> bool
     requires { at + 20 ≤ length file.now }
     ensures { result ≡ term_valid (term_of (take 20 (drop at file.now))) }
@@ -249,18 +253,15 @@ fn term_valid(file: &[u8], at: u64) -> bool
 }
 
 // Question 23, of every term.
-fn terms_valid(file: &[u8], start: u64, terms: u64) -> bool
-    requires { start + terms * 20 ≤ length file.now }
-    ensures { result ≡ every term_valid (items term_of 20 file.now start terms) }
+#[tactic(auto, using(lists::proofs::Counting::all_turn, lists::proofs::Counting::all_fails, crate::proofs::Items::every_up_to), unfolding(lists::specs::Lists::all_up_to))]
+fn terms_valid(file: &[u8], terms: Section) -> bool
+    requires { terms.start + terms.count * 20 ≤ length file.now }
+    ensures { result ≡ every term_valid (items term_of 20 file.now terms.start terms.count) }
 {
-    let mut at = start;
-    let mut left = terms;
-    while 0 < left {
-        if !term_valid(file, at) {
+    for i in 0..terms.count {
+        if !term_valid(file, terms.start + i * 20) {
             return false;
         }
-        at += 20;
-        left -= 1;
     }
     true
 }
@@ -270,18 +271,21 @@ pub(crate) fn tail_valid(file: &[u8], t: Table) -> bool
     requires { TailInside file.now t.tail_start t.terms }
     ensures { result ≡ tail_valid (tail_in file.now t) }
 {
-    let terms = t.terms;
-    let start = t.tail_start;
-    if terms == 0 {
+    if t.terms == 0 {
         return true;
     }
-    if !terms_valid(file, start, terms) {
+    let terms = Section {
+        start: t.tail_start,
+        count: t.terms,
+    };
+    if !terms_valid(file, terms) {
         return false;
     }
-    ieee::is_finite(f64_in(file, start + terms * 20))
+    ieee::is_finite(f64_in(file, t.tail_start + t.terms * 20))
 }
 
 // Question 24.
+#[tactic(auto, unfolding(crate::specs::View::within))]
 fn within(bound: Bound, t: Table) -> bool
     ensures { result ≡ within bound t }
 {
@@ -289,58 +293,47 @@ fn within(bound: Bound, t: Table) -> bool
 }
 
 // Question 14, 24 under a bound, 15 to 17, then 23.
-pub(crate) fn table_question(bound: Bound, file: &[u8], t: Table) -> u64
+#[tactic(auto, using(refusals::proofs::Numbers::numbered), unfolding(lists::specs::Questions::ask, lists::specs::Questions::first))]
+pub(crate) fn table_question(bound: Bound, file: &[u8], t: Table) -> Asked
     requires { TableInside file.now t }
-    ensures { result ≡ table_question bound file.now t }
+    ensures { asked result ≡ table_question bound file.now t }
 {
-    let rows = t.rows;
-    let levels = t.levels;
-    let energies = t.energies;
-    let rows_start = t.rows_start;
-    let energies_start = t.energies_start;
+    let rows = Section {
+        start: t.rows_start,
+        count: t.rows,
+    };
+    let energies = Section {
+        start: t.energies_start,
+        count: t.energies,
+    };
     if !table_valid(file, t) {
-        return 14;
+        return Err(Refusal::FileGrid);
     }
     if !within(bound, t) {
-        return 24;
+        return Err(Refusal::ViewerBound);
     }
-    let no = rows_question(
-        file,
-        true,
-        levels,
-        rows_start,
-        rows,
-        energies_start,
-        energies,
-    );
-    if no != 0 {
-        return no;
-    }
+    rows_question(file, true, t.levels, rows, energies)?;
     if !tail_valid(file, t) {
-        return 23;
+        return Err(Refusal::Term);
     }
-    0
+    Ok(())
 }
 
-pub(crate) fn atom_table_question(file: &[u8], t: AtomTable) -> u64
+#[tactic(auto, using(refusals::proofs::Numbers::numbered), unfolding(lists::specs::Questions::ask))]
+pub(crate) fn atom_table_question(file: &[u8], t: AtomTable) -> Asked
     requires { AtomTableInside file.now t }
-    ensures { result ≡ atom_table_question file.now t }
+    ensures { asked result ≡ atom_table_question file.now t }
 {
-    let rows = t.rows;
-    let levels = t.levels;
-    let energies = t.energies;
-    let rows_start = t.rows_start;
-    let energies_start = t.energies_start;
+    let rows = Section {
+        start: t.rows_start,
+        count: t.rows,
+    };
+    let energies = Section {
+        start: t.energies_start,
+        count: t.energies,
+    };
     if !atom_table_valid(file, t) {
-        return 14;
+        return Err(Refusal::FileGrid);
     }
-    rows_question(
-        file,
-        false,
-        levels,
-        rows_start,
-        rows,
-        energies_start,
-        energies,
-    )
+    rows_question(file, false, t.levels, rows, energies)
 }

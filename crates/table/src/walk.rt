@@ -1,11 +1,11 @@
 // The walk over the sections of a file, and question 13.
 ghost use Rattle.std.specs.Prelude.{◌≡◌, ◌+◌, ◌*◌, ◌≤◌, length};
 ghost use Rattle.table.specs.Tail.{tail_size};
-ghost use Rattle.table.specs.Read.{count_at, past, layout, laid_out, ended, table_laid_out, tail_at, f64_at, grid_of, table_of};
+ghost use Rattle.table.specs.Read.{count_at, past, layout, laid_out, ended, table_laid_out, tail_at, grid_of, table_of};
 ghost use Rattle.table.specs.Atom.{atom_grid_of, atom_table_of};
 ghost use Rattle.table.specs.Internal.{SectionsInside, TailInside, TableSections};
 
-use crate::bytes::{u32_at, u32_in, u64_in};
+use crate::bytes::{f64_in, u32_at, u32_in};
 use crate::{AtomTable, Layout, Table};
 use grid::{AtomGrid, Grid};
 
@@ -18,6 +18,7 @@ fn past(file: &[u8], at: u64, w: u64) -> u64
     at + 4 + n * w
 }
 
+#[tactic(auto, unfolding(crate::specs::Read::layout))]
 pub(crate) fn sections(file: &[u8]) -> Layout
     ensures { result ≡ layout file.now }
 {
@@ -35,15 +36,15 @@ pub(crate) fn sections(file: &[u8]) -> Layout
 }
 
 // Question 13, with i numbers in section 1 and j in section 2.
+#[tactic(auto, unfolding(crate::specs::Read::laid_out))]
 pub(crate) fn laid_out(file: &[u8], p: Layout, i: u32, j: u32) -> bool
     ensures { result ≡ laid_out i j file.now p }
 {
-    let bins = p.bins;
-    let end = p.end;
-    (u32_at(file, 0) == i) & ((u32_at(file, bins) == j) & (end == file.len() as u64))
+    (u32_at(file, 0) == i) & ((u32_at(file, p.bins) == j) & (p.end == file.len() as u64))
 }
 
 // The file ends with its fifth section, at byte `end`, or with the prefactor of the terms that follow.
+#[tactic(auto, using(crate::proofs::Numbers::none_there, crate::proofs::Accepted::left_is), unfolding(crate::specs::Read::ended))]
 fn ended(file: &[u8], end: u64) -> bool
     ensures { result ≡ ended file.now end }
 {
@@ -59,12 +60,11 @@ fn ended(file: &[u8], end: u64) -> bool
 }
 
 // Question 13 of a table that may have a sixth section.
+#[tactic(auto, unfolding(crate::specs::Read::table_laid_out))]
 pub(crate) fn table_laid_out(file: &[u8], p: Layout) -> bool
     ensures { result ≡ table_laid_out file.now p }
 {
-    let bins = p.bins;
-    let end = p.end;
-    (u32_at(file, 0) == 3) & ((u32_at(file, bins) == 2) & ended(file, end))
+    (u32_at(file, 0) == 3) & ((u32_at(file, p.bins) == 2) & ended(file, p.end))
 }
 
 // The bytes of the sixth section of so many terms and of the prefactor behind it.
@@ -78,6 +78,7 @@ pub fn tail_size(terms: u32) -> u64
 }
 
 // Where the terms start, behind the fifth section, which ends at byte `end`.
+#[tactic(auto, unfolding(crate::specs::Read::tail_at))]
 fn terms_start(file: &[u8], end: u64) -> u64
     requires { TailInside file.now (end + 4) (count_at file.now end) }
     ensures { result ≡ tail_at file.now end }
@@ -88,22 +89,15 @@ fn terms_start(file: &[u8], end: u64) -> u64
     end + 4
 }
 
-pub(crate) fn f64_in(file: &[u8], at: u64) -> f64
-    requires { at + 8 ≤ length file.now }
-    ensures { result ≡ f64_at file.now at }
-{
-    bits::float64(u64_in(file, at))
-}
-
 // The grid that a file holds. It has neither threshold nor beta.
+#[tactic(auto, unfolding(crate::specs::Read::grid_of))]
 fn grid_of(file: &[u8], p: Layout) -> Grid
     requires { SectionsInside 3 2 file.now p }
     ensures { result ≡ grid_of file.now p }
 {
-    let bins = p.bins;
     let rmin = f64_in(file, 4);
     let dr = f64_in(file, 12);
-    let n_r = u32_in(file, bins + 4) as u64;
+    let n_r = u32_in(file, p.bins + 4) as u64;
     Grid {
         rmin,
         rmax: grid::table_rmax(n_r, dr, rmin),
@@ -112,18 +106,18 @@ fn grid_of(file: &[u8], p: Layout) -> Grid
         threshold: 0.0,
         beta: 0.0,
         n_r,
-        n_omega: u32_in(file, bins + 8) as u64,
+        n_omega: u32_in(file, p.bins + 8) as u64,
     }
 }
 
+#[tactic(auto, unfolding(crate::specs::Atom::atom_grid_of))]
 fn atom_grid_of(file: &[u8], p: Layout) -> AtomGrid
     requires { SectionsInside 2 1 file.now p }
     ensures { result ≡ atom_grid_of file.now p }
 {
-    let bins = p.bins;
     let rmin = f64_in(file, 4);
     let dr = f64_in(file, 12);
-    let n_r = u32_in(file, bins + 4) as u64;
+    let n_r = u32_in(file, p.bins + 4) as u64;
     AtomGrid {
         rmin,
         rmax: grid::table_rmax(n_r, dr, rmin),
@@ -134,49 +128,40 @@ fn atom_grid_of(file: &[u8], p: Layout) -> AtomGrid
     }
 }
 
+#[tactic(auto, unfolding(crate::specs::Read::table_of))]
 pub(crate) fn table_of(file: &[u8], p: Layout) -> Table
     requires { TableSections file.now p }
     ensures { result ≡ table_of file.now p }
 {
-    let bins = p.bins;
-    let levels = p.levels;
-    let rows = p.rows;
-    let energies = p.energies;
-    let end = p.end;
-    let grid = grid_of(file, p);
     Table {
-        grid,
-        levels: u32_in(file, levels) as u64,
-        rows: u32_in(file, rows) as u64,
-        energies: u32_in(file, energies) as u64,
-        terms: u32_at(file, end) as u64,
+        grid: grid_of(file, p),
+        levels: u32_in(file, p.levels) as u64,
+        rows: u32_in(file, p.rows) as u64,
+        energies: u32_in(file, p.energies) as u64,
+        terms: u32_at(file, p.end) as u64,
         grid_start: 4,
-        bins_start: bins + 4,
-        levels_start: levels + 4,
-        rows_start: rows + 4,
-        energies_start: energies + 4,
-        tail_start: terms_start(file, end),
+        bins_start: p.bins + 4,
+        levels_start: p.levels + 4,
+        rows_start: p.rows + 4,
+        energies_start: p.energies + 4,
+        tail_start: terms_start(file, p.end),
     }
 }
 
+#[tactic(auto, unfolding(crate::specs::Atom::atom_table_of))]
 pub(crate) fn atom_table_of(file: &[u8], p: Layout) -> AtomTable
     requires { SectionsInside 2 1 file.now p }
     ensures { result ≡ atom_table_of file.now p }
 {
-    let bins = p.bins;
-    let levels = p.levels;
-    let rows = p.rows;
-    let energies = p.energies;
-    let grid = atom_grid_of(file, p);
     AtomTable {
-        grid,
-        levels: u32_in(file, levels) as u64,
-        rows: u32_in(file, rows) as u64,
-        energies: u32_in(file, energies) as u64,
+        grid: atom_grid_of(file, p),
+        levels: u32_in(file, p.levels) as u64,
+        rows: u32_in(file, p.rows) as u64,
+        energies: u32_in(file, p.energies) as u64,
         grid_start: 4,
-        bins_start: bins + 4,
-        levels_start: levels + 4,
-        rows_start: rows + 4,
-        energies_start: energies + 4,
+        bins_start: p.bins + 4,
+        levels_start: p.levels + 4,
+        rows_start: p.rows + 4,
+        energies_start: p.energies + 4,
     }
 }

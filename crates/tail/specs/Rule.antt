@@ -1,6 +1,6 @@
 -- The energy of a long-range tail (document 02, paper 9): prefactor times the sum of coefficient · E(-kappa · r) / r^power, each step rounded once.
 -- Definitions only.
-use Rattle.std.specs.Prelude.{cond, List, [], ◌∷◌, ℕ, length, eqb, Float}
+use Rattle.std.specs.Prelude.{cond, List, [], ◌∷◌, length, eqb, Float}
 use Rattle.std.specs.Float.{binary64}
 use Rattle.std.specs.Float.Ieee.{of_bits, neg, add, mul, div}
 use Rattle.float.specs.Exp.{exponential}

@@ -1,9 +1,20 @@
 // The accident that started this port: a slice is settled, the level drops, and a job that was restarted settles a
 // slice of the level that has gone. Document 01 refuses that with 11; the Rust accepts it, and its table then has more
 // energies than its rows account for.
-use crate::{begun, compared, say, set_number, settings, settled, settled_number, written};
-use builder::{Builder, Settled};
+ghost use Rattle.std.specs.Prelude.{◌<◌};
+
+use crate::{begun, number, say, settings, settled, written};
+use builder::Builder;
 use std::io;
+
+// A table of slices of n_omega slabs each, twelve in all.
+#[derive(Clone, Copy)]
+struct Twelve {
+    rmax: f64,
+    omega_step: f64,
+    n_omega: u64,
+    last: u64,
+}
 
 // Energies of a slab of level 1 that settles as Mesh nearest at threshold 0.1: zeros but for one.
 fn smooth() -> [f64; 1764] {
@@ -12,96 +23,36 @@ fn smooth() -> [f64; 1764] {
     e
 }
 
-// One more, where it is so.
-fn plus(n: u64, one_more: bool) -> u64 {
-    if !one_more {
-        return n;
-    }
-    if n < u64::MAX { n + 1 } else { n }
-}
-
-fn slice_of(s: u64, n_omega: u64) -> u64 {
-    if n_omega == 0 {
-        return 0;
-    }
-    s / n_omega
-}
-
-fn bin_of(s: u64, n_omega: u64) -> u64 {
-    if n_omega == 0 {
-        return 0;
-    }
-    s % n_omega
-}
-
 // Sets the twelve slabs of a table, and answers how many were refused.
-fn set_twelve(b: Builder, n_omega: u64, store: &mut [f64], words: &mut [u64]) -> u64 {
+fn set_twelve(b: Builder, n_omega: u64, store: &mut [f64], words: &mut [u64]) -> u64
+    requires { 0 < n_omega }
+{
     let e = smooth();
     let mut refused: u64 = 0;
-    let mut s: u64 = 0;
-    while s < 12 {
-        let ri = slice_of(s, n_omega);
-        let oi = bin_of(s, n_omega);
-        let no = set_number(builder::set(b, store, words, ri, oi, &e));
-        refused = plus(refused, no != 0);
-        s += 1;
+    for s in 0..12 {
+        if builder::set(b, store, words, s / n_omega, s % n_omega, &e).is_err() {
+            refused = refused.saturating_add(1);
+        }
     }
     refused
 }
 
-// The builder after settle.
-fn after(b: Builder, a: Settled) -> Builder {
-    match a {
-        Settled::Accepted(c, _, _) => c,
-        Settled::Refused(_) => b,
-    }
+// How many of the rows are Mesh nearest, of level 1: kind 2 · 2^40 and level 1 · 2^32.
+fn nearest_rows(words: &[u64]) -> u64 {
+    words.iter().filter(|w| **w == 2203318222848).count() as u64
 }
 
-fn level_of(b: Builder) -> u64 {
-    b.level
-}
-
-// How many of the twelve rows are Mesh nearest, of level 1: kind 2 · 2^40 and level 1 · 2^32.
-fn nearest_rows(words: &[u64; 12]) -> u64 {
-    let mut n: u64 = 0;
-    let mut i = 0;
-    while i < 12 {
-        n = plus(n, words[i] == 2203318222848);
-        i += 1;
-    }
-    n
-}
-
-// How many of the twelve rows differ.
-fn other_rows(a: &[u64; 12], b: &[u64; 12]) -> u64 {
-    let mut n: u64 = 0;
-    let mut i = 0;
-    while i < 12 {
-        n = plus(n, !(a[i] == b[i]));
-        i += 1;
-    }
-    n
+// How many entries of two lists differ.
+fn others<T: PartialEq>(a: &[T], b: &[T]) -> u64 {
+    a.iter().zip(b).filter(|(x, y)| x != y).count() as u64
 }
 
 // How many of the store's energies are not those that were set.
-fn other_energies(store: &[f64; 21168]) -> u64 {
+fn other_energies(store: &[f64]) -> u64 {
     let e = smooth();
     let mut n: u64 = 0;
-    let mut i = 0;
-    while i < 21168 {
-        n = plus(n, !(store[i] == e[i % 1764]));
-        i += 1;
-    }
-    n
-}
-
-// How many bytes of two files differ.
-fn other_bytes(a: &[u8; 84900], b: &[u8; 84900]) -> u64 {
-    let mut n: u64 = 0;
-    let mut i = 0;
-    while i < 84900 {
-        n = plus(n, !(a[i] == b[i]));
-        i += 1;
+    for slab in store.chunks_exact(1764) {
+        n = n.saturating_add(others(slab, &e));
     }
     n
 }
@@ -115,82 +66,79 @@ fn settle_late(
     before: [u64; 12],
 ) -> io::Result<()> {
     let mut words = before;
-    let mut once: [u8; 84900] = [7; 84900];
-    let mut twice: [u8; 84900] = [7; 84900];
-    let n = written(b, store, &words, &mut once);
-    say(rt, "  bytes", n, 84852)?;
+    let mut once = [7; 84900];
+    let mut twice = [7; 84900];
+    say(rt, "  bytes", written(b, store, &words, &mut once), 84852)?;
     let a = settled(b, ri, store, &mut words);
-    say(
-        rt,
-        "  settled at a level that has gone",
-        settled_number(a),
-        11,
-    )?;
-    say(rt, "  comparisons", compared(a), 0)?;
-    let c = after(b, a);
-    say(rt, "  level after it", level_of(c), 0)?;
-    let m = written(c, store, &words, &mut twice);
-    say(rt, "  bytes", m, 84852)?;
-    say(rt, "  bytes that differ", other_bytes(&once, &twice), 0)?;
+    say(rt, "  settled at a level that has gone", number(a), 11)?;
+    say(rt, "  comparisons", a.map_or(0, |s| s.comparisons), 0)?;
+    let c = a.map_or(b, |s| s.builder);
+    say(rt, "  level after it", c.level, 0)?;
+    say(rt, "  bytes", written(c, store, &words, &mut twice), 84852)?;
+    say(rt, "  bytes that differ", others(&once, &twice), 0)?;
     say(
         rt,
         "  energies that are not those set",
         other_energies(store),
         0,
     )?;
-    say(rt, "  rows that differ", other_rows(&before, &words), 0)
+    say(rt, "  rows that differ", others(&before, &words), 0)
 }
 
-// A table of slices 0 to `late`, of n_omega slabs each and twelve in all, every one of them set at level 1. The first
-// slice is settled and the level drops; then the last slice is settled, which is the same one where there is one alone.
-fn settle_both(
-    rt: &impl Print,
-    what: &str,
-    rmax: f64,
-    omega_step: f64,
-    late: u64,
-    n_omega: u64,
-    comparisons: u64,
-) -> io::Result<()> {
+// Sets every slab of the table at level 1. The first slice is settled and the level drops; then the last slice is
+// settled, which is the same one where there is one alone.
+fn settle_both(rt: &impl Print, what: &str, table: Twelve, comparisons: u64) -> io::Result<()>
+    requires { 0 < table.n_omega }
+{
     let mut store = [1.0; 21168];
-    let mut words: [u64; 12] = [u64::MAX; 12];
-    let g = settings(rmax, omega_step);
+    let mut words = [u64::MAX; 12];
+    let g = settings(table.rmax, table.omega_step);
     let b = begun(g, 1, &mut store, &mut words);
     print!(rt; "{what}")?;
-    let refused = set_twelve(b, n_omega, &mut store, &mut words);
+    let refused = set_twelve(b, table.n_omega, &mut store, &mut words);
     say(rt, ", sets refused", refused, 0)?;
     let a = settled(b, 0, &store, &mut words);
-    say(rt, "  settled", settled_number(a), 0)?;
-    say(rt, "  comparisons", compared(a), comparisons)?;
-    let c = after(b, a);
-    say(rt, "  level after it", level_of(c), 0)?;
-    let nearest = nearest_rows(&words);
+    say(rt, "  settled", number(a), 0)?;
+    say(
+        rt,
+        "  comparisons",
+        a.map_or(0, |s| s.comparisons),
+        comparisons,
+    )?;
+    let c = a.map_or(b, |s| s.builder);
+    say(rt, "  level after it", c.level, 0)?;
     say(
         rt,
         "  rows that are Mesh nearest of level 1",
-        nearest,
-        n_omega,
+        nearest_rows(&words),
+        table.n_omega,
     )?;
-    settle_late(rt, c, late, &store, words)
+    settle_late(rt, c, table.last, &store, words)
 }
 
 pub(crate) fn settled_twice(rt: &impl Print) -> io::Result<()> {
+    let one_slice = Twelve {
+        rmax: 1.0,
+        omega_step: 0.5235987755982988,
+        n_omega: 12,
+        last: 0,
+    };
+    let two_slices = Twelve {
+        rmax: 2.0,
+        omega_step: 1.0471975511965976,
+        n_omega: 6,
+        last: 1,
+    };
     settle_both(
         rt,
         "twelve slabs of level 1 in one slice",
-        1.0,
-        0.5235987755982988,
-        0,
-        12,
+        one_slice,
         211680,
     )?;
     settle_both(
         rt,
         "twelve slabs of level 1 in two slices",
-        2.0,
-        1.0471975511965976,
-        1,
-        6,
+        two_slices,
         105840,
     )
 }

@@ -2,13 +2,14 @@
 // words. `either_form` of `lent` has the rest by proof.
 #![tactic(auto)]
 
-use builder::{Builder, Built, Settled};
+use builder::Builder;
 use grid::Grid;
 use lent::{LentSettled, RowRecord};
+use refusals::Refusal;
 use rows::SlabResolution;
 use std::io;
+use test_meshes::Meshes;
 
-mod meshes;
 mod through;
 
 // What a settle answered and left: its number, the gradient's bits, the comparisons, the level, and row 0 as a word.
@@ -43,36 +44,18 @@ fn word_of(r: RowRecord) -> u64 {
     rows::word_of(r.kind, r.level, r.value)
 }
 
-fn value_left(a: Settled, kept: u64, row: u64) -> Left {
-    match a {
-        Settled::Accepted(b, x, comparisons) => Left {
+// What the gradient and the comparisons of an answer, the level and row 0 come to.
+fn left_by(answer: Result<LentSettled, Refusal>, level: u64, row: u64) -> Left {
+    match answer {
+        Ok(s) => Left {
             number: 0,
-            gradient: bits::bits64(x),
-            comparisons,
-            level: b.level,
-            row,
-        },
-        Settled::Refused(number) => Left {
-            number,
-            gradient: 0,
-            comparisons: 0,
-            level: kept,
-            row,
-        },
-    }
-}
-
-fn lent_left(a: LentSettled, level: u64, row: u64) -> Left {
-    match a {
-        LentSettled::Accepted(x, comparisons) => Left {
-            number: 0,
-            gradient: bits::bits64(x),
-            comparisons,
+            gradient: bits::bits64(s.gradient),
+            comparisons: s.comparisons,
             level,
             row,
         },
-        LentSettled::Refused(number) => Left {
-            number,
+        Err(e) => Left {
+            number: e.number(),
             gradient: 0,
             comparisons: 0,
             level,
@@ -83,33 +66,17 @@ fn lent_left(a: LentSettled, level: u64, row: u64) -> Left {
 
 fn settle_by_value(b: Builder, ri: u64, store: &[f64], rows: [u64; 2]) -> Left {
     let mut words = rows;
-    let a = builder::settle(
-        b,
-        store,
-        &mut words,
-        &meshes::vertices(),
-        &meshes::counts(),
-        &meshes::neighbours(),
-        &meshes::angles(),
-        ri,
-    );
-    value_left(a, b.level, words[0])
+    let meshes = Meshes::new();
+    let a = builder::settle(b, store, &mut words, &meshes.lent(), ri);
+    let level = a.map_or(b.level, |s| s.builder.level);
+    left_by(a.map(|s| s.into()), level, words[0])
 }
 
 fn settle_lent(b: Builder, ri: u64, store: &[f64], rows: [u64; 2]) -> Left {
     let mut words = rows;
-    let a = through::settle_through(
-        b,
-        store,
-        &mut words,
-        &meshes::vertices(),
-        &meshes::counts(),
-        &meshes::neighbours(),
-        &meshes::angles(),
-        ri,
-    );
-    let answer = a.answer;
-    lent_left(answer, a.builder.level, words[0])
+    let meshes = Meshes::new();
+    let a = through::settle_through(b, store, &mut words, &meshes.lent(), ri);
+    left_by(a.answer, a.builder.level, words[0])
 }
 
 // The record of a word without a rest.
@@ -130,25 +97,32 @@ fn replace(rt: &impl Print, rows: [u64; 2]) -> io::Result<()> {
         lent::record_of(SlabResolution::Repulsive),
     );
     rows::replace_in(&mut words, 1, SlabResolution::Repulsive);
-    let a = records[0];
-    let b = records[1];
-    say(rt, "row 0, row 1 being replaced", word_of(a), words[0])?;
-    say(rt, "row 1, replaced by Repulsive", word_of(b), words[1])
+    say(
+        rt,
+        "row 0, row 1 being replaced",
+        word_of(records[0]),
+        words[0],
+    )?;
+    say(
+        rt,
+        "row 1, replaced by Repulsive",
+        word_of(records[1]),
+        words[1],
+    )
 }
 
 // Words into records that hold Repulsive, beside the move of the same words to three lists that do.
 fn gather(rt: &impl Print, what: &str, words: [u64; 2]) -> io::Result<()> {
     let r = lent::record_of(SlabResolution::Repulsive);
     let records = through::with_words([r, r], &words);
-    let mut kinds: [u8; 2] = [1; 2];
-    let mut levels: [u8; 2] = [0; 2];
-    let mut values: [u32; 2] = [0; 2];
-    words::words_to_rows(2, &words, &mut kinds, &mut levels, &mut values);
-    let a = records[0];
+    let mut kinds = [1; 2];
+    let mut levels = [0; 2];
+    let mut values = [0; 2];
+    let _ = words::words_to_rows(2, &words, &mut kinds, &mut levels, &mut values);
     say(
         rt,
         what,
-        word_of(a),
+        word_of(records[0]),
         rows::word_of(kinds[0], levels[0], values[0]),
     )
 }
@@ -175,33 +149,22 @@ fn smooth() -> [f64; 1764] {
 }
 
 // The builder that a call answers; one that every call refuses where it does not.
-fn accepted(a: Built) -> Builder {
-    match a {
-        Built::Accepted(b) => b,
-        Built::Refused(_) => Builder {
-            grid: settings(),
-            top: 99,
-            level: 99,
-            packed: 0,
-        },
-    }
+fn accepted(a: Result<Builder, Refusal>) -> Builder {
+    a.unwrap_or(Builder {
+        grid: settings(),
+        top: 99,
+        level: 99,
+        packed: 0,
+    })
 }
 
 // A slice with one slab set; a settle of a bin beyond, which is refused; one that is accepted, and drops the level; a
 // record replaced; words into records, without and with a rest.
 fn main(rt: HostRuntime) -> io::Result<()> {
     let mut store = [1.0; 3528];
-    let mut words: [u64; 2] = [18446744073709551615; 2];
-    let b = accepted(builder::fresh(
-        settings(),
-        1,
-        &mut store,
-        &mut words,
-        &meshes::vertices(),
-        &meshes::counts(),
-        &meshes::neighbours(),
-        &meshes::angles(),
-    ));
+    let mut words = [u64::MAX; 2];
+    let meshes = Meshes::new();
+    let b = accepted(builder::fresh(settings(), 1, &mut store, &mut words, &meshes.lent()));
     let c = accepted(builder::set(b, &mut store, &mut words, 0, 0, &smooth()));
     let beyond = settle_by_value(c, 1, &store, words);
     compare(

@@ -1,45 +1,41 @@
 // The lent forms behind plain signatures: a caller that holds a builder or records in a local lends them from such a
 // function.
-ghost use Rattle.std.specs.Prelude.{◌≡◌, true, set};
-ghost use Rattle.mesh.specs.Mesh.{mesh_of};
+ghost use Rattle.std.specs.Prelude.{◌≡◌, set};
+ghost use Rattle.mesh.specs.Lent.{lent};
 ghost use Rattle.builder.specs.BuilderLists.{word_lists};
-ghost use Rattle.lent.specs.Calls.{LentOut, LentValues, lent_values, lent_numbered, settle_lent};
+ghost use Rattle.lent.specs.Calls.{LentOut, LentValues, lent_values, settle_lent};
 ghost use Rattle.lent.specs.Records.{gathered};
 
 use builder::Builder;
 use lent::{LentSettled, RowRecord};
+use mesh::Mesh;
+use refusals::Refusal;
 
 // What is left of a call: the builder, and the rest of the answer.
 #[derive(Clone, Copy)]
 pub(crate) struct SettleLeft {
     pub(crate) builder: Builder,
-    pub(crate) answer: LentSettled,
+    pub(crate) answer: Result<LentSettled, Refusal>,
 }
 
 pub(crate) fn settle_through(
     b: Builder,
     store: &[f64],
     words: &mut [u64],
-    vertices: &[f64],
-    counts: &[u8],
-    neighbours: &[u16],
-    angles: &[f64],
+    mesh: &Mesh,
     ri: u64,
 ) -> SettleLeft
-    ensures { (lent_numbered result.answer ≡ true) × ◌≡◌ {A = LentOut LentValues}
+    ensures { ◌≡◌ {A = LentOut LentValues}
         (record {
           answer = lent_values result.answer;
           builder = result.builder;
           lists = word_lists store.now words.new;
         })
-        (settle_lent b (mesh_of vertices.now counts.now neighbours.now angles.now)
-        (word_lists store.now words.old) ri) }
+        (settle_lent b (lent mesh.now) (word_lists store.now words.old) ri) }
 {
-    let mut c = b;
-    let answer = lent::settle_lent(
-        &mut c, store, words, vertices, counts, neighbours, angles, ri,
-    );
-    SettleLeft { builder: c, answer }
+    let mut builder = b;
+    let answer = lent::settle_lent(&mut builder, store, words, mesh, ri);
+    SettleLeft { builder, answer }
 }
 
 pub(crate) fn with_row(rows: [RowRecord; 2], s: usize, r: RowRecord) -> [RowRecord; 2]
@@ -54,6 +50,6 @@ pub(crate) fn with_words(rows: [RowRecord; 2], words: &[u64]) -> [RowRecord; 2]
     ensures { result ≡ gathered words.now rows }
 {
     let mut t = rows;
-    lent::gather(&mut t, words);
+    let _ = lent::gather(&mut t, words);
     t
 }

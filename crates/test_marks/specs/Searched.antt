@@ -12,7 +12,8 @@ use Rattle.search.specs.declared.Vector3.{Vector3}
 use Rattle.rows.specs.Rows.{Row, scalar, repulsive, mesh}
 use Rattle.grid.specs.Settings.{counted}
 use Rattle.table.specs.Read.{read_out}
-use Rattle.reading.specs.Resolve.{Query, boltzmann, ReadingValues}
+use Rattle.reading.specs.Resolve.{boltzmann, ReadingValues}
+use Rattle.reading.specs.declared.Query.{Query}
 use Rattle.reading.specs.Reading.{reading_by, reading_out}
 use Rattle.reading.specs.Rule.{ruled}
 use Rattle.reading.specs.Poses.{way_by, ReadingsOut, readings_out}

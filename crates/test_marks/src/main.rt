@@ -69,7 +69,7 @@ fn bins(rt: &impl Print) -> io::Result<()> {
     mark(
         rt,
         "rmin 0, rmax 1.79e308, dr 1.1e308: the question that refuses",
-        grid::fresh_question(g, 0),
+        refusals::number_of(grid::fresh_question(g, 0)),
         4,
     )
 }

@@ -3,7 +3,7 @@
 // how many agree.
 #![tactic(auto)]
 
-ghost use Rattle.std.specs.Prelude.{◌≡◌, ◌≤◌, length, take};
+ghost use Rattle.std.specs.Prelude.{◌≤◌, length};
 ghost use Rattle.std.specs.Io.{ReadsAtMost};
 
 use std::io;
@@ -13,61 +13,38 @@ mod line;
 mod operation;
 mod tally;
 
-use line::Line;
 use tally::Tally;
 
-// How many of the first `have` bytes can be judged: all where the input ended, and else those up to the last line end.
-fn ready(piece: &[u8], have: usize, is_last: bool) -> usize
-    requires { have ≤ length piece.now }
-    ensures { (result ≤ have) × ((result ≤ length piece.now) × (result ≡ length (take result piece.now))) }
+// How many of the bytes can be judged: all where the input ended, and else those up to the last line end.
+fn ready(piece: &[u8], is_last: bool) -> usize
+    ensures { result ≤ length piece.now }
 {
     if is_last {
-        return have;
+        return piece.len();
     }
-    let mut end = have;
-    while end > 0 {
-        if piece[end - 1] == b'\n' {
-            return end;
-        }
-        end -= 1;
-    }
-    end
-}
-
-// Moves the bytes from `from` up to `have` to the front, and answers how many they are.
-fn keep(piece: &mut [u8], from: usize, have: usize) -> usize
-    requires { (from ≤ have) × (have ≤ length piece.old) }
-    ensures { result ≤ length piece.new }
-{
-    let mut i = 0;
-    while i < have - from {
-        piece[i] = piece[from + i];
-        i += 1;
-    }
-    i
+    piece
+        .iter()
+        .rposition(|letter| *letter == b'\n')
+        .map_or(0, |place| place + 1)
 }
 
 // Runs one line, and counts how it went.
-fn judge(rt: &impl Print, text: &[u8], t: Tally) -> io::Result<Tally> {
+fn judge(rt: &impl Print, text: &[u8], t: &mut Tally) -> io::Result<()> {
     match line::parse(text) {
-        Line::Malformed => t.malformed(rt, text),
-        Line::Vector { op, a, b, c, want } => {
-            let got = operation::run(op, a, b, c);
-            t.counted(rt, op, got == operation::settled(op, want), text)
+        None => t.count_malformed(rt, text),
+        Some(v) => {
+            let got = v.operation.run(v.a, v.b, v.c);
+            t.count(rt, v.operation, got == v.operation.settled(v.want), text)
         }
     }
 }
 
 // Runs every line of the text.
-fn judge_all(rt: &impl Print, text: &[u8], before: Tally) -> io::Result<Tally> {
-    let mut t = before;
-    let mut at = 0;
-    while at < text.len() {
-        let end = line::place_of(b'\n', text, at);
-        t = judge(rt, &text[at..end], t)?;
-        at = end + 1;
+fn judge_all(rt: &impl Print, text: &[u8], t: &mut Tally) -> io::Result<()> {
+    for line in text.split_inclusive(|letter| *letter == b'\n') {
+        judge(rt, line.strip_suffix(b"\n").unwrap_or(line), t)?;
     }
-    Ok(t)
+    Ok(())
 }
 
 // Reads until the piece is full or the input ends, and answers how many bytes it put at the start of the piece.
@@ -87,28 +64,27 @@ fn read_full(input: &mut impl Read, piece: &mut [u8]) -> io::Result<usize>
 
 // Runs the lines of the input, which is read as far as the piece has room. What is left of a line goes to the front. A
 // line that is longer than the piece is malformed, and ends the reading.
-fn judge_input<R: Input + Print>(rt: &R, piece: &mut [u8]) -> io::Result<Tally> {
+fn judge_input<R: Input + Print>(rt: &R, piece: &mut [u8], t: &mut Tally) -> io::Result<()> {
     let mut input = rt.reader();
-    let mut t = Tally::new();
     let mut have = 0;
-    // Nothing says that the input ends, and a proved loop does: the turns count down from more than any input takes.
-    let mut turns = u64::MAX;
-    while turns > 0 {
-        turns -= 1;
+    // Nothing says that the input ends, and a proved loop does: these are more turns than any input takes.
+    for _ in 0..u64::MAX {
         let more = read_full(&mut input, &mut piece[have..])?;
         let filled = have + more;
-        let end = ready(piece, filled, more == 0);
-        t = judge_all(rt, &piece[..end], t)?;
-        have = keep(piece, end, filled);
+        let end = ready(&piece[..filled], more == 0);
+        judge_all(rt, &piece[..end], t)?;
+        piece.copy_within(end..filled, 0);
+        have = filled - end;
         if more == 0 {
             break;
         }
     }
-    Ok(t)
+    Ok(())
 }
 
 fn main(rt: HostRuntime) -> io::Result<()> {
     let mut piece = [0; 65536];
-    let t = judge_input(&rt, &mut piece)?;
-    tally::report(&rt, t)
+    let mut t = Tally::new();
+    judge_input(&rt, &mut piece, &mut t)?;
+    t.report(&rt)
 }

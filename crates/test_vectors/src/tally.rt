@@ -1,16 +1,21 @@
 // How many lines there were and how many agreed.
 use crate::operation;
-use crate::operation::COUNT;
+use crate::operation::Operation;
 use std::io;
 
 // How many lines that differ or are malformed are written out.
 const SHOWN: u64 = 8;
 
+// The lines of an operation, and those that agree.
+#[derive(Clone, Copy)]
+struct Count {
+    lines: u64,
+    agree: u64,
+}
+
 #[derive(Clone, Copy)]
 pub struct Tally {
-    // for each operation
-    lines: [u64; COUNT],
-    agree: [u64; COUNT],
+    counts: [Count; operation::COUNT],
     malformed: u64,
     shown: u64,
 }
@@ -18,82 +23,62 @@ pub struct Tally {
 impl Tally {
     pub fn new() -> Tally {
         Tally {
-            lines: [0; COUNT],
-            agree: [0; COUNT],
+            counts: [Count { lines: 0, agree: 0 }; operation::COUNT],
             malformed: 0,
             shown: 0,
         }
     }
 
     // Counts a line of the operation, and writes it where it does not agree.
-    pub fn counted(
-        self,
+    pub fn count(
+        &mut self,
         rt: &impl Print,
-        op: usize,
+        operation: Operation,
         agrees: bool,
         text: &[u8],
-    ) -> io::Result<Tally> {
-        if op >= COUNT {
-            return Ok(self);
-        }
-        let mut t = self;
-        t.lines[op] = more(t.lines[op], 1);
+    ) -> io::Result<()> {
+        let count = &mut self.counts[operation.place()];
+        count.lines = count.lines.saturating_add(1);
         if agrees {
-            t.agree[op] = more(t.agree[op], 1);
-            return Ok(t);
+            count.agree = count.agree.saturating_add(1);
+            return Ok(());
         }
-        t.show(rt, b"differs: ", text)
+        self.show(rt, b"differs: ", text)
     }
 
-    pub fn malformed(self, rt: &impl Print, text: &[u8]) -> io::Result<Tally> {
-        let mut t = self;
-        t.malformed = more(t.malformed, 1);
-        t.show(rt, b"malformed: ", text)
+    pub fn count_malformed(&mut self, rt: &impl Print, text: &[u8]) -> io::Result<()> {
+        self.malformed = self.malformed.saturating_add(1);
+        self.show(rt, b"malformed: ", text)
     }
 
     // Writes a line of the input, unless enough have been written.
-    fn show(self, rt: &impl Print, why: &[u8], text: &[u8]) -> io::Result<Tally> {
+    fn show(&mut self, rt: &impl Print, why: &[u8], text: &[u8]) -> io::Result<()> {
         if self.shown >= SHOWN {
-            return Ok(self);
+            return Ok(());
         }
         rt.write_all(why)?;
         rt.write_all(text)?;
         rt.write_all(b"\n")?;
-        let mut t = self;
-        t.shown += 1;
-        Ok(t)
+        self.shown += 1;
+        Ok(())
+    }
+
+    // Writes the counts of each operation and of all, and a complaint where there were malformed lines.
+    pub fn report(&self, rt: &impl Print) -> io::Result<()> {
+        let mut all = Count { lines: 0, agree: 0 };
+        for (operation, count) in operation::ALL.iter().zip(&self.counts) {
+            write_count(rt, operation.name(), count)?;
+            all.agree = all.agree.saturating_add(count.agree);
+            all.lines = all.lines.saturating_add(count.lines);
+        }
+        write_count(rt, "all", &all)?;
+        if self.malformed > 0 {
+            println!(rt; "malformed lines: {}", self.malformed)?;
+        }
+        Ok(())
     }
 }
 
-// The sum, or the largest number where it does not fit.
-fn more(a: u64, b: u64) -> u64 {
-    if a < u64::MAX - b { a + b } else { u64::MAX }
-}
-
-fn write_counts(rt: &impl Print, agree: u64, lines: u64) -> io::Result<()> {
-    println!(rt; "{agree} of {lines} agree")
-}
-
-// Writes the counts of each operation and of all, and a complaint where there were malformed lines.
-pub fn report(rt: &impl Print, t: Tally) -> io::Result<()> {
-    let mut agree = 0;
-    let mut lines = 0;
-    let mut op = 0;
-    while op < COUNT {
-        operation::write_name(rt, op)?;
-        print!(rt; ": ")?;
-        let a = t.agree[op];
-        let n = t.lines[op];
-        write_counts(rt, a, n)?;
-        agree = more(agree, a);
-        lines = more(lines, n);
-        op += 1;
-    }
-    print!(rt; "all: ")?;
-    write_counts(rt, agree, lines)?;
-    if t.malformed > 0 {
-        let malformed = t.malformed;
-        println!(rt; "malformed lines: {malformed}")?;
-    }
-    Ok(())
+fn write_count(rt: &impl Print, name: &str, count: &Count) -> io::Result<()> {
+    println!(rt; "{name}: {} of {} agree", count.agree, count.lines)
 }

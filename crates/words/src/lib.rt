@@ -5,9 +5,13 @@ ghost use Rattle.std.specs.Prelude.{◌≡◌, true, ◌&&◌, ◌≤◌, length
 ghost use Rattle.lists.specs.Lists.{every, put};
 ghost use Rattle.rows.specs.Rows.{Rows, rows_of, row_room};
 ghost use Rattle.rows.specs.Words.{word_rows};
+ghost use Rattle.refusals.specs.Numbers.{asked};
 ghost use Rattle.words.specs.Moves.{words_of, put_rows, rest_clear, rests_clear, ToWords, rows_to_words, ToRows, words_to_rows};
 
+use refusals::{Asked, Refusal};
+
 // Question 6, of all four lists.
+#[tactic(auto, unfolding(rows::specs::Rows::row_room))]
 fn move_long(n: u64, kinds: u64, levels: u64, values: u64, words: u64) -> bool
     ensures { result ≡ row_room n kinds levels values && leb n words }
 {
@@ -23,36 +27,29 @@ fn rest_clear(w: u64) -> bool
 fn all_clear(words: &[u64]) -> bool
     ensures { result ≡ every rest_clear words.now }
 {
-    let mut i: usize = 0;
-    while i < words.len() {
-        if !rest_clear(words[i]) {
+    for w in words {
+        if !rest_clear(*w) {
             return false;
         }
-        i += 1;
     }
     true
 }
 
 // Question 15 of a move to the lists: no rest in the first n words.
+#[tactic(auto, unfolding(crate::specs::Moves::rests_clear))]
 pub fn rests_clear(words: &[u64], n: u64) -> bool
     ensures { result ≡ rests_clear n words.now }
 {
-    if words.len() as u64 <= n {
-        return all_clear(words);
-    }
-    let end = n as usize;
-    all_clear(&words[0..end])
+    let end = words.len().min(n as usize);
+    all_clear(&words[..end])
 }
 
 fn put_words(n: u64, kinds: &[u8], levels: &[u8], values: &[u32], words: &mut [u64])
     requires { (n ≤ length kinds.now) × (n ≤ length levels.now) × (n ≤ length values.now) × (n ≤ length words.old) }
     ensures { words.new ≡ put words.old 0 (take n (words_of kinds.now levels.now values.now)) }
 {
-    let end = n as usize;
-    let mut i: usize = 0;
-    while i < end {
+    for i in 0..n as usize {
         words[i] = rows::word_of(kinds[i], levels[i], values[i]);
-        i += 1;
     }
 }
 
@@ -62,27 +59,24 @@ fn put_rows(n: u64, words: &[u64], kinds: &mut [u8], levels: &mut [u8], values: 
         (rows_of kinds.new levels.new values.new)
         (put_rows (rows_of kinds.old levels.old values.old) (word_rows (take n words.now))) }
 {
-    let end = n as usize;
-    let mut i: usize = 0;
-    while i < end {
+    for i in 0..n as usize {
         let w = words[i];
         kinds[i] = rows::word_kind(w) as u8;
         levels[i] = rows::word_level(w);
         values[i] = rows::word_value(w);
-        i += 1;
     }
 }
 
-// Moves the first rows of three lists to words: 0, or 6 and nothing is moved.
+// Moves the first rows of three lists to words; refused by question 6, it moves nothing.
 pub fn rows_to_words(
     rows: u64,
     kinds: &[u8],
     levels: &[u8],
     values: &[u32],
     words: &mut [u64],
-) -> u64
+) -> Asked
     ensures { ◌≡◌ {A = ToWords}
-        (record { number = result; words = words.new })
+        (record { number = asked result; words = words.new })
         (rows_to_words rows (rows_of kinds.now levels.now values.now) words.old) }
 {
     if !move_long(
@@ -92,22 +86,22 @@ pub fn rows_to_words(
         values.len() as u64,
         words.len() as u64,
     ) {
-        return 6;
+        return Err(Refusal::ShortList);
     }
     put_words(rows, kinds, levels, values, words);
-    0
+    Ok(())
 }
 
-// Moves the first words to three lists: 0, or 6 or 15 and nothing is moved.
+// Moves the first words to three lists; refused by question 6 or 15, it moves nothing.
 pub fn words_to_rows(
     rows: u64,
     words: &[u64],
     kinds: &mut [u8],
     levels: &mut [u8],
     values: &mut [u32],
-) -> u64
+) -> Asked
     ensures { ◌≡◌ {A = ToRows}
-        (record { number = result; rows = rows_of kinds.new levels.new values.new })
+        (record { number = asked result; rows = rows_of kinds.new levels.new values.new })
         (words_to_rows rows words.now (rows_of kinds.old levels.old values.old)) }
 {
     if !move_long(
@@ -117,11 +111,11 @@ pub fn words_to_rows(
         values.len() as u64,
         words.len() as u64,
     ) {
-        return 6;
+        return Err(Refusal::ShortList);
     }
     if !rests_clear(words, rows) {
-        return 15;
+        return Err(Refusal::Row);
     }
     put_rows(rows, words, kinds, levels, values);
-    0
+    Ok(())
 }

@@ -8,7 +8,7 @@ use native.Mathlib.Omega.{arith}
 use lib.ListN.{length, length-append}
 use lib.Dec.{leb, ltb, eqb, lit<}
 use lib.Ieee.{Float, binary64, to_bits}
-use borrow.Author.Tests.{leb-true, ltb-true, le-leb, eq-eqb, ne_eqb}
+use borrow.Author.Tests.{leb-true, ltb-true, le-leb, eq-eqb, ne_eqb, eqb-false}
 use Rattle.lists.specs.Questions.{ask, first}
 use Rattle.lists.specs.Lists.{every, put}
 use Rattle.lists.proofs.Asking.{ask_yes, first_yes}
@@ -21,46 +21,48 @@ use Rattle.table.specs.Tail.{Term, term_bytes, sixth, tail_bytes, tail_size, ter
 use Rattle.table.specs.File.{full_file}
 use Rattle.table.proofs.Lengths.{bytes_length, packed-length}
 use Rattle.table.proofs.OfTail.{term-length, sixth-length}
-use Rattle.writer.specs.Write.{written_values, file_from, write_refusal, write_out}
-use Rattle.writer.specs.Tailed.{TailLists, term_at, terms_from, handed, tail_long, tail_question, tailed_question, full_file_from, write_tail_refusal, write_tail_out, PlainWrite}
+use Rattle.writer.specs.Write.{file_from, write_refusal, write_out}
+use Rattle.writer.specs.Tailed.{TailLists, term_at, terms_from, terms_of, handed, tail_long, tail_question, tailed_question, full_file_from, write_tail_refusal, write_tail_out, PlainWrite}
 use Rattle.writer.specs.Internal.{write_question}
-use Rattle.writer.specs.declared.Written.TheVariants.{Accepted as Writes, Refused as NotWritten}
 use Rattle.writer.proofs.Puts.{puts, puts_three}
 use Rattle.writer.proofs.Outcome.{first_no, first-zero}
 
 -- ---- terms, one after another
 
 module _ (cs ks : List Float) (ps : List ℕ) where
-  terms_cons : (i n : ℕ) → 0 < n → terms_from cs ks ps i n ≡ term_at cs ks ps i ∷ terms_from cs ks ps (i + 1) (n - 1)
+  terms_cons : (i n : ℕ) → i < n → terms_from cs ks ps i (n - i) ≡ term_at cs ks ps i ∷ terms_from cs ks ps (i + 1) (n - (i + 1))
   unfolding terms_from
-  terms_cons i zero h = absurd (omega arith)
-  terms_cons i (suc n) h = let e : suc n - 1 ≡ n = omega arith in rw (e, add-one)
+  terms_cons i n h = let e : n - i ≡ suc (n - (i + 1)) = omega arith in rw (e, add-one)
 
   pub terms_many : (i n : ℕ) → length (terms_from cs ks ps i n) ≡ n
   unfolding terms_from
   terms_many i zero = refl
   terms_many i (suc n) = ap suc (terms_many (suc i) n)
 
-  pub terms_stop : (i n : ℕ) → 0 < n → term_valid (term_at cs ks ps i) ≡ false → every term_valid (terms_from cs ks ps i n) ≡ false
+  pub terms_stop : (i n : ℕ) → i < n → term_valid (term_at cs ks ps i) ≡ false → every term_valid (terms_from cs ks ps i (n - i)) ≡ false
   unfolding every
   terms_stop i n h e = rw (terms_cons i n h, e)
 
-  pub terms_next : (i n : ℕ) → 0 < n → term_valid (term_at cs ks ps i) ≡ true
-      → every term_valid (terms_from cs ks ps i n) ≡ every term_valid (terms_from cs ks ps (i + 1) (n - 1))
+  pub terms_next : (i n : ℕ) → i < n → term_valid (term_at cs ks ps i) ≡ true
+      → every term_valid (terms_from cs ks ps i (n - i)) ≡ every term_valid (terms_from cs ks ps (i + 1) (n - (i + 1)))
   unfolding every
   terms_next i n h e = rw (terms_cons i n h, e)
 
-  pub terms_end : (i n : ℕ) → n ≤ 0 → every term_valid (terms_from cs ks ps i n) ≡ true
+  pub terms_end : (i n : ℕ) → n ≤ i → every term_valid (terms_from cs ks ps i (n - i)) ≡ true
   unfolding every terms_from
-  terms_end i n h = let e : n ≡ 0 = omega arith in rw e
+  terms_end i n h = let e : n - i ≡ 0 = omega arith in rw e
 
-  pub bytes_turn : (i n : ℕ) → 0 < n → packed term_bytes (terms_from cs ks ps i n) ≡ term_bytes (term_at cs ks ps i) ++ packed term_bytes (terms_from cs ks ps (i + 1) (n - 1))
+  pub bytes_turn : (i n : ℕ) → i < n
+      → packed term_bytes (terms_from cs ks ps i (n - i)) ≡ term_bytes (term_at cs ks ps i) ++ packed term_bytes (terms_from cs ks ps (i + 1) (n - (i + 1)))
   unfolding packed
   bytes_turn i n h = rw (terms_cons i n h)
 
-  pub bytes_end : (i n : ℕ) → n ≤ 0 → packed term_bytes (terms_from cs ks ps i n) ≡ []
+  pub bytes_end : (i n : ℕ) → n ≤ i → packed term_bytes (terms_from cs ks ps i (n - i)) ≡ []
   unfolding packed terms_from
-  bytes_end i n h = let e : n ≡ 0 = omega arith in rw e
+  bytes_end i n h = let e : n - i ≡ 0 = omega arith in rw e
+
+pub handed_many : (t : TailLists) → length (terms_of t) ≡ length t.coefficients
+handed_many t = terms_many t.coefficients t.kappas t.powers 0 (length t.coefficients)
 
 pub term-put : (d : List ℕ) (at : ℕ) (t : Term) → at + 20 ≤ length d
     → put (put (put d at (bytes_of 8 (to_bits binary64 t.coefficient))) (at + 8) (bytes_of 8 (to_bits binary64 t.kappa))) (at + 16) (bytes_of 4 t.power) ≡ put d at (term_bytes t)
@@ -102,9 +104,9 @@ module _ (t : TailLists) where
       )
 
 module _ (b : Builder) (m : Mesh) (l : BuilderLists) (t : TailLists) where
-  pub tailed-short : tail_long t ≡ false → tailed_question b m l t ≡ first (builder_question b) 6
+  pub tailed_short : tail_long t ≡ false → tailed_question b m l t ≡ first (builder_question b) 6
   unfolding tailed_question ask
-  tailed-short h = rw h
+  tailed_short h = rw h
 
   pub tailed_long : tail_long t ≡ true → tailed_question b m l t ≡ first (write_question b m l) (tail_question t)
   unfolding tailed_question meshed_refusal
@@ -153,20 +155,20 @@ module _ (b : Builder) (m : Mesh) (l : BuilderLists) (t : TailLists) where
   -- ---- the outcome
 
   module _ (out : List ℕ) where
-    pub tail_refused : (k : ℕ) → k ≡ tailed_question b m l t → (k ≡ 0 → ⊥)
-        → write_tail_out b m l t out ≡ record { answer = written_values (NotWritten k); builder = b; lists = l; output = out }
+    pub tail_refused : (k : ℕ) → k ≡ tailed_question b m l t → eqb k 0 ≡ false
+        → write_tail_out b m l t out ≡ record { answer = record { number = k; length = 0 }; builder = b; lists = l; output = out }
     unfolding write_tail_out write_tail_refusal
     tail_refused k e h =
-        let z : first (tailed_question b m l t) (ask (leb (length (full_file_from b l t)) (length out)) 12 0) ≡ k = first_no _ _ (λ z. h (e ∙ z)) ∙ sym e in
-        rw (z, ne_eqb k 0 h)
+        let z : first (tailed_question b m l t) (ask (leb (length (full_file_from b l t)) (length out)) 12 0) ≡ k = first_no _ _ (λ z. eqb-false k 0 h (e ∙ z)) ∙ sym e in
+        rw (z, h)
 
     module _ (h : tailed_question b m l t ≡ 0) where
-      pub tail_short : leb (length (full_file_from b l t)) (length out) ≡ false → write_tail_out b m l t out ≡ record { answer = written_values (NotWritten 12); builder = b; lists = l; output = out }
+      pub tail_short : leb (length (full_file_from b l t)) (length out) ≡ false → write_tail_out b m l t out ≡ record { answer = record { number = 12; length = 0 }; builder = b; lists = l; output = out }
       unfolding write_tail_out write_tail_refusal ask
       tail_short e = rw (first-zero (tailed_question b m l t) (ask (leb (length (full_file_from b l t)) (length out)) 12 0) h, e)
 
       pub tail_done : leb (length (full_file_from b l t)) (length out) ≡ true
-          → write_tail_out b m l t out ≡ record { answer = written_values (Writes (length (full_file_from b l t))); builder = b; lists = l; output = put out 0 (full_file_from b l t) }
+          → write_tail_out b m l t out ≡ record { answer = record { number = 0; length = length (full_file_from b l t) }; builder = b; lists = l; output = put out 0 (full_file_from b l t) }
       unfolding write_tail_out write_tail_refusal ask
       tail_done e = rw (first-zero (tailed_question b m l t) (ask (leb (length (full_file_from b l t)) (length out)) 12 0) h, e)
 

@@ -1,33 +1,31 @@
 -- Write's outcome by the answers to its questions, and what they say of builder and lists. Assumes nothing.
 use mathlib.Core.Path.{◌≡◌, refl, sym, ◌∙◌}
 use Rattle.lists.proofs.Asking.{ask_yes, first_yes}
-use mathlib.Core.Bool.{Bool, true, false, cond, ◌&&◌}
+use mathlib.Core.Bool.{Bool, true, false, cond}
 use mathlib.Core.List.{List}
 use Prim.Native.Nat.{ℕ, ◌+◌, ◌*◌, ◌≤◌}
 use native.Mathlib.Nat.{mul-le-mul}
 use native.Mathlib.Omega.{arith}
 use lib.ListN.{length}
 use lib.Dec.{leb, eqb, lit<}
-use lib.Ieee.{Float}
-use borrow.Author.Tests.{eq-eqb, ne_eqb}
+use borrow.Author.Tests.{eq-eqb, ne_eqb, eqb-false}
 use Rattle.lists.specs.Questions.{ask, first}
 use Rattle.lists.specs.Lists.{put}
 use Rattle.mesh.specs.Levels.{vertex_count, per}
-use Rattle.mesh.specs.Mesh.{Mesh, meshes_keep}
+use Rattle.mesh.specs.Mesh.{Mesh}
 use Rattle.mesh.proofs.Sizes.{count_mono, per_mono}
 use Rattle.grid.proofs.Laws.{slab_energies_le}
-use Rattle.builder.specs.BuilderLists.{BuilderLists, word_lists, slabs, list_room, meshes_long, rows_known}
-use Rattle.builder.specs.Refusals.{builder_question, meshed_refusal}
+use Rattle.builder.specs.BuilderLists.{BuilderLists, slabs, rows_known}
+use Rattle.builder.specs.Refusals.{meshed_refusal}
 use Rattle.builder.specs.Atom.{atom_meshed_refusal}
 use Rattle.builder.specs.declared.Builder.{Builder}
 use Rattle.builder.specs.declared.AtomBuilder.{AtomBuilder}
-use Rattle.builder.proofs.Laws.{meshed, atom_meshed, words_long}
+use Rattle.builder.proofs.Laws.{meshed, atom_meshed}
 use Rattle.table.specs.File.{file_of}
 use Rattle.table.specs.Atom.{atom_file_of}
-use Rattle.writer.specs.Write.{written_values, file_from, write_refusal, write_out}
+use Rattle.writer.specs.Write.{file_from}
 use Rattle.writer.specs.Atom.{atom_file_from, atom_write_refusal, atom_write_out}
 use Rattle.writer.specs.Internal.{resolutions, total, Sure, write_question, atom_write_question}
-use Rattle.writer.specs.declared.Written.TheVariants.{Accepted as Writes, Refused as NotWritten}
 use Rattle.writer.proofs.Whole.{bounded, total_few, file-length}
 
 -- ---- chains
@@ -58,12 +56,6 @@ module _ (m x : ℕ) (r : Bool) where
       let f = first_yes h in
       let z : r ≡ true = (ask_yes (lit< tt) f.1).0 in
       first-zero m _ f.0 ∙ rw z
-
--- 1 to 7, of rows that are words
-pub meshed_words : (b : Builder) (m : Mesh) (store : List Float) (words : List ℕ) → let n = length words in
-    meshed_refusal b m (word_lists store words) ≡ first (builder_question b) (ask (list_room b.grid b.top (length store) n n n && meshes_long b m) 6 (ask (meshes_keep b.top m) 7 0))
-unfolding meshed_refusal
-meshed_words b m store words = rw (words_long b store words)
 
 -- ---- what the answers say
 
@@ -116,34 +108,18 @@ atom_write_length b l e s same = file-length vertex_count b.top b.grid.n_r l _ _
 
 -- ---- the outcome
 
-module _ (b : Builder) (m : Mesh) (l : BuilderLists) (out : List ℕ) where
-  pub write_refused : (k : ℕ) → k ≡ write_question b m l → (k ≡ 0 → ⊥)
-      → write_out b m l out ≡ record { answer = written_values (NotWritten k); builder = b; lists = l; output = out }
-  unfolding write_out write_refusal
-  write_refused k e h = rw (refused (meshed_refusal b m l) _ (rows_known b.top l.rows 0 (slabs b.grid)) k e h, ne_eqb k 0 h)
-
-  module _ (h : write_question b m l ≡ 0) where
-    pub write_short : leb (length (file_from b l)) (length out) ≡ false → write_out b m l out ≡ record { answer = written_values (NotWritten 12); builder = b; lists = l; output = out }
-    unfolding write_out write_refusal ask
-    write_short e = rw (last (meshed_refusal b m l) (ask (leb (length (file_from b l)) (length out)) 12 0) (rows_known b.top l.rows 0 (slabs b.grid)) h, e)
-
-    pub write_done : leb (length (file_from b l)) (length out) ≡ true
-        → write_out b m l out ≡ record { answer = written_values (Writes (length (file_from b l))); builder = b; lists = l; output = put out 0 (file_from b l) }
-    unfolding write_out write_refusal ask
-    write_done e = rw (last (meshed_refusal b m l) (ask (leb (length (file_from b l)) (length out)) 12 0) (rows_known b.top l.rows 0 (slabs b.grid)) h, e)
-
 module _ (b : AtomBuilder) (m : Mesh) (l : BuilderLists) (out : List ℕ) where
-  pub atom_write_refused : (k : ℕ) → k ≡ atom_write_question b m l → (k ≡ 0 → ⊥)
-      → atom_write_out b m l out ≡ record { answer = written_values (NotWritten k); builder = b; lists = l; output = out }
+  pub atom_write_refused : (k : ℕ) → k ≡ atom_write_question b m l → eqb k 0 ≡ false
+      → atom_write_out b m l out ≡ record { answer = record { number = k; length = 0 }; builder = b; lists = l; output = out }
   unfolding atom_write_out atom_write_refusal
-  atom_write_refused k e h = rw (refused (atom_meshed_refusal b m l) _ (rows_known b.top l.rows 0 b.grid.n_r) k e h, ne_eqb k 0 h)
+  atom_write_refused k e h = rw (refused (atom_meshed_refusal b m l) _ (rows_known b.top l.rows 0 b.grid.n_r) k e (eqb-false k 0 h), h)
 
   module _ (h : atom_write_question b m l ≡ 0) where
-    pub atom_write_short : leb (length (atom_file_from b l)) (length out) ≡ false → atom_write_out b m l out ≡ record { answer = written_values (NotWritten 12); builder = b; lists = l; output = out }
+    pub atom_write_short : leb (length (atom_file_from b l)) (length out) ≡ false → atom_write_out b m l out ≡ record { answer = record { number = 12; length = 0 }; builder = b; lists = l; output = out }
     unfolding atom_write_out atom_write_refusal ask
     atom_write_short e = rw (last (atom_meshed_refusal b m l) (ask (leb (length (atom_file_from b l)) (length out)) 12 0) (rows_known b.top l.rows 0 b.grid.n_r) h, e)
 
     pub atom_write_done : leb (length (atom_file_from b l)) (length out) ≡ true
-        → atom_write_out b m l out ≡ record { answer = written_values (Writes (length (atom_file_from b l))); builder = b; lists = l; output = put out 0 (atom_file_from b l) }
+        → atom_write_out b m l out ≡ record { answer = record { number = 0; length = length (atom_file_from b l) }; builder = b; lists = l; output = put out 0 (atom_file_from b l) }
     unfolding atom_write_out atom_write_refusal ask
     atom_write_done e = rw (last (atom_meshed_refusal b m l) (ask (leb (length (atom_file_from b l)) (length out)) 12 0) (rows_known b.top l.rows 0 b.grid.n_r) h, e)

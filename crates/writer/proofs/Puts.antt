@@ -1,50 +1,46 @@
 -- Bytes that are written one after another. Assumes nothing.
 use mathlib.Core.Path.{◌≡◌, refl, sym, ap, ◌∙◌}
-use mathlib.Core.List.{List, [], ◌∷◌, ◌++◌, append_assoc, append-nil}
-use Prim.Native.Nat.{ℕ, ◌+◌, ◌-◌, ◌/◌, ◌%◌, ◌≤◌}
+use mathlib.Core.List.{List, [], ◌∷◌, ◌++◌, append_assoc}
+use Prim.Native.Nat.{ℕ, ◌+◌, ◌/◌, ◌≤◌}
 use native.Mathlib.Omega.{arith}
-use lib.ListN.{length, set, length-append}
+use borrow.Rule.Slice.PartMut.{put_mid}
+use Rattle.std.specs.Int.{w32, w64, to_le_bytes}
+use lib.ListN.{length, set, take, drop, length-append}
+use lib.Seq.{drop-drop}
 use Rattle.lists.specs.Lists.{put}
-use Rattle.lists.proofs.Written.{Written, nothing, pushed, put_nil, put-put, length-put}
-use Rattle.table.specs.Bytes.{bytes_of, packed, section}
-use Rattle.table.proofs.Lengths.{bytes_length}
+use Rattle.lists.proofs.Written.{nothing, pushed, put_nil, put-put, length-put}
+use Rattle.table.specs.Bytes.{bytes_of}
 
 -- one list, then another behind it
 pub puts : (d : List ℕ) (at : ℕ) (l m : List ℕ) (to : ℕ) → to ≡ at + length l → to ≤ length d → put (put d at l) to m ≡ put d at (l ++ m)
 puts d at l m to e h = rw e (put-put d at l m (omega (arith, e)))
 
+-- two bytes, and what was written to a part
 pub set-two : (d : List ℕ) (at a b : ℕ) → at + 2 ≤ length d → set (set d at a) (at + 1) b ≡ put d at (a ∷ b ∷ [])
 set-two d at a b h = (pushed b (pushed a (nothing {d = d} {at = at} (omega arith)) (omega arith)) (omega arith)).is
 
-pub set-four : (d : List ℕ) (at a b x y : ℕ) → at + 4 ≤ length d
-    → set (set (set (set d at a) (at + 1) b) (at + 2) x) (at + 3) y ≡ put d at (a ∷ b ∷ x ∷ y ∷ [])
-set-four d at a b x y h =
-    let e : at + 1 + 1 ≡ at + 2 = omega arith in
-    let f : at + 1 + 1 + 1 ≡ at + 3 = omega arith in
-    let two = pushed b (pushed a (nothing {d = d} {at = at} (omega arith)) (omega arith)) (omega arith) in
-    let three : Written d at (a ∷ b ∷ x ∷ []) (set (set (set d at a) (at + 1) b) (at + 2) x) (at + 3) = rw (← e, ← f) (pushed x two (omega arith)) in
-    (pushed y three (omega arith)).is
+pub part_put : (d : List ℕ) (at n k : ℕ) (l m : List ℕ) → l ≡ m → n ≡ k → k ≡ length m → put_mid at n d l ≡ put d at m
+unfolding put
+part_put d at n k l m e f h = rw (e, f, h, drop-drop (length m) at d, append_assoc (take at d) m (drop (at + length m) d))
 
--- four bytes, and the four above them
-less : (y : ℕ) → (y % 4294967296 / 256 ≡ y / 256 % 16777216) × (y % 16777216 / 256 ≡ y / 256 % 65536) × (y % 65536 / 256 ≡ y / 256 % 256)
-less y = (omega arith, omega arith, omega arith)
-
-low : (y : ℕ) → (y % 4294967296 % 256 ≡ y % 256) × (y % 16777216 % 256 ≡ y % 256) × (y % 65536 % 256 ≡ y % 256) × (y % 256 % 256 ≡ y % 256)
-low y = (omega arith, omega arith, omega arith, omega arith)
-
-high : (y : ℕ) → y / 4294967296 ≡ y / 256 / 256 / 256 / 256
-high y =
-    let a : y / 256 / 256 ≡ y / 65536 = omega arith in
-    let b : y / 65536 / 256 ≡ y / 16777216 = omega arith in
-    let d : y / 16777216 / 256 ≡ y / 4294967296 = omega arith in
-    rw (a, b, d)
-
-pub halves : (x : ℕ) → bytes_of 4 (x % 4294967296) ++ bytes_of 4 (x / 4294967296) ≡ bytes_of 8 x
+-- the bytes of a number of 32 bits, and of 64
+pub le_four : (x : ℕ) → to_le_bytes w32 x ≡ bytes_of 4 x
 unfolding bytes_of
-halves x =
-    let y = x / 256 in
-    let z = y / 256 in
-    rw ((low x).0, (less x).0, (low y).1, (less y).1, (low z).2, (less z).2, (low (z / 256)).3, high x)
+le_four x =
+    let two : x / 256 / 256 ≡ x / 65536 = omega arith in
+    let three : x / 65536 / 256 ≡ x / 16777216 = omega arith in
+    rw (two, three)
+
+pub le_eight : (x : ℕ) → to_le_bytes w64 x ≡ bytes_of 8 x
+unfolding bytes_of
+le_eight x =
+    let two : x / 256 / 256 ≡ x / 65536 = omega arith in
+    let three : x / 65536 / 256 ≡ x / 16777216 = omega arith in
+    let four : x / 16777216 / 256 ≡ x / 4294967296 = omega arith in
+    let five : x / 4294967296 / 256 ≡ x / 1099511627776 = omega arith in
+    let six : x / 1099511627776 / 256 ≡ x / 281474976710656 = omega arith in
+    let seven : x / 281474976710656 / 256 ≡ x / 72057594037927936 = omega arith in
+    rw (two, three, four, five, six, seven)
 
 -- d with whole written from place start on is what is made of out by writing rest from place at on
 pub record Left (d : List ℕ) (start : ℕ) (whole out : List ℕ) (at : ℕ) (rest : List ℕ) : Type 0 where
@@ -65,6 +61,9 @@ module _ {d : List ℕ} {start : ℕ} {whole out : List ℕ} {at : ℕ} {rest : 
         is = rw (eo, et) (put-put out at x next (omega (arith, n, h.size, h.room)) ∙ rw (← e) h.is);
       }
 
+  pub fits : (x next : List ℕ) → rest ≡ x ++ next → at + length x ≤ length out
+  fits x next e = omega (arith, h.size, h.room, ap length e ∙ length-append x next)
+
   pub ended : rest ≡ [] → out ≡ put d start whole
   ended e = sym (put_nil out at) ∙ rw (← e) h.is
 
@@ -84,31 +83,3 @@ puts_four d at k l m o p q r ep eq er h =
     ap (λ (x : List ℕ). put x r o) (puts_three d at k l m p q ep eq (omega (arith, er)))
     ∙ puts d at (k ++ (l ++ m)) o r (omega (arith, ep, eq, er, n)) h
     ∙ ap (λ (x : List ℕ). put d at x) (simp append_assoc)
-
-pub bins_put : (d : List ℕ) (n m : ℕ) → 40 ≤ length d
-    → put (put (put d 28 (bytes_of 4 2)) 32 (bytes_of 4 n)) 36 (bytes_of 4 m) ≡ put d 28 (section (bytes_of 4) (n ∷ m ∷ []))
-unfolding section packed
-bins_put d n m h =
-    puts_three d 28 (bytes_of 4 2) (bytes_of 4 n) (bytes_of 4 m) 32 36 (omega (arith, bytes_length 4 2)) (omega (arith, bytes_length 4 n)) (omega arith)
-    ∙ rw (append-nil (bytes_of 4 m))
-
-pub grid-put : (d : List ℕ) (x y z : ℕ) → 28 ≤ length d
-    → put (put (put (put d 0 (bytes_of 4 3)) 4 (bytes_of 8 x)) 12 (bytes_of 8 y)) 20 (bytes_of 8 z) ≡ put d 0 (section (bytes_of 8) (x ∷ y ∷ z ∷ []))
-unfolding section packed
-grid-put d x y z h =
-    puts_four d 0 (bytes_of 4 3) (bytes_of 8 x) (bytes_of 8 y) (bytes_of 8 z) 4 12 20
-    (omega (arith, bytes_length 4 3)) (omega (arith, bytes_length 8 x)) (omega (arith, bytes_length 8 y)) (omega arith)
-    ∙ rw (append-nil (bytes_of 8 z))
-
--- both heads of a table against an atom
-pub atom_head_put : (d : List ℕ) (x y n : ℕ) → 28 ≤ length d
-    → put (put (put (put (put d 0 (bytes_of 4 2)) 4 (bytes_of 8 x)) 12 (bytes_of 8 y)) 20 (bytes_of 4 1)) 24 (bytes_of 4 n)
-    ≡ put d 0 (section (bytes_of 8) (x ∷ y ∷ []) ++ section (bytes_of 4) (n ∷ []))
-unfolding section packed
-atom_head_put d x y n h =
-    let k = bytes_of 4 2 ++ (bytes_of 8 x ++ (bytes_of 8 y ++ bytes_of 4 1)) in
-    let e : length k ≡ length (bytes_of 4 2) + (length (bytes_of 8 x) + (length (bytes_of 8 y) + length (bytes_of 4 1))) = simp length-append in
-    ap (λ (o : List ℕ). put o 24 (bytes_of 4 n))
-    (puts_four d 0 (bytes_of 4 2) (bytes_of 8 x) (bytes_of 8 y) (bytes_of 4 1) 4 12 20 (omega (arith, bytes_length 4 2)) (omega (arith, bytes_length 8 x)) (omega (arith, bytes_length 8 y)) (omega arith))
-    ∙ puts d 0 k (bytes_of 4 n) 24 (omega (arith, e, bytes_length 4 2, bytes_length 8 x, bytes_length 8 y, bytes_length 4 1)) (omega arith)
-    ∙ ap (λ (o : List ℕ). put d 0 o) (simp (append_assoc, append-nil))

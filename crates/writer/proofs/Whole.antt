@@ -126,12 +126,12 @@ module _ (each : ℕ → ℕ) (top n : ℕ) (l : BuilderLists) where
   row_bytes_lem : length row_bytes ≡ 4 + n * 10
   row_bytes_lem = section-length entry_bytes 10 entry_length (entries_for each 0 rows) ∙ rw (entries_for-length each 0 rows, res_length l.rows 0 n)
 
-  pub rest_put : (d : List ℕ) (at : ℕ) → at + 12 + 4 * top + 10 * n ≤ length d
-      → put (put (put d at (section (bytes_of 4) (map vertex_count (below (top + 1))))) (at + 8 + 4 * top) row_bytes) (at + 12 + 4 * top + 10 * n) energy_bytes
+  pub rest_put : (d : List ℕ) (at : ℕ) → at + 8 + 4 * top + 4 + 10 * n ≤ length d
+      → put (put (put d at (section (bytes_of 4) (map vertex_count (below (top + 1))))) (at + 8 + 4 * top) row_bytes) (at + 8 + 4 * top + 4 + 10 * n) energy_bytes
       ≡ put d at (rest_bytes each top n l)
   rest_put d at h =
       rw add-one
-      (puts_three d at (section (bytes_of 4) (map vertex_count (below (suc top)))) row_bytes energy_bytes (at + 8 + 4 * top) (at + 12 + 4 * top + 10 * n)
+      (puts_three d at (section (bytes_of 4) (map vertex_count (below (suc top)))) row_bytes energy_bytes (at + 8 + 4 * top) (at + 8 + 4 * top + 4 + 10 * n)
       (omega (arith, levels_bytes (suc top))) (omega (arith, row_bytes_lem)) h)
 
   module _ (xs ns : List ℕ) where

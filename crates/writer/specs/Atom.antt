@@ -9,8 +9,7 @@ use Rattle.builder.specs.declared.AtomBuilder.{AtomBuilder}
 use Rattle.builder.specs.BuilderLists.{BuilderLists, rows_in, rows_known}
 use Rattle.builder.specs.Atom.{atom_meshed_refusal}
 use Rattle.table.specs.Atom.{atom_file_of}
-use Rattle.writer.specs.Write.{WrittenValues, written_values}
-use Rattle.writer.specs.declared.Written.TheVariants.{Accepted as Writes, Refused as NotWritten}
+use Rattle.writer.specs.Write.{WrittenValues}
 
 -- the file of a builder and the lists that it holds
 unfoldable pub atom_file_from : AtomBuilder → BuilderLists → List ℕ
@@ -35,5 +34,5 @@ unfoldable pub atom_write_out : AtomBuilder → Mesh → BuilderLists → List �
 atom_write_out b m l out =
     let r = atom_write_refusal b m l (length out) in
     cond (eqb r 0)
-    (record { answer = written_values (Writes (length (atom_file_from b l))); builder = b; lists = l; output = put out 0 (atom_file_from b l) })
-    (record { answer = written_values (NotWritten r); builder = b; lists = l; output = out })
+    (record { answer = record { number = 0; length = length (atom_file_from b l) }; builder = b; lists = l; output = put out 0 (atom_file_from b l) })
+    (record { answer = record { number = r; length = 0 }; builder = b; lists = l; output = out })

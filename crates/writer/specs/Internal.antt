@@ -1,5 +1,5 @@
 -- What only the code and the proofs need; a reader need not believe it. Definitions only.
-use Rattle.std.specs.Prelude.{◌≡◌, Bool, List, [], ◌∷◌, ◌++◌, map, ℕ, zero, suc, ◌+◌, ◌*◌, ◌≤◌, length, take, drop, Float}
+use Rattle.std.specs.Prelude.{◌≡◌, List, [], ◌∷◌, ◌++◌, map, ℕ, zero, suc, ◌+◌, ◌*◌, ◌≤◌, length, take, drop, Float}
 use Rattle.lists.specs.Questions.{ask, first}
 use Rattle.lists.specs.Lists.{below}
 use Rattle.mesh.specs.Levels.{vertex_count}
@@ -7,14 +7,14 @@ use Rattle.mesh.specs.Mesh.{Mesh}
 use Rattle.rows.specs.declared.SlabResolution.{SlabResolution}
 use Rattle.rows.specs.declared.SlabResolution.TheVariants.{Scalar, Mesh as OnMesh, Repulsive}
 use Rattle.rows.specs.Rows.{Rows, kind_of, level_of, value_of, resolution_at, narrow_bits}
-use Rattle.rows.specs.Words.{rows_by}
 use Rattle.builder.specs.BuilderLists.{BuilderLists, slabs, rows_known}
 use Rattle.builder.specs.Refusals.{meshed_refusal}
 use Rattle.builder.specs.Atom.{atom_meshed_refusal}
 use Rattle.builder.specs.declared.Builder.{Builder}
 use Rattle.builder.specs.declared.AtomBuilder.{AtomBuilder}
 use Rattle.table.specs.Bytes.{bytes_of, section}
-use Rattle.table.specs.File.{Entry, entry_bytes}
+use Rattle.table.specs.declared.Entry.{Entry}
+use Rattle.table.specs.File.{entry_bytes}
 
 -- ---- rows as the code reads them, without their energies
 
@@ -65,10 +65,6 @@ rest_bytes each top n l =
     let rows = resolutions l.rows 0 n in
     section (bytes_of 4) (map vertex_count (below (suc top)))
     ++ (section entry_bytes (entries_for each 0 rows) ++ section (bytes_of 4) (energies_for each (each top) l.store 0 rows))
-
--- store and rows, these in either form
-abbrev pub lists_by : Bool → List Float → List ℕ → List ℕ → List ℕ → List ℕ → BuilderLists
-lists_by worded store words kinds levels values = record { store = store; rows = rows_by worded words kinds levels values }
 
 -- n slabs that every question of write was answered yes for; and with them the room for a file, its heads being `at` bytes and its rows holding e energies together
 pub record Sure (each : ℕ → ℕ) (top n : ℕ) (l : BuilderLists) : Type 0 where

@@ -10,8 +10,7 @@ use Rattle.builder.specs.BuilderLists.{BuilderLists, slabs, rows_from, lists_lon
 use Rattle.builder.specs.Refusals.{builder_question}
 use Rattle.table.specs.Tail.{Term, Tail, tail_valid}
 use Rattle.table.specs.File.{full_file}
-use Rattle.writer.specs.Write.{WriteOut, written_values, write_out}
-use Rattle.writer.specs.declared.Written.TheVariants.{Accepted as Writes, Refused as NotWritten}
+use Rattle.writer.specs.Write.{WriteOut, write_out}
 
 -- the lists in which a tail is handed over: terms as many as coefficients, and a prefactor or none
 pub record TailLists : Type 0 where
@@ -31,8 +30,11 @@ unfoldable pub terms_from : List Float → List Float → List ℕ → ℕ → �
 terms_from cs ks ps i zero = []
 terms_from cs ks ps i (suc n) = term_at cs ks ps i ∷ terms_from cs ks ps (suc i) n
 
+abbrev pub terms_of : TailLists → List Term
+terms_of t = terms_from t.coefficients t.kappas t.powers 0 (length t.coefficients)
+
 abbrev pub handed : TailLists → Tail
-handed t = record { terms = terms_from t.coefficients t.kappas t.powers 0 (length t.coefficients); prefactor = get_or t.prefactor 0 nan }
+handed t = record { terms = terms_of t; prefactor = get_or t.prefactor 0 nan }
 
 -- 6, of these lists
 abbrev pub tail_long : TailLists → Bool
@@ -67,8 +69,8 @@ unfoldable pub write_tail_out : Builder → Mesh → BuilderLists → TailLists 
 write_tail_out b m l t out =
     let r = write_tail_refusal b m l t (length out) in
     cond (eqb r 0)
-    (record { answer = written_values (Writes (length (full_file_from b l t))); builder = b; lists = l; output = put out 0 (full_file_from b l t) })
-    (record { answer = written_values (NotWritten r); builder = b; lists = l; output = out })
+    (record { answer = record { number = 0; length = length (full_file_from b l t) }; builder = b; lists = l; output = put out 0 (full_file_from b l t) })
+    (record { answer = record { number = r; length = 0 }; builder = b; lists = l; output = out })
 
 -- a write without terms is the plain write, whatever else is handed over: "No terms means no section and no stored prefactor"
 abbrev pub PlainWrite : Type 0

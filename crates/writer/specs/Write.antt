@@ -1,5 +1,5 @@
 -- Write: what it answers, and what it leaves in the output. Definitions only.
-use Rattle.std.specs.Prelude.{Bool, true, not, cond, List, map, ℕ, suc, length, leb, eqb}
+use Rattle.std.specs.Prelude.{cond, List, map, ℕ, suc, length, leb, eqb, Result, Ok, Err}
 use Rattle.lists.specs.Questions.{ask, first}
 use Rattle.lists.specs.Lists.{put}
 use Rattle.mesh.specs.Mesh.{Mesh}
@@ -8,22 +8,17 @@ use Rattle.builder.specs.declared.Builder.{Builder}
 use Rattle.builder.specs.BuilderLists.{BuilderLists, slabs, rows_from, rows_known}
 use Rattle.builder.specs.Refusals.{meshed_refusal}
 use Rattle.table.specs.File.{file_of}
-use Rattle.writer.specs.declared.Written.{Written}
-use Rattle.writer.specs.declared.Written.TheVariants.{Accepted as Writes, Refused as NotWritten}
+use Rattle.refusals.specs.declared.Refusal.{Refusal}
+use Rattle.refusals.specs.Numbers.{number}
 
 -- 01's number and value for each case of the answer: "write returns its length in bytes"; beside a number that refuses stands 0
 pub record WrittenValues : Type 0 where
   pub number : ℕ
   pub length : ℕ
 
-abbrev pub written_values : Written → WrittenValues
-written_values (Writes n) = record { number = 0; length = n }
-written_values (NotWritten n) = record { number = n; length = 0 }
-
--- a refusal has a number: 0 is acceptance alone
-abbrev pub written_numbered : Written → Bool
-written_numbered (Writes n) = true
-written_numbered (NotWritten n) = not (eqb n 0)
+abbrev pub written_values : Result ℕ Refusal → WrittenValues
+written_values (Ok n) = record { number = 0; length = n }
+written_values (Err e) = record { number = number e; length = 0 }
 
 -- the file of a builder and the lists that it holds. "The level count is the top level plus one."
 unfoldable pub file_from : Builder → BuilderLists → List ℕ
@@ -48,5 +43,5 @@ unfoldable pub write_out : Builder → Mesh → BuilderLists → List ℕ → Wr
 write_out b m l out =
     let r = write_refusal b m l (length out) in
     cond (eqb r 0)
-    (record { answer = written_values (Writes (length (file_from b l))); builder = b; lists = l; output = put out 0 (file_from b l) })
-    (record { answer = written_values (NotWritten r); builder = b; lists = l; output = out })
+    (record { answer = record { number = 0; length = length (file_from b l) }; builder = b; lists = l; output = put out 0 (file_from b l) })
+    (record { answer = record { number = r; length = 0 }; builder = b; lists = l; output = out })

@@ -1,59 +1,48 @@
 // Write of a table against an atom: its questions, then the file.
-ghost use Rattle.std.specs.Prelude.{◌≡◌, true, ◌&&◌, suc, ◌≤◌, length};
-ghost use Rattle.rows.specs.Rows.{rows_of};
-ghost use Rattle.lists.specs.Questions.{ask, first};
+ghost use Rattle.std.specs.Prelude.{◌≡◌, ◌≤◌, length};
 ghost use Rattle.lists.specs.Lists.{put};
-ghost use Rattle.mesh.specs.Levels.{vertex_count, vertices_below};
-ghost use Rattle.mesh.specs.Mesh.{mesh_long, meshes_keep, mesh_of};
-ghost use Rattle.builder.specs.BuilderLists.{rows_known, lists_of};
-ghost use Rattle.builder.specs.Atom.{atom_builder_question, atom_room};
-ghost use Rattle.writer.specs.Write.{written_values, written_numbered};
+ghost use Rattle.mesh.specs.Lent.{lent};
+ghost use Rattle.mesh.specs.Levels.{vertex_count};
+ghost use Rattle.refusals.specs.Numbers.{asked};
+ghost use Rattle.builder.specs.BuilderLists.{lists_of};
+ghost use Rattle.writer.specs.Write.{written_values};
 ghost use Rattle.writer.specs.Atom.{AtomWriteOut, atom_file_from, atom_write_out};
-ghost use Rattle.writer.specs.Internal.{WriteReady};
+ghost use Rattle.writer.specs.Internal.{WriteReady, atom_write_question};
 
-use crate::Written;
-use crate::files::rows_known;
-use crate::sections::{energy_total, put_atom_head, put_rest};
-use builder::AtomBuilder;
+use crate::sections::{put_head, put_rest};
+use crate::slabs::{Slabs, energy_total, file_size, rows_known};
+use builder::{AtomBuilder, Lengths};
+use mesh::Mesh;
+use refusals::{Asked, Refusal};
+use rows::LentRows;
 
 // Questions 1 to 7, then 15 of every row.
+#[tactic(auto, using(refusals::proofs::Numbers::numbered), unfolding(lists::specs::Questions::ask, lists::specs::Questions::first, builder::specs::Atom::atom_meshed_refusal))]
 fn atom_write_question(
     b: AtomBuilder,
-    store: u64,
+    store: &[f64],
     kinds: &[u8],
     levels: &[u8],
     values: &[u32],
-    vertices: &[f64],
-    counts: &[u8],
-    neighbours: &[u16],
-    angles: &[f64],
-) -> u64
-    ensures { result ≡ first (first (atom_builder_question b)
-        (ask (atom_room b.grid b.top store (length kinds.now) (length levels.now) (length values.now) && mesh_long (vertices_below (suc b.top)) (mesh_of vertices.now counts.now neighbours.now angles.now)) 6
-        (ask (meshes_keep b.top (mesh_of vertices.now counts.now neighbours.now angles.now)) 7 0)))
-        (ask (rows_known b.top (rows_of kinds.now levels.now values.now) 0 b.grid.n_r) 15 0) }
+    mesh: &Mesh,
+) -> Asked
+    ensures { asked result ≡ atom_write_question b (lent mesh.now) (lists_of store.now kinds.now levels.now values.now) }
 {
-    let n_r = b.grid.n_r;
-    let top = b.top;
-    let no = builder::atom_meshed_refusal(
-        b,
-        store,
-        kinds.len() as u64,
-        levels.len() as u64,
-        values.len() as u64,
-        vertices,
-        counts,
-        neighbours,
-        angles,
-    );
-    if no != 0 {
-        return no;
+    let lengths = Lengths {
+        store: store.len() as u64,
+        kinds: kinds.len() as u64,
+        levels: levels.len() as u64,
+        values: values.len() as u64,
+    };
+    builder::atom_meshed_refusal(b, lengths, mesh)?;
+    let slabs = Slabs {
+        rows: LentRows::Lists(kinds, levels, values),
+        n: b.grid.n_r,
+    };
+    if !rows_known(&slabs, b.top) {
+        return Err(Refusal::Row);
     }
-    let none: [u64; 1] = [0; 1];
-    if !rows_known(false, top, &none, kinds, levels, values, n_r) {
-        return 15;
-    }
-    0
+    Ok(())
 }
 
 // The file, whose rows hold e energies together.
@@ -70,14 +59,12 @@ fn put_atom_file(
         × (b.grid.n_r ≤ 65535) }
     ensures { out.new ≡ put out.old 0 (atom_file_from b (lists_of store.now kinds.now levels.now values.now)) }
 {
-    let g = b.grid;
-    let n_r = b.grid.n_r;
-    let top = b.top;
-    let none: [u64; 1] = [0; 1];
-    put_atom_head(out, g);
-    put_rest(
-        out, 28, false, top, n_r, e, store, &none, kinds, levels, values,
-    );
+    let slabs = Slabs {
+        rows: LentRows::Lists(kinds, levels, values),
+        n: b.grid.n_r,
+    };
+    put_head(out, &[b.grid.rmin, b.grid.dr], &[b.grid.n_r as u32]);
+    put_rest(out, 28, b.top, e, store, &slabs);
 }
 
 // Writes the table file of a builder against an atom.
@@ -87,39 +74,23 @@ pub fn atom_write(
     kinds: &[u8],
     levels: &[u8],
     values: &[u32],
-    vertices: &[f64],
-    counts: &[u8],
-    neighbours: &[u16],
-    angles: &[f64],
+    mesh: &Mesh,
     output: &mut [u8],
-) -> Written
-    ensures { (written_numbered result ≡ true) × ◌≡◌ {A = AtomWriteOut}
+) -> Result<u64, Refusal>
+    ensures { ◌≡◌ {A = AtomWriteOut}
         (record { answer = written_values result; builder = b; lists = lists_of store.now kinds.now levels.now values.now; output = output.new })
-        (atom_write_out b (mesh_of vertices.now counts.now neighbours.now angles.now)
-        (lists_of store.now kinds.now levels.now values.now) output.old) }
+        (atom_write_out b (lent mesh.now) (lists_of store.now kinds.now levels.now values.now) output.old) }
 {
-    let n_r = b.grid.n_r;
-    let top = b.top;
-    let no = atom_write_question(
-        b,
-        store.len() as u64,
-        kinds,
-        levels,
-        values,
-        vertices,
-        counts,
-        neighbours,
-        angles,
-    );
-    if no != 0 {
-        return Written::Refused(no);
-    }
-    let none: [u64; 1] = [0; 1];
-    let e = energy_total(false, &none, kinds, levels, values, n_r);
-    let size = 44 + 4 * top + 10 * n_r + 4 * e;
+    atom_write_question(b, store, kinds, levels, values, mesh)?;
+    let slabs = Slabs {
+        rows: LentRows::Lists(kinds, levels, values),
+        n: b.grid.n_r,
+    };
+    let e = energy_total(&slabs);
+    let size = file_size(28, b.top, slabs.n, e);
     if (output.len() as u64) < size {
-        return Written::Refused(12);
+        return Err(Refusal::ShortOutput);
     }
     put_atom_file(b, store, kinds, levels, values, e, output);
-    Written::Accepted(size)
+    Ok(size)
 }

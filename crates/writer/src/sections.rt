@@ -1,75 +1,60 @@
 // The bytes of each section of a table file.
-ghost use Rattle.std.specs.Prelude.{◌≡◌, [], ◌∷◌, map, ◌+◌, ◌*◌, ◌≤◌, min, length, take, drop};
+ghost use Rattle.std.specs.Prelude.{◌≡◌, map, ◌+◌, ◌*◌, ◌≤◌, length};
 ghost use Rattle.std.specs.Float.{binary32, binary64};
 ghost use Rattle.std.specs.Float.Ieee.{to_bits};
 ghost use Rattle.lists.specs.Lists.{put, below};
-ghost use Rattle.mesh.specs.Levels.{vertex_count, per};
+ghost use Rattle.mesh.specs.Levels.{vertex_count};
 ghost use Rattle.rows.specs.Rows.{narrow_bits};
-ghost use Rattle.rows.specs.Words.{word_rows, rows_by};
 ghost use Rattle.table.specs.Bytes.{bytes_of, packed, section};
 ghost use Rattle.table.specs.File.{entry_bytes};
-ghost use Rattle.table.specs.Internal.{each_of};
-ghost use Rattle.writer.specs.Internal.{held_by, offset_of, resolutions, entries_for, total, energies_for, Bounded, head_bytes, rest_bytes, lists_by, WriteReady};
+ghost use Rattle.writer.specs.Slabs.{each_in, slab_rows, slab_lists};
+ghost use Rattle.writer.specs.Internal.{entry_for, offset_of, entries_for, total, energies_for, Bounded, head_bytes, rest_bytes, WriteReady};
 
 use crate::bytes::{put_f64, put_u32};
-use grid::{AtomGrid, Grid};
+use crate::slabs::{Slabs, energies_at, energy_count};
 use rows::SlabResolution;
 
-fn put_grid(out: &mut [u8], rmin: f64, dr: f64, step: f64)
-    requires { 28 ≤ length out.old }
-    ensures { out.new ≡ put out.old 0 (section (bytes_of 8) (to_bits binary64 rmin ∷ to_bits binary64 dr ∷ to_bits binary64 step ∷ [])) }
+// Whole numbers, one after another.
+fn put_numbers(out: &mut [u8], at: u64, list: &[u32])
+    requires { at + length list.now * 4 ≤ length out.old }
+    ensures { out.new ≡ put out.old at (packed (bytes_of 4) list.now) }
 {
-    put_u32(out, 0, 3);
-    put_f64(out, 4, rmin);
-    put_f64(out, 12, dr);
-    put_f64(out, 20, step);
+    let mut to = at;
+    for x in list {
+        put_u32(out, to, *x);
+        to += 4;
+    }
 }
 
-fn put_bins(out: &mut [u8], n: u32, m: u32)
-    requires { 40 ≤ length out.old }
-    ensures { out.new ≡ put out.old 28 (section (bytes_of 4) (n ∷ m ∷ [])) }
+fn put_doubles(out: &mut [u8], at: u64, list: &[f64])
+    requires { at + length list.now * 8 ≤ length out.old }
+    ensures { out.new ≡ put out.old at (packed (bytes_of 8) (map (to_bits binary64) list.now)) }
 {
-    put_u32(out, 28, 2);
-    put_u32(out, 32, n);
-    put_u32(out, 36, m);
+    let mut to = at;
+    for x in list {
+        put_f64(out, to, *x);
+        to += 8;
+    }
 }
 
-// The two head sections of a grid.
-pub(crate) fn put_head(out: &mut [u8], g: Grid)
-    requires { (40 ≤ length out.old) × (g.n_r ≤ 65535) × (g.n_omega ≤ 65535) }
-    ensures { out.new ≡ put out.old 0 (head_bytes (to_bits binary64 g.rmin ∷ to_bits binary64 g.dr ∷ to_bits binary64 g.omega_step ∷ []) (g.n_r ∷ g.n_omega ∷ [])) }
+// The two head sections, of a grid's settings and of its bin counts.
+pub(crate) fn put_head(out: &mut [u8], settings: &[f64], counts: &[u32])
+    requires { (8 + length settings.now * 8 + length counts.now * 4 ≤ length out.old) × (length settings.now ≤ 3) × (length counts.now ≤ 2) }
+    ensures { out.new ≡ put out.old 0 (head_bytes (map (to_bits binary64) settings.now) counts.now) }
 {
-    let rmin = g.rmin;
-    let dr = g.dr;
-    let step = g.omega_step;
-    let n_r = g.n_r;
-    let n_omega = g.n_omega;
-    put_grid(out, rmin, dr, step);
-    put_bins(out, n_r as u32, n_omega as u32);
-}
-
-pub(crate) fn put_atom_head(out: &mut [u8], g: AtomGrid)
-    requires { (28 ≤ length out.old) × (g.n_r ≤ 65535) }
-    ensures { out.new ≡ put out.old 0 (head_bytes (to_bits binary64 g.rmin ∷ to_bits binary64 g.dr ∷ []) (g.n_r ∷ [])) }
-{
-    let rmin = g.rmin;
-    let dr = g.dr;
-    let n_r = g.n_r;
-    put_u32(out, 0, 2);
-    put_f64(out, 4, rmin);
-    put_f64(out, 12, dr);
-    put_u32(out, 20, 1);
-    put_u32(out, 24, n_r as u32);
+    let at = 4 + 8 * settings.len() as u64;
+    put_u32(out, 0, settings.len() as u32);
+    put_doubles(out, 4, settings);
+    put_u32(out, at, counts.len() as u32);
+    put_numbers(out, at + 4, counts);
 }
 
 fn put_vertex_counts(out: &mut [u8], at: u64, levels: u64)
     requires { (at + 4 * levels ≤ length out.old) × (levels ≤ 16) }
     ensures { out.new ≡ put out.old at (packed (bytes_of 4) (map vertex_count (below levels))) }
 {
-    let mut m: u64 = 0;
-    while m < levels {
+    for m in 0..levels {
         put_u32(out, at + 4 * m, mesh::vertex_count(m as u8) as u32);
-        m += 1;
     }
 }
 
@@ -81,306 +66,121 @@ fn put_levels(out: &mut [u8], at: u64, levels: u64)
     put_vertex_counts(out, at + 4, levels);
 }
 
-// How many energies a row holds.
-fn energy_count(pairs: bool, x: SlabResolution) -> u64
-    ensures { result ≡ held_by (each_of pairs) x }
-{
-    match x {
-        SlabResolution::Scalar(_) => 0,
-        SlabResolution::Mesh(level, _) => table::energies_of(pairs, level),
-        SlabResolution::Repulsive => 0,
-    }
-}
-
 // Only a row with energies has an offset.
 fn offset_of(x: SlabResolution, o: u32) -> u32
     ensures { result ≡ offset_of o x }
 {
     match x {
-        SlabResolution::Scalar(_) => 0xffff_ffff,
         SlabResolution::Mesh(_, _) => o,
-        SlabResolution::Repulsive => 0xffff_ffff,
+        SlabResolution::Scalar(_) | SlabResolution::Repulsive => 0xffff_ffff,
     }
 }
 
-fn put_two(out: &mut [u8], at: u64, a: u8, b: u8)
-    requires { at + 2 ≤ length out.old }
-    ensures { out.new ≡ put out.old at (a ∷ b ∷ []) }
+// A row whose energies, if it has any, are at place o.
+fn put_row(out: &mut [u8], at: u64, x: SlabResolution, o: u32)
+    requires { at + 10 ≤ length out.old }
+    ensures { out.new ≡ put out.old at (entry_bytes (entry_for o x)) }
 {
     let i = at as usize;
-    out[i] = a;
-    out[i + 1] = b;
-}
-
-fn put_row(out: &mut [u8], at: u64, kind: u8, level: u8, offset: u32, value: u32)
-    requires { at + 10 ≤ length out.old }
-    ensures { out.new ≡ put out.old at (entry_bytes (record { kind = kind; level = level; offset = offset; scalar = value })) }
-{
-    put_two(out, at, kind, level);
-    put_u32(out, at + 2, offset);
-    put_u32(out, at + 6, value);
+    out[i] = rows::kind_of(x);
+    out[i + 1] = rows::level_of(x);
+    put_u32(out, at + 2, offset_of(x, o));
+    put_u32(out, at + 6, rows::value_of(x));
 }
 
 // The rows, one after another; their energies are packed in row order.
-fn put_entries(
-    out: &mut [u8],
-    at: u64,
-    pairs: bool,
-    words: &[u64],
-    kinds: &[u8],
-    levels: &[u8],
-    values: &[u32],
-    n: u64,
-)
-    requires { (at + n * 10 ≤ length out.old)
-        × (total (each_of pairs) (resolutions (rows_by pairs words.now kinds.now levels.now values.now) 0 n) ≤ 4294967295) }
-    ensures { out.new ≡ put out.old at (packed entry_bytes (entries_for (each_of pairs) 0 (resolutions (rows_by pairs words.now kinds.now levels.now values.now) 0 n))) }
+fn put_entries(out: &mut [u8], at: u64, slabs: &Slabs)
+    requires { (at + slabs.now.n * 10 ≤ length out.old) × (total (each_in slabs.now) (slab_rows slabs.now) ≤ 4294967295) }
+    ensures { out.new ≡ put out.old at (packed entry_bytes (entries_for (each_in slabs.now) 0 (slab_rows slabs.now))) }
 {
-    let mut s: u64 = 0;
-    let mut left = n;
     let mut to = at;
-    let mut o: u64 = 0;
-    while 0 < left {
-        let x = rows::resolution_by(pairs, words, kinds, levels, values, s);
-        let offset = offset_of(x, o as u32);
-        put_row(
-            out,
-            to,
-            rows::kind_of(x),
-            rows::level_of(x),
-            offset,
-            rows::value_of(x),
-        );
-        o += energy_count(pairs, x);
+    let mut o = 0;
+    for s in 0..slabs.n {
+        let x = rows::resolution_by(&slabs.rows, s);
+        put_row(out, to, x, o as u32);
+        o += energy_count(&slabs.rows, x);
         to += 10;
-        s += 1;
-        left -= 1;
     }
 }
 
-// The energies of all rows together.
-pub(crate) fn energy_total(
-    pairs: bool,
-    words: &[u64],
-    kinds: &[u8],
-    levels: &[u8],
-    values: &[u32],
-    n: u64,
-) -> u64
-    requires { total (each_of pairs) (resolutions (rows_by pairs words.now kinds.now levels.now values.now) 0 n) ≤ 4294967295 }
-    ensures { result ≡ total (each_of pairs) (resolutions (rows_by pairs words.now kinds.now levels.now values.now) 0 n) }
+fn put_floats(out: &mut [u8], at: u64, list: &[f32])
+    requires { at + length list.now * 4 ≤ length out.old }
+    ensures { out.new ≡ put out.old at (packed (bytes_of 4) (map (to_bits binary32) list.now)) }
 {
-    let mut s: u64 = 0;
-    let mut left = n;
-    let mut o: u64 = 0;
-    while 0 < left {
-        o += energy_count(
-            pairs,
-            rows::resolution_by(pairs, words, kinds, levels, values, s),
-        );
-        s += 1;
-        left -= 1;
-    }
-    o
-}
-
-// .. of rows that are words; the lists that are not looked at have to be handed over all the same.
-pub(crate) fn word_total(words: &[u64], n: u64) -> u64
-    requires { total per (resolutions (word_rows words.now) 0 n) ≤ 4294967295 }
-    ensures { result ≡ total per (resolutions (word_rows words.now) 0 n) }
-{
-    let bytes: [u8; 1] = [0; 1];
-    let numbers: [u32; 1] = [0; 1];
-    energy_total(true, words, &bytes, &bytes, &numbers, n)
-}
-
-// The first n of some numbers.
-fn put_floats(out: &mut [u8], at: u64, list: &[f32], n: u64)
-    requires { (at + n * 4 ≤ length out.old) × (n ≤ length list.now) }
-    ensures { out.new ≡ put out.old at (packed (bytes_of 4) (map (to_bits binary32) (take n list.now))) }
-{
-    let mut p: u64 = 0;
-    let mut left = n;
     let mut to = at;
-    while 0 < left {
-        let i = p as usize;
-        put_u32(out, to, bits::bits32(list[i]));
-        p += 1;
+    for x in list {
+        put_u32(out, to, bits::bits32(*x));
         to += 4;
-        left -= 1;
     }
 }
 
 // Energies that the block has room for, narrowed.
-fn put_block(out: &mut [u8], at: u64, store: &[f64], from: u64, n: u64, block: &mut [f32])
-    requires { (at + n * 4 ≤ length out.old) × (from + n ≤ length store.now) × (n ≤ length block.old) }
-    ensures { out.new ≡ put out.old at (packed (bytes_of 4) (map narrow_bits (take n (drop from store.now)))) }
+fn put_block(out: &mut [u8], at: u64, energies: &[f64], block: &mut [f32])
+    requires { (at + length energies.now * 4 ≤ length out.old) × (length energies.now ≤ length block.old) }
+    ensures { out.new ≡ put out.old at (packed (bytes_of 4) (map narrow_bits energies.now)) }
 {
-    let start = from as usize;
-    let end = (from + n) as usize;
-    ieee::narrow_list(&store[start..end], block);
-    put_floats(out, at, block, n);
+    ieee::narrow_list(energies, block);
+    put_floats(out, at, &block[..energies.len()]);
 }
 
-fn block_size(left: u64) -> u64
-    ensures { result ≡ min left 256 }
+// The energies of one row, narrowed, a block at a time.
+fn put_energies(out: &mut [u8], at: u64, energies: &[f64])
+    requires { at + length energies.now * 4 ≤ length out.old }
+    ensures { out.new ≡ put out.old at (packed (bytes_of 4) (map narrow_bits energies.now)) }
 {
-    if left < 256 { left } else { 256 }
-}
-
-// A block at a time.
-fn put_blocks(out: &mut [u8], at: u64, store: &[f64], from: u64, n: u64, block: &mut [f32])
-    requires { (at + n * 4 ≤ length out.old) × (from + n ≤ length store.now) × (256 ≤ length block.old) }
-    ensures { out.new ≡ put out.old at (packed (bytes_of 4) (map narrow_bits (take n (drop from store.now)))) }
-{
-    let mut p = from;
-    let mut left = n;
+    let mut block = [0.0f32; 248];
     let mut to = at;
-    while 0 < left {
-        let k = block_size(left);
-        put_block(out, to, store, p, k, block);
-        p += k;
-        to += 4 * k;
-        left -= k;
+    for part in energies.chunks(248) {
+        put_block(out, to, part, &mut block);
+        to += 4 * part.len() as u64;
     }
 }
 
-// The energies of one row, narrowed.
-fn put_energies(out: &mut [u8], at: u64, store: &[f64], from: u64, n: u64)
-    requires { (at + n * 4 ≤ length out.old) × (from + n ≤ length store.now) }
-    ensures { out.new ≡ put out.old at (packed (bytes_of 4) (map narrow_bits (take n (drop from store.now)))) }
-{
-    let mut block: [f32; 256] = [0.0; 256];
-    put_blocks(out, at, store, from, n, &mut block);
-}
-
 // The energies of all rows, in row order; slabs are z places apart in the store.
-fn put_slabs(
-    out: &mut [u8],
-    at: u64,
-    pairs: bool,
-    z: u64,
-    store: &[f64],
-    words: &[u64],
-    kinds: &[u8],
-    levels: &[u8],
-    values: &[u32],
-    n: u64,
-)
-    requires { (at + total (each_of pairs) (resolutions (rows_by pairs words.now kinds.now levels.now values.now) 0 n) * 4 ≤ length out.old)
-        × (n * z ≤ length store.now) × (Bounded (each_of pairs) z (resolutions (rows_by pairs words.now kinds.now levels.now values.now) 0 n)) }
-    ensures { out.new ≡ put out.old at (packed (bytes_of 4) (energies_for (each_of pairs) z store.now 0 (resolutions (rows_by pairs words.now kinds.now levels.now values.now) 0 n))) }
+fn put_slabs(out: &mut [u8], at: u64, z: u64, store: &[f64], slabs: &Slabs)
+    requires { (at + total (each_in slabs.now) (slab_rows slabs.now) * 4 ≤ length out.old)
+        × (slabs.now.n * z ≤ length store.now) × (Bounded (each_in slabs.now) z (slab_rows slabs.now)) }
+    ensures { out.new ≡ put out.old at (packed (bytes_of 4) (energies_for (each_in slabs.now) z store.now 0 (slab_rows slabs.now))) }
 {
-    let mut s: u64 = 0;
-    let mut left = n;
     let mut to = at;
-    let mut p: u64 = 0;
-    while 0 < left {
-        let k = energy_count(
-            pairs,
-            rows::resolution_by(pairs, words, kinds, levels, values, s),
-        );
-        put_energies(out, to, store, p, k);
+    let mut p = 0;
+    for s in 0..slabs.n {
+        let k = energy_count(&slabs.rows, rows::resolution_by(&slabs.rows, s));
+        let from = p as usize;
+        put_energies(out, to, &store[from..from + k as usize]);
         to += 4 * k;
         p += z;
-        s += 1;
-        left -= 1;
     }
 }
 
 // The section of rows.
-fn put_rows(
-    out: &mut [u8],
-    at: u64,
-    pairs: bool,
-    words: &[u64],
-    kinds: &[u8],
-    levels: &[u8],
-    values: &[u32],
-    n: u64,
-)
-    requires { (at + 4 + n * 10 ≤ length out.old) × (n ≤ 4294967295)
-        × (total (each_of pairs) (resolutions (rows_by pairs words.now kinds.now levels.now values.now) 0 n) ≤ 4294967295) }
-    ensures { out.new ≡ put out.old at (section entry_bytes (entries_for (each_of pairs) 0 (resolutions (rows_by pairs words.now kinds.now levels.now values.now) 0 n))) }
+fn put_rows(out: &mut [u8], at: u64, slabs: &Slabs)
+    requires { (at + 4 + slabs.now.n * 10 ≤ length out.old) × (slabs.now.n ≤ 4294967295)
+        × (total (each_in slabs.now) (slab_rows slabs.now) ≤ 4294967295) }
+    ensures { out.new ≡ put out.old at (section entry_bytes (entries_for (each_in slabs.now) 0 (slab_rows slabs.now))) }
 {
-    put_u32(out, at, n as u32);
-    put_entries(out, at + 4, pairs, words, kinds, levels, values, n);
+    put_u32(out, at, slabs.n as u32);
+    put_entries(out, at + 4, slabs);
 }
 
 // The section of energies, of which there are e.
-fn put_energy_section(
-    out: &mut [u8],
-    at: u64,
-    e: u64,
-    pairs: bool,
-    z: u64,
-    store: &[f64],
-    words: &[u64],
-    kinds: &[u8],
-    levels: &[u8],
-    values: &[u32],
-    n: u64,
-)
-    requires { (at + 4 + e * 4 ≤ length out.old) × (e ≤ 4294967295)
-        × (e ≡ total (each_of pairs) (resolutions (rows_by pairs words.now kinds.now levels.now values.now) 0 n))
-        × (n * z ≤ length store.now) × (Bounded (each_of pairs) z (resolutions (rows_by pairs words.now kinds.now levels.now values.now) 0 n)) }
-    ensures { out.new ≡ put out.old at (section (bytes_of 4) (energies_for (each_of pairs) z store.now 0 (resolutions (rows_by pairs words.now kinds.now levels.now values.now) 0 n))) }
+fn put_energy_section(out: &mut [u8], at: u64, e: u64, z: u64, store: &[f64], slabs: &Slabs)
+    requires { (at + 4 + e * 4 ≤ length out.old) × (e ≤ 4294967295) × (e ≡ total (each_in slabs.now) (slab_rows slabs.now))
+        × (slabs.now.n * z ≤ length store.now) × (Bounded (each_in slabs.now) z (slab_rows slabs.now)) }
+    ensures { out.new ≡ put out.old at (section (bytes_of 4) (energies_for (each_in slabs.now) z store.now 0 (slab_rows slabs.now))) }
 {
     put_u32(out, at, e as u32);
-    put_slabs(
-        out,
-        at + 4,
-        pairs,
-        z,
-        store,
-        words,
-        kinds,
-        levels,
-        values,
-        n,
-    );
+    put_slabs(out, at + 4, z, store, slabs);
 }
 
-// The sections behind the heads, which end at byte `at`: those of n slabs, whose rows hold e energies together.
-pub(crate) fn put_rest(
-    out: &mut [u8],
-    at: u64,
-    pairs: bool,
-    top: u64,
-    n: u64,
-    e: u64,
-    store: &[f64],
-    words: &[u64],
-    kinds: &[u8],
-    levels: &[u8],
-    values: &[u32],
-)
-    requires { WriteReady (each_of pairs) at top n (lists_by pairs store.now words.now kinds.now levels.now values.now) e (length out.old) × (at ≤ 40) }
-    ensures { out.new ≡ put out.old at (rest_bytes (each_of pairs) top n (lists_by pairs store.now words.now kinds.now levels.now values.now)) }
+// The sections behind the heads, which end at byte `at`: those of slabs whose rows hold e energies together.
+pub(crate) fn put_rest(out: &mut [u8], at: u64, top: u64, e: u64, store: &[f64], slabs: &Slabs)
+    requires { WriteReady (each_in slabs.now) at top slabs.now.n (slab_lists store.now slabs.now) e (length out.old) × (at ≤ 40) }
+    ensures { out.new ≡ put out.old at (rest_bytes (each_in slabs.now) top slabs.now.n (slab_lists store.now slabs.now)) }
 {
-    let z = table::energies_of(pairs, top as u8);
+    let z = energies_at(&slabs.rows, top as u8);
+    let rows = at + 8 + 4 * top;
     put_levels(out, at, top + 1);
-    put_rows(
-        out,
-        at + 8 + 4 * top,
-        pairs,
-        words,
-        kinds,
-        levels,
-        values,
-        n,
-    );
-    put_energy_section(
-        out,
-        at + 12 + 4 * top + 10 * n,
-        e,
-        pairs,
-        z,
-        store,
-        words,
-        kinds,
-        levels,
-        values,
-        n,
-    );
+    put_rows(out, rows, slabs);
+    put_energy_section(out, rows + 4 + 10 * slabs.n, e, z, store, slabs);
 }

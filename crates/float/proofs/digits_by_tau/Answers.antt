@@ -5,4 +5,4 @@ use Rattle.float.proofs.digits_by_tau.Goals as goal
 pub loop-i-preserved : goal.loop-i-preserved
 loop-i-preserved c =
     let l = c.loop-i in
-    (omega arith, zero_more c.args.digits l.i l.r 7074237752028440 l.invariant.1, mod-lt (2 * l.r) (omega arith))
+    (zero_more c.args.digits l._i l.r 7074237752028440 l.invariant.0, mod-lt (2 * l.r) (omega arith))

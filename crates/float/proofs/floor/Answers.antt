@@ -14,6 +14,3 @@ pub returns-else-r-x : goal.returns-else-r-x
 returns-else-r-x c =
     let s = c.before.before in
     rw c.truncated-r.ensures (directed false s.args.x (passes _ s.well_formed.0.1) false (rw c.truncated-r.ensures at c.if-r-x.false))
-
-pub truncated-r-requires : goal.truncated-r-requires
-truncated-r-requires c = tt

@@ -1,21 +1,16 @@
-use Rattle.std.proofs.Common.{◌≡◌, ℕ, ◌-◌, ◌*◌, ◌%◌, ◌^◌, ◌<◌, ◌≤◌, true, T, sym, refl, subst, lt_of_lt_of_le, lt_of_le_of_lt, mod-eq_of_lt, arith, lit<, lit≤}
+use Rattle.std.proofs.Common.{◌≡◌, ℕ, ◌-◌, ◌*◌, ◌%◌, ◌^◌, ◌<◌, ◌≤◌, true, T, sym, refl, subst, lt_of_lt_of_le, mod-eq_of_lt, arith, lit≤}
 use denote.Floats.{passes}
-use lib.Count.{count_leading_zeros, leading_le}
+use lib.Count.{count_leading_zeros}
 use lib.Ieee.{nan, inf, binary64, fits, to_bits, of_bits, neg, div}
 use Rattle.ieee.proofs.Steps.{Lead, lead}
 use Rattle.ieee.proofs.RootSteps.{unbounded, zero_alone, neither}
 use Rattle.float.specs.Log.{logarithm}
-use Rattle.float.proofs.Ends.{above_no_nan}
 use Rattle.float.proofs.Leading.{normal_value, low_pos, raised_value, no_finite}
 use Rattle.float.proofs.ln.Goals as goal
 use Rattle.float.proofs.ln.Goals.{Start, Then-b-lt4503599627370496}
 
 held : (c : Start) → T (fits binary64 c.args.x)
 held c = passes _ c.well_formed.0.1
-
-pub float_to_bits-b : goal.float_to_bits-b
-unfolding of_bits
-float_to_bits-b c = above_no_nan c.args.x c.if-x.true
 
 -- the digits moved up
 moved : (c : Then-b-lt4503599627370496) → let b = to_bits binary64 c.args.x in (11 ≤ count_leading_zeros 64 b) × Lead b 11 (count_leading_zeros 64 b - 11)
@@ -25,17 +20,8 @@ moved c = let s = c.before.before in lead (to_bits binary64 s.args.x) 11 (low_po
 whole : (c : Then-b-lt4503599627370496) → let b = to_bits binary64 c.args.x in let z = count_leading_zeros 64 b - 11 in b * 2 ^ z % 2 ^ 64 ≡ b * 2 ^ z
 whole c = mod-eq_of_lt (lt_of_lt_of_le (moved c).1.high (lit≤ tt))
 
-pub overflow_cast-z : goal.overflow_cast-z
-overflow_cast-z c = record { fits = lt_of_le_of_lt (leading_le 64 (to_bits binary64 c.args.x)) (lit< tt) }
-
 pub overflow_sub-z : goal.overflow_sub-z
 overflow_sub-z c = (moved c).0
-
-pub overflow_shl-b : goal.overflow_shl-b
-overflow_shl-b c = omega (arith, (moved c).1.room)
-
-pub overflow_add-z : goal.overflow_add-z
-overflow_add-z c = record { fits = omega (arith, (moved c).1.room) }
 
 pub ln_digits-requires : goal.ln_digits-requires
 ln_digits-requires c = let m = (moved c).1 in rw (whole c) (m.low, lt_of_lt_of_le m.high (lit≤ tt), omega (arith, m.room))

@@ -14,10 +14,6 @@ int_to_float-field c =
     let h = c.before in
     le→leb (h.args.b / 2 ^ 52 + h.halvings-up.result) (2 ^ 53) (omega (arith, h.halvings-up.ensures.1, h.requires.1))
 
-pub int_to_float-bias : goal.int_to_float-bias
-unfolding in_float
-int_to_float-bias c = let s = c.before.before.before in le→leb s.args.bias (2 ^ 53) (omega (arith, s.requires.2))
-
 pub returns : goal.returns
 returns c =
     let h = c.before.before.before in

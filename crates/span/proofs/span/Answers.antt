@@ -1,4 +1,4 @@
-use mathlib.Core.Path.{◌≡◌, refl, sym, ◌∙◌}
+use mathlib.Core.Path.{◌≡◌, sym, ◌∙◌}
 use mathlib.Core.Bool.{true}
 use Prim.Native.Nat.{◌≤◌, ◌<◌}
 use native.Mathlib.Omega.{arith}
@@ -17,12 +17,12 @@ inside c = yes c.ends_inside.ensures c.if-not-ends_inside.false
 pub returns-then-not-ends_valid : goal.returns-then-not-ends_valid
 returns-then-not-ends_valid c =
     let a = c.args in
-    (refl, sym (refused_18 a.file.now a.t a.low a.high a.omega (no c.ends_valid.ensures c.if-not-ends_valid.true)))
+    sym (refused_18 a.file.now a.t a.low a.high a.omega (no c.ends_valid.ensures c.if-not-ends_valid.true))
 
 pub returns-then-not-ends_inside : goal.returns-then-not-ends_inside
 returns-then-not-ends_inside c =
     let a = c.args in
-    (refl, sym (refused_26 a.file.now a.t a.low a.high a.omega (valid (goal.at.returns-then-not-ends_inside c).Else-not-ends_valid) (no c.ends_inside.ensures c.if-not-ends_inside.true)))
+    sym (refused_26 a.file.now a.t a.low a.high a.omega (valid (goal.at.returns-then-not-ends_inside c).Else-not-ends_valid) (no c.ends_inside.ensures c.if-not-ends_inside.true))
 
 -- the bins are in order, and more than one of them can be counted
 ordered : (c : After-distance_bin-last) → (c.distance_bin-first.result ≤ c.distance_bin-last.result) × (c.distance_bin-last.result < 18446744073709551615)
@@ -40,7 +40,7 @@ touched c = c.rows_touched.ensures ∙ rw (c.distance_bin-first.ensures, c.dista
 pub returns-then-not-rows_touched : goal.returns-then-not-rows_touched
 returns-then-not-rows_touched c =
     let a = c.args in
-    (refl, sym (refused_19 a.file.now a.t a.low a.high a.omega (valid (goal.at.returns-then-not-rows_touched c).Else-not-ends_valid) (inside (goal.at.returns-then-not-rows_touched c).Else-not-ends_inside) (no (touched (goal.at.returns-then-not-rows_touched c).After-rows_touched) c.if-not-rows_touched.true)))
+    sym (refused_19 a.file.now a.t a.low a.high a.omega (valid (goal.at.returns-then-not-rows_touched c).Else-not-ends_valid) (inside (goal.at.returns-then-not-rows_touched c).Else-not-ends_inside) (no (touched (goal.at.returns-then-not-rows_touched c).After-rows_touched) c.if-not-rows_touched.true))
 
 pub extremes_of-x-requires : goal.extremes_of-x-requires
 extremes_of-x-requires c =
@@ -51,7 +51,7 @@ pub returns : goal.returns
 unfolding span_of
 returns c =
     let a = c.args in
-    (refl, rw (c.extremes_of-x.ensures, c.distance_bin-last.ensures, c.distance_bin-first.ensures) (sym (answered a.file.now a.t a.low a.high a.omega (valid (goal.at.returns c).Else-not-ends_valid) (inside (goal.at.returns c).Else-not-ends_inside) (yes (touched (goal.at.returns c).After-rows_touched) c.if-not-rows_touched.false))))
+    rw (c.extremes_of-x.ensures, c.distance_bin-last.ensures, c.distance_bin-first.ensures) (sym (answered a.file.now a.t a.low a.high a.omega (valid (goal.at.returns c).Else-not-ends_valid) (inside (goal.at.returns c).Else-not-ends_inside) (yes (touched (goal.at.returns c).After-rows_touched) c.if-not-rows_touched.false)))
 
 pub rows_touched-requires : goal.rows_touched-requires
 rows_touched-requires c = ordered c

@@ -1,31 +1,20 @@
 use mathlib.Core.Path.{refl, sym, ◌∙◌}
+use native.Mathlib.Numerals.{unary_clauses}
 use native.Mathlib.Omega.{arith}
 use lib.Ieee.{of_bits, neg}
 use Rattle.tail.proofs.Laws.{sum_next, sum_end}
 use Rattle.tail.proofs.terms_sum.Goals as goal
 
-pub loop-left-init : goal.loop-left-init
+pub loop-i-init : goal.loop-i-init
 unfolding of_bits neg
-loop-left-init c = (c.requires, refl)
+loop-i-init c = simp unary_clauses refl
 
-pub loop-left-preserved : goal.loop-left-preserved
-loop-left-preserved c =
+pub loop-i-preserved : goal.loop-i-preserved
+loop-i-preserved c =
     let a = c.args in
-    (omega arith, rw c.term_energy-sum.ensures (sym (sum_next a.r a.file.now c.loop-left.sum c.loop-left.at c.loop-left.left (omega arith)) ∙ c.loop-left.invariant.1))
+    rw c.term_energy-sum.ensures (sum_next a.r a.file.now c.loop-i.sum a.terms.start a.terms.count c.loop-i.i (omega arith) ∙ c.loop-i.invariant)
 
 pub returns : goal.returns
 returns c =
     let a = c.args in
-    sym (sum_end a.r a.file.now c.loop-left.sum c.loop-left.at c.loop-left.left (omega arith)) ∙ c.loop-left.invariant.1
-
-pub term_energy-sum-requires : goal.term_energy-sum-requires
-term_energy-sum-requires c = omega arith
-
-pub overflow_add-at : goal.overflow_add-at
-overflow_add-at c = omega arith
-
-pub overflow_sub-left : goal.overflow_sub-left
-overflow_sub-left c = omega arith
-
-pub loop-left-smaller : goal.loop-left-smaller
-loop-left-smaller c = omega arith
+    sym (sum_end a.r a.file.now c.loop-i.sum _ _ (omega arith)) ∙ c.loop-i.invariant

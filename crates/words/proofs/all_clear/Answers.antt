@@ -5,22 +5,16 @@ use Rattle.lists.proofs.Loops.{every_fails, every_next, every_end}
 use Rattle.words.specs.Moves.{rest_clear}
 use Rattle.words.proofs.all_clear.Goals as goal
 
-pub loop-i-init : goal.loop-i-init
-loop-i-init c = refl
+pub loop-w-init : goal.loop-w-init
+loop-w-init c = refl
 
 pub returns-then-not-rest_clear : goal.returns-then-not-rest_clear
 returns-then-not-rest_clear c =
-    sym (every_fails rest_clear c.args.words.now c.loop-i.i 0 (omega arith) (no c.rest_clear.ensures c.if-not-rest_clear.true)) ∙ c.loop-i.invariant
+    sym (every_fails rest_clear c.args.words.now c.loop-w.w-index 0 (omega arith) (no c.rest_clear.ensures c.if-not-rest_clear.true)) ∙ c.loop-w.invariant
 
-pub overflow_add-i : goal.overflow_add-i
-overflow_add-i c = omega arith
-
-pub loop-i-smaller : goal.loop-i-smaller
-loop-i-smaller c = omega arith
-
-pub loop-i-preserved : goal.loop-i-preserved
-loop-i-preserved c =
-    sym (every_next rest_clear c.args.words.now c.loop-i.i 0 (omega arith) (yes c.rest_clear.ensures c.if-not-rest_clear.false)) ∙ c.loop-i.invariant
+pub loop-w-preserved : goal.loop-w-preserved
+loop-w-preserved c =
+    sym (every_next rest_clear c.args.words.now c.loop-w.w-index 0 (omega arith) (yes c.rest_clear.ensures c.if-not-rest_clear.false)) ∙ c.loop-w.invariant
 
 pub returns : goal.returns
-returns c = sym (every_end rest_clear c.args.words.now _ 0 c.loop-i-test.false) ∙ c.loop-i.invariant
+returns c = sym (every_end rest_clear c.args.words.now _ 0 c.loop-w-test.false) ∙ c.loop-w.invariant

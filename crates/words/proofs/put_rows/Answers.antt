@@ -8,7 +8,7 @@ use Rattle.words.proofs.Zipped.{kind_fits}
 use Rattle.words.proofs.put_rows.Goals as goal
 
 pub loop-i-init : goal.loop-i-init
-loop-i-init c = (omega arith, refl, refl, refl, sym (put_nil _ 0), sym (put_nil _ 0), sym (put_nil _ 0))
+loop-i-init c = (refl, refl, refl, sym (put_nil _ 0), sym (put_nil _ 0), sym (put_nil _ 0))
 
 -- place i is inside all four lists, and its word has no rest
 pub bounds-words-i : goal.bounds-words-i
@@ -21,28 +21,27 @@ overflow_cast-kinds c =
 
 pub bounds-kinds-i : goal.bounds-kinds-i
 bounds-kinds-i c =
-    omega (arith, c.requires.1, c.loop-i.invariant.1)
+    omega (arith, c.requires.1, c.loop-i.invariant.0)
 
 pub bounds-levels-i : goal.bounds-levels-i
 bounds-levels-i c =
-    omega (arith, c.requires.2, c.loop-i.invariant.2)
+    omega (arith, c.requires.2, c.loop-i.invariant.1)
 
 pub bounds-values-i : goal.bounds-values-i
 bounds-values-i c =
-    omega (arith, c.requires.3, c.loop-i.invariant.3)
+    omega (arith, c.requires.3, c.loop-i.invariant.2)
 
 pub loop-i-preserved : goal.loop-i-preserved
 loop-i-preserved c =
     let l = c.before.before.before.before.before in
     let a = c.args in
     let i = c.loop-i.i in (
-      omega arith,
+      simp length-set c.loop-i.invariant.0,
       simp length-set c.loop-i.invariant.1,
       simp length-set c.loop-i.invariant.2,
-      simp length-set c.loop-i.invariant.3,
-      rw c.word_kind.ensures (mapped_turn word_kind a.kinds.now a.words.now c.loop-i.kinds i 0 c.loop-i.invariant.4 (omega (arith, c.requires.1)) (omega (arith, c.requires.0))),
-      rw c.word_level.ensures (mapped_turn word_level a.levels.now a.words.now c.loop-i.levels i 0 c.loop-i.invariant.5 (omega (arith, c.requires.2)) (omega (arith, c.requires.0))),
-      rw c.word_value.ensures (mapped_turn word_value a.values.now a.words.now c.loop-i.values i 0 c.loop-i.invariant.6 (omega (arith, c.requires.3)) (omega (arith, c.requires.0))),
+      rw c.word_kind.ensures (mapped_turn word_kind a.kinds.now a.words.now c.loop-i.kinds i 0 c.loop-i.invariant.3 (omega (arith, c.requires.1)) (omega (arith, c.requires.0))),
+      rw c.word_level.ensures (mapped_turn word_level a.levels.now a.words.now c.loop-i.levels i 0 c.loop-i.invariant.4 (omega (arith, c.requires.2)) (omega (arith, c.requires.0))),
+      rw c.word_value.ensures (mapped_turn word_value a.values.now a.words.now c.loop-i.values i 0 c.loop-i.invariant.5 (omega (arith, c.requires.3)) (omega (arith, c.requires.0))),
     )
 
 pub returns : goal.returns
@@ -50,19 +49,13 @@ unfolding word_rows
 returns c =
     let a = c.args in
     let full : c.loop-i.i ≡ a.n = omega arith in
-    rw (c.loop-i.invariant.4, c.loop-i.invariant.5, c.loop-i.invariant.6, full)
-
-pub overflow_add-i : goal.overflow_add-i
-overflow_add-i c = omega arith
-
-pub loop-i-smaller : goal.loop-i-smaller
-loop-i-smaller c = omega arith
+    rw (c.loop-i.invariant.3, c.loop-i.invariant.4, c.loop-i.invariant.5, full)
 
 pub shape_of-kinds : goal.shape_of-kinds
-shape_of-kinds c = c.loop-i.invariant.1
+shape_of-kinds c = c.loop-i.invariant.0
 
 pub shape_of-levels : goal.shape_of-levels
-shape_of-levels c = c.loop-i.invariant.2
+shape_of-levels c = c.loop-i.invariant.1
 
 pub shape_of-values : goal.shape_of-values
-shape_of-values c = c.loop-i.invariant.3
+shape_of-values c = c.loop-i.invariant.2

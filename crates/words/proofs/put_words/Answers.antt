@@ -9,7 +9,7 @@ use Rattle.words.proofs.put_words.Goals as goal
 pub loop-i-init : goal.loop-i-init
 loop-i-init c =
     let a = c.args in
-    (omega arith, refl, paste-zero a.words.now 0 (words_of a.kinds.now a.levels.now a.values.now))
+    (refl, paste-zero a.words.now 0 (words_of a.kinds.now a.levels.now a.values.now))
 
 -- place i is inside all four lists
 pub bounds-kinds-i : goal.bounds-kinds-i
@@ -23,16 +23,15 @@ bounds-values-i c = omega (arith, c.requires.2)
 
 pub bounds-words-i : goal.bounds-words-i
 bounds-words-i c =
-    omega (arith, c.requires.3, c.loop-i.invariant.1)
+    omega (arith, c.requires.3, c.loop-i.invariant.0)
 
 pub loop-i-preserved : goal.loop-i-preserved
 loop-i-preserved c =
     let l = c.before.before.before.before.before in
     let a = c.args in (
-      omega arith,
-      simp length-set c.loop-i.invariant.1,
+      simp length-set c.loop-i.invariant.0,
       rw c.word_of.ensures
-          (words_turn a.kinds.now a.levels.now a.values.now a.words.now c.loop-i.words c.loop-i.i c.loop-i.invariant.2
+          (words_turn a.kinds.now a.levels.now a.values.now a.words.now c.loop-i.words c.loop-i.i c.loop-i.invariant.1
           (omega (arith, c.requires.3)) (omega (arith, c.requires.0)) (omega (arith, c.requires.1)) (omega (arith, c.requires.2))),
     )
 
@@ -41,13 +40,7 @@ returns c =
     let l = c.before in
     let a = c.args in
     let full : c.loop-i.i ≡ a.n = omega arith in
-    c.loop-i.invariant.2 ∙ rw full (words_end a.kinds.now a.levels.now a.values.now a.words.now a.n c.requires.0 c.requires.1 c.requires.2)
-
-pub overflow_add-i : goal.overflow_add-i
-overflow_add-i c = omega arith
-
-pub loop-i-smaller : goal.loop-i-smaller
-loop-i-smaller c = omega arith
+    c.loop-i.invariant.1 ∙ rw full (words_end a.kinds.now a.levels.now a.values.now a.words.now a.n c.requires.0 c.requires.1 c.requires.2)
 
 pub shape_of-words : goal.shape_of-words
-shape_of-words c = c.loop-i.invariant.1
+shape_of-words c = c.loop-i.invariant.0

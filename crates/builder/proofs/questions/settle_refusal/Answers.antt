@@ -1,36 +1,28 @@
-use mathlib.Core.Path.{sym, ◌∙◌}
-use lib.ListN.{length}
-use borrow.Author.Tests.{eq-eqb, ne_eqb}
+use Rattle.std.proofs.lemmas.Result.{err_from_is_err_and}
+use Rattle.std.proofs.Common.{sym}
 use Rattle.lists.specs.Questions.{first}
-use Rattle.mesh.specs.Mesh.{Mesh, mesh_of}
-use Rattle.builder.specs.BuilderLists.{BuilderLists, word_lists}
+use Rattle.refusals.proofs.Numbers.{stops}
+use Rattle.mesh.specs.Lent.{lent}
+use Rattle.builder.specs.BuilderLists.{word_lists}
 use Rattle.builder.specs.Refusals.{meshed_refusal}
-use Rattle.builder.proofs.Laws.{Meshed, meshed, words_long}
+use Rattle.builder.proofs.Laws.{meshed, words_long}
 use Rattle.builder.proofs.SliceRows.{asked_as}
 use Rattle.builder.proofs.questions.settle_refusal.Goals as goal
-use Rattle.builder.proofs.questions.settle_refusal.Goals.{Else-no-ne0}
 
-pub returns-then-no-ne0 : goal.returns-then-no-ne0
-unfolding first meshed_refusal
-returns-then-no-ne0 c =
+pub returns-in_err-meshed_refusal : goal.returns-in_err-meshed_refusal
+unfolding meshed_refusal
+returns-in_err-meshed_refusal c =
     let a = c.args in
-    let m : Mesh = mesh_of a.vertices.now a.counts.now a.neighbours.now a.angles.now in
-    let l : BuilderLists = word_lists a.store.now a.words.now in
-    rw (← asked_as a.b m l a.ri, words_long a.b a.store.now a.words.now, ← c.meshed_refusal-no.ensures, ne_eqb _ _ c.if-no-ne0.true)
-
--- 1 to 7 were answered yes
-facts : (c : Else-no-ne0) → let a = c.args in
-    Meshed a.b (mesh_of a.vertices.now a.counts.now a.neighbours.now a.angles.now)
-    (length a.store.now) (length a.words.now) (length a.words.now) (length a.words.now)
-facts c = meshed _ _ _ _ _ _ (sym c.meshed_refusal-no.ensures ∙ c.if-no-ne0.false)
+    let p = err_from_is_err_and c.from_residual.result c.from_residual.ensures.1 in
+    rw (p.1, p.2, ← asked_as a.b (lent a.mesh.now) (word_lists a.store.now a.words.now) a.ri, words_long a.b a.store.now a.words.now, ← c.in_err-meshed_refusal.ensures, stops)
 
 pub settle_question-requires : goal.settle_question-requires
-settle_question-requires c = let f = facts c in (f.asked.rs, f.asked.omegas)
+settle_question-requires c =
+    let f = meshed c.args.b _ _ _ _ _ (sym c.in_ok-meshed_refusal.ensures) in
+    (f.asked.rs, f.asked.omegas)
 
 pub returns : goal.returns
 unfolding first meshed_refusal
 returns c =
     let a = c.args in
-    let m : Mesh = mesh_of a.vertices.now a.counts.now a.neighbours.now a.angles.now in
-    let l : BuilderLists = word_lists a.store.now a.words.now in
-    rw (← asked_as a.b m l a.ri, words_long a.b a.store.now a.words.now, ← c.meshed_refusal-no.ensures, eq-eqb _ _ c.if-no-ne0.false, c.settle_question.ensures)
+    rw (← asked_as a.b (lent a.mesh.now) (word_lists a.store.now a.words.now) a.ri, words_long a.b a.store.now a.words.now, ← c.in_ok-meshed_refusal.ensures, c.settle_question.ensures)

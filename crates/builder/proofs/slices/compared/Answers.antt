@@ -14,14 +14,8 @@ small c =
 pairs : (c : After-neighbour_total-total) → 2 * c.vertex_count-n.result * c.neighbour_total-total.result ≤ 5124 * 15372
 pairs c = let h = small c in let n : 2 * c.vertex_count-n.result ≤ 5124 = omega (arith, h.0) in mul-le-mul n h.1
 
-pub overflow_mul-result : goal.overflow_mul-result
-overflow_mul-result c = omega (arith, (small c).0)
-
 pub overflow_mul-result-2 : goal.overflow_mul-result-2
 overflow_mul-result-2 c = omega (arith, pairs c)
 
 pub overflow_mul-result-3 : goal.overflow_mul-result-3
-overflow_mul-result-3 c = omega (arith, mul-le-mul c.requires.1 (pairs c))
-
-pub returns : goal.returns
-returns c = rw (c.vertex_count-n.ensures, c.neighbour_total-total.ensures)
+overflow_mul-result-3 c = omega (arith, mul-le-mul c.requires.1 (pairs (goal.at.overflow_mul-result-3 c).After-neighbour_total-total))

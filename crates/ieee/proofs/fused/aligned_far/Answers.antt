@@ -1,22 +1,21 @@
 use Rattle.std.proofs.Common.{ℕ, ◌+◌, ◌*◌, ◌^◌, sym, refl, ap, ◌∙◌, inl, zero-add, zero-mul, mul-one, arith, lit<}
 use lib.Ieee.{binary64, sum}
 use Rattle.ieee.specs.Internal.{wide}
-use Rattle.ieee.proofs.Terms.{factors_zero, factors_some, sum-exact, sum_swap}
+use Rattle.ieee.proofs.Terms.{factors_zero, sum-exact, sum_swap}
 use Rattle.ieee.proofs.fused.aligned_far.Goals as goal
 
 pub returns-then-m-n : goal.returns-then-m-n
 returns-then-m-n c =
-    let s = c.before in
-    let k = s.args.k in
-    let g = s.args.g + 4096 in
-    let e = s.args.e + 3022 in
+    let k = c.args.k in
+    let g = c.args.g + 4096 in
+    let e = c.args.e + 3022 in
     record {
       exact = wide 0 k;
       scale = 1;
       some = lit< tt;
       fine = inl (mul-one (wide 0 k));
-      same = sum-exact binary64 s.args.sp s.args.sc 0 (wide 0 k) (s.args.m * s.args.n * 2 ^ e) (k * 2 ^ g) g 5170
-          (zero-mul (2 ^ g) ∙ sym (ap (λ (x : ℕ). x * 2 ^ e) (factors_zero s.args.m s.args.n c.if-m-n.true) ∙ zero-mul (2 ^ e)))
+      same = sum-exact binary64 c.args.sp c.args.sc 0 (wide 0 k) (c.args.m * c.args.n * 2 ^ e) (k * 2 ^ g) g 5170
+          (zero-mul (2 ^ g) ∙ sym (ap (λ (x : ℕ). x * 2 ^ e) (factors_zero c.args.m c.args.n c.if-m-n.true) ∙ zero-mul (2 ^ e)))
           (ap (λ (x : ℕ). x * 2 ^ g) (zero-add k));
       first = omega arith;
       second = omega arith;
@@ -25,15 +24,14 @@ returns-then-m-n c =
 
 pub returns-then-k-eq0 : goal.returns-then-k-eq0
 returns-then-k-eq0 c =
-    let s = c.before.before.before in
-    let g = s.args.g + 4096 in
-    let e = s.args.e + 3022 in
+    let g = c.args.g + 4096 in
+    let e = c.args.e + 3022 in
     record {
       exact = 0;
       scale = 1;
       some = lit< tt;
       fine = inl refl;
-      same = sum-exact binary64 s.args.sp s.args.sc (wide c.product.result.hi c.product.result.lo) 0 (s.args.m * s.args.n * 2 ^ e) (s.args.k * 2 ^ g) e 5170
+      same = sum-exact binary64 c.args.sp c.args.sc (wide c.product.result.hi c.product.result.lo) 0 (c.args.m * c.args.n * 2 ^ e) (c.args.k * 2 ^ g) e 5170
           (ap (λ (x : ℕ). x * 2 ^ e) c.product.ensures.0)
           (zero-mul (2 ^ e) ∙ sym (ap (λ (x : ℕ). x * 2 ^ g) c.if-k-eq0.true ∙ zero-mul (2 ^ g)));
       first = omega (arith, c.product.ensures.1);
@@ -41,17 +39,8 @@ returns-then-k-eq0 c =
       places = omega arith;
     }
 
-pub product_term-p-requires : goal.product_term-p-requires
-product_term-p-requires c =
-    let s = c.before.before in
-    let f = factors_some s.args.m s.args.n c.if-m-n.false in
-    (f.0, s.requires.0, f.1, s.requires.1, s.requires.2)
-
-pub returns-then-tq-tp : goal.returns-then-tq-tp
-returns-then-tq-tp c =
-    let q = c.before.before in
-    let p = q.before in
-    let s = p.before.before.before in
+pub returns-then-q-p : goal.returns-then-q-p
+returns-then-q-p c =
     let a = c.at_scale.ensures in
     record {
       exact = a.exact;
@@ -59,8 +48,8 @@ returns-then-tq-tp c =
       some = a.some;
       fine = a.fine;
       same = a.same
-          ∙ ap (λ (x : ℕ). sum binary64 s.args.sp x s.args.sc (wide q.addend_term-q.result.hi q.addend_term-q.result.lo * 2 ^ q.addend_term-q.result.t) (2 ^ 5170)) p.product_term-p.ensures.value
-          ∙ ap (λ (x : ℕ). sum binary64 s.args.sp (s.args.m * s.args.n * 2 ^ (s.args.e + 3022)) s.args.sc x (2 ^ 5170)) q.addend_term-q.ensures.value;
+          ∙ ap (λ (x : ℕ). sum binary64 c.args.sp x c.args.sc (wide c.addend_term-q.result.w.hi c.addend_term-q.result.w.lo * 2 ^ c.addend_term-q.result.t) (2 ^ 5170)) c.product_term-p.ensures.value
+          ∙ ap (λ (x : ℕ). sum binary64 c.args.sp (c.args.m * c.args.n * 2 ^ (c.args.e + 3022)) c.args.sc x (2 ^ 5170)) c.addend_term-q.ensures.value;
       first = a.first;
       second = a.second;
       places = a.places;
@@ -68,9 +57,9 @@ returns-then-tq-tp c =
 
 pub returns : goal.returns
 returns c =
-    let q = c.before.before in
-    let p = q.before in
-    let s = p.before.before.before in
+    let q = c in
+    let p = c in
+    let s = c in
     let a = c.at_scale-2.ensures in
     record {
       exact = a.exact;
@@ -78,7 +67,7 @@ returns c =
       some = a.some;
       fine = a.fine;
       same = a.same
-          ∙ ap (λ (x : ℕ). sum binary64 s.args.sc x s.args.sp (wide p.product_term-p.result.hi p.product_term-p.result.lo * 2 ^ p.product_term-p.result.t) (2 ^ 5170)) q.addend_term-q.ensures.value
+          ∙ ap (λ (x : ℕ). sum binary64 s.args.sc x s.args.sp (wide p.product_term-p.result.w.hi p.product_term-p.result.w.lo * 2 ^ p.product_term-p.result.t) (2 ^ 5170)) q.addend_term-q.ensures.value
           ∙ ap (λ (x : ℕ). sum binary64 s.args.sc (s.args.k * 2 ^ (s.args.g + 4096)) s.args.sp x (2 ^ 5170)) p.product_term-p.ensures.value
           ∙ sum_swap binary64 s.args.sc s.args.sp (s.args.k * 2 ^ (s.args.g + 4096)) (s.args.m * s.args.n * 2 ^ (s.args.e + 3022)) (2 ^ 5170);
       first = a.first;

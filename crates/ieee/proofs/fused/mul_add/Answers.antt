@@ -1,29 +1,12 @@
-use Rattle.std.proofs.Common.{◌≡◌, ◌+◌, ◌*◌, ◌^◌, Bool, true, ◌&&◌, sym, refl, ap, ◌∙◌, pow_pos}
-use mathlib.Core.Bool.{and-eq-true_iff}
+use Rattle.std.proofs.Common.{◌≡◌, ◌+◌, ◌*◌, ◌^◌, Bool, ◌&&◌, sym, refl, ap, ◌∙◌, pow_pos}
 use lib.Ieee.Scale.{finite}
 use Rattle.ieee.proofs.Terms.{fused-outside, fused_addend, fused_finite, scale_product, scale_addend}
 use Rattle.ieee.proofs.fused.mul_add.Goals as goal
 use Rattle.ieee.proofs.fused.mul_add.Goals.{Then-all_finite, After-is_finite-2}
 
-all : (c : Then-all_finite) → (let a = c.args in (finite a.x ≡ true) × (finite a.y ≡ true) × (finite a.z ≡ true))
-all c =
-    let a = c.args in
-    let h = (and-eq-true_iff (finite a.x) (finite a.y && finite a.z)).0 (sym c.all_finite.ensures ∙ c.if-all_finite.true) in
-    let k = (and-eq-true_iff (finite a.y) (finite a.z)).0 h.1 in
-    (h.0, k.0, k.1)
-
 -- the test of both factors
 factors : (c : After-is_finite-2) → (c.is_finite.result && c.is_finite-2.result) ≡ (finite c.args.x && finite c.args.y)
 factors c = ap (λ (b : Bool). b && c.is_finite-2.result) c.is_finite.ensures ∙ ap (λ (b : Bool). finite c.args.x && b) c.is_finite-2.ensures
-
-pub unpack-requires : goal.unpack-requires
-unpack-requires c = (all c).0
-
-pub unpack-requires-then-all_finite : goal.unpack-requires-then-all_finite
-unpack-requires-then-all_finite c = (all c.before).1
-
-pub unpack-requires-then-all_finite-2 : goal.unpack-requires-then-all_finite-2
-unpack-requires-then-all_finite-2 c = (all c.before.before).2
 
 pub returns-then-all_finite : goal.returns-then-all_finite
 returns-then-all_finite c =

@@ -1,4 +1,4 @@
-use Rattle.std.proofs.Common.{List, map, length, ap, ◌∙◌}
+use Rattle.std.proofs.Common.{◌≡◌, ℕ, List, map, length, take, subst, ap, ◌∙◌, arith}
 use lib.Ieee.{Float}
 use Rattle.lists.specs.Lists.{put}
 use Rattle.lists.proofs.Loops.{part_least}
@@ -7,6 +7,6 @@ use Rattle.ieee.proofs.narrowing.narrow_list.Goals as goal
 
 pub returns : goal.returns
 returns c =
-    let s = c.before.before.before.before.before.before.before.before in
     c.narrow_all.ensures
-    ∙ ap (λ (y : List Float). put s.args.to.now 0 (map narrowed y)) (part_least s.args.from.now (length s.args.to.now) _ c.least-n.ensures)
+    ∙ ap (λ (y : List Float). put c.args.to.now 0 (map narrowed y))
+    (subst (λ (k : ℕ). take k c.args.from.now ≡ take (length c.args.to.now) c.args.from.now) (omega arith) (part_least {A = Float} c.args.from.now (length c.args.to.now) c.min-n.result c.min-n.ensures))

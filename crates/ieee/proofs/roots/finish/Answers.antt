@@ -8,9 +8,6 @@ use Rattle.ieee.proofs.roots.finish.Goals.{After-near-q}
 small : (c : After-near-q) → c.near-q.result ≤ 2 ^ 53
 small c = (finished c.args.m c.args.e c.near-q.result c.requires.0 c.requires.1 c.near-q.ensures).0
 
-pub overflow_add-result : goal.overflow_add-result
-overflow_add-result c = omega (arith, small c)
-
 pub float_from_bits-result : goal.float_from_bits-result
 float_from_bits-result c = plain-pattern binary64 _ (omega (arith, small c))
 

@@ -1,7 +1,6 @@
-use Rattle.std.proofs.Common.{◌≡◌, ℕ, ◌+◌, ◌-◌, ◌*◌, ◌/◌, ◌%◌, ◌^◌, ◌<◌, ◌≤◌, ◌||◌, eqb, ltb, refl, ap, ◌∙◌, le_trans, mod-eq_of_lt, arith, pow_pos}
-use lib.Pow.{shr_le}
+use Rattle.std.proofs.Common.{◌≡◌, ℕ, ◌+◌, ◌-◌, ◌*◌, ◌/◌, ◌%◌, ◌^◌, ◌<◌, ◌≤◌, ◌||◌, eqb, ltb, refl, ap, ◌∙◌, mod-eq_of_lt, arith, pow_pos}
 use mir.Val.{bool_byte}
-use Rattle.ieee.proofs.Steps.{cut_is, cut_rest, flag_le}
+use Rattle.ieee.proofs.Steps.{cut_is, cut_rest}
 use Rattle.ieee.proofs.Words.{one_shifted}
 use Rattle.ieee.proofs.rounding.cut.Goals as goal
 use Rattle.ieee.proofs.rounding.cut.Goals.{Start}
@@ -16,23 +15,8 @@ plain c = mod-eq_of_lt (under (c.args.w / 2 / 2 ^ c.args.n * 2 ^ c.args.n) c.arg
     under : (x w : ℕ) → x * 2 ≤ w → w < 2 ^ 64 → x < 2 ^ 64
     under x w l h = omega arith
 
-odd-le : (c : Start) → bool_byte (c.args.some || eqb (c.args.w / 2 / 2 ^ c.args.n % 2) 1) ≤ 2 ^ c.args.n
-odd-le c = le_trans (flag_le (c.args.some || eqb (c.args.w / 2 / 2 ^ c.args.n % 2) 1)) (pow_pos c.args.n)
-
 half : (c : Start) → 1 * 2 ^ c.args.n % 2 ^ 64 ≡ 2 ^ c.args.n
 half c = one_shifted c.args.n c.requires
-
-pub overflow_mul-rest : goal.overflow_mul-rest
-overflow_mul-rest c = omega (arith, plain c, (rest c).0)
-
-pub overflow_sub-rest : goal.overflow_sub-rest
-overflow_sub-rest c = rw (plain c) (rest c).0
-
-pub overflow_sub-result : goal.overflow_sub-result
-overflow_sub-result c = rw (half c) (odd-le c)
-
-pub overflow_add-result : goal.overflow_add-result
-overflow_add-result c = omega (arith, shr_le (c.args.w / 2) c.args.n, flag_le (ltb (1 * 2 ^ c.args.n % 2 ^ 64 - bool_byte (c.args.some || eqb (c.args.w / 2 / 2 ^ c.args.n % 2) 1)) (c.args.w - c.args.w / 2 / 2 ^ c.args.n * 2 ^ c.args.n % 2 ^ 64 * 2)))
 
 pub returns : goal.returns
 returns c =

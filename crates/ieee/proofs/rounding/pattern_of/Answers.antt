@@ -1,5 +1,5 @@
-use Rattle.std.proofs.Common.{ℕ, ◌*◌, ◌%◌, ◌^◌, ◌≤◌, sym, ap, ◌∙◌, subst, suc-le-suc, lt_of_le_of_lt, mod-eq_of_lt, pos_of_ne-zero, zero-mul, arith, lit<, pow_pos}
-use lib.Count.{count_leading_zeros, leading_le}
+use Rattle.std.proofs.Common.{ℕ, ◌*◌, ◌%◌, ◌^◌, ◌≤◌, sym, ap, ◌∙◌, subst, mod-eq_of_lt, pos_of_ne-zero, zero-mul, arith, pow_pos}
+use lib.Count.{count_leading_zeros}
 use lib.Ieee.Fits.{two-le_pos}
 use Rattle.ieee.proofs.Steps.{Lead, normal_form, pattern-zero, pattern_lead}
 use Rattle.ieee.proofs.rounding.pattern_of.Goals as goal
@@ -12,15 +12,6 @@ pub returns-then-w-eq0 : goal.returns-then-w-eq0
 returns-then-w-eq0 c =
     let s = c.before in
     sym (pattern-zero s.args.p (s.args.w * 2 ^ s.args.e) (2 ^ 4096) (two-le_pos s.args.p s.requires.1) (pow_pos 4096) (ap (λ (x : ℕ). x * 2 ^ s.args.e) c.if-w-eq0.true ∙ zero-mul (2 ^ s.args.e)))
-
-pub overflow_cast-z : goal.overflow_cast-z
-overflow_cast-z c = record { fits = lt_of_le_of_lt (leading_le 64 c.args.w) (lit< tt) }
-
-pub overflow_shl-w : goal.overflow_shl-w
-overflow_shl-w c = suc-le-suc (norm c).room
-
-pub overflow_sub-e : goal.overflow_sub-e
-overflow_sub-e c = omega (arith, leading_le 64 c.args.w)
 
 pub pattern_top-requires : goal.pattern_top-requires
 pattern_top-requires c = (subst (λ (x : ℕ). 2 ^ 63 ≤ x) (sym (mod-eq_of_lt (norm c).high)) (norm c).low, omega arith, c.requires.1, c.requires.2)

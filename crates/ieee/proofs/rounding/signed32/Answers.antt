@@ -1,6 +1,6 @@
-use Rattle.std.proofs.Common.{◌+◌, Bool, true, false, cond, sym, ap}
+use Rattle.std.proofs.Common.{true, false, sym}
 use native.Mathlib.Nat.{min-eq_left}
-use lib.Ieee.{binary32, top, of_bits}
+use lib.Ieee.{binary32}
 use Rattle.ieee.proofs.Steps.{no_nan}
 use Rattle.ieee.proofs.rounding.signed32.Goals as goal
 
@@ -9,9 +9,3 @@ float_from_bits-result c = no_nan binary32 true c.args.m c.args.m (sym (min-eq_l
 
 pub float_from_bits-result-else-neg : goal.float_from_bits-result-else-neg
 float_from_bits-result-else-neg c = no_nan binary32 false c.args.m c.args.m (sym (min-eq_left c.requires))
-
-pub returns-then-neg : goal.returns-then-neg
-returns-then-neg c = ap (λ (t : Bool). of_bits binary32 (cond t (top binary32) 0 + c.args.m)) (sym c.if-neg.true)
-
-pub returns-else-neg : goal.returns-else-neg
-returns-else-neg c = ap (λ (t : Bool). of_bits binary32 (cond t (top binary32) 0 + c.args.m)) (sym c.if-neg.false)

@@ -1,6 +1,6 @@
 use Rattle.std.proofs.Common.{true, false}
 use lib.Ieee.{binary64}
-use Rattle.ieee.proofs.Steps.{made, no_nan}
+use Rattle.ieee.proofs.Steps.{no_nan}
 use Rattle.ieee.proofs.rounding.signed64.Goals as goal
 
 pub float_from_bits-result : goal.float_from_bits-result
@@ -8,9 +8,3 @@ float_from_bits-result c = no_nan binary64 true c.args.m c.capped-b.result c.cap
 
 pub float_from_bits-result-else-neg : goal.float_from_bits-result-else-neg
 float_from_bits-result-else-neg c = no_nan binary64 false c.args.m c.capped-b.result c.capped-b.ensures
-
-pub returns-then-neg : goal.returns-then-neg
-returns-then-neg c = made binary64 c.args.neg true c.args.m c.capped-b.result c.capped-b.ensures c.if-neg.true
-
-pub returns-else-neg : goal.returns-else-neg
-returns-else-neg c = made binary64 c.args.neg false c.args.m c.capped-b.result c.capped-b.ensures c.if-neg.false

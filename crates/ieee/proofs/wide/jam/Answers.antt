@@ -1,6 +1,6 @@
-use Rattle.std.proofs.Common.{◌≡◌, ℕ, ◌+◌, ◌-◌, ◌*◌, ◌/◌, ◌%◌, ◌^◌, ◌<◌, ◌≤◌, sym, ap, ◌∙◌, subst, arith, pow_pos}
+use Rattle.std.proofs.Common.{◌≡◌, ℕ, ◌+◌, ◌-◌, ◌*◌, ◌/◌, ◌%◌, ◌^◌, ◌<◌, ◌≤◌, ap, ◌∙◌, arith}
 use Rattle.ieee.specs.Internal.{stuck}
-use Rattle.ieee.proofs.Words.{jam_none, jam_all, jam_high, jam_low, joined_lt, one_shifted}
+use Rattle.ieee.proofs.Words.{jam_all, jam_high, jam_low, joined_lt, one_shifted}
 use Rattle.ieee.proofs.wide.jam.Goals as goal
 use Rattle.ieee.proofs.wide.jam.Goals.{Start}
 
@@ -13,18 +13,10 @@ low c = omega arith
 under : (k : ℕ) → k < 128 → 64 ≤ k → (k - 64 < 64) × (k ≡ k - 64 + 64)
 under k a b = (omega arith, omega arith)
 
-pub returns-then-k-eq0 : goal.returns-then-k-eq0
-returns-then-k-eq0 c = jam_none (c.args.w.hi * 2 ^ 64 + c.args.w.lo) c.args.k c.if-k-eq0.true
-
 pub returns-then-k-ge128 : goal.returns-then-k-ge128
 returns-then-k-ge128 c =
     let s = c.before.before.before.before in
     jam_all s.args.w.hi s.args.w.lo s.args.k c.stick.result c.stick-s.result (high s) (low s) c.if-k-ge128.true c.stick.ensures c.stick-s.ensures
-
-pub nonzero_rem-hi : goal.nonzero_rem-hi
-nonzero_rem-hi c =
-    let k = c.args.k in
-    subst (λ (x : ℕ). 0 < x) (sym (one_shifted (k - 64) (under k c.if-k-ge128.false c.if-k-ge64.true).0)) (pow_pos (k - 64))
 
 pub returns-then-k-ge64 : goal.returns-then-k-ge64
 returns-then-k-ge64 c =
@@ -38,9 +30,6 @@ returns-then-k-ge64 c =
 
 pub overflow_add-hi : goal.overflow_add-hi
 overflow_add-hi c = record { fits = joined_lt c.args.w.hi c.args.w.lo c.args.k (high c.before.before.before) (low c.before.before.before) c.if-k-ge64.false }
-
-pub nonzero_rem-lo : goal.nonzero_rem-lo
-nonzero_rem-lo c = subst (λ (x : ℕ). 0 < x) (sym (one_shifted c.args.k c.if-k-ge64.false)) (pow_pos c.args.k)
 
 pub returns : goal.returns
 returns c =

@@ -1,10 +1,10 @@
-use Rattle.std.proofs.Common.{ℕ, ◌+◌, ◌-◌, ◌*◌, ◌/◌, ◌%◌, ◌^◌, ◌<◌, not, eqb, sym, ap, ◌∙◌, lt_of_le_of_lt, pos_of_ne-zero, zero-add, arith, lit<, lit≤, rules}
+use Rattle.std.proofs.Common.{ℕ, ◌+◌, ◌-◌, ◌*◌, ◌/◌, ◌%◌, ◌^◌, ◌<◌, not, eqb, sym, ap, ◌∙◌, pos_of_ne-zero, zero-add, arith, lit≤, rules}
 use mir.Val.{bool_byte}
-use lib.Count.{count_leading_zeros, leading_le}
+use lib.Count.{count_leading_zeros}
 use lib.Ieee.{binary64, round}
 use Rattle.ieee.specs.Internal.{wide}
 use Rattle.ieee.proofs.Steps.{float_law}
-use Rattle.ieee.proofs.Words.{lead_room, lead_fits, lead_top, wide_round}
+use Rattle.ieee.proofs.Words.{lead_fits, lead_top, wide_round}
 use Rattle.ieee.proofs.wide.round_wide.Goals as goal
 use Rattle.ieee.proofs.wide.round_wide.Goals.{Start, Else-hi-eq0}
 
@@ -17,32 +17,14 @@ low c = search rules
 some : (c : Else-hi-eq0) → 0 < c.args.w.hi
 some c = pos_of_ne-zero c.if-hi-eq0.false
 
-room : (c : Else-hi-eq0) → count_leading_zeros 64 c.args.w.hi < 64
-room c = lead_room c.args.w.hi c.args.w.lo (some c) (high c.before) (low c.before)
-
 pub returns-then-hi-eq0 : goal.returns-then-hi-eq0
 returns-then-hi-eq0 c =
     let s = c.before.before in
     c.round64.ensures
     ∙ ap (λ (x : ℕ). round binary64 s.args.neg (x * 2 ^ s.args.t) (2 ^ 5170)) (sym (ap (λ (x : ℕ). wide x s.args.w.lo) c.if-hi-eq0.true ∙ zero-add s.args.w.lo))
 
-pub overflow_cast-z : goal.overflow_cast-z
-overflow_cast-z c = record { fits = lt_of_le_of_lt (leading_le 64 c.args.w.hi) (lit< tt) }
-
-pub overflow_shl-n : goal.overflow_shl-n
-overflow_shl-n c = room c
-
-pub overflow_sub-n : goal.overflow_sub-n
-overflow_sub-n c = omega (arith, room c)
-
 pub overflow_add-n : goal.overflow_add-n
 overflow_add-n c = record { fits = lead_fits c.args.w.hi c.args.w.lo (some c) (high c.before) (low c.before) }
-
-pub overflow_shl-lo : goal.overflow_shl-lo
-overflow_shl-lo c = room c
-
-pub overflow_sub-t : goal.overflow_sub-t
-overflow_sub-t c = omega (arith, room c)
 
 pub pattern_top-requires : goal.pattern_top-requires
 pattern_top-requires c = (lead_top c.args.w.hi c.args.w.lo (some c) (high c.before) (low c.before), omega arith, lit≤ tt, lit≤ tt)

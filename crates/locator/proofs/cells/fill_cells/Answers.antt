@@ -1,6 +1,6 @@
 use mathlib.Core.Path.{◌≡◌, refl, sym, ap, ◌∙◌}
-use Prim.Native.Nat.{◌+◌, ◌*◌, ◌/◌, ◌%◌, ◌≤◌, ◌<◌}
-use native.Mathlib.Nat.{mul-le-mul, mul-pos, mod-le, zero-mod}
+use Prim.Native.Nat.{◌+◌, ◌*◌, ◌/◌, ◌%◌, ◌≤◌}
+use native.Mathlib.Nat.{mul-pos, mod-le, zero-mod}
 use native.Mathlib.Omega.{arith}
 use lib.ListN.{length}
 use Rattle.lists.specs.Lists.{joined, starts}
@@ -16,22 +16,18 @@ use Rattle.locator.proofs.cells.fill_cells.Goals.{At-loop-c, In-loop-c}
 so_far : (l : At-loop-c) → l.loop-c.to ≤ 4294967295
 so_far l =
     let a = l.args in
-    omega (arith, l.loop-c.invariant.8.next, joined_le l.loop-c.c a.m (cell a.vertices.now a.n a.g) (omega arith))
+    omega (arith, l.loop-c.invariant.7.next, joined_le l.loop-c.c a.m (cell a.vertices.now a.n a.g) (omega arith))
 
 -- a cell more fits
 more : (c : In-loop-c) → let l = c.before in let a = c.args in
     c.loop-c.to + length (cell a.vertices.now a.n a.g c.loop-c.c) ≤ length a.out.now
 more c =
     let l = c.before in let a = c.args in
-    omega (arith, c.loop-c.invariant.8.next, next_fits c.loop-c.c a.m (cell a.vertices.now a.n a.g) c.loop-c-test.true)
-
-pub overflow_mul-a : goal.overflow_mul-a
-overflow_mul-a c = let g = c.args.g in omega (arith, mul-le-mul {n₁ = g} {m₁ = g} {n₂ = 65500} {m₂ = 65500} (omega arith) (omega arith))
+    omega (arith, c.loop-c.invariant.7.next, next_fits c.loop-c.c a.m (cell a.vertices.now a.n a.g) c.loop-c-test.true)
 
 pub loop-c-init : goal.loop-c-init
 unfolding joined starts
 loop-c-init c = let g = c.args.g in (
-  omega arith,
   refl,
   refl,
   omega arith,
@@ -42,41 +38,28 @@ loop-c-init c = let g = c.args.g in (
   nothing (omega arith),
 )
 
-pub fresh_keys-requires : goal.fresh_keys-requires
-fresh_keys-requires c = (omega arith, omega arith, omega arith, omega arith, c.loop-c.invariant.5)
-
 pub fresh_row-held-requires : goal.fresh_row-held-requires
 fresh_row-held-requires c = let a = c.args in let k = c.loop-c.c in
     let f = c.fresh_keys in (
-      omega (arith, f.auto.keys, c.loop-c.invariant.1),
-      omega (arith, c.loop-c.invariant.2),
+      omega (arith, f.auto.keys, c.loop-c.invariant.0),
+      omega (arith, c.loop-c.invariant.1),
       omega arith,
       omega arith,
       omega arith,
-      omega (arith, c.loop-c.invariant.2, c.loop-c.invariant.3),
-      (λ p. c.loop-c.invariant.6 p ∙ sym (keyed_row a.vertices.now a.n a.g (k / (a.g * a.g)) (k % (a.g * a.g) / a.g) _ f.ensures.0)),
+      omega (arith, c.loop-c.invariant.1, c.loop-c.invariant.2),
+      (λ p. c.loop-c.invariant.5 p ∙ sym (keyed_row a.vertices.now a.n a.g (k / (a.g * a.g)) (k % (a.g * a.g) / a.g) _ f.ensures.0)),
     )
 
 pub overflow_cast-offsets : goal.overflow_cast-offsets
 overflow_cast-offsets c = omega (arith, so_far (goal.at.overflow_cast-offsets c).At-loop-c)
 
-pub bounds-offsets-c : goal.bounds-offsets-c
-bounds-offsets-c c = omega arith
-
-pub nonzero_rem-c : goal.nonzero_rem-c
-nonzero_rem-c c = let g = c.args.g in let h : 0 < g = omega arith in omega (arith, mul-pos {m = g} {n = g} h h)
-
-pub overflow_cast-c : goal.overflow_cast-c
-overflow_cast-c c = let g = c.args.g in omega (arith, spots g c.loop-c.c (omega arith))
-
 pub put_cell-to-requires : goal.put_cell-to-requires
 put_cell-to-requires c = let a = c.args in let k = c.loop-c.c in
     let f = c.fresh_keys in let r = c.fresh_row-held in
     let e = keyed_column a.vertices.now a.n a.g k _ _ (omega arith) (omega arith) f.ensures.0 r.ensures.1 in (
-      r.ensures.0,
-      rw r.ensures.1 (row_below _ a.n (k % (a.g * a.g) / a.g) _ (omega (arith, f.auto.keys, c.loop-c.invariant.1))),
+      rw r.ensures.1 (row_below _ a.n (k % (a.g * a.g) / a.g) _ (omega (arith, f.auto.keys, c.loop-c.invariant.0))),
       omega (arith, spots a.g k (omega arith)),
-      omega (arith, ap length e, more (goal.at.put_cell-to-requires c).In-loop-c, c.loop-c.invariant.8.size),
+      omega (arith, ap length e, more (goal.at.put_cell-to-requires c).In-loop-c, c.loop-c.invariant.7.size),
     )
 
 pub loop-c-preserved : goal.loop-c-preserved
@@ -85,35 +68,22 @@ loop-c-preserved c = let a = c.args in let g = a.g in let k = c.loop-c.c in
     let cells = cell a.vertices.now a.n g in
     let e = keyed_column a.vertices.now a.n g k _ _ (omega arith) (omega arith) f.ensures.0 r.ensures.1 in
     let h = rw e at p.ensures in
-    let u : c.loop-c.to ≡ length (joined k cells) = omega (arith, c.loop-c.invariant.8.next) in (
-      omega arith,
-      f.auto.keys ∙ c.loop-c.invariant.1,
-      r.auto.row ∙ c.loop-c.invariant.2,
-      omega (arith, r.ensures.0, r.auto.row, c.loop-c.invariant.2),
-      f.ensures.1 ∙ c.loop-c.invariant.4,
+    let u : c.loop-c.to ≡ length (joined k cells) = omega (arith, c.loop-c.invariant.7.next) in (
+      f.auto.keys ∙ c.loop-c.invariant.0,
+      r.auto.row ∙ c.loop-c.invariant.1,
+      omega (arith, r.ensures.0, r.auto.row, c.loop-c.invariant.1),
+      f.ensures.1 ∙ c.loop-c.invariant.3,
       (λ z. rw (same-face (g * g) k (mul-pos {m = g} {n = g} (omega arith) (omega arith)) z) f.ensures.0),
       (λ z. let q = same_row g k (omega arith) z in rw (q.0, q.1) (r.ensures.1 ∙ keyed_row a.vertices.now a.n g (k / (g * g)) (k % (g * g) / g) _ f.ensures.0)),
-      rw (starts_more k cells, ← u) (pushed c.loop-c.to c.loop-c.invariant.7 (omega arith)),
-      rw (joined-more k cells) (chunk (cells k) _ p.result c.loop-c.invariant.8 (omega (arith, more (goal.at.loop-c-preserved c).In-loop-c)) h.0 h.1),
+      rw (starts_more k cells, ← u) (pushed c.loop-c.to c.loop-c.invariant.6 (omega arith)),
+      rw (joined-more k cells) (chunk (cells k) _ p.result c.loop-c.invariant.7 (omega (arith, more (goal.at.loop-c-preserved c).In-loop-c)) h.0 h.1),
     )
-
-pub overflow_cast-offsets-2 : goal.overflow_cast-offsets-2
-overflow_cast-offsets-2 c = omega (arith, so_far (goal.at.overflow_cast-offsets-2 c).At-loop-c)
 
 pub returns : goal.returns
 unfolding cells_out
 returns c = let a = c.args in let f = cell a.vertices.now a.n a.g in
     let full : c.loop-c.c ≡ a.m = omega arith in
-    let o = rw full at c.loop-c.invariant.7 in
-    let w = rw full at c.loop-c.invariant.8 in
+    let o = rw full at c.loop-c.invariant.6 in
+    let w = rw full at c.loop-c.invariant.7 in
     let e : c.loop-c.to ≡ length (joined a.m f) = omega (arith, w.next) in
-    (rw ((pushed c.loop-c.to o (omega arith)).is, w.is, starts_more a.m f, ← e), c.loop-c.invariant.4)
-
-pub offset_bounds-offsets-c : goal.offset_bounds-offsets-c
-offset_bounds-offsets-c c = omega arith
-
-pub offset_bounds-offsets-m : goal.offset_bounds-offsets-m
-offset_bounds-offsets-m c = omega arith
-
-pub bounds-offsets-m : goal.bounds-offsets-m
-bounds-offsets-m c = omega arith
+    (rw ((pushed c.loop-c.to o (omega arith)).is, w.is, starts_more a.m f, ← e), c.loop-c.invariant.3)

@@ -1,4 +1,4 @@
-use Prim.Native.Nat.{◌-◌, ◌/◌, ◌≤◌}
+use Prim.Native.Nat.{◌/◌, ◌≤◌}
 use lib.ListN.{get_or}
 use Rattle.lists.specs.Lists.{filter, below}
 use Rattle.lists.proofs.Written.{Written}
@@ -6,7 +6,4 @@ use Rattle.locator.specs.Internal.{near_kept}
 use Rattle.locator.proofs.cells.fresh_row.Given as goal
 
 abbrev pub invariant-loop-v : goal.invariant-loop-v
-invariant-loop-v l = (l.v ≤ l.n) × (l.to ≤ l.v) × Written l.initial.row 0 (filter (λ v. near_kept (get_or l.keys v 0 / 65536) l.i) (below l.v)) l.row l.to
-
-abbrev pub decreases-loop-v : goal.decreases-loop-v
-decreases-loop-v l = l.n - l.v
+invariant-loop-v l = (l.to ≤ l.v) × Written l.initial.row 0 (filter (λ v. near_kept (get_or l.keys v 0 / 65536) l.i) (below l.v)) l.row l.to

@@ -4,4 +4,4 @@ use Rattle.locator.proofs.cells.vertex_key.Goals as goal
 
 pub returns : goal.returns
 unfolding vertex_key vertex_at
-returns c = rw (c.key.ensures, c.cube_face_project-s.ensures)
+returns c = rw (c.key.ensures, c.cube_face_project.ensures)

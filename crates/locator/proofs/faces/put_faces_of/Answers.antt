@@ -4,7 +4,7 @@ use native.Mathlib.Omega.{arith}
 use lib.ListN.{length}
 use Rattle.lists.specs.Lists.{joined}
 use Rattle.mesh.specs.Mesh.{Mesh}
-use Rattle.mesh.specs.Internal.{links}
+use Rattle.mesh.specs.Lent.{lent}
 use Rattle.lists.proofs.Written.{nothing, next_fits}
 use Rattle.search.specs.Cells.{flat}
 use Rattle.locator.specs.Internal.{block, Next}
@@ -18,43 +18,31 @@ inside c = omega (arith, c.loop-i-test.true, c.requires.1)
 -- there is room for the next block
 fits : (c : In-loop-i) →
     let l = c.before in let a = c.args in
-    3 * (c.loop-i.to + length (block (links a.counts.now a.neighbours.now) a.v c.loop-i.i)) ≤ length a.out.now
+    3 * (c.loop-i.to + length (block (lent a.mesh.now) a.v c.loop-i.i)) ≤ length a.out.now
 fits c =
     let l = c.before in let a = c.args in
-    let f = block (links a.counts.now a.neighbours.now) a.v in
+    let f = block (lent a.mesh.now) a.v in
     omega (
       arith,
       c.requires.2,
       come a.at c.loop-i.to (joined c.loop-i.i f) c.loop-i.invariant.1,
       next_fits c.loop-i.i a.n f (inside c),
-      ap length (faces_of_is (links a.counts.now a.neighbours.now) a.n a.v),
+      ap length (faces_of_is (lent a.mesh.now) a.n a.v),
     )
 
 -- up to the next vertex that touches v there are no faces of v
 skipped : (g : Mesh) (n v at r : ℕ) → Next g n v at r → joined r (block g v) ≡ joined at (block g v)
 skipped g n v at r h = joined_skip (block g v) at r h.from (λ i p q. untouched g v i (h.none i p q))
 
-pub next-i-requires : goal.next-i-requires
-next-i-requires c = (c.requires.0, c.requires.1, omega arith)
-
 pub loop-i-init : goal.loop-i-init
 unfolding joined flat
-loop-i-init c = let a = c.args in (c.next-i.ensures.low, rw (skipped (links a.counts.now a.neighbours.now) a.n a.v 0 c.next-i.result c.next-i.ensures) (nothing (omega arith)))
+loop-i-init c = let a = c.args in (c.next-i.ensures.low, rw (skipped (lent a.mesh.now) a.n a.v 0 c.next-i.result c.next-i.ensures) (nothing (omega arith)))
 
 pub put_block-to-requires : goal.put_block-to-requires
 put_block-to-requires c = (c.requires.0, inside (goal.at.put_block-to-requires c).In-loop-i, omega (arith, fits (goal.at.put_block-to-requires c).In-loop-i, c.loop-i.invariant.1.size))
 
-pub overflow_add-i : goal.overflow_add-i
-overflow_add-i c = omega (arith, inside (goal.at.overflow_add-i c).In-loop-i)
-
-pub next-i-requires-in-loop-i : goal.next-i-requires-in-loop-i
-next-i-requires-in-loop-i c = (c.requires.0, c.requires.1, omega (arith, inside (goal.at.next-i-requires-in-loop-i c).In-loop-i))
-
-pub loop-i-smaller : goal.loop-i-smaller
-loop-i-smaller c = omega (arith, inside (goal.at.loop-i-smaller c).In-loop-i, c.next-i-in-loop-i.ensures.from, c.next-i-in-loop-i.ensures.low)
-
 pub loop-i-preserved : goal.loop-i-preserved
-loop-i-preserved c = let a = c.args in let g : Mesh = links a.counts.now a.neighbours.now in let p = c.put_block-to in (
+loop-i-preserved c = let a = c.args in let g : Mesh = lent a.mesh.now in let p = c.put_block-to in (
   c.next-i-in-loop-i.ensures.low,
   rw (skipped g a.n a.v (c.loop-i.i + 1) c.next-i-in-loop-i.result c.next-i-in-loop-i.ensures)
       (more-flat a.at c.loop-i.to (block g a.v) c.loop-i.i _ p.result c.loop-i.invariant.1 (fits (goal.at.loop-i-preserved c).In-loop-i) p.ensures.0 p.ensures.1),
@@ -62,7 +50,7 @@ loop-i-preserved c = let a = c.args in let g : Mesh = links a.counts.now a.neigh
 
 pub returns : goal.returns
 returns c = let a = c.args in
-    let g : Mesh = links a.counts.now a.neighbours.now in
+    let g : Mesh = lent a.mesh.now in
     let full = joined_skip (block g a.v) c.loop-i.i a.n c.loop-i.invariant.0 (λ i p q. block-above g a.v i (omega (arith, c.loop-i-test.false))) in
     let h = rw (← full) at c.loop-i.invariant.1 in
     rw (faces_of_is g a.n a.v) (come a.at c.loop-i.to (joined a.n (block g a.v)) h, h.is)

@@ -6,7 +6,7 @@ use lib.ListN.{length}
 use lib.Dec.{ltb}
 use borrow.Author.Tests.{ltb-true}
 use Rattle.lists.specs.Lists.{joined}
-use Rattle.mesh.specs.Internal.{links}
+use Rattle.mesh.specs.Lent.{lent}
 use Rattle.lists.proofs.Written.{nothing, put_nil, next_fits}
 use Rattle.search.specs.Cells.{flat}
 use Rattle.locator.proofs.Blocks.{third, thirds_are, no_thirds, not_above, unwanted, more-flat, come}
@@ -16,12 +16,12 @@ use Rattle.locator.proofs.faces.put_third.Goals.{In-loop-y}
 -- there is room for the next face
 fits : (c : In-loop-y) →
     let l = c.before in let a = c.args in
-    3 * (c.loop-y.to + length (third (links a.counts.now a.neighbours.now) a.v a.i a.j c.loop-y.y)) ≤ length a.out.now
+    3 * (c.loop-y.to + length (third (lent a.mesh.now) a.v a.i a.j c.loop-y.y)) ≤ length a.out.now
 fits c =
     let l = c.before in let a = c.args in
-    let m = links a.counts.now a.neighbours.now in
+    let m = lent a.mesh.now in
     let f = third m a.v a.i a.j in
-    omega (arith, c.requires.3, come a.at c.loop-y.to (joined c.loop-y.y f) c.loop-y.invariant.1, next_fits c.loop-y.y a.c f c.loop-y-test.true, ap length (thirds_are m a.v a.i a.c a.j))
+    omega (arith, c.requires.3, come a.at c.loop-y.to (joined c.loop-y.y f) c.loop-y.invariant, next_fits c.loop-y.y a.c f c.loop-y-test.true, ap length (thirds_are m a.v a.i a.c a.j))
 
 pub returns-then-j-i : goal.returns-then-j-i
 unfolding flat
@@ -38,25 +38,25 @@ returns-then-i-v c = let a = c.args in
 
 pub loop-y-init : goal.loop-y-init
 unfolding joined flat
-loop-y-init c = (omega arith, nothing (omega arith))
+loop-y-init c = (nothing (omega arith))
 
 pub put_wanted-to-requires : goal.put_wanted-to-requires
 put_wanted-to-requires c = let e = c.neighbour-k.ensures in (
   c.requires.0,
   c.requires.1,
   omega (arith, e, c.requires.2 c.loop-y.y c.loop-y-test.true),
-  rw e (omega (arith, fits (goal.at.put_wanted-to-requires c).In-loop-y, c.loop-y.invariant.1.size)),
+  rw e (omega (arith, fits (goal.at.put_wanted-to-requires c).In-loop-y, c.loop-y.invariant.size)),
 )
 
 pub loop-y-preserved : goal.loop-y-preserved
 loop-y-preserved c = let a = c.args in
     let p = c.put_wanted-to in
     let h = rw c.neighbour-k.ensures at p.ensures in
-    (omega arith, more-flat a.at c.loop-y.to (third (links a.counts.now a.neighbours.now) a.v a.i a.j) c.loop-y.y _ p.result c.loop-y.invariant.1 (fits (goal.at.loop-y-preserved c).In-loop-y) h.0 h.1)
+    (more-flat a.at c.loop-y.to (third (lent a.mesh.now) a.v a.i a.j) c.loop-y.y _ p.result c.loop-y.invariant (fits (goal.at.loop-y-preserved c).In-loop-y) h.0 h.1)
 
 pub returns : goal.returns
 returns c = let a = c.args in
-    let m = links a.counts.now a.neighbours.now in
+    let m = lent a.mesh.now in
     let full : c.loop-y.y ≡ a.c = omega arith in
-    let h = rw full at c.loop-y.invariant.1 in
+    let h = rw full at c.loop-y.invariant in
     rw (thirds_are m a.v a.i a.c a.j) (come a.at c.loop-y.to (joined a.c (third m a.v a.i a.j)) h, h.is)

@@ -9,10 +9,6 @@ pub returns-then-not-wanted : goal.returns-then-not-wanted
 unfolding flat
 returns-then-not-wanted c = rw (no c.wanted.ensures c.if-not-wanted.true) (omega arith, sym (put_nil _ _))
 
-pub put_face-requires : goal.put_face-requires
-put_face-requires c = let h = rw (yes c.wanted.ensures c.if-not-wanted.false) at c.requires.3 in
-    (omega arith, omega arith, omega arith, omega arith)
-
 pub returns : goal.returns
 unfolding flat
 returns c = rw (yes c.wanted.ensures c.if-not-wanted.false) (refl, c.put_face.ensures)

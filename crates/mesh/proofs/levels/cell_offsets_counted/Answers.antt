@@ -1,4 +1,4 @@
-use mathlib.Core.Path.{◌≡◌, refl, sym}
+use mathlib.Core.Path.{refl, sym}
 use native.Mathlib.Omega.{arith}
 use Rattle.mesh.specs.Levels.{cell_count, cell_offsets_below}
 use Rattle.lists.specs.Lists.{sum}
@@ -7,7 +7,7 @@ use Rattle.mesh.proofs.levels.cell_offsets_counted.Goals as goal
 
 pub loop-m-init : goal.loop-m-init
 unfolding cell_offsets_below sum
-loop-m-init c = (omega arith, refl)
+loop-m-init c = refl
 
 pub overflow_mul-sum : goal.overflow_mul-sum
 overflow_mul-sum c = rw c.grid_size-g.ensures (omega (arith, cells_le c.loop-m.m (omega arith)))
@@ -23,7 +23,4 @@ overflow_add-sum-in-loop-m c = rw c.grid_size-g.ensures (omega (arith, cells_le 
 
 pub loop-m-preserved : goal.loop-m-preserved
 unfolding cell_count
-loop-m-preserved c = (omega arith, rw (c.grid_size-g.ensures, c.loop-m.invariant.1) (sym (offsets_more c.loop-m.m)))
-
-pub returns : goal.returns
-returns c = let e : c.loop-m.m ≡ c.args.level = omega arith in rw e at c.loop-m.invariant.1
+loop-m-preserved c = rw (c.grid_size-g.ensures, c.loop-m.invariant) (sym (offsets_more c.loop-m.m))

@@ -1,44 +1,19 @@
-use mathlib.Core.Path.{◌≡◌, refl, sym}
-use mathlib.Core.Bool.{true}
-use Prim.Native.Nat.{suc, ◌≤◌}
-use native.Mathlib.Omega.{arith}
-use Rattle.lists.specs.Lists.{all_up_to}
-use Rattle.mesh.specs.Levels.{vertex_count, vertices_below}
-use Rattle.mesh.specs.Mesh.{Mesh, keeps_rule, level_part, mesh_long, meshes_keep, mesh_of}
-use Rattle.mesh.proofs.Laws.{below_le}
-use Rattle.lists.proofs.Counting.{all_turn, all_fails, yes, no}
-use Rattle.mesh.proofs.Kept.{held}
+use Rattle.std.proofs.Common.{◌≡◌, sym, arith, suc, false}
+use Rattle.lists.proofs.Counting.{all_fails, yes, no}
+use Rattle.mesh.specs.Mesh.{keeps_rule, level_part, meshes_keep}
+use Rattle.mesh.specs.Lent.{lent}
+use Rattle.mesh.specs.Levels.{vertex_count}
+use Rattle.mesh.proofs.Laws.{count_le}
 use Rattle.mesh.proofs.several.meshes_keep.Goals as goal
 
-pub returns-then-not-meshes_room : goal.returns-then-not-meshes_room
-returns-then-not-meshes_room c = rw (no c.meshes_room.ensures c.if-not-meshes_room.true)
+pub overflow_cast-vertex_count : goal.overflow_cast-vertex_count
+overflow_cast-vertex_count c = omega (arith, count_le c.loop-m.m 256 (omega arith))
 
-pub loop-m-init : goal.loop-m-init
-unfolding all_up_to
-loop-m-init c = (omega arith, refl)
-
-pub level_keeps-requires : goal.level_keeps-requires
-level_keeps-requires c = let l = c.before in let a = l.args in
-    let m : Mesh = mesh_of a.vertices.now a.counts.now a.neighbours.now a.angles.now in
-    let room : mesh_long (vertices_below (suc a.top)) m ≡ true = yes l.meshes_room.ensures l.if-not-meshes_room.false in
-    let h = held (vertices_below (suc a.top)) m room in
-    let le : vertices_below (suc l.loop-m.m) ≤ vertices_below (suc a.top) = below_le (suc l.loop-m.m) (suc a.top) (omega arith) in
-    (omega (arith, h.vertices), omega (arith, h.counts), omega (arith, h.neighbours), omega (arith, h.angles))
-
-pub returns-then-not-level_keeps : goal.returns-then-not-level_keeps
+pub returns-then-not-keeps_rule : goal.returns-then-not-keeps_rule
 unfolding meshes_keep
-returns-then-not-level_keeps c = let l = c.before.before.before in let a = l.args in
-    let m : Mesh = mesh_of a.vertices.now a.counts.now a.neighbours.now a.angles.now in
-    rw (yes l.meshes_room.ensures l.if-not-meshes_room.false)
-    (sym (all_fails (λ k. keeps_rule (vertex_count k) (level_part k m)) l.loop-m.m (suc a.top) (omega arith) (no c.level_keeps.ensures c.if-not-level_keeps.true)))
-
-pub loop-m-preserved : goal.loop-m-preserved
-loop-m-preserved c = let l = c.before.before.before in let a = l.args in
-    let m : Mesh = mesh_of a.vertices.now a.counts.now a.neighbours.now a.angles.now in
-    (omega arith, all_turn (λ k. keeps_rule (vertex_count k) (level_part k m)) l.loop-m.m l.loop-m.invariant.1 (yes c.level_keeps.ensures c.if-not-level_keeps.false))
-
-pub returns : goal.returns
-unfolding meshes_keep
-returns c = let l = c.before in let a = l.args in
-    let full : l.loop-m.m ≡ suc a.top = omega arith in
-    rw (yes l.meshes_room.ensures l.if-not-meshes_room.false) (sym (rw full at l.loop-m.invariant.1))
+returns-then-not-keeps_rule c =
+    let m = lent c.args.mesh.now in
+    let fails : keeps_rule (vertex_count c.loop-m.m) (level_part c.loop-m.m m) ≡ false =
+    rw (← c.vertex_count.ensures, ← c.level_part.ensures) (no c.keeps_rule.ensures c.if-not-keeps_rule.true) in
+    rw (yes c.meshes_long.ensures c.if-not-meshes_long.false)
+    (sym (all_fails (λ k. keeps_rule (vertex_count k) (level_part k m)) c.loop-m.m (suc c.args.top) (omega arith) fails))

@@ -9,9 +9,3 @@ returns-then-not-wanted c = rw (no c.wanted.ensures c.if-not-wanted.true)
 pub returns : goal.returns
 unfolding fit_from
 returns c = rw (yes c.wanted.ensures c.if-not-wanted.false) c.better.ensures
-
-pub wanted-requires : goal.wanted-requires
-wanted-requires c = tt
-
-pub better-requires : goal.better-requires
-better-requires c = tt

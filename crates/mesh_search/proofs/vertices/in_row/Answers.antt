@@ -10,9 +10,3 @@ unfolding cell_number
 returns c = let a = c.args in
     let x = in_cells a.g (over a.u a.d) in
     rw (c.near.ensures, c.to_i64.ensures, c.in_cells.ensures, read (to_signed 63 x) (record { sfits = to_signed_in 63 x }))
-
-pub in_cells-requires : goal.in_cells-requires
-in_cells-requires c = tt
-
-pub to_i64-requires : goal.to_i64-requires
-to_i64-requires c = tt

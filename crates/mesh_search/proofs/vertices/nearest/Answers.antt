@@ -12,35 +12,15 @@ use Rattle.mesh_search.proofs.vertices.nearest.Goals as goal
 square : (g : ℕ) → 0 < g → g ≤ 400 → (g * g ≤ 160000) × (0 < g * g)
 square g p q = (mul-le-mul {n₁ = g} {m₁ = g} {n₂ = 400} {m₂ = 400} q q, mul-pos {m = g} {n = g} p p)
 
-pub overflow_mul-a : goal.overflow_mul-a
-overflow_mul-a c = omega (arith, square c.args.g c.requires.0 c.requires.1)
-
-pub nonzero_div-face : goal.nonzero_div-face
-nonzero_div-face c = omega (arith, square c.args.g c.requires.0 c.requires.1)
-
-pub nonzero_rem-k : goal.nonzero_rem-k
-nonzero_rem-k c = omega (arith, square c.args.g c.requires.0 c.requires.1)
-
-pub nonzero_div-i : goal.nonzero_div-i
-nonzero_div-i c = omega (arith, c.requires.0)
-
 pub overflow_cast-i : goal.overflow_cast-i
 overflow_cast-i c =
     let g = c.args.g in
     let q = square g c.requires.0 c.requires.1 in
     omega (arith, q, mod-lt c.args.c {m = g * g} q.1, div-le_self (c.args.c % (g * g)) g)
 
-pub nonzero_rem-j : goal.nonzero_rem-j
-nonzero_rem-j c = omega (arith, c.requires.0)
-
-pub overflow_cast-j : goal.overflow_cast-j
-overflow_cast-j c =
-    let g = c.args.g in
-    omega (arith, c.requires.1, mod-lt (c.args.c % (g * g)) {m = g} c.requires.0)
-
 pub loop-v-init : goal.loop-v-init
 unfolding nearest_from filter below
-loop-v-init c = rw c.not_nearest-best.ensures (omega arith, refl, omega arith)
+loop-v-init c = rw c.not_nearest-best.ensures (refl, omega arith)
 
 pub loop-v-preserved : goal.loop-v-preserved
 unfolding in_cell
@@ -48,9 +28,8 @@ loop-v-preserved c =
     let a = c.args in
     let t = near_cell a.g (a.c % (a.g * a.g) / a.g) (a.c % (a.g * a.g) % a.g) (cube_face_project (a.c / (a.g * a.g)) (vertex_at a.vertices.now c.loop-v.v)) in
     rw c.tested-best.ensures (
-      omega arith,
-      rw c.loop-v.invariant.1 (sym (nearest_turn a.vertices.now a.p (not_nearest 20) (in_cell a.vertices.now a.g a.c) c.loop-v.v)),
-      turn_low a.vertices.now a.p c.loop-v.best t a.n c.loop-v.v (omega arith) c.loop-v.invariant.2,
+      rw c.loop-v.invariant.0 (sym (nearest_turn a.vertices.now a.p (not_nearest 20) (in_cell a.vertices.now a.g a.c) c.loop-v.v)),
+      turn_low a.vertices.now a.p c.loop-v.best t a.n c.loop-v.v (omega arith) c.loop-v.invariant.1,
     )
 
 pub returns : goal.returns
@@ -58,10 +37,4 @@ unfolding nearest_among cell
 returns c =
     let a = c.args in
     let full : c.loop-v.v ≡ a.n = omega arith in
-    (rw full at c.loop-v.invariant.1, c.loop-v.invariant.2)
-
-pub not_nearest-best-requires : goal.not_nearest-best-requires
-not_nearest-best-requires c = tt
-
-pub tested-best-requires : goal.tested-best-requires
-tested-best-requires c = tt
+    (rw full at c.loop-v.invariant.0, c.loop-v.invariant.1)

@@ -4,4 +4,4 @@ use Rattle.reading.proofs.combine.face_least.Goals as goal
 
 pub returns : goal.returns
 unfolding face_corners of_bits div
-returns c = rw (c.row_least.ensures, c.row_least-y.ensures, c.row_least-x.ensures)
+returns c = rw (c.row_least.ensures, c.row_least-b.ensures, c.row_least-a.ensures)

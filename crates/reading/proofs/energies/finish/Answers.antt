@@ -1,23 +1,30 @@
-use borrow.Author.Tests.{ne_eqb}
-use Rattle.reading.specs.Internal.{finished, value_in}
+use mathlib.Core.Path.{refl}
+use Rattle.std.proofs.lemmas.Result.{err_from_is_err_and}
+use Rattle.reading.specs.Internal.{finished, StagedInside}
 use Rattle.reading.proofs.energies.finish.Goals as goal
 
-pub returns-then-kind-eq0 : goal.returns-then-kind-eq0
-unfolding finished value_in
-returns-then-kind-eq0 c = rw c.if-kind-eq0.true
-
 pub energy-requires : goal.energy-requires
-energy-requires c = c.requires.one c.if-kind-eq1.true
-
-pub returns-then-kind-eq1 : goal.returns-then-kind-eq1
-unfolding finished value_in
-returns-then-kind-eq1 c = rw (c.if-kind-eq1.true, c.energy.ensures)
+unfolding StagedInside
+energy-requires c = rw (c.in_ok-energy.was, c.in-Pair.is) at c.requires
 
 pub nine_terms-requires : goal.nine_terms-requires
-nine_terms-requires c = c.requires.nine c.if-kind-eq0.false c.if-kind-eq1.false
+unfolding StagedInside
+nine_terms-requires c = rw (c.in_ok-energy.was, c.in-Faces.is) at c.requires
 
-pub returns : goal.returns
-unfolding finished value_in
-returns c =
-    let z = c.args.z in
-    rw (ne_eqb z.kind 0 c.if-kind-eq0.false, ne_eqb z.kind 1 c.if-kind-eq1.false, c.nine_terms.ensures)
+pub returns-in_err-energy : goal.returns-in_err-energy
+unfolding finished
+returns-in_err-energy c =
+    let p = err_from_is_err_and c.from_residual.result c.from_residual.ensures.1 in
+    rw (p.1, p.2, c.in_err-energy.was) refl
+
+pub returns-in-Known : goal.returns-in-Known
+unfolding finished
+returns-in-Known c = rw (c.in_ok-energy.was, c.in-Known.is) refl
+
+pub returns-in-Pair : goal.returns-in-Pair
+unfolding finished
+returns-in-Pair c = rw (c.in_ok-energy.was, c.in-Pair.is, c.energy.ensures) refl
+
+pub returns-in-Faces : goal.returns-in-Faces
+unfolding finished
+returns-in-Faces c = rw (c.in_ok-energy.was, c.in-Faces.is, c.plain.ensures, c.nine_terms.ensures) refl

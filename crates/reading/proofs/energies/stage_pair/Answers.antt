@@ -1,46 +1,52 @@
 use Prim.Native.Nat.{◌+◌, ◌*◌, ◌≤◌}
 use native.Mathlib.Omega.{arith}
-use mathlib.Core.Path.{◌≡◌, sym, ap, ◌∙◌}
-use Rattle.reading.specs.Resolve.{reading_values, joint}
+use mathlib.Core.Path.{◌≡◌, refl, sym}
+use Rattle.std.proofs.lemmas.Result.{err_from_is_err_and}
+use Rattle.reading.specs.Resolve.{joint}
+use Rattle.reading.specs.Internal.{table_for}
 use Rattle.reading.proofs.Picked.{both_found, nearest_none, nearest_out, nearest_in_lem, energy_fits, pair_le}
-use Rattle.reading.proofs.Ready.{ready_answer, ready_one}
+use Rattle.reading.proofs.Ready.{ready_none, ready_pair}
 use Rattle.reading.proofs.energies.stage_pair.Goals as goal
-use Rattle.reading.proofs.energies.stage_pair.Goals.{Else-number-ne0}
+use Rattle.reading.proofs.energies.stage_pair.Goals.{In_ok-joint}
 
-found : (c : Else-number-ne0) → (let a = c.args in joint a.x.number a.y.number ≡ 0)
-found c = sym c.joint-number.ensures ∙ c.if-number-ne0.false
+found : (c : In_ok-joint) → (let a = c.args in joint a.x.number a.y.number ≡ 0)
+found c = sym c.in_ok-joint.ensures
 
 -- the place of the pair
-pair : (c : Else-number-ne0) → (let a = c.args in a.x.vertex * a.n + a.y.vertex ≤ 429499351044)
+pair : (c : In_ok-joint) → (let a = c.args in a.x.vertex * a.n + a.y.vertex ≤ 429499351044)
 pair c =
     let b = both_found c.args.x.number c.args.y.number (found c) in
-    pair_le c.args.x.vertex c.args.y.vertex c.args.n (c.requires.2 b.0) (c.requires.3 b.1) c.requires.1
+    pair_le c.args.x.vertex c.args.y.vertex c.args.n (c.requires.2.below b.0) (c.requires.3.below b.1) c.requires.1
 
-pub returns-then-number-ne0 : goal.returns-then-number-ne0
-returns-then-number-ne0 c =
+pub joint-requires : goal.joint-requires
+joint-requires c = (c.requires.2.number, c.requires.3.number)
+
+pub returns-in_err-joint : goal.returns-in_err-joint
+returns-in_err-joint c =
     let a = c.args in
-    ready_answer a.file.now a.t.energies_start _ c.staged.result _ _ _ _ c.staged.ensures
-    (ap reading_values (nearest_none a.file.now a.t a.offset a.n a.x a.y c.joint-number.result c.joint-number.ensures c.if-number-ne0.true))
+    let p = err_from_is_err_and c.from_residual.result c.from_residual.ensures.1 in
+    rw (p.1, p.2)
+    (ready_none a.file.now a.s.energies.start _ _ _ refl (nearest_none a.file.now (table_for a.s) a.offset a.n a.x a.y _ c.in_err-joint.ensures))
 
-pub overflow_mul-k : goal.overflow_mul-k
-overflow_mul-k c = omega (arith, pair c)
+pub overflow_mul-place : goal.overflow_mul-place
+overflow_mul-place c = omega (arith, pair (goal.at.overflow_mul-place c).In_ok-joint)
 
-pub overflow_add-k : goal.overflow_add-k
-overflow_add-k c = omega (arith, pair c)
+pub overflow_add-place : goal.overflow_add-place
+overflow_add-place c = omega (arith, pair (goal.at.overflow_add-place c).In_ok-joint)
 
-pub overflow_add-k-2 : goal.overflow_add-k-2
-overflow_add-k-2 c = omega (arith, pair c, c.requires.0)
+pub overflow_add-place-2 : goal.overflow_add-place-2
+overflow_add-place-2 c = omega (arith, pair (goal.at.overflow_add-place-2 c).In_ok-joint, c.requires.0)
 
-pub returns-then-held-k : goal.returns-then-held-k
-returns-then-held-k c =
+pub returns-then-held-place : goal.returns-then-held-place
+returns-then-held-place c =
     let a = c.args in
-    ready_answer a.file.now a.t.energies_start _ c.staged-then-held-k.result _ _ _ _ c.staged-then-held-k.ensures
-    (ap reading_values (nearest_out a.file.now a.t c.items_inside-held.result c.items_inside-held.ensures a.offset a.n a.x a.y (found (goal.at.returns-then-held-k c).Else-number-ne0) c.if-held-k.true))
+    ready_none a.file.now a.s.energies.start _ _ _ refl
+    (nearest_out a.file.now (table_for a.s) c.items_inside-held.result c.items_inside-held.ensures a.offset a.n a.x a.y (found (goal.at.returns-then-held-place c).In_ok-joint) c.if-held-place.true)
 
 pub returns : goal.returns
 returns c =
     let a = c.args in
-    let l = c.if-held-k.false in
-    ready_one a.file.now a.t.energies_start _ c.staged-2.result _ _ _ _ c.staged-2.ensures
-    (energy_fits a.file.now a.t c.items_inside-held.result c.items_inside-held.ensures _ (omega (arith, l)))
-    (nearest_in_lem a.file.now a.t c.items_inside-held.result c.items_inside-held.ensures a.offset a.n a.x a.y (found (goal.at.returns c).Else-number-ne0) (omega (arith, l)))
+    let l = c.if-held-place.false in
+    ready_pair a.file.now a.s.energies.start _ _ _ _
+    (energy_fits a.file.now (table_for a.s) c.items_inside-held.result c.items_inside-held.ensures _ (omega (arith, l)))
+    (nearest_in_lem a.file.now (table_for a.s) c.items_inside-held.result c.items_inside-held.ensures a.offset a.n a.x a.y (found (goal.at.returns c).In_ok-joint) (omega (arith, l)))

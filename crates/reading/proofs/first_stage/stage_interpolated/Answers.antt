@@ -20,23 +20,14 @@ overflow_mul-below-2 c = omega (arith, c.vertices_below-below.ensures, below_few
 pub overflow_mul-below-3 : goal.overflow_mul-below-3
 overflow_mul-below-3 c = omega (arith, c.vertices_below-below.ensures, below_few c.args.level (omega arith))
 
-pub offset_bounds-face_offsets-k : goal.offset_bounds-face_offsets-k
-offset_bounds-face_offsets-k c = omega (arith, c.part_from-k.ensures.1, c.well_formed.1.1.1.1.1.1.1.0)
-
-pub offset_bounds-faces-m : goal.offset_bounds-faces-m
-offset_bounds-faces-m c = omega (arith, c.part_from-m.ensures.1, c.well_formed.1.1.1.1.1.1.1.1.0)
-
-pub offset_bounds-vertices-v : goal.offset_bounds-vertices-v
-offset_bounds-vertices-v c = omega (arith, c.part_from-v.ensures.1, c.well_formed.1.1.1.1.1.1.1.1.1.0)
-
 pub returns : goal.returns
 unfolding vertices_from locator_from search_in
 returns c =
     let a = c.args in
     rw (
-      part a.cell_offsets.now (cell_offsets_below a.level) c.part_from-i.result (c.part_from-i.ensures.0 ∙ rw c.requires.1),
-      part a.cell_vertices.now (27 * vertices_below a.level) c.part_from-j.result (c.part_from-j.ensures.0 ∙ rw c.vertices_below-below.ensures),
-      part a.face_offsets.now (vertices_below a.level + a.level) c.part_from-k.result (c.part_from-k.ensures.0 ∙ rw c.vertices_below-below.ensures),
-      part a.faces.now (45 * vertices_below a.level) c.part_from-m.result (c.part_from-m.ensures.0 ∙ rw c.vertices_below-below.ensures),
+      part a.locator.now.cell_offsets.now (cell_offsets_below a.level) c.part_from-i.result (c.part_from-i.ensures.0 ∙ rw c.requires.1),
+      part a.locator.now.cell_vertices.now (27 * vertices_below a.level) c.part_from-j.result (c.part_from-j.ensures.0 ∙ rw c.vertices_below-below.ensures),
+      part a.locator.now.face_offsets.now (vertices_below a.level + a.level) c.part_from-k.result (c.part_from-k.ensures.0 ∙ rw c.vertices_below-below.ensures),
+      part a.locator.now.faces.now (45 * vertices_below a.level) c.part_from-m.result (c.part_from-m.ensures.0 ∙ rw c.vertices_below-below.ensures),
       part a.vertices.now (3 * vertices_below a.level) c.part_from-v.result (c.part_from-v.ensures.0 ∙ rw c.vertices_below-below.ensures),
     ) at c.stage_interpolated_in.ensures

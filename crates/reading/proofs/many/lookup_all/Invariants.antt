@@ -1,13 +1,10 @@
-use Prim.Native.Nat.{◌-◌, ◌≤◌}
-use Rattle.search.specs.Search.{locator_of}
+use Prim.Native.Nat.{◌*◌, min}
+use Rattle.search.specs.Lent.{lent_locator}
 use Rattle.reading.specs.Resolve.{reading_values}
 use Rattle.reading.specs.Internal.{pose_reading}
 use Rattle.reading.proofs.Stored.{Answered}
 use Rattle.reading.proofs.many.lookup_all.Given as goal
 
-abbrev pub invariant-loop-i : goal.invariant-loop-i
-invariant-loop-i l =
-    (l.i ≤ l.n) × Answered (λ k. reading_values (pose_reading l.file l.t l.vertices (locator_of l.cell_offsets l.cell_vertices l.face_offsets l.faces) l.x l.valid l.poses k)) l.initial.numbers l.initial.answers l.i l.numbers l.answers
-
-abbrev pub decreases-loop-i : goal.decreases-loop-i
-decreases-loop-i l = l.n - l.i
+abbrev pub invariant-loop-block : goal.invariant-loop-block
+invariant-loop-block l =
+    Answered (λ k. reading_values (pose_reading l.file l.t l.vertices (lent_locator l.locator) l.beta l.poses k)) l.initial.numbers l.initial.answers (min (l.block * 32) l.n) l.numbers l.answers

@@ -1,16 +1,12 @@
 use Prim.Native.Nat.{◌*◌}
-use native.Mathlib.Omega.{arith}
-use lib.ListN.{length-set}
 use Rattle.reading.proofs.Stored.{set-put, three-put}
 use Rattle.reading.proofs.many.store.Goals as goal
-
-pub bounds-answers-k-2 : goal.bounds-answers-k-2
-bounds-answers-k-2 c = simp length-set (omega (arith, c.requires.1))
-
-pub bounds-answers-k-3 : goal.bounds-answers-k-3
-bounds-answers-k-3 c = simp length-set (omega (arith, c.requires.1))
+use Rattle.reading.proofs.many.store.Goals.{in-Ok, in-Err}
 
 pub returns : goal.returns
 returns c =
     let a = c.args in
-    (set-put a.numbers.now a.i a.number c.requires.0, three-put a.answers.now (a.i * 3) a.energy a.distance_a a.distance_b c.requires.1)
+    elim c.match-answer.branch [
+      | in-Ok w ↦ rw (w.number-is, w.in-Ok.is) (set-put a.numbers.now a.i _ c.requires.0, three-put a.answers.now (a.i * 3) _ _ _ c.requires.1)
+      | in-Err w ↦ rw (w.number-is, w.in-Err.is, w.plain.ensures, w.number.ensures) (set-put a.numbers.now a.i _ c.requires.0, three-put a.answers.now (a.i * 3) _ _ _ c.requires.1)
+    ]

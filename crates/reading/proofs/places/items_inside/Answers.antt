@@ -5,18 +5,18 @@ use native.Mathlib.Nat.{zero-div}
 use Rattle.reading.specs.Internal.{items_inside}
 use Rattle.reading.proofs.places.items_inside.Goals as goal
 
-pub returns-then-length-start : goal.returns-then-length-start
+pub returns-then-length-section : goal.returns-then-length-section
 unfolding items_inside
-returns-then-length-start c =
+returns-then-length-section c =
     let a = c.args in
-    let e : a.length - a.start ≡ 0 = omega arith in
-    let z : (a.length - a.start) / a.w ≡ 0 = rw e (zero-div a.w) in
+    let e : a.length - a.section.start ≡ 0 = omega arith in
+    let z : (a.length - a.section.start) / a.w ≡ 0 = rw e (zero-div a.w) in
     omega (arith, z)
 
-pub returns-then-n-count : goal.returns-then-n-count
+pub returns-then-n-section : goal.returns-then-n-section
 unfolding items_inside
-returns-then-n-count c = omega arith
+returns-then-n-section c = omega arith
 
-pub returns-else-n-count : goal.returns-else-n-count
+pub returns-else-n-section : goal.returns-else-n-section
 unfolding items_inside
-returns-else-n-count c = omega arith
+returns-else-n-section c = omega arith

@@ -1,38 +1,32 @@
+use mathlib.Core.Path.{◌≡◌, ap, ◌∙◌}
+use Prim.Native.Nat.{◌+◌, ◌*◌}
+use native.Mathlib.Nat.{sub-zero, add-zero, zero-mul}
 use native.Mathlib.Omega.{arith}
-use Rattle.repack.proofs.Turns.{held_at, total_turn, total_end}
+use lib.ListN.{take, drop}
+use Rattle.table.specs.File.{entry_of}
+use Rattle.repack.specs.Repack.{held}
+use Rattle.repack.proofs.Turns.{total_turn, total_end}
 use Rattle.repack.proofs.packing.energies_total.Goals as goal
+use Rattle.repack.proofs.packing.energies_total.Goals.{After-held-o}
 
-pub loop-left-init : goal.loop-left-init
-loop-left-init c = (c.requires.0, omega arith)
+pub loop-i-init : goal.loop-i-init
+loop-i-init c = rw (sub-zero, zero-mul, add-zero) (omega arith)
+
+-- the energies of the row at hand
+turned : (c : After-held-o) → let a = c.args in c.held-o.result ≡ held (entry_of (take 10 (drop (a.rows.start + c.loop-i.i * 10) a.file.now)))
+turned c = c.held-o.ensures ∙ ap held c.entry_at.ensures
 
 pub overflow_add-o : goal.overflow_add-o
 overflow_add-o c =
-    let file = c.args.file.now in
-    omega (arith, held_at file c.loop-left.at _ c.held-o.ensures, total_turn file c.loop-left.at c.loop-left.left (omega arith), c.loop-left.invariant.1, c.requires.1)
+    let a = c.args in
+    omega (arith, turned c, total_turn a.file.now a.rows.start a.rows.count c.loop-i.i c.loop-i-test.true, c.loop-i.invariant, c.requires.1)
 
-pub loop-left-preserved : goal.loop-left-preserved
-loop-left-preserved c =
-    let file = c.args.file.now in
-    (omega arith, omega (arith, held_at file c.loop-left.at _ c.held-o.ensures, total_turn file c.loop-left.at c.loop-left.left (omega arith), c.loop-left.invariant.1))
+pub loop-i-preserved : goal.loop-i-preserved
+loop-i-preserved c =
+    let a = c.args in
+    omega (arith, turned (goal.at.loop-i-preserved c).After-held-o, total_turn a.file.now a.rows.start a.rows.count c.loop-i.i c.loop-i-test.true, c.loop-i.invariant)
 
 pub returns : goal.returns
 returns c =
-    omega (arith, c.loop-left.invariant.1, total_end c.args.file.now c.loop-left.at c.loop-left.left (omega arith))
-
-pub bounds-file-i : goal.bounds-file-i
-bounds-file-i c = omega arith
-
-pub overflow_add-i : goal.overflow_add-i
-overflow_add-i c = omega arith
-
-pub bounds-file-i-in-loop-left : goal.bounds-file-i-in-loop-left
-bounds-file-i-in-loop-left c = omega arith
-
-pub overflow_add-at : goal.overflow_add-at
-overflow_add-at c = omega arith
-
-pub overflow_sub-left : goal.overflow_sub-left
-overflow_sub-left c = omega arith
-
-pub loop-left-smaller : goal.loop-left-smaller
-loop-left-smaller c = omega arith
+    let a = c.args in
+    omega (arith, c.loop-i.invariant, total_end a.file.now a.rows.start a.rows.count c.loop-i.i (omega arith))

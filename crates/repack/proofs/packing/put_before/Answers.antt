@@ -15,5 +15,5 @@ pub returns : goal.returns
 returns c =
     let a = c.args in
     rw (c.put_rows.ensures, c.copy.ensures)
-    (puts a.out.now 0 (take a.start a.file.now) (new_rows a.file.now a.start a.n 0) a.start
-    (omega (arith, taken-length a.file.now 0 a.start (omega (arith, c.requires.0)))) (omega (arith, c.requires.1)))
+    (puts a.out.now 0 (take a.rows.start a.file.now) (new_rows a.file.now a.rows.start a.rows.count 0) a.rows.start
+    (omega (arith, taken-length a.file.now 0 a.rows.start (omega (arith, c.requires.0)))) (omega (arith, c.requires.1)))

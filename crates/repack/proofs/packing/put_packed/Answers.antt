@@ -25,10 +25,10 @@ returns c =
     let a = c.args in
     let p = c.requires.0 in
     let f = a.file.now in
-    let x = take a.start f in
-    let y = new_rows f a.start a.n 0 in
-    let z = bytes_of 4 a.e ++ (parts f a.from (rows_at f a.start a.n) ++ drop (a.from + a.k * 4) f) in
-    let long : a.start + a.n * 10 ≡ length (x ++ y) =
-    omega (arith, length-append x y, taken-length f 0 a.start (omega (arith, p.rows, p.energies)), rows-length f a.start a.n 0 (omega (arith, p.rows, p.energies))) in
+    let x = take a.rows.start f in
+    let y = new_rows f a.rows.start a.rows.count 0 in
+    let z = bytes_of 4 a.e ++ (parts f a.energies.start (rows_at f a.rows.start a.rows.count) ++ drop (a.energies.start + a.energies.count * 4) f) in
+    let long : a.rows.start + a.rows.count * 10 ≡ length (x ++ y) =
+    omega (arith, length-append x y, taken-length f 0 a.rows.start (omega (arith, p.rows, p.energies)), rows-length f a.rows.start a.rows.count 0 (omega (arith, p.rows, p.energies))) in
     rw (c.put_after.ensures, c.put_before.ensures)
-    (puts a.out.now 0 (x ++ y) z (a.start + a.n * 10) (omega (arith, long)) (omega (arith, p.rows, c.requires.2)) ∙ ap (λ (l : List ℕ). put a.out.now 0 l) (append_assoc x y z))
+    (puts a.out.now 0 (x ++ y) z (a.rows.start + a.rows.count * 10) (omega (arith, long)) (omega (arith, p.rows, c.requires.2)) ∙ ap (λ (l : List ℕ). put a.out.now 0 l) (append_assoc x y z))

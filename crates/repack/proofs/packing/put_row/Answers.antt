@@ -8,36 +8,15 @@ use Rattle.writer.proofs.Puts.{puts_three}
 use Rattle.repack.proofs.Turns.{row_stays, row_goes, taken-length}
 use Rattle.repack.proofs.packing.put_row.Goals as goal
 
-pub returns-then-kind-le1 : goal.returns-then-kind-le1
-returns-then-kind-le1 c =
+pub returns-then-file-at-le1 : goal.returns-then-file-at-le1
+returns-then-file-at-le1 c =
     let a = c.args in
-    rw (row_stays a.file.now a.at a.o (le-leb _ _ c.if-kind-le1.true)) c.copy.ensures
+    rw (row_stays a.file.now a.at a.o (le-leb _ _ c.if-file-at-le1.true)) c.copy.ensures
 
 pub returns : goal.returns
 returns c =
     let a = c.args in
     let f = a.file.now in
-    rw (row_goes f a.at a.o (lt-leb _ _ c.if-kind-le1.false), c.copy-3.ensures, c.put_u32.ensures, c.copy-2.ensures)
-    (puts_three a.out.now a.to (take 2 (drop a.at f)) (bytes_of 4 a.o) (take 4 (drop (a.at + 6) f)) (a.to + 2) (a.to + 6)
+    rw (row_goes f a.at a.o (lt-leb _ _ c.if-file-at-le1.false), c.copy-3.ensures, c.put_u32.ensures, c.copy-2.ensures)
+    (puts_three a.out.now a.at (take 2 (drop a.at f)) (bytes_of 4 a.o) (take 4 (drop (a.at + 6) f)) (a.at + 2) (a.at + 6)
     (omega (arith, taken-length f a.at 2 (omega (arith, c.requires.0)))) (omega (arith, bytes_length 4 a.o)) (omega (arith, c.requires.1)))
-
-pub bounds-file-i : goal.bounds-file-i
-bounds-file-i c = omega arith
-
-pub copy-requires-2 : goal.copy-requires-2
-copy-requires-2 c = (omega arith, omega arith)
-
-pub overflow_add-to : goal.overflow_add-to
-overflow_add-to c = omega arith
-
-pub put_u32-requires : goal.put_u32-requires
-put_u32-requires c = omega arith
-
-pub overflow_add-at : goal.overflow_add-at
-overflow_add-at c = omega arith
-
-pub overflow_add-to-2 : goal.overflow_add-to-2
-overflow_add-to-2 c = omega arith
-
-pub copy-requires-3 : goal.copy-requires-3
-copy-requires-3 c = (omega arith, omega arith)

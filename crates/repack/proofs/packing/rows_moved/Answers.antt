@@ -1,65 +1,54 @@
-use mathlib.Core.Path.{◌≡◌, ◌∙◌}
+use mathlib.Core.Path.{◌≡◌, ap, ◌∙◌}
 use mathlib.Core.Bool.{cond, ◌||◌}
-use Prim.Native.Nat.{◌+◌}
+use Prim.Native.Nat.{◌+◌, ◌*◌}
+use native.Mathlib.Nat.{sub-zero, add-zero, zero-mul}
 use native.Mathlib.Omega.{arith}
-use lib.ListN.{get_or}
+use lib.ListN.{take, drop}
 use lib.Dec.{leb, eqb}
-use Rattle.table.specs.Bytes.{number_at}
-use Rattle.repack.proofs.Turns.{held_at, total_turn, moved_turn, moved_end, moved_le}
+use Rattle.table.specs.declared.Entry.{Entry}
+use Rattle.table.specs.File.{entry_of}
+use Rattle.repack.specs.Repack.{held}
+use Rattle.repack.proofs.Turns.{total_turn, moved_turn, moved_end, moved_le}
 use Rattle.repack.proofs.packing.rows_moved.Goals as goal
-use Rattle.repack.proofs.packing.rows_moved.Goals.{After-row_moved-moved}
+use Rattle.repack.proofs.packing.rows_moved.Goals.{After-entry_at-row, After-row_moved-moved, After-held-o}
 
-pub loop-left-init : goal.loop-left-init
-loop-left-init c = (c.requires.0, omega (arith, c.requires.1), omega arith, omega arith)
+pub loop-i-init : goal.loop-i-init
+loop-i-init c = rw (sub-zero, zero-mul, add-zero) record { few = omega (arith, c.requires.1); at_most = omega arith; counted = omega arith }
 
--- whether the row moved, as a number
-counted : (c : After-row_moved-moved) → let file = c.args.file.now in
-    c.row_moved-moved.result ≡ cond (leb (get_or file c.loop-left.at 0) 1 || eqb (number_at 4 file (c.loop-left.at + 2)) c.loop-left.o) 0 1
-counted c = c.row_moved-moved.ensures ∙ rw c.u32_inside.ensures
+-- the row at hand, whether it moves, and its energies
+abbrev row : After-entry_at-row → Entry
+row c = entry_of (take 10 (drop (c.args.rows.start + c.loop-i.i * 10) c.args.file.now))
+
+moves : (c : After-row_moved-moved) → let r = row (goal.at.After-row_moved-moved c).After-entry_at-row in
+    c.row_moved-moved.result ≡ cond (leb r.kind 1 || eqb r.offset c.loop-i.o) 0 1
+moves c = c.row_moved-moved.ensures ∙ rw c.entry_at-row.ensures
+
+turned : (c : After-held-o) → c.held-o.result ≡ held (row (goal.at.After-held-o c).After-entry_at-row)
+turned c = c.held-o.ensures ∙ ap held c.entry_at-row.ensures
 
 pub overflow_add-moved : goal.overflow_add-moved
-overflow_add-moved c = omega (arith, counted c, moved_le (leb (get_or c.args.file.now c.loop-left.at 0) 1 || eqb (number_at 4 c.args.file.now (c.loop-left.at + 2)) c.loop-left.o), c.loop-left.invariant.2)
+overflow_add-moved c =
+    let r = row (goal.at.overflow_add-moved c).After-entry_at-row in
+    omega (arith, moves c, moved_le (leb r.kind 1 || eqb r.offset c.loop-i.o), c.loop-i.invariant.at_most)
 
 pub overflow_add-o : goal.overflow_add-o
 overflow_add-o c =
-    let file = c.args.file.now in
-    omega (arith, held_at file c.loop-left.at _ c.held-o.ensures, total_turn file c.loop-left.at c.loop-left.left (omega arith), c.loop-left.invariant.1)
+    let a = c.args in
+    omega (arith, turned c, total_turn a.file.now a.rows.start a.rows.count c.loop-i.i c.loop-i-test.true, c.loop-i.invariant.few)
 
-pub loop-left-preserved : goal.loop-left-preserved
-loop-left-preserved c =
-    let file = c.args.file.now in
-    let e = held_at file c.loop-left.at _ c.held-o.ensures in
-    let m = moved_turn file c.loop-left.at c.loop-left.left (omega arith) c.loop-left.o in (
-      omega arith,
-      omega (arith, e, total_turn file c.loop-left.at c.loop-left.left (omega arith), c.loop-left.invariant.1),
-      omega (arith, counted (goal.at.loop-left-preserved c).After-row_moved-moved, moved_le (leb (get_or file c.loop-left.at 0) 1 || eqb (number_at 4 file (c.loop-left.at + 2)) c.loop-left.o), c.loop-left.invariant.2),
-      rw e (omega (arith, counted (goal.at.loop-left-preserved c).After-row_moved-moved, m, c.loop-left.invariant.3)),
-    )
+pub loop-i-preserved : goal.loop-i-preserved
+loop-i-preserved c =
+    let a = c.args in
+    let i = c.loop-i.invariant in
+    let r = row (goal.at.loop-i-preserved c).After-entry_at-row in
+    let m = moves (goal.at.loop-i-preserved c).After-row_moved-moved in
+    let e = turned (goal.at.loop-i-preserved c).After-held-o in record {
+      few = omega (arith, e, total_turn a.file.now a.rows.start a.rows.count c.loop-i.i c.loop-i-test.true, i.few);
+      at_most = omega (arith, m, moved_le (leb r.kind 1 || eqb r.offset c.loop-i.o), i.at_most);
+      counted = rw e (omega (arith, m, moved_turn a.file.now a.rows.start a.rows.count c.loop-i.i c.loop-i-test.true c.loop-i.o, i.counted));
+    }
 
 pub returns : goal.returns
 returns c =
-    omega (arith, c.loop-left.invariant.3, moved_end c.args.file.now c.loop-left.at c.loop-left.left (omega arith) c.loop-left.o)
-
-pub bounds-file-i : goal.bounds-file-i
-bounds-file-i c = omega arith
-
-pub overflow_add-level : goal.overflow_add-level
-overflow_add-level c = omega arith
-
-pub bounds-file-i-in-loop-left : goal.bounds-file-i-in-loop-left
-bounds-file-i-in-loop-left c = omega arith
-
-pub overflow_add-at : goal.overflow_add-at
-overflow_add-at c = omega arith
-
-pub u32_inside-requires : goal.u32_inside-requires
-u32_inside-requires c = omega arith
-
-pub overflow_add-at-in-loop-left : goal.overflow_add-at-in-loop-left
-overflow_add-at-in-loop-left c = omega arith
-
-pub overflow_sub-left : goal.overflow_sub-left
-overflow_sub-left c = omega arith
-
-pub loop-left-smaller : goal.loop-left-smaller
-loop-left-smaller c = omega arith
+    let a = c.args in
+    omega (arith, c.loop-i.invariant.counted, moved_end a.file.now a.rows.start a.rows.count c.loop-i.i (omega arith) c.loop-i.o)

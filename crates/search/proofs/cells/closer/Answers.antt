@@ -10,18 +10,12 @@ far : (c : After-dot-distance) → (let a = c.args in c.dot-distance.result ≡ 
 unfolding squared
 far c = rw (c.dot-distance.ensures, c.difference-d.ensures, c.vertex_at.ensures)
 
-pub returns-then-distance-least : goal.returns-then-distance-least
-returns-then-distance-least c =
+pub returns-then-distance-best : goal.returns-then-distance-best
+returns-then-distance-best c =
     let a = c.args in
-    rw (far (goal.at.returns-then-distance-least c).After-dot-distance) (closer_yes a.vertices.now a.p a.best a.v c.requires.1 (rw (far (goal.at.returns-then-distance-least c).After-dot-distance) at c.if-distance-least.true))
+    rw (far (goal.at.returns-then-distance-best c).After-dot-distance) (closer_yes a.vertices.now a.p a.best a.v c.requires.1 (rw (far (goal.at.returns-then-distance-best c).After-dot-distance) at c.if-distance-best.true))
 
 pub returns : goal.returns
 returns c =
     let a = c.args in
-    closer_no a.vertices.now a.p a.best a.v c.requires.1 (rw (far (goal.at.returns c).After-dot-distance) at c.if-distance-least.false)
-
-pub difference-d-requires : goal.difference-d-requires
-difference-d-requires c = tt
-
-pub dot-distance-requires : goal.dot-distance-requires
-dot-distance-requires c = tt
+    closer_no a.vertices.now a.p a.best a.v c.requires.1 (rw (far (goal.at.returns c).After-dot-distance) at c.if-distance-best.false)

@@ -1,11 +1,7 @@
-use mathlib.Core.Path.{◌≡◌}
-use Prim.Native.Nat.{◌-◌, ◌≤◌}
-use lib.ListN.{length, drop}
+use Rattle.std.proofs.Common.{◌≡◌, drop}
+use Rattle.search.specs.Search.{not_nearest}
 use Rattle.search.specs.Internal.{nearest_over}
 use Rattle.search.proofs.cells.nearest_by_order.Given as goal
 
-abbrev pub invariant-loop-i : goal.invariant-loop-i
-invariant-loop-i l = (l.i ≤ length l.cell) × (nearest_over l.vertices l.n l.p l.best (drop l.i l.cell) ≡ nearest_over l.vertices l.n l.p l.initial.best l.cell)
-
-abbrev pub decreases-loop-i : goal.decreases-loop-i
-decreases-loop-i l = length l.cell - l.i
+abbrev pub invariant-loop-v : goal.invariant-loop-v
+invariant-loop-v l = nearest_over l.vertices l.n l.p l.best (drop l.v-index l.cell) ≡ nearest_over l.vertices l.n l.p (not_nearest 20) l.cell

@@ -37,30 +37,18 @@ pub overflow_mul-result : goal.overflow_mul-result
 overflow_mul-result c = omega (arith, small c)
 
 pub overflow_mul-result-2 : goal.overflow_mul-result-2
-overflow_mul-result-2 c = omega (arith, small c)
+overflow_mul-result-2 c = omega (arith, small (goal.at.overflow_mul-result-2 c).After-cell_coordinate-j)
 
 pub overflow_mul-result-3 : goal.overflow_mul-result-3
-overflow_mul-result-3 c = omega (arith, small c)
+overflow_mul-result-3 c = omega (arith, small (goal.at.overflow_mul-result-3 c).After-cell_coordinate-j)
 
 pub overflow_add-result : goal.overflow_add-result
-overflow_add-result c = omega (arith, small c)
+overflow_add-result c = omega (arith, small (goal.at.overflow_add-result c).After-cell_coordinate-j)
 
 pub overflow_add-result-2 : goal.overflow_add-result-2
-overflow_add-result-2 c = omega (arith, small c)
+overflow_add-result-2 c = omega (arith, small (goal.at.overflow_add-result-2 c).After-cell_coordinate-j)
 
 pub returns : goal.returns
 unfolding cell_index
 returns c =
     rw (c.cell_coordinate-j.ensures, c.cell_coordinate-i.ensures, c.cube_project-p.ensures, c.grid_size-g.ensures)
-
-pub grid_size-g-requires : goal.grid_size-g-requires
-grid_size-g-requires c = tt
-
-pub cube_project-p-requires : goal.cube_project-p-requires
-cube_project-p-requires c = tt
-
-pub cell_coordinate-i-requires : goal.cell_coordinate-i-requires
-cell_coordinate-i-requires c = tt
-
-pub cell_coordinate-j-requires : goal.cell_coordinate-j-requires
-cell_coordinate-j-requires c = tt

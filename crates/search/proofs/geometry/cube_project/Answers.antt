@@ -74,30 +74,3 @@ returns c =
     let v = c.args.v in
     rw (c.pair_of.ensures, c.either-d.ensures, c.largest-w.ensures, c.largest-u.ensures, c.largest-a.ensures, c.abs-az.ensures, c.abs-ay.ensures, c.abs-ax.ensures)
     (as_seen v (le (magnitude v.y) (magnitude v.x) && le (magnitude v.z) (magnitude v.x)) (le (magnitude v.z) (magnitude v.y)) refl refl)
-
-pub abs-ax-requires : goal.abs-ax-requires
-abs-ax-requires c = tt
-
-pub abs-ay-requires : goal.abs-ay-requires
-abs-ay-requires c = tt
-
-pub abs-az-requires : goal.abs-az-requires
-abs-az-requires c = tt
-
-pub largest-a-requires : goal.largest-a-requires
-largest-a-requires c = tt
-
-pub largest-u-requires : goal.largest-u-requires
-largest-u-requires c = tt
-
-pub largest-w-requires : goal.largest-w-requires
-largest-w-requires c = tt
-
-pub either-d-requires : goal.either-d-requires
-either-d-requires c = tt
-
-pub pair_of-requires : goal.pair_of-requires
-pair_of-requires c = tt
-
-pub overflow_cast-result : goal.overflow_cast-result
-overflow_cast-result c = tt

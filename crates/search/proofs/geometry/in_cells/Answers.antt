@@ -6,6 +6,3 @@ use Rattle.search.proofs.geometry.in_cells.Goals as goal
 pub returns : goal.returns
 unfolding in_cells
 returns c = rw (c.of_u64.ensures, fused-half c.args.u (passes _ c.well_formed.1.0.1))
-
-pub of_u64-requires : goal.of_u64-requires
-of_u64-requires c = tt

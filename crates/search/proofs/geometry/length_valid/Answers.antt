@@ -4,6 +4,3 @@ use Rattle.search.proofs.geometry.length_valid.Goals as goal
 
 pub returns : goal.returns
 returns c = rw (self_less c.dot-d.result, c.dot-d.ensures) (sym (length_valid c.args.a))
-
-pub dot-d-requires : goal.dot-d-requires
-dot-d-requires c = tt

@@ -2,33 +2,30 @@ use mathlib.Core.Path.{◌≡◌}
 use mathlib.Core.Bool.{true}
 use native.Mathlib.Omega.{arith}
 use lib.Ieee.{div, of_bits}
-use Rattle.table.proofs.Items.{entry_at, entry_at_lem}
 use Rattle.span.specs.Spans.{entry_touched}
 use Rattle.span.proofs.Touched.{mesh_fits}
 use Rattle.span.proofs.Included.{scalar_row, repulsive_row, mesh_row}
 use Rattle.span.proofs.energies.entry_included.Goals as goal
 
-pub returns-then-kind-eq0 : goal.returns-then-kind-eq0
-returns-then-kind-eq0 c =
+pub returns-in-0 : goal.returns-in-0
+returns-in-0 c =
     let a = c.args in
-    rw (entry_at_lem a.file.now a.at, c.scalar_included.ensures, c.widened-e.ensures, c.u32_inside.ensures)
-    (scalar_row a.file.now a.t (entry_at a.file.now a.at) a.x c.if-kind-eq0.true)
+    rw (← c.entry_at-e.ensures, c.scalar_included.ensures, c.widened.ensures) (scalar_row a.file.now a.t c.entry_at-e.result a.x c.in-0.is)
 
-pub returns-then-kind-eq1 : goal.returns-then-kind-eq1
+pub returns-in-1 : goal.returns-in-1
 unfolding div of_bits
-returns-then-kind-eq1 c =
+returns-in-1 c =
     let a = c.args in
-    rw (entry_at_lem a.file.now a.at, c.included.ensures) (repulsive_row a.file.now a.t (entry_at a.file.now a.at) a.x c.if-kind-eq1.true)
+    rw (← c.entry_at-e.ensures, c.included.ensures) (repulsive_row a.file.now a.t c.entry_at-e.result a.x c.in-1.is)
 
 pub mesh_included-requires : goal.mesh_included-requires
 mesh_included-requires c =
     let a = c.args in
-    let e = entry_at a.file.now a.at in
-    let h : entry_touched a.file.now a.t e ≡ true = rw (entry_at_lem a.file.now a.at) at c.requires.1 in
-    rw (c.per_level-n.ensures, c.u32_inside-offset.ensures) (mesh_fits a.file.now a.t e (omega (arith, c.if-kind-eq0.false, c.if-kind-eq1.false)) h)
+    let e = c.entry_at-e.result in
+    let h : entry_touched a.file.now a.t e ≡ true = rw (← c.entry_at-e.ensures) at c.requires.1 in
+    rw c.per_level.ensures (mesh_fits a.file.now a.t e (omega arith) h)
 
-pub returns : goal.returns
-returns c =
+pub returns-in_default : goal.returns-in_default
+returns-in_default c =
     let a = c.args in
-    rw (entry_at_lem a.file.now a.at, c.mesh_included.ensures, c.per_level-n.ensures, c.u32_inside-offset.ensures)
-    (mesh_row a.file.now a.t (entry_at a.file.now a.at) a.x c.if-kind-eq0.false c.if-kind-eq1.false)
+    rw (← c.entry_at-e.ensures, c.mesh_included.ensures, c.per_level.ensures) (mesh_row a.file.now a.t c.entry_at-e.result a.x (λ z. omega (arith, z)) (λ z. omega (arith, z)))

@@ -36,7 +36,7 @@ fits c =
 
 pub loop-i-init : goal.loop-i-init
 unfolding for_each div of_bits
-loop-i-init c = (omega arith, refl, omega arith)
+loop-i-init c = (refl, omega arith)
 
 pub loop-i-preserved : goal.loop-i-preserved
 unfolding entry_at
@@ -45,35 +45,29 @@ loop-i-preserved c =
     let f : ℕ → Extremes → Extremes = λ j z. entry_included a.file.now a.t (entry_at a.file.now a.t (slab_in a.t.grid (a.first + j) a.omega)) z in
     let e : c.entry_included-x.result ≡ f c.loop-i.i c.loop-i.x = c.entry_included-x.ensures ∙ rw c.dihedral_bin-oi.ensures in
     let few = counted_few a.file.now a.t (entry_at a.file.now a.t (slab_in a.t.grid (a.first + c.loop-i.i) a.omega)) c.loop-i.x in
-    (omega arith, e ∙ each_turn f c.loop-i.i no_extremes c.loop-i.x c.loop-i.invariant.1, rw e (omega (arith, few, c.loop-i.invariant.2)))
+    (e ∙ each_turn f c.loop-i.i no_extremes c.loop-i.x c.loop-i.invariant.0, rw e (omega (arith, few, c.loop-i.invariant.1)))
 
 pub returns : goal.returns
 unfolding extremes_of
 returns c =
     let a = c.args in
     let e : c.loop-i.i ≡ a.last + 1 - a.first = omega arith in
-    rw (← e) c.loop-i.invariant.1
+    rw (← e) c.loop-i.invariant.0
 
 pub overflow_add-at : goal.overflow_add-at
-overflow_add-at c = omega (arith, fits c)
+overflow_add-at c = omega (arith, fits (goal.at.overflow_add-at c).In-loop-i)
 
 pub overflow_mul-at : goal.overflow_mul-at
-overflow_mul-at c = omega (arith, fits c)
+overflow_mul-at c = omega (arith, fits (goal.at.overflow_mul-at c).In-loop-i)
 
 pub overflow_add-at-in-loop-i : goal.overflow_add-at-in-loop-i
-overflow_add-at-in-loop-i c = omega (arith, fits c)
+overflow_add-at-in-loop-i c = omega (arith, fits (goal.at.overflow_add-at-in-loop-i c).In-loop-i)
 
 pub overflow_mul-at-in-loop-i : goal.overflow_mul-at-in-loop-i
-overflow_mul-at-in-loop-i c = omega (arith, fits c)
+overflow_mul-at-in-loop-i c = omega (arith, fits (goal.at.overflow_mul-at-in-loop-i c).In-loop-i)
 
 pub overflow_add-at-in-loop-i-2 : goal.overflow_add-at-in-loop-i-2
-overflow_add-at-in-loop-i-2 c = omega (arith, fits c)
+overflow_add-at-in-loop-i-2 c = omega (arith, fits (goal.at.overflow_add-at-in-loop-i-2 c).In-loop-i)
 
 pub entry_included-x-requires : goal.entry_included-x-requires
-entry_included-x-requires c = ((held c).1, (held c).2, omega (arith, c.loop-i.invariant.2, c.loop-i-test.true, c.requires.1))
-
-pub overflow_add-i : goal.overflow_add-i
-overflow_add-i c = omega arith
-
-pub loop-i-smaller : goal.loop-i-smaller
-loop-i-smaller c = omega arith
+entry_included-x-requires c = ((held (goal.at.entry_included-x-requires c).In-loop-i).1, (held (goal.at.entry_included-x-requires c).In-loop-i).2, omega (arith, c.loop-i.invariant.1, c.loop-i-test.true, c.requires.1))

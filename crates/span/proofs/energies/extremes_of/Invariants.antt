@@ -1,5 +1,5 @@
 use mathlib.Core.Path.{◌≡◌}
-use Prim.Native.Nat.{◌+◌, ◌-◌, ◌≤◌}
+use Prim.Native.Nat.{◌+◌, ◌≤◌}
 use Rattle.lists.specs.Lists.{for_each}
 use Rattle.reading.specs.Reading.{entry_at}
 use Rattle.span.specs.Spans.{slab_in, entry_included, no_extremes}
@@ -7,7 +7,4 @@ use Rattle.span.proofs.energies.extremes_of.Given as goal
 
 abbrev pub invariant-loop-i : goal.invariant-loop-i
 invariant-loop-i l =
-    (l.i ≤ l.last - l.first + 1) × (l.x ≡ for_each l.i (λ j z. entry_included l.file l.t (entry_at l.file l.t (slab_in l.t.grid (l.first + j) l.omega)) z) no_extremes) × (l.x.scalar_nans ≤ l.i)
-
-abbrev pub decreases-loop-i : goal.decreases-loop-i
-decreases-loop-i l = l.last - l.first + 1 - l.i
+    (l.x ≡ for_each l.i (λ j z. entry_included l.file l.t (entry_at l.file l.t (slab_in l.t.grid (l.first + j) l.omega)) z) no_extremes) × (l.x.scalar_nans ≤ l.i)

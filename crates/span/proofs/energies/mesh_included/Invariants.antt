@@ -1,5 +1,5 @@
 use mathlib.Core.Path.{◌≡◌}
-use Prim.Native.Nat.{◌+◌, ◌-◌, ◌*◌, ◌≤◌}
+use Prim.Native.Nat.{◌+◌, ◌*◌}
 use Rattle.lists.specs.Lists.{for_each}
 use Rattle.table.specs.Bytes.{number_at}
 use Rattle.reading.specs.Resolve.{widened}
@@ -7,7 +7,4 @@ use Rattle.span.specs.Spans.{included}
 use Rattle.span.proofs.energies.mesh_included.Given as goal
 
 abbrev pub invariant-loop-k : goal.invariant-loop-k
-invariant-loop-k l = (l.k ≤ l.n) × (l.y ≡ for_each l.k (λ j z. included (widened (number_at 4 l.file (l.start + (l.offset + j) * 4))) z) l.initial.y)
-
-abbrev pub decreases-loop-k : goal.decreases-loop-k
-decreases-loop-k l = l.n - l.k
+invariant-loop-k l = l.y ≡ for_each l.k (λ j z. included (widened (number_at 4 l.file (l.start + (l.offset + j) * 4))) z) l.initial.y

@@ -13,9 +13,9 @@ returns-then-e c =
     let h : is_nan a.e ≡ true = sym (nan_test a.e) ∙ c.if-e.true in
     rw (h, c.included-y.ensures)
 
-pub returns : goal.returns
+pub returns-else-e : goal.returns-else-e
 unfolding included scalar_included
-returns c =
+returns-else-e c =
     let a = c.args in
     let h : is_nan a.e ≡ false = sym (nan_test a.e) ∙ c.if-e.false in
     rw (h, c.included-y.ensures, add-zero)

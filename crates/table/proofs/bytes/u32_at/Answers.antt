@@ -1,10 +1,12 @@
-use Prim.Native.Nat.{◌+◌}
+use mathlib.Core.Path.{sym}
 use native.Mathlib.Omega.{arith}
-use Rattle.table.proofs.Numbers.{four, beyond}
+use Rattle.table.specs.Bytes.{number_of}
+use Rattle.table.proofs.Numbers.{four, none_there}
 use Rattle.table.proofs.bytes.u32_at.Goals as goal
 
 pub returns-then-n-at : goal.returns-then-n-at
-returns-then-n-at c =
-    let f = c.args.file.now in
-    let at = c.args.at in
-    omega (arith, four f at, beyond f at (omega arith), beyond f (at + 1) (omega arith), beyond f (at + 2) (omega arith), beyond f (at + 3) (omega arith))
+returns-then-n-at c = sym (none_there c.args.file.now c.args.at (omega arith))
+
+pub returns : goal.returns
+unfolding number_of
+returns c = omega (arith, four c.args.file.now c.args.at, c.u32_from_le_bytes.ensures, c.byte_at.ensures, c.byte_at-2.ensures, c.byte_at-3.ensures, c.byte_at-4.ensures)

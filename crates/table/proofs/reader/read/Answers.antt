@@ -3,4 +3,4 @@ use Rattle.table.proofs.Accepted.{host-reads}
 use Rattle.table.proofs.reader.read.Goals as goal
 
 pub returns : goal.returns
-returns c = (c.read_over.ensures.0, c.read_over.ensures.1 ∙ host-reads _)
+returns c = c.read_over.ensures ∙ host-reads _

@@ -1,96 +1,59 @@
-use mathlib.Core.Path.{◌≡◌, refl, sym, ◌∙◌}
+use mathlib.Core.Path.{◌≡◌, sym, ◌∙◌}
 use Prim.Native.Nat.{◌≤◌}
 use native.Mathlib.Omega.{arith}
 use lib.ListN.{length}
-use borrow.Author.Tests.{lt-leb, le-leb, ne_eqb}
+use borrow.Author.Tests.{lt-leb, le-leb}
+use Rattle.std.proofs.lemmas.Result.{err_from_is_err_and}
 use Rattle.mesh.specs.Levels.{vertex_count}
-use Rattle.mesh.specs.Mesh.{Mesh, mesh_of}
-use Rattle.rows.specs.Words.{rows_by}
-use Rattle.builder.specs.Atom.{atom_meshed_refusal}
-use Rattle.builder.specs.BuilderLists.{BuilderLists, rows_known, lists_of}
+use Rattle.mesh.specs.Lent.{lent}
+use Rattle.builder.specs.BuilderLists.{lists_of}
+use Rattle.refusals.proofs.Numbers.{numbered}
 use Rattle.writer.specs.Atom.{atom_file_from}
-use Rattle.writer.specs.Internal.{resolutions, total, Sure, atom_write_question}
+use Rattle.writer.specs.Internal.{Sure, atom_write_question}
 use Rattle.writer.proofs.Outcome.{atom_sure, atom_write_length, atom_write_refused, atom_write_short, atom_write_done}
 use Rattle.writer.proofs.atom.atom_write.Goals as goal
-use Rattle.writer.proofs.atom.atom_write.Goals.{Start, After-atom_write_question-no, Else-no-ne0, After-energy_total-e}
+use Rattle.writer.proofs.atom.atom_write.Goals.{In_ok-atom_write_question, After-energy_total-e, After-file_size-size}
 
--- the lists and the meshes that were lent
-abbrev lists : Start → BuilderLists
-lists s = lists_of s.args.store.now s.args.kinds.now s.args.levels.now s.args.values.now
+-- every question was answered yes; what that says; and the length of the file
+zero : (c : In_ok-atom_write_question) → atom_write_question c.args.b (lent c.args.mesh.now) (lists_of c.args.store.now c.args.kinds.now c.args.levels.now c.args.values.now) ≡ 0
+zero c = sym c.in_ok-atom_write_question.ensures
 
-abbrev meshes : Start → Mesh
-meshes s = mesh_of s.args.vertices.now s.args.counts.now s.args.neighbours.now s.args.angles.now
+certain : (c : In_ok-atom_write_question)
+    → Sure vertex_count c.args.b.top c.args.b.grid.n_r (lists_of c.args.store.now c.args.kinds.now c.args.levels.now c.args.values.now) × (c.args.b.grid.n_r ≤ 65535)
+certain c = atom_sure c.args.b (lent c.args.mesh.now) (lists_of c.args.store.now c.args.kinds.now c.args.levels.now c.args.values.now) (zero c)
 
--- the first questions' answer; and what it says where it is 0
-answer : (c : After-atom_write_question-no) → c.atom_write_question-no.result ≡ atom_write_question c.args.b (meshes (goal.at.After-atom_write_question-no c).Start) (lists (goal.at.After-atom_write_question-no c).Start)
-unfolding atom_meshed_refusal rows_known
-answer c = c.atom_write_question-no.ensures
+long : (c : After-file_size-size) → length (atom_file_from c.args.b (lists_of c.args.store.now c.args.kinds.now c.args.levels.now c.args.values.now)) ≡ c.file_size-size.result
+long c =
+    atom_write_length c.args.b (lists_of c.args.store.now c.args.kinds.now c.args.levels.now c.args.values.now) c.energy_total-e.result (certain (goal.at.After-file_size-size c).In_ok-atom_write_question).0 c.energy_total-e.ensures
+    ∙ omega (arith, c.file_size-size.ensures)
 
-certain : (c : Else-no-ne0) → let s = c.before.before.before.before.before.before.before.before.before.before.before in
-    Sure vertex_count c.args.b.top c.args.b.grid.n_r (lists (goal.at.Else-no-ne0 c).Start) × (c.args.b.grid.n_r ≤ 65535)
-certain c =
-    let s = c.before.before.before.before.before.before.before.before.before.before.before in
-    atom_sure c.args.b (meshes (goal.at.Else-no-ne0 c).Start) (lists (goal.at.Else-no-ne0 c).Start) (sym (answer (goal.at.Else-no-ne0 c).After-atom_write_question-no) ∙ c.if-no-ne0.false)
-
-pub returns-then-no-ne0 : goal.returns-then-no-ne0
-returns-then-no-ne0 c =
-    (rw (ne_eqb _ _ c.if-no-ne0.true), sym (atom_write_refused c.args.b (meshes (goal.at.returns-then-no-ne0 c).Start) (lists (goal.at.returns-then-no-ne0 c).Start) c.args.output.now c.atom_write_question-no.result (answer (goal.at.returns-then-no-ne0 c).After-atom_write_question-no) c.if-no-ne0.true))
-
-counted : (c : After-energy_total-e) → c.energy_total-e.result ≡ total vertex_count (resolutions (lists (goal.at.After-energy_total-e c).Start).rows 0 c.args.b.grid.n_r)
-unfolding rows_by
-counted c = c.energy_total-e.ensures
+pub returns-in_err-atom_write_question : goal.returns-in_err-atom_write_question
+returns-in_err-atom_write_question c =
+    let p = err_from_is_err_and c.from_residual.result c.from_residual.ensures.1 in
+    rw (p.1, p.2) (sym (atom_write_refused c.args.b (lent c.args.mesh.now) (lists_of c.args.store.now c.args.kinds.now c.args.levels.now c.args.values.now) c.args.output.now _ c.in_err-atom_write_question.ensures (numbered _)))
 
 pub energy_total-e-requires : goal.energy_total-e-requires
-unfolding rows_by
-energy_total-e-requires c = (certain (goal.at.energy_total-e-requires c).Else-no-ne0).0.few
+energy_total-e-requires c = (certain (goal.at.energy_total-e-requires c).In_ok-atom_write_question).0.few
 
-pub overflow_mul-size : goal.overflow_mul-size
-overflow_mul-size c =
-    let f = (certain (goal.at.overflow_mul-size c).Else-no-ne0).0 in
-    omega (arith, f.slabs_le, f.top_le, f.few, counted c)
-
-pub overflow_add-size : goal.overflow_add-size
-overflow_add-size c =
-    let f = (certain (goal.at.overflow_add-size c).Else-no-ne0).0 in
-    omega (arith, f.slabs_le, f.top_le, f.few, counted c)
-
-pub overflow_mul-size-2 : goal.overflow_mul-size-2
-overflow_mul-size-2 c =
-    let f = (certain (goal.at.overflow_mul-size-2 c).Else-no-ne0).0 in
-    omega (arith, f.slabs_le, f.top_le, f.few, counted c)
-
-pub overflow_add-size-2 : goal.overflow_add-size-2
-overflow_add-size-2 c =
-    let f = (certain (goal.at.overflow_add-size-2 c).Else-no-ne0).0 in
-    omega (arith, f.slabs_le, f.top_le, f.few, counted c)
-
-pub overflow_mul-size-3 : goal.overflow_mul-size-3
-overflow_mul-size-3 c =
-    let f = (certain (goal.at.overflow_mul-size-3 c).Else-no-ne0).0 in
-    omega (arith, f.slabs_le, f.top_le, f.few, counted c)
-
-pub overflow_add-size-3 : goal.overflow_add-size-3
-overflow_add-size-3 c =
-    let f = (certain (goal.at.overflow_add-size-3 c).Else-no-ne0).0 in
-    omega (arith, f.slabs_le, f.top_le, f.few, counted c)
+pub file_size-size-requires : goal.file_size-size-requires
+file_size-size-requires c =
+    let f = (certain (goal.at.file_size-size-requires c).In_ok-atom_write_question).0 in
+    (omega arith, f.top_le, f.slabs_le, omega (arith, f.few, c.energy_total-e.ensures))
 
 pub returns-then-output-size : goal.returns-then-output-size
 returns-then-output-size c =
-    let zero = sym (answer (goal.at.returns-then-output-size c).After-atom_write_question-no) ∙ c.if-no-ne0.false in
-    let f = (certain (goal.at.returns-then-output-size c).Else-no-ne0).0 in
-    let e = c.energy_total-e.result in
-    let len = atom_write_length c.args.b (lists (goal.at.returns-then-output-size c).Start) e f (counted (goal.at.returns-then-output-size c).After-energy_total-e) in
-    (refl, sym (atom_write_short c.args.b (meshes (goal.at.returns-then-output-size c).Start) (lists (goal.at.returns-then-output-size c).Start) c.args.output.now zero (lt-leb (length (atom_file_from c.args.b (lists (goal.at.returns-then-output-size c).Start))) (length c.args.output.now) (omega (arith, len, c.if-output-size.true)))))
+    let l = lists_of c.args.store.now c.args.kinds.now c.args.levels.now c.args.values.now in
+    let short = lt-leb (length (atom_file_from c.args.b l)) (length c.args.output.now) (omega (arith, long (goal.at.returns-then-output-size c).After-file_size-size, c.if-output-size.true)) in
+    sym (atom_write_short c.args.b (lent c.args.mesh.now) l c.args.output.now (zero (goal.at.returns-then-output-size c).In_ok-atom_write_question) short)
 
 pub put_atom_file-requires : goal.put_atom_file-requires
 put_atom_file-requires c =
-    let f = certain (goal.at.put_atom_file-requires c).Else-no-ne0 in
-    (record { sure = f.0; energies = counted (goal.at.put_atom_file-requires c).After-energy_total-e; fits = omega (arith, c.if-output-size.false) }, f.1)
+    let f = certain (goal.at.put_atom_file-requires c).In_ok-atom_write_question in
+    (record { sure = f.0; energies = c.energy_total-e.ensures; fits = omega (arith, c.file_size-size.ensures, c.if-output-size.false) }, f.1)
 
 pub returns : goal.returns
 returns c =
-    let zero = sym (answer (goal.at.returns c).After-atom_write_question-no) ∙ c.if-no-ne0.false in
-    let f = (certain (goal.at.returns c).Else-no-ne0).0 in
-    let e = c.energy_total-e.result in
-    let len = atom_write_length c.args.b (lists (goal.at.returns c).Start) e f (counted (goal.at.returns c).After-energy_total-e) in
-    (refl, rw (c.put_atom_file.ensures, atom_write_done c.args.b (meshes (goal.at.returns c).Start) (lists (goal.at.returns c).Start) c.args.output.now zero (le-leb (length (atom_file_from c.args.b (lists (goal.at.returns c).Start))) (length c.args.output.now) (omega (arith, len, c.if-output-size.false))), len))
+    let l = lists_of c.args.store.now c.args.kinds.now c.args.levels.now c.args.values.now in
+    let len = long (goal.at.returns c).After-file_size-size in
+    let room = le-leb (length (atom_file_from c.args.b l)) (length c.args.output.now) (omega (arith, len, c.if-output-size.false)) in
+    rw (c.put_atom_file.ensures, atom_write_done c.args.b (lent c.args.mesh.now) l c.args.output.now (zero (goal.at.returns c).In_ok-atom_write_question) room, len)

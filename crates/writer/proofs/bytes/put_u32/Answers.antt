@@ -1,18 +1,11 @@
+use mathlib.Core.Path.{sym, ◌∙◌}
 use native.Mathlib.Omega.{arith}
-use lib.ListN.{length-set}
 use Rattle.table.specs.Bytes.{bytes_of}
-use Rattle.writer.proofs.Puts.{set-four}
+use Rattle.table.proofs.Lengths.{bytes_length}
+use Rattle.writer.proofs.Puts.{le_four, part_put}
 use Rattle.writer.proofs.bytes.put_u32.Goals as goal
 
-pub bounds-out-i-2 : goal.bounds-out-i-2
-bounds-out-i-2 c = simp length-set (omega arith)
-
-pub bounds-out-i-3 : goal.bounds-out-i-3
-bounds-out-i-3 c = simp length-set (omega arith)
-
-pub bounds-out-i-4 : goal.bounds-out-i-4
-bounds-out-i-4 c = simp length-set (omega arith)
-
 pub returns : goal.returns
-unfolding bytes_of
-returns c = set-four c.args.out.now c.args.at _ _ _ _ c.requires
+returns c =
+    let a = c.args in
+    part_put a.out.now a.at _ 4 _ (bytes_of 4 a.x) (c.copy_from_slice.ensures.after ∙ c.to_le_bytes.ensures ∙ le_four a.x) (omega arith) (sym (bytes_length 4 a.x))

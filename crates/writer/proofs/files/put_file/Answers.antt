@@ -3,7 +3,6 @@ use mathlib.Core.List.{[], ◌∷◌}
 use native.Mathlib.Omega.{arith}
 use lib.Ieee.{binary64, to_bits}
 use Rattle.mesh.specs.Levels.{per}
-use Rattle.rows.specs.Words.{rows_by}
 use Rattle.builder.specs.BuilderLists.{slabs, word_lists}
 use Rattle.table.specs.File.{file_of}
 use Rattle.writer.specs.Write.{file_from}
@@ -11,13 +10,12 @@ use Rattle.writer.proofs.Whole.{file-put}
 use Rattle.writer.proofs.files.put_file.Goals as goal
 
 pub put_rest-requires : goal.put_rest-requires
-unfolding rows_by
 put_rest-requires c =
     let p = c.requires.0 in
     (record { sure = p.sure; energies = p.energies; fits = omega (arith, p.fits) }, omega arith)
 
 pub returns : goal.returns
-unfolding file_from file_of rows_by
+unfolding file_from file_of
 returns c =
     let a = c.args in
     let g = a.b.grid in

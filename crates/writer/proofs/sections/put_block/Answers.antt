@@ -10,4 +10,4 @@ pub returns : goal.returns
 returns c =
     let a = c.args in
     c.put_floats.ensures
-    ∙ ap (λ (y : List ℕ). put a.out.now a.at (packed (bytes_of 4) y)) (block-bits a.store.now a.block.now _ a.from a.n c.requires.1 c.requires.2 c.narrow_list.ensures)
+    ∙ ap (λ (y : List ℕ). put a.out.now a.at (packed (bytes_of 4) y)) (block-bits a.energies.now a.block.now _ c.requires.1 c.narrow_list.ensures)

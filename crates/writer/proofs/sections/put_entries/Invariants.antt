@@ -1,16 +1,16 @@
-use mathlib.Core.Path.{◌≡◌}
-use Prim.Native.Nat.{◌+◌, ◌*◌, ◌≤◌}
-use lib.ListN.{length}
-use Rattle.rows.specs.Words.{rows_by}
+use Prim.Native.Nat.{◌+◌, ◌-◌, ◌≤◌}
+use Rattle.rows.specs.Lent.{lent_rows}
 use Rattle.table.specs.Bytes.{packed}
 use Rattle.table.specs.File.{entry_bytes}
-use Rattle.table.specs.Internal.{each_of}
 use Rattle.writer.specs.Internal.{resolutions, entries_for, total}
+use Rattle.writer.specs.Slabs.{each_in, slab_rows}
 use Rattle.writer.proofs.Puts.{Left}
 use Rattle.writer.proofs.sections.put_entries.Given as goal
 
-abbrev pub invariant-loop-left : goal.invariant-loop-left
-invariant-loop-left l = (l.s + l.left ≡ l.n) × (l.to + l.left * 10 ≤ length l.initial.out) × (l.o + total (each_of l.pairs) (resolutions (rows_by l.pairs l.words l.kinds l.levels l.values) l.s l.left) ≤ 4294967295) × Left l.initial.out l.at (packed entry_bytes (entries_for (each_of l.pairs) 0 (resolutions (rows_by l.pairs l.words l.kinds l.levels l.values) 0 l.n))) l.out l.to (packed entry_bytes (entries_for (each_of l.pairs) l.o (resolutions (rows_by l.pairs l.words l.kinds l.levels l.values) l.s l.left)))
-
-abbrev pub decreases-loop-left : goal.decreases-loop-left
-decreases-loop-left l = l.left
+abbrev pub invariant-loop-s : goal.invariant-loop-s
+invariant-loop-s l =
+    let each = each_in l.slabs in
+    let rest = resolutions (lent_rows l.slabs.rows) l.s (l.slabs.n - l.s) in record {
+      few : l.o + total each rest ≤ 4294967295;
+      written : Left l.initial.out l.at (packed entry_bytes (entries_for each 0 (slab_rows l.slabs))) l.out l.to (packed entry_bytes (entries_for each l.o rest));
+    }

@@ -1,6 +1,5 @@
 use native.Mathlib.Omega.{arith}
-use Rattle.table.specs.Internal.{each_of}
-use Rattle.writer.specs.Internal.{lists_by}
+use Rattle.writer.specs.Slabs.{each_in, slab_lists}
 use Rattle.writer.proofs.Whole.{rest_put}
 use Rattle.writer.proofs.sections.put_rest.Goals as goal
 
@@ -17,11 +16,12 @@ put_rows-requires c =
 pub put_energy_section-requires : goal.put_energy_section-requires
 put_energy_section-requires c =
     let p = c.requires.0 in
-    let z = c.energies_of-z.ensures in
+    let z = c.energies_at-z.ensures in
     (omega (arith, p.fits), omega (arith, p.energies, p.sure.few), p.energies, rw z p.sure.store, rw z p.sure.bounded)
 
 pub returns : goal.returns
 returns c =
     let a = c.args in
-    rw (c.put_energy_section.ensures, c.put_rows.ensures, c.put_levels.ensures, c.energies_of-z.ensures)
-    (rest_put (each_of a.pairs) a.top a.n (lists_by a.pairs a.store.now a.words.now a.kinds.now a.levels.now a.values.now) a.out.now a.at (omega (arith, c.requires.0.fits)))
+    let l = a.slabs.now in
+    rw (c.put_energy_section.ensures, c.put_rows.ensures, c.put_levels.ensures, c.energies_at-z.ensures)
+    (rest_put (each_in l) a.top l.n (slab_lists a.store.now l) a.out.now a.at (omega (arith, c.requires.0.fits)))

@@ -1,15 +1,19 @@
-use mathlib.Core.Path.{◌≡◌}
-use Prim.Native.Nat.{◌+◌, ◌*◌, ◌≤◌}
+use Prim.Native.Nat.{◌+◌, ◌-◌, ◌*◌, ◌≤◌}
 use lib.ListN.{length}
-use Rattle.rows.specs.Words.{rows_by}
+use Rattle.rows.specs.Lent.{lent_rows}
 use Rattle.table.specs.Bytes.{bytes_of, packed}
-use Rattle.table.specs.Internal.{each_of}
-use Rattle.writer.specs.Internal.{resolutions, total, energies_for, Bounded}
+use Rattle.writer.specs.Internal.{resolutions, energies_for, Bounded}
+use Rattle.writer.specs.Slabs.{each_in, slab_rows}
 use Rattle.writer.proofs.Puts.{Left}
 use Rattle.writer.proofs.sections.put_slabs.Given as goal
 
-abbrev pub invariant-loop-left : goal.invariant-loop-left
-invariant-loop-left l = (l.s + l.left ≡ l.n) × (l.to + total (each_of l.pairs) (resolutions (rows_by l.pairs l.words l.kinds l.levels l.values) l.s l.left) * 4 ≤ length l.initial.out) × (l.p + l.left * l.z ≤ length l.store) × Bounded (each_of l.pairs) l.z (resolutions (rows_by l.pairs l.words l.kinds l.levels l.values) l.s l.left) × Left l.initial.out l.at (packed (bytes_of 4) (energies_for (each_of l.pairs) l.z l.store 0 (resolutions (rows_by l.pairs l.words l.kinds l.levels l.values) 0 l.n))) l.out l.to (packed (bytes_of 4) (energies_for (each_of l.pairs) l.z l.store l.p (resolutions (rows_by l.pairs l.words l.kinds l.levels l.values) l.s l.left)))
-
-abbrev pub decreases-loop-left : goal.decreases-loop-left
-decreases-loop-left l = l.left
+abbrev pub invariant-loop-s : goal.invariant-loop-s
+invariant-loop-s l =
+    let each = each_in l.slabs in
+    let rest = resolutions (lent_rows l.slabs.rows) l.s (l.slabs.n - l.s) in record {
+      inside : l.p + (l.slabs.n - l.s) * l.z ≤ length l.store;
+      bounded : Bounded each l.z rest;
+      written :
+          Left l.initial.out l.at (packed (bytes_of 4) (energies_for each l.z l.store 0 (slab_rows l.slabs))) l.out l.to
+          (packed (bytes_of 4) (energies_for each l.z l.store l.p rest));
+    }

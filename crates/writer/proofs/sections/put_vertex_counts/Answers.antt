@@ -1,5 +1,4 @@
 use mathlib.Core.Path.{◌≡◌, ◌∙◌}
-use Prim.Native.Nat.{◌-◌}
 use native.Mathlib.Nat.{add-zero}
 use native.Mathlib.Omega.{arith}
 use Rattle.mesh.specs.Levels.{vertex_count}
@@ -13,38 +12,21 @@ use Rattle.writer.proofs.sections.put_vertex_counts.Goals as goal
 
 pub loop-m-init : goal.loop-m-init
 unfolding below packed
-loop-m-init c = (omega arith, rw add-zero (nothing (omega arith)))
-
-pub overflow_mul-m : goal.overflow_mul-m
-overflow_mul-m c = omega arith
-
-pub overflow_add-at : goal.overflow_add-at
-overflow_add-at c = omega arith
-
-pub overflow_cast-m : goal.overflow_cast-m
-overflow_cast-m c = omega arith
+loop-m-init c = rw add-zero (nothing (omega arith))
 
 pub overflow_cast-vertex_count : goal.overflow_cast-vertex_count
 overflow_cast-vertex_count c = omega (arith, c.vertex_count.ensures, count_le c.loop-m.m 256 (omega arith))
 
 pub put_u32-requires : goal.put_u32-requires
-put_u32-requires c = omega (arith, c.loop-m.invariant.1.size)
-
-pub overflow_add-m : goal.overflow_add-m
-overflow_add-m c = omega arith
-
-pub loop-m-smaller : goal.loop-m-smaller
-loop-m-smaller c = omega arith
+put_u32-requires c = omega (arith, c.loop-m.invariant.size)
 
 pub loop-m-preserved : goal.loop-m-preserved
 loop-m-preserved c =
     let m = c.loop-m.m in
-    (omega arith, rw (counts_turn m) (chunk (bytes_of 4 (vertex_count m)) _ _ c.loop-m.invariant.1 (omega (arith, bytes_length 4 (vertex_count m))) (omega (arith, bytes_length 4 (vertex_count m))) (c.put_u32.ensures ∙ rw c.vertex_count.ensures)))
-
-pub shape_of-out : goal.shape_of-out
-shape_of-out c = c.loop-m.invariant.1.size
+    let bytes = bytes_of 4 (vertex_count m) in
+    rw (counts_turn m) (chunk bytes _ _ c.loop-m.invariant (omega (arith, bytes_length 4 (vertex_count m))) (omega (arith, bytes_length 4 (vertex_count m))) (c.put_u32.ensures ∙ rw c.vertex_count.ensures))
 
 pub returns : goal.returns
 returns c =
     let full : c.loop-m.m ≡ c.args.levels = omega arith in
-    c.loop-m.invariant.1.is ∙ rw full
+    c.loop-m.invariant.is ∙ rw full

@@ -1,5 +1,5 @@
 use mathlib.Core.List.{map}
-use Prim.Native.Nat.{◌+◌, ◌-◌, ◌*◌, ◌≤◌}
+use Prim.Native.Nat.{◌+◌, ◌*◌}
 use Rattle.mesh.specs.Levels.{vertex_count}
 use Rattle.lists.specs.Lists.{below}
 use Rattle.lists.proofs.Written.{Written}
@@ -7,7 +7,4 @@ use Rattle.table.specs.Bytes.{bytes_of, packed}
 use Rattle.writer.proofs.sections.put_vertex_counts.Given as goal
 
 abbrev pub invariant-loop-m : goal.invariant-loop-m
-invariant-loop-m l = (l.m ≤ l.levels) × Written l.initial.out l.at (packed (bytes_of 4) (map vertex_count (below l.m))) l.out (l.at + 4 * l.m)
-
-abbrev pub decreases-loop-m : goal.decreases-loop-m
-decreases-loop-m l = l.levels - l.m
+invariant-loop-m l = Written l.initial.out l.at (packed (bytes_of 4) (map vertex_count (below l.m))) l.out (l.at + 4 * l.m)

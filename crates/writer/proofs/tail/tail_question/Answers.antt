@@ -1,52 +1,27 @@
+use mathlib.Core.Path.{◌≡◌}
 use native.Mathlib.Omega.{arith}
+use Rattle.std.proofs.Common.{rules}
+use Rattle.std.proofs.lemmas.Grind.{common_steps}
 use lib.ListN.{length}
-use borrow.Author.Tests.{eq-eqb, ne_eqb, lt-ltb, le-leb, lt-leb}
+use borrow.Author.Tests.{eq-eqb, le-leb}
 use Rattle.lists.specs.Questions.{ask}
-use Rattle.lists.proofs.Counting.{yes, no}
 use Rattle.table.specs.Tail.{tail_valid}
-use Rattle.table.proofs.Accepted.{some}
 use Rattle.writer.specs.Tailed.{tail_question}
-use Rattle.writer.proofs.OfTail.{terms_many}
+use Rattle.writer.specs.LentTail.{lent_tail}
+use Rattle.writer.proofs.OfTail.{handed_many}
 use Rattle.writer.proofs.tail.tail_question.Goals as goal
 
-pub returns-then-n-eq0 : goal.returns-then-n-eq0
+pub returns-then-is_empty : goal.returns-then-is_empty
 unfolding tail_question ask tail_valid
-returns-then-n-eq0 c =
-    let a = c.args in
-    let cs = a.coefficients.now in
-    rw (terms_many cs a.kappas.now a.powers.now 0 (length cs), eq-eqb (length cs) 0 c.if-n-eq0.true, le-leb (length cs) 4294967295 (omega (arith, c.if-n-eq0.true)))
-
-pub returns-then-prefactor-eq0 : goal.returns-then-prefactor-eq0
-unfolding tail_question ask
-returns-then-prefactor-eq0 c = rw (ne_eqb _ _ c.if-n-eq0.false, c.if-prefactor-eq0.true)
-
-pub returns-then-n-gt4294967295 : goal.returns-then-n-gt4294967295
-unfolding tail_question ask
-returns-then-n-gt4294967295 c = rw (ne_eqb _ _ c.if-n-eq0.false, lt-ltb _ _ (some _ c.if-prefactor-eq0.false), lt-leb _ _ c.if-n-gt4294967295.true)
-
-pub terms_fine-requires : goal.terms_fine-requires
-terms_fine-requires c = let p = c.requires in (omega arith, p.0, p.1)
+returns-then-is_empty c =
+    let n = length c.args.tail.now.coefficients.now in
+    let none : n ≡ 0 = search rules in
+    rw (handed_many (lent_tail c.args.tail.now), eq-eqb n 0 none, le-leb n 4294967295 (omega (arith, none)))
 
 pub returns-then-not-terms_fine : goal.returns-then-not-terms_fine
 unfolding tail_question ask tail_valid
-returns-then-not-terms_fine c =
-    let a = c.args in
-    let cs = a.coefficients.now in
-    rw (terms_many cs a.kappas.now a.powers.now 0 (length cs), ne_eqb _ _ c.if-n-eq0.false, lt-ltb _ _ (some _ c.if-prefactor-eq0.false), le-leb _ _ c.if-n-gt4294967295.false, no c.terms_fine.ensures c.if-not-terms_fine.true)
-
-pub bounds-prefactor-0 : goal.bounds-prefactor-0
-bounds-prefactor-0 c = some _ c.if-prefactor-eq0.false
+returns-then-not-terms_fine c = rw (handed_many (lent_tail c.args.tail.now), ← c.terms_fine.ensures) (grind (rules, common_steps))
 
 pub returns-then-not-is_finite : goal.returns-then-not-is_finite
 unfolding tail_question ask tail_valid
-returns-then-not-is_finite c =
-    let a = c.args in
-    let cs = a.coefficients.now in
-    rw (terms_many cs a.kappas.now a.powers.now 0 (length cs), ne_eqb _ _ c.if-n-eq0.false, lt-ltb _ _ (some _ c.if-prefactor-eq0.false), le-leb _ _ c.if-n-gt4294967295.false, yes c.terms_fine.ensures c.if-not-terms_fine.false, no c.is_finite.ensures c.if-not-is_finite.true)
-
-pub returns : goal.returns
-unfolding tail_question ask tail_valid
-returns c =
-    let a = c.args in
-    let cs = a.coefficients.now in
-    rw (terms_many cs a.kappas.now a.powers.now 0 (length cs), ne_eqb _ _ c.if-n-eq0.false, lt-ltb _ _ (some _ c.if-prefactor-eq0.false), le-leb _ _ c.if-n-gt4294967295.false, yes c.terms_fine.ensures c.if-not-terms_fine.false, yes c.is_finite.ensures c.if-not-is_finite.false)
+returns-then-not-is_finite c = rw (handed_many (lent_tail c.args.tail.now), ← c.terms_fine.ensures) (grind (rules, common_steps))

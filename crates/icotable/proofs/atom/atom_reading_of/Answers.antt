@@ -1,8 +1,0 @@
-use mathlib.Core.Path.{sym, ap, ◌∙◌}
-use Rattle.reading.specs.Internal.{energy_alone}
-use Rattle.reading.proofs.AtomShown.{atom_alone}
-use Rattle.icotable.proofs.atom.atom_reading_of.Goals as goal
-
-pub returns : goal.returns
-returns c =
-    rw (← c.atom_table_from-t.ensures) (c.energy_answer.ensures ∙ ap energy_alone c.atom_lookup-answer.ensures.1 ∙ sym (atom_alone _ _ _ _ _ _))

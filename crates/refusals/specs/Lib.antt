@@ -1,0 +1,2 @@
+-- A reader has to believe `Numbers`.
+pub mod Numbers

@@ -1,9 +1,0 @@
-use Rattle.search.specs.Geometry.{unit}
-use Rattle.search.proofs.geometry.unit.Goals as goal
-
-pub returns : goal.returns
-unfolding unit
-returns c = rw c.norm-l.ensures
-
-pub norm-l-requires : goal.norm-l-requires
-norm-l-requires c = tt

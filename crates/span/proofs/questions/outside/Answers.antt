@@ -1,6 +1,0 @@
-use Rattle.reading.specs.Resolve.{outside}
-use Rattle.span.proofs.questions.outside.Goals as goal
-
-pub returns : goal.returns
-unfolding outside
-returns c = rw c.above_rmax.ensures

@@ -1,9 +1,0 @@
--- The place goes up to the length.
-use Rattle.std.proofs.Common.{◌≤◌, ◌-◌, length}
-use Rattle.test_builds.proofs.group.Given as goal
-
-abbrev pub invariant-loop-i : goal.invariant-loop-i
-invariant-loop-i g l = l.i ≤ length l.bytes
-
-abbrev pub decreases-loop-i : goal.decreases-loop-i
-decreases-loop-i g l = length l.bytes - l.i
