@@ -3,6 +3,13 @@
 // place, which is not read, holds a number too.
 #![tactic(auto)]
 
+ghost use Rattle.std.specs.Prelude.{◌≡◌, ℕ, ◌<◌, replicate, slice_index};
+ghost use Rattle.std.specs.Float.{binary64};
+ghost use Rattle.std.specs.Float.Ieee.{of_bits};
+ghost use Rattle.mesh.specs.Mesh.{mesh_of};
+ghost use Rattle.mesh.specs.Lent.{lent};
+ghost use Rattle.test_meshes.specs.Seats.{seated};
+
 use mesh::Mesh;
 
 #[derive(Clone, Copy)]
@@ -14,16 +21,23 @@ pub struct Meshes {
 }
 
 // The neighbour at a place, six places a vertex.
-fn neighbour(i: usize) -> u16 {
+fn neighbour(i: usize) -> u16
+    ensures { result ≡ seated i }
+{
     let j = if i < 72 { i } else { i - 72 };
     ((j / 36 * 6 + (j / 6 + j % 6 + 1) % 6) % 65536) as u16
 }
 
 impl Meshes {
-    pub fn new() -> Meshes {
+    pub fn new() -> Meshes
+        ensures vertices { result.vertices ≡ replicate 162 (of_bits binary64 0x3FF0_0000_0000_0000) }
+        ensures counts { result.counts ≡ replicate 54 5 }
+        ensures neighbours { (k : ℕ) → k < 324 → slice_index result.neighbours k ≡ seated k }
+        ensures angles { result.angles ≡ replicate 324 (of_bits binary64 0x3FF0_0000_0000_0000) }
+    {
         let mut neighbours = [0; 324];
-        for (i, place) in neighbours.iter_mut().enumerate() {
-            *place = neighbour(i);
+        for i in 0..324 {
+            neighbours[i] = neighbour(i);
         }
         Meshes {
             vertices: [1.0; 162],
@@ -33,7 +47,9 @@ impl Meshes {
         }
     }
 
-    pub fn lent(&self) -> Mesh<'_> {
+    pub fn lent(&self) -> Mesh<'_>
+        ensures { lent result ≡ mesh_of self.now.vertices self.now.counts self.now.neighbours self.now.angles }
+    {
         Mesh {
             vertices: &self.vertices,
             counts: &self.counts,
