@@ -26,14 +26,14 @@ pub fn float32(b: u32) -> f32
     }
 }
 
-// The same at the wider format, which holds every f32: one test where two calls make two.
+// The same at the wider format, which holds every f32: one test where two calls make two, and `f64::from` another.
 pub fn widened(b: u32) -> f64
     ensures { result ≡ of_bits binary32 b }
 {
     if b % 0x8000_0000 > 0x7f80_0000 {
         f64::NAN
     } else {
-        f64::from(f32::from_bits(b))
+        f32::from_bits(b) as f64
     }
 }
 

@@ -9,3 +9,4 @@ pub mod Ready
 pub mod Stored
 pub mod Ways
 pub mod Searched
+pub mod Numbered

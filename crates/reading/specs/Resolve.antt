@@ -50,6 +50,11 @@ reading_values (Refused n) = record { number = n; energy = of_bits binary64 0; d
 abbrev pub plain : Float → Reading
 plain x = Energy no_distance x no_distance
 
+-- a refusal has a number: 0 is acceptance alone
+abbrev pub reading_numbered : Reading → Bool
+reading_numbered (Energy a x b) = true
+reading_numbered (Refused n) = not (eqb n 0)
+
 -- 18: "is r not a NaN, omega finite, and the length of each direction finite and above 0?" (S5.18)
 unfoldable pub query_valid : Query → Bool
 query_valid q = not (is_nan q.r) && (finite q.omega && (above (norm q.a) && above (norm q.b)))

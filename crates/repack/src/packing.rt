@@ -6,7 +6,7 @@ ghost use Rattle.table.specs.Internal.{ends_below};
 ghost use Rattle.repack.specs.Repack.{held, total, placed, other_offsets, new_row, new_rows, parts};
 ghost use Rattle.repack.specs.Internal.{rows_at, Loose};
 
-use crate::bytes::{copy, put_u32};
+use crate::bytes::{copy, entry_inside, put_u32};
 use table::{Entry, Section};
 
 // How many energies a row has.
@@ -26,7 +26,7 @@ pub(crate) fn energies_total(file: &[u8], rows: Section) -> u64
 {
     let mut o = 0;
     for i in 0..rows.count {
-        o += held(table::entry_at(file, rows.start + i * 10));
+        o += held(entry_inside(file, rows.start + i * 10));
     }
     o
 }
@@ -49,7 +49,7 @@ pub(crate) fn rows_moved(file: &[u8], rows: Section) -> u64
     let mut o = 0;
     let mut moved = 0;
     for i in 0..rows.count {
-        let row = table::entry_at(file, rows.start + i * 10);
+        let row = entry_inside(file, rows.start + i * 10);
         moved += row_moved(row, o);
         o += held(row);
     }
@@ -80,7 +80,7 @@ fn put_rows(file: &[u8], rows: Section, out: &mut [u8])
     for i in 0..rows.count {
         let at = rows.start + i * 10;
         put_row(file, at, o as u32, out);
-        o += held(table::entry_at(file, at));
+        o += held(entry_inside(file, at));
     }
 }
 
@@ -104,7 +104,7 @@ fn put_parts(file: &[u8], rows: Section, energies: Section, out: &mut [u8])
 {
     let mut to = energies.start;
     for i in 0..rows.count {
-        let row = table::entry_at(file, rows.start + i * 10);
+        let row = entry_inside(file, rows.start + i * 10);
         let e = held(row);
         put_part(file, energies.start, row.offset, e, out, to);
         to += e * 4;

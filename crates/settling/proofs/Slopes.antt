@@ -8,9 +8,9 @@ use Rattle.ieee.proofs.Pack.{le_or_lt}
 use Rattle.float.specs.Order.{magnitude}
 use Rattle.float.specs.Exp.{exponential}
 use Rattle.lists.specs.Lists.{for_each}
-use Rattle.mesh.specs.Mesh.{Mesh, degree, neighbour, angle_to}
+use Rattle.mesh.specs.Mesh.{Mesh, degree, neighbour, angle_to, mesh_of}
 use Rattle.float.proofs.Order.{clear, round_clear}
-use Rattle.settling.specs.Gradient.{zero, weight, steeper, along_neighbours, pair_weight, gradient_of, gradient}
+use Rattle.settling.specs.Gradient.{zero, weight, steeper, along_neighbours, pair_weight, gradient_of, gradient, atom_gradient}
 use Rattle.settling.specs.Internal.{line_weights, line_gradient, lines_gradient}
 use Rattle.settling.proofs.Largest.{Slope, larger_swap}
 use Rattle.settling.proofs.Orders.{Commute, loops_commute, each_split, each_swap, each_same}
@@ -166,3 +166,14 @@ module _ (m : Mesh) (n : ℕ) (beta : Float) (e : List Float) where
       (λ v. along_neighbours m v (λ k. get_or (map (weight beta) (take n e)) k nan) (get_or (map (weight beta) (take n e)) v nan))
       (λ j t h. along_same m j (λ k. get_or (line_weights beta e 0 1 n) k nan) (λ k. get_or (map (weight beta) (take n e)) k nan) (get_or (line_weights beta e 0 1 n) j nan) (get_or (map (weight beta) (take n e)) j nan)
       (λ k l. in_line (neighbour m j k)) (in_line j) t) zero
+
+-- a gradient looks at the links alone
+pub gradient-links : (m : Mesh) (n : ℕ) (beta : Float) (e : List Float)
+    → gradient (mesh_of [] m.counts m.neighbours m.angles) n beta e ≡ gradient m n beta e
+unfolding gradient gradient_of along_neighbours
+gradient-links m n beta e = refl
+
+pub atom_links : (m : Mesh) (n : ℕ) (beta : Float) (e : List Float)
+    → atom_gradient (mesh_of [] m.counts m.neighbours m.angles) n beta e ≡ atom_gradient m n beta e
+unfolding atom_gradient line_gradient along_neighbours
+atom_links m n beta e = refl

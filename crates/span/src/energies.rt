@@ -7,6 +7,7 @@ ghost use Rattle.reading.specs.Resolve.{widened};
 ghost use Rattle.span.specs.Spans.{included, scalar_included, entry_touched, entry_included, rows_touched, extremes_of};
 
 use crate::Extremes;
+use crate::places::{entry_inside, u32_inside};
 use table::Table;
 
 // One more energy.
@@ -33,16 +34,6 @@ fn scalar_included(e: f64, x: Extremes) -> Extremes
     y
 }
 
-// The number in four bytes that are inside the file: `u32_at` of `table` would ask of each energy whether it is.
-#[tactic(auto, using(table::proofs::Numbers::four), unfolding(table::specs::Bytes::number_of))]
-fn u32_inside(file: &[u8], at: u64) -> u32
-    requires { at + 4 ≤ length file.now }
-    ensures { result ≡ number_at 4 file.now at }
-{
-    let i = at as usize;
-    table::u32_from_le_bytes(file[i], file[i + 1], file[i + 2], file[i + 3])
-}
-
 // A Mesh row's n energies, from place `offset` on.
 fn mesh_included(file: &[u8], start: u64, offset: u64, n: u64, x: Extremes) -> Extremes
     requires { start + (offset + n) * 4 ≤ length file.now }
@@ -61,7 +52,7 @@ fn entry_included(t: Table, file: &[u8], at: u64, x: Extremes) -> Extremes
         × (x.scalar_nans < 18446744073709551615) }
     ensures { result ≡ entry_included file.now t (entry_of (take 10 (drop at file.now))) x }
 {
-    let e = table::entry_at(file, at);
+    let e = entry_inside(file, at);
     match e.kind {
         0 => scalar_included(bits::widened(e.scalar), x),
         1 => included(1.0 / 0.0, x),

@@ -10,6 +10,7 @@ use refusals::Refusal;
 use table::Table;
 
 mod energies;
+mod places;
 mod questions;
 
 // The energies met so far: NaN twice before the first one. Of the Scalar rows among them, how many are a NaN.

@@ -6,6 +6,7 @@ ghost use Rattle.table.specs.File.{entry_of};
 ghost use Rattle.reading.specs.Reading.{entry_at};
 ghost use Rattle.span.specs.Spans.{ends_valid, ends_inside, entry_touched, rows_touched};
 
+use crate::places::entry_inside;
 use grid::Grid;
 use reading::outside;
 use table::{Section, Table};
@@ -43,7 +44,7 @@ fn entry_touched(t: Table, file: &[u8], at: u64) -> bool
     requires { at + 10 ≤ length file.now }
     ensures { result ≡ entry_touched file.now t (entry_of (take 10 (drop at file.now))) }
 {
-    let e = table::entry_at(file, at);
+    let e = entry_inside(file, at);
     if e.kind <= 1 {
         return true;
     }

@@ -4,13 +4,35 @@
 ghost use Rattle.std.specs.Prelude.{◌≡◌, ◌+◌, ◌*◌, ◌≤◌, length, take, drop, leb};
 ghost use Rattle.std.specs.Float.{binary64};
 ghost use Rattle.std.specs.Float.Ieee.{of_bits};
-ghost use Rattle.table.specs.Bytes.{items};
+ghost use Rattle.table.specs.Bytes.{items, number_at};
+ghost use Rattle.table.specs.Read.{f64_at};
 ghost use Rattle.table.specs.Tail.{term_of};
 ghost use Rattle.tail.specs.Rule.{term_energy, sum_from};
 ghost use Rattle.tail.specs.Reading.{tail_values, tail_out};
 
 use refusals::Refusal;
-use table::{Section, Table, float_at, u32_at};
+use table::{Section, Table};
+
+// The number in four bytes that are inside the file.
+#[tactic(auto, using(table::proofs::Numbers::four), unfolding(table::specs::Bytes::number_of))]
+fn u32_inside(file: &[u8], at: u64) -> u32
+    requires { at + 4 ≤ length file.now }
+    ensures { result ≡ number_at 4 file.now at }
+{
+    let i = at as usize;
+    table::u32_from_le_bytes(file[i], file[i + 1], file[i + 2], file[i + 3])
+}
+
+// The float in eight bytes that are inside the file: `float_at` of `table` would ask of each whether they are.
+#[tactic(auto, using(table::proofs::Numbers::eight))]
+fn f64_inside(file: &[u8], at: u64) -> f64
+    requires { at + 8 ≤ length file.now }
+    ensures { result ≡ f64_at file.now at }
+{
+    let low = u32_inside(file, at) as u64;
+    let high = u32_inside(file, at + 4) as u64;
+    bits::float64(high * 4294967296 + low)
+}
 
 // The energy of the term at a byte. In a damaged file its power is any number.
 #[tactic(auto, using(table::proofs::Items::term_at_lem), unfolding(crate::specs::Rule::term_energy))]
@@ -18,9 +40,9 @@ fn term_energy(file: &[u8], at: u64, r: f64) -> f64
     requires { at + 20 ≤ length file.now }
     ensures { result ≡ term_energy r (term_of (take 20 (drop at file.now))) }
 {
-    let coefficient = float_at(file, at);
-    let kappa = float_at(file, at + 8);
-    let power = u32_at(file, at + 16);
+    let coefficient = f64_inside(file, at);
+    let kappa = f64_inside(file, at + 8);
+    let power = u32_inside(file, at + 16);
     (coefficient * float::exp(-kappa * r)) / float::power(r, power)
 }
 
@@ -71,5 +93,5 @@ pub fn tail_energy(t: Table, file: &[u8], r: f64) -> Result<f64, Refusal>
         return Err(Refusal::NotLent);
     }
     let sum = terms_sum(file, terms, r);
-    Ok(float_at(file, terms.start + terms.count * 20) * sum)
+    Ok(f64_inside(file, terms.start + terms.count * 20) * sum)
 }

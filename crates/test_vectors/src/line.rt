@@ -50,6 +50,10 @@ fn number(text: &[u8], width: usize) -> Option<u64> {
 
 // What a line says: nothing where a word is missing, too much, or not as the operation has it.
 pub fn parse(text: &[u8]) -> Option<Vector> {
+    // longer than any line that is well formed
+    if text.len() > 100 {
+        return None;
+    }
     let mut words = text.split(|letter| *letter == b' ');
     let operation = Operation::named(words.next()?)?;
     let width = operation.operand_width();

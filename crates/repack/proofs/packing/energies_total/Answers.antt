@@ -14,7 +14,7 @@ loop-i-init c = rw (sub-zero, zero-mul, add-zero) (omega arith)
 
 -- the energies of the row at hand
 turned : (c : After-held-o) → let a = c.args in c.held-o.result ≡ held (entry_of (take 10 (drop (a.rows.start + c.loop-i.i * 10) a.file.now)))
-turned c = c.held-o.ensures ∙ ap held c.entry_at.ensures
+turned c = c.held-o.ensures ∙ ap held c.entry_inside.ensures
 
 pub overflow_add-o : goal.overflow_add-o
 overflow_add-o c =

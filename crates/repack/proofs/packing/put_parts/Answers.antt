@@ -29,7 +29,7 @@ abbrev row : After-held-e → Entry
 row c = entry_of (take 10 (drop (c.args.rows.start + c.loop-i.i * 10) c.args.file.now))
 
 turned : (c : After-held-e) → c.held-e.result ≡ held (row c)
-turned c = c.held-e.ensures ∙ ap held c.entry_at-row.ensures
+turned c = c.held-e.ensures ∙ ap held c.entry_inside-row.ensures
 
 ends : (c : After-held-e) → ends_below c.args.energies.count (row c) ≡ true
 ends c = let a = c.args in (inside_turn a.file.now a.rows.start a.rows.count c.loop-i.i c.loop-i-test.true a.energies.count c.loop-i.invariant.inside).0
@@ -51,7 +51,7 @@ put_part-requires c =
     let a = c.args in
     let r = row (goal.at.put_part-requires c).After-held-e in
     let e = turned (goal.at.put_part-requires c).After-held-e in (
-      λ h. rw (e, c.entry_at-row.ensures) (row_inside a.file.now a.energies.start a.energies.count r c.requires.1 (ends (goal.at.put_part-requires c).After-held-e) (omega (arith, e, h))),
+      λ h. rw (e, c.entry_inside-row.ensures) (row_inside a.file.now a.energies.start a.energies.count r c.requires.1 (ends (goal.at.put_part-requires c).After-held-e) (omega (arith, e, h))),
       room (goal.at.put_part-requires c).After-held-e,
     )
 
@@ -70,7 +70,7 @@ loop-i-preserved c =
       inside = (inside_turn a.file.now a.rows.start a.rows.count c.loop-i.i c.loop-i-test.true a.energies.count c.loop-i.invariant.inside).1;
       written =
           step c.loop-i.invariant.written (take (held r * 4) (drop (from + r.offset * 4) a.file.now)) _ _ _ (parts_turn a.file.now a.rows.start a.rows.count c.loop-i.i c.loop-i-test.true from)
-          (c.put_part.ensures ∙ rw (e, c.entry_at-row.ensures))
+          (c.put_part.ensures ∙ rw (e, c.entry_inside-row.ensures))
           (omega (arith, e, part_length a.file.now from a.energies.count r c.requires.1 (ends (goal.at.loop-i-preserved c).After-held-e)));
     }
 

@@ -1,0 +1,21 @@
+use mathlib.Core.Path.{◌≡◌, refl, ◌∙◌}
+use native.Mathlib.Omega.{arith}
+use lib.ListN.{length, length-set}
+use lib.Seq.{paste-zero}
+use borrow.Author.Rules.{rules}
+use Rattle.lists.proofs.Loops.{copy_turn, copy_all}
+use Rattle.repack.proofs.bytes.put_bytes.Goals as goal
+
+pub loop-j-init : goal.loop-j-init
+loop-j-init c = (search rules, refl, paste-zero c.args.out.now c.args.at c.args.bytes.now)
+
+pub loop-j-preserved : goal.loop-j-preserved
+loop-j-preserved c =
+    let a = c.args in
+    (omega arith, simp length-set c.loop-j.invariant.1, copy_turn a.out.now a.at a.bytes.now c.loop-j.out c.loop-j.j 0 c.loop-j.invariant.2 (omega arith) (omega arith))
+
+pub returns : goal.returns
+returns c =
+    let a = c.args in
+    let full : c.loop-j.j ≡ length a.bytes.now = omega arith in
+    c.loop-j.invariant.2 ∙ rw full (copy_all a.out.now a.at a.bytes.now)
